@@ -1,0 +1,265 @@
+// The memory of a story that runs.
+
+ghost use Rattle.std.specs.Prelude.{◌≡◌, ◌≤◌, ◌<◌, ℕ, Ok, Err, IfOk, OnSome, MatchResult, length, take, get_or, nat_lt, if◌then◌else◌};
+ghost use Rattle.zk_mem.specs.Header.{header_of};
+ghost use Rattle.zk_mem.specs.Map.{byte_at, word_at, byte_put, word_put, cell_at, HasBytes, KeepsFile};
+ghost use Rattle.zk_mem.specs.Fresh.{with_fields, with_values, standard_fields, screen_fields_3, screen_fields_4, screen_fields_5, fresh};
+
+use crate::fault::Fault;
+use crate::header::{Header, header_at_front};
+use crate::story::Story;
+use std::alloc::{AllocError, Global};
+use std::marker::Model;
+
+/// What an interpreter tells a story of itself.
+#[derive(Clone, Copy, Debug, PartialEq, Eq, Drop)]
+pub struct Setup {
+    /// How many undo states are kept. Where it is 0, the header says that there is no undo.
+    pub undo_states: u8,
+}
+
+/// The memory of a story that runs (Z-Machine Standards Document 1.1, section 1). Addresses are byte
+/// addresses. Data is read below the story's length and below 65,536, and written below the static
+/// base alone; code and text are read anywhere in the story.
+#[derive(Drop)]
+pub struct Memory {
+    header: Header,
+    // where data ends
+    readable: u32,
+    undo_states: u8,
+    bytes: Vec<u8>,
+    file: Vec<u8>,
+}
+
+impl Model for Memory {
+    ghost use Rattle.zk_mem.specs.Map.{MemoryMap, IsWhole};
+
+    ghost Value = { MemoryMap };
+
+    ghost view = { λ m. record { version = m.header.version; static_base = m.header.static_base; bytes = m.bytes.items; file = m.file.items; undo_states = m.undo_states } };
+
+    ghost invariant = { λ m. IsWhole m.header m.readable m.bytes.items m.file.items };
+}
+
+fn set_standard(bytes: &mut Vec<u8>)
+    requires { 64 ≤ length bytes.old.items }
+    ensures { bytes.new.items ≡ with_values standard_fields bytes.old.items }
+{
+    bytes[0x32] = 1;
+    bytes[0x33] = 1;
+}
+
+fn set_screen_3(bytes: &mut Vec<u8>)
+    requires { 64 ≤ length bytes.old.items }
+    ensures { bytes.new.items ≡ with_values (screen_fields_3 bytes.old.items) bytes.old.items }
+{
+    bytes[0x01] = bytes[0x01] & 0b1010_1111 | 0b0010_0000;
+}
+
+fn set_screen_4(bytes: &mut Vec<u8>)
+    requires { 64 ≤ length bytes.old.items }
+    ensures { bytes.new.items ≡ with_values (screen_fields_4 bytes.old.items) bytes.old.items }
+{
+    let flags_1 = bytes[0x01];
+    bytes[0x1e] = 6;
+    bytes[0x1f] = 65;
+    bytes[0x20] = 255;
+    bytes[0x21] = 80;
+    bytes[0x01] = flags_1 & 0b0101_0000 | 0b0001_0000;
+}
+
+fn set_screen_5(bytes: &mut Vec<u8>, undo_states: u8)
+    requires { 64 ≤ length bytes.old.items }
+    ensures { bytes.new.items ≡ with_values (screen_fields_5 undo_states bytes.old.items) bytes.old.items }
+{
+    let (high, low) = (bytes[0x10], bytes[0x11]);
+    let kept = if undo_states == 0 {
+        0b0000_0111
+    } else {
+        0b0001_0111
+    };
+    bytes[0x22] = 0;
+    bytes[0x23] = 80;
+    bytes[0x24] = 0;
+    bytes[0x25] = 255;
+    bytes[0x26] = 1;
+    bytes[0x27] = 1;
+    bytes[0x2c] = 2;
+    bytes[0x2d] = 9;
+    bytes[0x11] = low & kept;
+    bytes[0x10] = high & 0b1111_1110;
+}
+
+/// Sets the header's fields that an interpreter sets.
+#[tactic(auto, unfolding(crate::specs::Fresh::with_fields))]
+fn set_fields(bytes: &mut Vec<u8>, version: u8, undo_states: u8)
+    requires { 64 ≤ length bytes.old.items }
+    ensures { bytes.new.items ≡ with_fields version undo_states bytes.old.items }
+{
+    set_standard(bytes);
+    if version < 4 {
+        set_screen_3(bytes);
+        return;
+    }
+    set_screen_4(bytes);
+    if version >= 5 {
+        set_screen_5(bytes, undo_states);
+    }
+}
+
+/// The items of a list of bytes are below 256.
+fn are_bytes(bytes: &[u8])
+    ensures { (i : ℕ) → get_or bytes.now i 0 < 256 }
+{}
+
+/// Why a write outside dynamic memory is refused.
+#[cold]
+fn refused(a: u32, readable: u32) -> Fault
+    ensures { result ≡ (if nat_lt a readable then Fault.ReadOnly else Fault.BadAddress) }
+{
+    if a < readable {
+        Fault::ReadOnly
+    } else {
+        Fault::BadAddress
+    }
+}
+
+impl Memory {
+    /// The memory at the start of a story: its file, with the header's fields that an interpreter sets
+    /// (Standard, section 11.1). Where there is no memory for it, the story is given up.
+    #[tactic(auto, unfolding(crate::specs::Fresh::fresh), using(crate::proofs::Bounds::none_bounds))]
+    pub fn start(alloc: Global, story: Story, setup: Setup) -> Result<Memory, AllocError>
+        ensures { IfOk result (λ m. m ≡ fresh story setup.undo_states) }
+    {
+        let file = story.bytes;
+        let header = header_at_front(file.as_slice());
+        let mut bytes = Vec::from_slice(alloc, file.as_slice())?;
+        set_fields(&mut bytes, header.version, setup.undo_states);
+        let readable = bytes.len().min(65_536) as u32;
+        Ok(Memory {
+            header,
+            readable,
+            undo_states: setup.undo_states,
+            bytes,
+            file,
+        })
+    }
+
+    /// The byte at an address, or `BadAddress` outside readable data.
+    #[tactic(auto, unfolding(crate::specs::Map::byte_at))]
+    pub fn byte(&self, a: u32) -> Result<u8, Fault>
+        ensures { result ≡ byte_at self.now a }
+    {
+        if a < self.readable {
+            Ok(self.bytes[a as usize])
+        } else {
+            Err(Fault::BadAddress)
+        }
+    }
+
+    /// The word at an address, high byte first, or `BadAddress` where one of its bytes lies outside
+    /// readable data.
+    #[tactic(auto, unfolding(crate::specs::Map::word_at))]
+    pub fn word(&self, a: u32) -> Result<u16, Fault>
+        ensures { result ≡ word_at self.now a }
+    {
+        if a < self.readable - 1 {
+            let at = a as usize;
+            Ok(256 * self.bytes[at] as u16 + self.bytes[at + 1] as u16)
+        } else {
+            Err(Fault::BadAddress)
+        }
+    }
+
+    /// Writes a byte of dynamic memory. Elsewhere nothing changes, and it is `BadAddress` outside
+    /// readable data, `ReadOnly` inside.
+    #[tactic(auto, unfolding(crate::specs::Map::byte_put))]
+    pub fn set_byte(&mut self, a: u32, value: u8) -> Result<(), Fault>
+        ensures { MatchResult result (λ _. byte_put self.old a value ≡ Ok self.new) (λ e. (byte_put self.old a value ≡ Err e) × (self.new ≡ self.old)) }
+    {
+        if a >= self.header.static_base as u32 {
+            return Err(refused(a, self.readable));
+        }
+        self.bytes[a as usize] = value;
+        Ok(())
+    }
+
+    /// Writes a word of dynamic memory, high byte first. Where one of its bytes lies elsewhere nothing
+    /// changes, and it is `BadAddress` outside readable data, `ReadOnly` inside.
+    #[tactic(auto, unfolding(crate::specs::Map::word_put))]
+    pub fn set_word(&mut self, a: u32, value: u16) -> Result<(), Fault>
+        ensures { MatchResult result (λ _. word_put self.old a value ≡ Ok self.new) (λ e. (word_put self.old a value ≡ Err e) × (self.new ≡ self.old)) }
+    {
+        if a >= self.header.static_base as u32 - 1 {
+            return Err(refused(a, self.readable - 1));
+        }
+        let at = a as usize;
+        self.bytes[at] = (value >> 8) as u8;
+        self.bytes[at + 1] = (value & 0xff) as u8;
+        Ok(())
+    }
+
+    /// The length of the story, in bytes.
+    pub fn len(&self) -> u32
+        ensures value { result ≡ length self.now.bytes }
+        ensures bound { result ≤ 524288 }
+        ensures same { length self.now.file ≡ length self.now.bytes }
+    {
+        self.bytes.len() as u32
+    }
+
+    /// The byte at any address of the story, for code and text.
+    #[tactic(auto, unfolding(crate::specs::Map::cell_at))]
+    pub fn cell(&self, a: u32) -> Option<u8>
+        ensures value { result ≡ cell_at self.now a }
+        ensures within { OnSome result (a < 524288) }
+    {
+        self.bytes.get(a as usize).copied()
+    }
+
+    /// The story's version.
+    pub fn version(&self) -> u8
+        ensures value { result ≡ self.now.version }
+        ensures bound { self.now.version < 256 }
+        ensures file { self.now.version ≡ (header_of self.now.file).version }
+    {
+        self.header.version
+    }
+
+    /// What the header of the story's file says, whatever was written over it.
+    pub fn header(&self) -> Header
+        ensures { result ≡ header_of self.now.file }
+    {
+        self.header
+    }
+
+    /// Dynamic memory as it stands: the bytes below the static base.
+    pub fn dynamic(&self) -> &[u8]
+        ensures value { result.now ≡ take self.now.static_base self.now.bytes }
+        ensures len { length result.now ≡ self.now.static_base }
+    {
+        &self.bytes.as_slice()[..self.header.static_base as usize]
+    }
+
+    /// The whole story file.
+    pub fn original(&self) -> &[u8]
+        ensures { result.now ≡ self.now.file }
+    {
+        self.file.as_slice()
+    }
+
+    /// What stands at an address is a byte.
+    #[tactic(auto, using(crate::proofs::Bounds::bytes_fit))]
+    pub fn has_bytes(&self)
+        ensures { HasBytes self.now }
+    {
+        are_bytes(self.bytes.as_slice());
+    }
+
+    /// From the static base on the bytes are those of the story file.
+    pub fn keeps_file(&self)
+        ensures { KeepsFile self.now }
+    {
+        let _ = &self.bytes;
+    }
+}
