@@ -1,0 +1,7 @@
+// The devices that a story is played on.
+#![tactic(auto)]
+
+pub mod nothing;
+pub mod over;
+pub mod source;
+pub mod target;

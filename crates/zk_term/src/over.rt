@@ -1,0 +1,65 @@
+// Sources and targets over std's readers and writers.
+
+ghost use Rattle.std.specs.Prelude.{◌≡◌, false};
+
+use crate::source::Source;
+use crate::target::{Failed, Target};
+use std::io::{Read, Write};
+
+/// A source over a reader, or a target over a writer. Each error of it is a failure, and so is a write
+/// that takes none of some bytes.
+#[derive(Drop)]
+pub struct Over<T> {
+    inner: T,
+    failed: bool,
+}
+
+impl<T> Over<T> {
+    pub fn new(inner: T) -> Over<T>
+        ensures { result ≡ record { inner = inner; failed = false } }
+    {
+        Over {
+            inner,
+            failed: false,
+        }
+    }
+
+    /// The reader or writer.
+    pub fn into_inner(self) -> T
+        ensures { result ≡ self.inner }
+    {
+        self.inner
+    }
+}
+
+impl<R: Read> Source for Over<R> {
+    ghost left = { λ o. R.remaining o.inner };
+
+    ghost failed = { λ o. o.failed };
+
+    fn read(&mut self, buffer: &mut [u8]) -> Result<usize, Failed> {
+        match self.inner.read(buffer) {
+            Ok(n) => Ok(n),
+            Err(_) => {
+                self.failed = true;
+                Err(Failed)
+            }
+        }
+    }
+}
+
+impl<W: Write> Target for Over<W> {
+    ghost taken = { λ o. W.contents o.inner };
+
+    ghost failed = { λ o. o.failed };
+
+    fn write(&mut self, bytes: &[u8]) -> Result<usize, Failed> {
+        match self.inner.write(bytes) {
+            Ok(n) if n > 0 || bytes.is_empty() => Ok(n),
+            _ => {
+                self.failed = true;
+                Err(Failed)
+            }
+        }
+    }
+}

@@ -1,0 +1,44 @@
+// Where bytes go.
+
+ghost use Rattle.std.specs.Prelude.{◌≡◌, ◌≤◌, ◌<◌, ◌||◌, length, is_err, IfOk, OnOk, OnErr};
+ghost use Rattle.std.specs.Io.KnownBytes.{Appends, WriteAppends};
+ghost use Rattle.zk_term.specs.Devices.{TookPart};
+
+/// A read or a write that failed.
+#[derive(Clone, Copy, Debug, PartialEq, Eq, Drop)]
+pub struct Failed;
+
+/// Takes bytes: a screen, a file, a list in memory.
+pub trait Target {
+    ghost use Rattle.std.specs.Prelude.{List, ℕ, Bool, Option};
+
+    // the bytes that it took, where it tells them
+    ghost taken: { Self → Option (List ℕ) };
+
+    // that a write has failed
+    ghost failed: { Self → Bool };
+
+    /// Takes bytes from the front of `bytes`, at least one where there is one, and says how many. A
+    /// write that fails takes none.
+    fn write(&mut self, bytes: &[u8]) -> Result<usize, Failed>
+        ensures count { IfOk result (λ n. n ≤ length bytes.now) }
+        ensures progress { 0 < length bytes.now → IfOk result (λ n. 0 < n) }
+        ensures bytes { WriteAppends (taken self.old) (taken self.new) result bytes.now }
+        ensures failed { failed self.new ≡ (is_err result || failed self.old) };
+}
+
+/// Writes all bytes, or where a write fails a first part of them.
+pub fn write_all<T: Target>(target: &mut T, bytes: &[u8]) -> Result<(), Failed>
+    ensures all { OnOk result (Appends (T.taken target.old) (T.taken target.new) bytes.now) }
+    ensures part { OnErr result (TookPart (T.taken target.old) (T.taken target.new) bytes.now) }
+    ensures failed { T.failed target.new ≡ (is_err result || T.failed target.old) }
+{
+    let mut sent = 0;
+    while sent < bytes.len() {
+        match target.write(&bytes[sent..]) {
+            Ok(n) => sent += n,
+            Err(Failed) => return Err(Failed),
+        }
+    }
+    Ok(())
+}
