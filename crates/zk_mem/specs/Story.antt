@@ -1,7 +1,7 @@
 -- Which files are stories.
 use Rattle.std.specs.Prelude.{ℕ, ◌<◌, ◌≤◌, ◌||◌, Bool, true, false, List, [], ◌∷◌, length, slice_index, Option, Some, None, nat_lt, nat_le, ◌==◌, if◌then◌else◌}
 use Rattle.zk_mem.specs.declared.story.OpenError.{OpenError}
-use Rattle.zk_mem.specs.declared.story.OpenError.TheVariants.{TooShort, Version, TooLong, StaticBase, FirstInstruction}
+use Rattle.zk_mem.specs.declared.story.OpenError.TheVariants.{TooShort, Version, TooLong, StaticBase, FirstInstruction, OutOfMemory}
 use Rattle.zk_mem.specs.Header.{word_in}
 
 -- the greatest length of a file of a version (Standard, section 1.1.4), of those that are played
@@ -38,6 +38,15 @@ first_of (r ∷ rs) = if r.0 then Some r.1 else first_of rs
 -- why a file is no story, where it is none
 unfoldable pub refusal : List ℕ → Option OpenError
 refusal file = first_of (reasons file)
+
+-- the numbers that reports name refusals by
+abbrev pub refusal_number : OpenError → ℕ
+refusal_number TooShort = 1
+refusal_number (Version v) = 2
+refusal_number TooLong = 3
+refusal_number StaticBase = 4
+refusal_number FirstInstruction = 5
+refusal_number OutOfMemory = 6
 
 -- the bounds that a story keeps
 pub record IsBounded (file : List ℕ) : Type 0 where

@@ -1,7 +1,7 @@
 // Opening a story file.
 
 ghost use Rattle.std.specs.Prelude.{◌≡◌, ◌⊎◌, IfOk, IfErr, Some, None};
-ghost use Rattle.zk_mem.specs.Story.{greatest_length, refusal};
+ghost use Rattle.zk_mem.specs.Story.{greatest_length, refusal, refusal_number};
 ghost use Rattle.zk_mem.specs.Header.{header_of};
 
 use crate::header::{Header, header_at_front, word_of};
@@ -31,6 +31,22 @@ pub enum OpenError {
     /// There is no memory for the story.
     #[error("out of memory")]
     OutOfMemory,
+}
+
+impl OpenError {
+    /// The number that reports name the refusal by.
+    pub fn number(self) -> u8
+        ensures { result ≡ refusal_number self }
+    {
+        match self {
+            OpenError::TooShort => 1,
+            OpenError::Version(_) => 2,
+            OpenError::TooLong => 3,
+            OpenError::StaticBase => 4,
+            OpenError::FirstInstruction => 5,
+            OpenError::OutOfMemory => 6,
+        }
+    }
 }
 
 /// A story file: bytes that are a story (Z-Machine Standards Document 1.1, sections 1 and 11).

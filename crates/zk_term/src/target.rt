@@ -1,6 +1,6 @@
 // Where bytes go.
 
-ghost use Rattle.std.specs.Prelude.{◌≡◌, ◌≤◌, ◌<◌, ◌||◌, length, is_err, IfOk, OnOk, OnErr};
+ghost use Rattle.std.specs.Prelude.{◌≡◌, ◌≤◌, ◌<◌, ◌||◌, length, is_err, IfOk, OnOk, OnErr, encode_utf8};
 ghost use Rattle.std.specs.Io.KnownBytes.{Appends, WriteAppends};
 ghost use Rattle.zk_term.specs.Devices.{TookPart};
 
@@ -41,4 +41,14 @@ pub fn write_all<T: Target>(target: &mut T, bytes: &[u8]) -> Result<(), Failed>
         }
     }
     Ok(())
+}
+
+/// Writes a character as UTF-8, or where a write fails a first part of its bytes.
+pub fn write_char<T: Target>(target: &mut T, c: char) -> Result<(), Failed>
+    ensures all { OnOk result (Appends (T.taken target.old) (T.taken target.new) (encode_utf8 c)) }
+    ensures part { OnErr result (TookPart (T.taken target.old) (T.taken target.new) (encode_utf8 c)) }
+    ensures failed { T.failed target.new ≡ (is_err result || T.failed target.old) }
+{
+    let mut buffer = [0u8; 4];
+    write_all(target, c.encode_utf8(&mut buffer).as_bytes())
 }

@@ -1,0 +1,10 @@
+pub mod OperandSteps
+pub mod TextSteps
+pub mod Standing
+pub mod Tails
+pub mod Heads
+pub mod Whole
+pub mod Longer
+pub mod Room
+pub mod Cut
+pub mod Same

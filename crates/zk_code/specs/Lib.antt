@@ -1,0 +1,5 @@
+pub mod Table
+pub mod Operands
+pub mod Targets
+pub mod Reading
+pub mod Grammar

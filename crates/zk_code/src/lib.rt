@@ -1,0 +1,14 @@
+// The instructions of a story, as its bytes spell them.
+#![tactic(auto)]
+
+pub mod branch;
+mod bytes;
+pub mod decode;
+mod head;
+pub mod instr;
+pub mod laws;
+pub mod opcode;
+pub mod operands;
+mod table;
+#[cfg(test)]
+mod tests;

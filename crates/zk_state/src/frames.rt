@@ -1,0 +1,289 @@
+// Frames: a record for each, and one list of numbered words for their evaluation stacks.
+
+ghost use Rattle.std.specs.Prelude.{◌≡◌, ◌+◌, ◌<◌, ◌≤◌, ◌^◌, length, nat_lt, MatchResult, IfOk};
+ghost use Rattle.zk_state.specs.Frames.{first_frames, total_of, pushed, popped, top_of, with_top, local_of, with_local, called, left, unwound, IsBounded};
+
+use crate::refusal::{Limit, Refusal};
+use arrayvec::ArrayVec;
+use std::alloc::{AllocError, Global};
+use std::marker::Model;
+use zk_mem::fault::Fault;
+
+/// The most local variables that a routine has (Standard, section 5.2).
+const LOCALS: usize = 15;
+
+/// Where a routine returns to: the byte address, and the variable that takes its result, if any does.
+#[derive(Clone, Copy, Debug, PartialEq, Eq, Drop)]
+pub struct Return {
+    pub place: u32,
+    pub result: Option<u8>,
+}
+
+/// A word of the evaluation stack of a frame, which is named by how many lie below it.
+#[derive(Clone, Copy, Debug, PartialEq, Eq, Drop)]
+struct NumberedWord {
+    frame: u16,
+    value: u16,
+}
+
+/// A frame without its evaluation stack.
+#[derive(Drop)]
+struct FrameRecord {
+    locals: ArrayVec<u16, LOCALS>,
+    place: u32,
+    result: Option<u8>,
+    supplied: u8,
+}
+
+/// The frames of the routines that have called one another (Standard, section 6.1), within bounds on
+/// their number and on the words that they hold together: local variables and evaluation stacks.
+/// All room is taken at the start, so no other call can fail for want of memory.
+#[derive(Drop)]
+pub struct Frames {
+    current: FrameRecord,
+    callers: Vec<FrameRecord>,
+    words: Vec<NumberedWord>,
+    local_count: usize,
+    most_frames: usize,
+    most_words: usize,
+}
+
+impl Model for Frames {
+    ghost use Rattle.zk_state.specs.Frames.{FrameList};
+
+    ghost Value = { FrameList };
+
+    ghost use Rattle.zk_state.specs.Numbered.{seen, IsKept};
+
+    ghost view = { seen };
+
+    ghost invariant = { IsKept };
+}
+
+impl Frames {
+    /// The first frame alone, without local variables and words (Standard, section 5.5). There may be
+    /// at most `most_frames` frames, the first among them, and `most_words` words.
+    pub fn new(alloc: Global, most_frames: u16, most_words: u16) -> Result<Frames, AllocError>
+        requires { 1 ≤ most_frames }
+        ensures { IfOk result (λ s. s ≡ first_frames most_frames most_words) }
+    {
+        let callers = Vec::with_capacity(alloc, most_frames as usize)?;
+        let words = Vec::with_capacity(alloc, most_words as usize)?;
+        Ok(Frames {
+            current: FrameRecord {
+                locals: ArrayVec::new(),
+                place: 0,
+                result: None,
+                supplied: 0,
+            },
+            callers,
+            words,
+            local_count: 0,
+            most_frames: most_frames as usize,
+            most_words: most_words as usize,
+        })
+    }
+
+    /// The number of the current frame, which is how many lie above the first (Standard, section 15,
+    /// catch).
+    pub fn depth(&self) -> u16
+        ensures value { result ≡ length self.now.callers }
+        ensures bounded { IsBounded self.now }
+    {
+        self.callers.len() as u16
+    }
+
+    /// How many words all frames hold together, local variables included.
+    pub fn words(&self) -> u32
+        ensures { result ≡ total_of self.now }
+    {
+        (self.local_count + self.words.len()) as u32
+    }
+
+    /// How many arguments the current routine was given (Standard, section 15, check_arg_count).
+    pub fn supplied(&self) -> u8
+        ensures { result ≡ self.now.current.supplied }
+    {
+        self.current.supplied
+    }
+
+    /// Pushes a word on the evaluation stack (Standard, section 6.3). Where there is no room for it,
+    /// this is `Limit::Words`.
+    #[tactic(auto, unfolding(crate::specs::Frames::pushed, crate::specs::Frames::within_bounds))]
+    pub fn push(&mut self, value: u16) -> Result<(), Refusal>
+        ensures { MatchResult result
+            (λ _. pushed self.old value ≡ Ok self.new)
+            (λ e. (pushed self.old value ≡ Err e) × (self.new ≡ self.old)) }
+    {
+        if self.local_count + self.words.len() >= self.most_words {
+            return Err(Refusal::Limit(Limit::Words));
+        }
+        let frame = self.depth();
+        self.words.push(NumberedWord { frame, value }).unwrap();
+        Ok(())
+    }
+
+    /// Whether the current routine has a word on the evaluation stack.
+    fn has_word(&self) -> bool
+        ensures { result ≡ nat_lt 0 (length self.now.current.words) }
+    {
+        match self.words.last() {
+            Some(word) => word.frame as usize == self.callers.len(),
+            None => false,
+        }
+    }
+
+    /// Pulls the newest word off the evaluation stack (Standard, section 6.3). Where the current routine
+    /// has none there, this is `Fault::StackEmpty`.
+    #[tactic(auto, unfolding(crate::specs::Frames::popped))]
+    pub fn pop(&mut self) -> Result<u16, Fault>
+        ensures { MatchResult result
+            (λ value. popped self.old ≡ Ok (self.new, value))
+            (λ e. (popped self.old ≡ Err e) × (self.new ≡ self.old)) }
+    {
+        if !self.has_word() {
+            return Err(Fault::StackEmpty);
+        }
+        let word = self.words.pop().unwrap();
+        Ok(word.value)
+    }
+
+    /// The newest word of the evaluation stack, which stays there (Standard, section 6.3.4). Where the
+    /// current routine has none there, this is `Fault::StackEmpty`.
+    #[tactic(auto, unfolding(crate::specs::Frames::top_of))]
+    pub fn top(&self) -> Result<u16, Fault>
+        ensures { result ≡ top_of self.now }
+    {
+        if !self.has_word() {
+            return Err(Fault::StackEmpty);
+        }
+        Ok(self.words[self.words.len() - 1].value)
+    }
+
+    /// Puts a word in the place of the newest one of the evaluation stack (Standard, section 6.3.4).
+    /// Where the current routine has none there, this is `Fault::StackEmpty`.
+    #[tactic(auto, unfolding(crate::specs::Frames::with_top))]
+    pub fn set_top(&mut self, value: u16) -> Result<(), Fault>
+        ensures { MatchResult result
+            (λ _. with_top self.old value ≡ Ok self.new)
+            (λ e. (with_top self.old value ≡ Err e) × (self.new ≡ self.old)) }
+    {
+        if !self.has_word() {
+            return Err(Fault::StackEmpty);
+        }
+        let last = self.words.len() - 1;
+        self.words[last].value = value;
+        Ok(())
+    }
+
+    /// A local variable of the current routine, by its number from 1 on (Standard, section 4.2.2).
+    /// Where it has no such one, this is `Fault::NoSuchLocal`.
+    #[tactic(auto, unfolding(crate::specs::Frames::local_of))]
+    pub fn local(&self, number: u8) -> Result<u16, Fault>
+        ensures { result ≡ local_of self.now number }
+    {
+        let number = number as usize;
+        if number == 0 || number > self.current.locals.len() {
+            return Err(Fault::NoSuchLocal);
+        }
+        Ok(self.current.locals[number - 1])
+    }
+
+    /// Writes a local variable of the current routine, by its number from 1 on (Standard, section
+    /// 4.2.2). Where it has no such one, this is `Fault::NoSuchLocal`.
+    #[tactic(auto, unfolding(crate::specs::Frames::with_local))]
+    pub fn set_local(&mut self, number: u8, value: u16) -> Result<(), Fault>
+        ensures { MatchResult result
+            (λ _. with_local self.old number value ≡ Ok self.new)
+            (λ e. (with_local self.old number value ≡ Err e) × (self.new ≡ self.old)) }
+    {
+        if number == 0 {
+            return Err(Fault::NoSuchLocal);
+        }
+        if let Some(local) = self.current.locals.get_mut(number as usize - 1) {
+            *local = value;
+            return Ok(());
+        }
+        Err(Fault::NoSuchLocal)
+    }
+
+    /// Begins a routine with these local variables. It will return to the byte address `place`, its
+    /// result goes to the variable `store`, and it was given `supplied` arguments (Standard, section
+    /// 6.4). With a frame too many this is `Limit::Frames`, else with words too many `Limit::Words`.
+    #[tactic(auto, unfolding(crate::specs::Frames::called, crate::specs::Frames::within_bounds))]
+    pub fn call(
+        &mut self,
+        locals: &[u16],
+        place: u32,
+        store: Option<u8>,
+        supplied: u8,
+    ) -> Result<(), Refusal>
+        requires locals { length locals.now ≤ 15 }
+        requires place { place < 2 ^ 24 }
+        requires supplied { supplied ≤ 7 }
+        ensures { MatchResult result
+            (λ _. called self.old locals.now place store supplied ≡ Ok self.new)
+            (λ e. (called self.old locals.now place store supplied ≡ Err e) × (self.new ≡ self.old)) }
+    {
+        if self.callers.len() + 1 >= self.most_frames {
+            return Err(Refusal::Limit(Limit::Frames));
+        }
+        if self.local_count + self.words.len() + locals.len() > self.most_words {
+            return Err(Refusal::Limit(Limit::Words));
+        }
+        let mut own = ArrayVec::new();
+        own.try_extend_from_slice(locals).unwrap();
+        let called = FrameRecord {
+            locals: own,
+            place,
+            result: store,
+            supplied,
+        };
+        let caller = std::mem::replace(&mut self.current, called);
+        self.callers.push(caller).unwrap();
+        self.local_count += locals.len();
+        Ok(())
+    }
+
+    /// Leaves the current routine, with its words, for the one that called it, and tells where that
+    /// goes on (Standard, section 6.3.2). In the first frame this is `Fault::ReturnFromMain`.
+    #[tactic(auto, unfolding(crate::specs::Frames::left))]
+    pub fn leave(&mut self) -> Result<Return, Fault>
+        ensures { MatchResult result
+            (λ back. left self.old ≡ Ok (self.new, back))
+            (λ e. (left self.old ≡ Err e) × (self.new ≡ self.old)) }
+    {
+        let number = self.callers.len();
+        match self.callers.pop() {
+            Some(caller) => {
+                let back = Return {
+                    place: self.current.place,
+                    result: self.current.result,
+                };
+                self.words.retain(|word| word.frame as usize != number);
+                self.local_count -= self.current.locals.len();
+                self.current = caller;
+                Ok(back)
+            }
+            None => Err(Fault::ReturnFromMain),
+        }
+    }
+
+    /// Drops the frames above the one of a number, where the first has number 0 (Standard, section 15,
+    /// throw). Where there is no such frame, this is `Fault::BadFrame`.
+    #[tactic(auto, unfolding(crate::specs::Frames::unwound))]
+    pub fn unwind(&mut self, number: u16) -> Result<(), Fault>
+        ensures { MatchResult result
+            (λ _. unwound self.old number ≡ Ok self.new)
+            (λ e. (unwound self.old number ≡ Err e) × (self.new ≡ self.old)) }
+    {
+        let depth = self.depth();
+        if number > depth {
+            return Err(Fault::BadFrame);
+        }
+        for _i in number..depth {
+            let _ = self.leave();
+        }
+        Ok(())
+    }
+}

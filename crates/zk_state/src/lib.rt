@@ -1,0 +1,7 @@
+// The frames of the routines that have called one another, within bounds.
+#![tactic(auto)]
+
+pub mod frames;
+pub mod refusal;
+#[cfg(test)]
+mod tests;

@@ -1,0 +1,143 @@
+// The frames of a small story.
+
+use crate::frames::{Frames, Return};
+use crate::refusal::{Limit, Refusal};
+use std::test::Fail;
+use zk_mem::fault::Fault;
+
+#[test]
+fn words_go_up_to_the_bound(rt: HostRuntime) -> Result<(), Fail> {
+    let mut frames = Frames::new(rt.alloc(), 1, 3)?;
+    assert_eq!(rt; frames.pop(), Err(Fault::StackEmpty));
+    assert_eq!(rt; frames.top(), Err(Fault::StackEmpty));
+    assert_eq!(rt; frames.set_top(5), Err(Fault::StackEmpty));
+    for word in [10, 0, 65535] {
+        assert_eq!(rt; frames.push(word), Ok(()), "{word}");
+    }
+    assert_eq!(rt; frames.push(40), Err(Refusal::Limit(Limit::Words)));
+    assert_eq!(rt; frames.words(), 3);
+    assert_eq!(rt; frames.top(), Ok(65535));
+    assert_eq!(rt; frames.set_top(31), Ok(()));
+    for word in [31, 0, 10] {
+        assert_eq!(rt; frames.pop(), Ok(word));
+    }
+    assert_eq!(rt; frames.pop(), Err(Fault::StackEmpty));
+    assert_eq!(rt; frames.words(), 0);
+    Ok(())
+}
+
+#[test]
+fn frames_go_up_to_the_bound(rt: HostRuntime) -> Result<(), Fail> {
+    let mut frames = Frames::new(rt.alloc(), 3, 4)?;
+    assert_eq!(rt; frames.depth(), 0);
+    assert_eq!(rt; frames.supplied(), 0);
+    assert_eq!(rt; frames.leave(), Err(Fault::ReturnFromMain));
+    assert_eq!(rt; frames.call(&[1, 2, 3], 66, Some(0), 1), Ok(()));
+    assert_eq!(rt;
+        frames.call(&[4, 5], 66, None, 0),
+        Err(Refusal::Limit(Limit::Words))
+    );
+    assert_eq!(rt; frames.call(&[4], 70, None, 0), Ok(()));
+    assert_eq!(rt;
+        frames.call(&[5], 74, None, 0),
+        Err(Refusal::Limit(Limit::Frames))
+    );
+    assert_eq!(rt; frames.depth(), 2);
+    assert_eq!(rt; frames.words(), 4);
+    assert_eq!(rt; frames.local(1), Ok(4));
+    Ok(())
+}
+
+#[test]
+fn a_return_drops_the_words_of_its_routine(rt: HostRuntime) -> Result<(), Fail> {
+    let mut frames = Frames::new(rt.alloc(), 4, 20)?;
+    assert_eq!(rt; frames.push(7), Ok(()));
+    assert_eq!(rt; frames.call(&[1, 2, 3], 0x12345, Some(16), 2), Ok(()));
+    assert_eq!(rt; frames.supplied(), 2);
+    assert_eq!(rt; frames.words(), 4);
+    assert_eq!(rt; frames.pop(), Err(Fault::StackEmpty));
+    for word in [8, 9] {
+        assert_eq!(rt; frames.push(word), Ok(()));
+    }
+    assert_eq!(rt; frames.words(), 6);
+    let back = Return {
+        place: 0x12345,
+        result: Some(16),
+    };
+    assert_eq!(rt; frames.leave(), Ok(back));
+    assert_eq!(rt; frames.depth(), 0);
+    assert_eq!(rt; frames.words(), 1);
+    assert_eq!(rt; frames.pop(), Ok(7));
+    Ok(())
+}
+
+#[test]
+fn local_variables_are_counted_from_1(rt: HostRuntime) -> Result<(), Fail> {
+    let mut frames = Frames::new(rt.alloc(), 2, 15)?;
+    assert_eq!(rt; frames.local(1), Err(Fault::NoSuchLocal));
+    let locals = [
+        101, 102, 103, 104, 105, 106, 107, 108, 109, 110, 111, 112, 113, 114, 115,
+    ];
+    assert_eq!(rt; frames.call(&locals, 66, None, 0), Ok(()));
+    for (number, old, new) in [(1, 101, 201), (2, 102, 202), (14, 114, 214), (15, 115, 215)] {
+        assert_eq!(rt; frames.local(number), Ok(old), "{number}");
+        assert_eq!(rt; frames.set_local(number, new), Ok(()), "{number}");
+        assert_eq!(rt; frames.local(number), Ok(new), "{number}");
+    }
+    for number in [0, 16, 255] {
+        assert_eq!(rt; frames.local(number), Err(Fault::NoSuchLocal), "{number}");
+        assert_eq!(rt;
+            frames.set_local(number, 1),
+            Err(Fault::NoSuchLocal),
+            "{number}"
+        );
+    }
+    assert_eq!(rt; frames.local(3), Ok(103));
+    assert_eq!(rt; frames.words(), 15);
+    Ok(())
+}
+
+#[test]
+fn unwinds_to_a_frame(rt: HostRuntime) -> Result<(), Fail> {
+    let mut frames = Frames::new(rt.alloc(), 5, 20)?;
+    for place in [70, 80, 90, 100] {
+        assert_eq!(rt; frames.push(place), Ok(()));
+        assert_eq!(rt; frames.call(&[1], place as u32, None, 0), Ok(()));
+    }
+    assert_eq!(rt; frames.unwind(5), Err(Fault::BadFrame));
+    for (number, words) in [(4, 8), (2, 5), (2, 5)] {
+        assert_eq!(rt; frames.unwind(number), Ok(()));
+        assert_eq!(rt; frames.depth(), number);
+        assert_eq!(rt; frames.words(), words);
+    }
+    let back = Return {
+        place: 80,
+        result: None,
+    };
+    assert_eq!(rt; frames.leave(), Ok(back));
+    assert_eq!(rt; frames.unwind(0), Ok(()));
+    assert_eq!(rt; frames.depth(), 0);
+    assert_eq!(rt; frames.pop(), Ok(70));
+    assert_eq!(rt; frames.pop(), Err(Fault::StackEmpty));
+    Ok(())
+}
+
+#[test]
+fn limits_and_faults_are_named(rt: HostRuntime) -> Result<(), Fail> {
+    for (refusal, text) in [
+        (Refusal::Limit(Limit::Frames), "too many frames"),
+        (Refusal::Limit(Limit::Words), "too many words in the frames"),
+        (
+            Refusal::Limit(Limit::Steps),
+            "too many instructions since the last read",
+        ),
+        (Refusal::Limit(Limit::Reads), "too many reads"),
+        (
+            Refusal::Fault(Fault::StackEmpty),
+            "the evaluation stack of the frame is empty",
+        ),
+    ] {
+        assert_eq!(rt; format!(in rt.alloc(); "{refusal}")?.as_str(), text);
+    }
+    Ok(())
+}

@@ -1,0 +1,6 @@
+pub mod Joins
+pub mod TextWords
+pub mod Spells
+pub mod Cases
+pub mod Tables
+pub mod ShownLemmas

@@ -1,0 +1,10 @@
+pub mod Alphabets
+pub mod Words
+pub mod Pieces
+pub mod Reading
+pub mod Meaning
+pub mod Walks
+pub mod Extra
+pub mod Shown
+pub mod Keys
+pub mod Laws

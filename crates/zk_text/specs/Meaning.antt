@@ -1,0 +1,75 @@
+-- What a text means: the units that it prints (Standard, sections 3.2 to 3.6).
+use Rattle.std.specs.Prelude.{ℕ, ◌+◌, ◌*◌, List, [], ◌∷◌, ◌++◌, length, Option, Some, None, Result, Ok, Err}
+use Rattle.zk_mem.specs.Header.{header_of}
+use Rattle.zk_mem.specs.Map.{MemoryMap, word_at}
+use Rattle.zk_mem.specs.Results.{◌>>=◌}
+use Rattle.zk_mem.specs.declared.fault.Fault.{Fault}
+use Rattle.zk_mem.specs.declared.fault.Fault.TheVariants.{TextPastEnd, NestedAbbreviation}
+use Rattle.zk_text.specs.declared.alphabet.Row.{Row}
+use Rattle.zk_text.specs.declared.pieces.Piece.{Piece}
+use Rattle.zk_text.specs.declared.pieces.Piece.TheVariants as piece
+use Rattle.zk_text.specs.declared.unit.Unit.{Unit}
+use Rattle.zk_text.specs.declared.unit.Unit.TheVariants as unit
+use Rattle.zk_text.specs.Alphabets.{letter_of}
+use Rattle.zk_text.specs.Words.{words_at, z_characters}
+use Rattle.zk_text.specs.Pieces.{pieces}
+
+-- the units that a text prints, or why it has no meaning
+abbrev pub Units : Type 0
+Units = Result (List Unit) Fault
+
+-- units before others; the first that are none decide
+abbrev pub joined : Units → Units → Units
+joined (Err f) rest = Err f
+joined (Ok us) (Err f) = Err f
+joined (Ok us) (Ok vs) = Ok (us ++ vs)
+
+-- what a piece stands for, by the letters of the alphabets and by what abbreviations stand for
+abbrev pub value : (Row → ℕ → ℕ) → (ℕ → Units) → Piece → Units
+value letter abbreviation (piece.Letter row z) = Ok (unit.Code (letter row z) ∷ [])
+value letter abbreviation (piece.Code code) = Ok (unit.Code code ∷ [])
+value letter abbreviation (piece.Abbreviation n) = abbreviation n
+
+-- what pieces stand for, one after another
+unfoldable pub values : (Row → ℕ → ℕ) → (ℕ → Units) → List Piece → Units
+values letter abbreviation [] = Ok []
+values letter abbreviation (p ∷ ps) = joined (value letter abbreviation p) (values letter abbreviation ps)
+
+-- what a list of Z-characters means, by what abbreviations stand for
+abbrev pub meaning : MemoryMap → (ℕ → Units) → List ℕ → Units
+meaning m abbreviation zs = values (letter_of m) abbreviation (pieces zs)
+
+-- a text without an end inside the story is a fault
+abbrev pub past_end : {A : Type 0} → Option A → Result A Fault
+past_end None = Err TextPastEnd
+past_end (Some x) = Ok x
+
+-- what the text at an address means, by what abbreviations stand for
+abbrev pub meaning_at : (ℕ → Units) → MemoryMap → ℕ → Units
+meaning_at abbreviation m a = past_end (words_at m a) >>= λ ws. meaning m abbreviation (z_characters ws)
+
+-- an abbreviation inside an abbreviation stands for nothing (section 3.3.1)
+abbrev pub no_abbreviation : ℕ → Units
+no_abbreviation n = Err NestedAbbreviation
+
+-- a word of the table of abbreviations, without which there is no text
+abbrev pub table_word : Result ℕ Fault → Result ℕ Fault
+table_word (Ok w) = Ok w
+table_word (Err f) = Err TextPastEnd
+
+-- what an abbreviation stands for: its table has word addresses (sections 3.3 and 1.2.2)
+unfoldable pub abbreviation : MemoryMap → ℕ → Units
+abbreviation m n =
+    table_word (word_at m ((header_of m.file).abbreviations + 2 * n)) >>= λ w. meaning_at no_abbreviation m (2 * w)
+
+-- what the text at an address means
+unfoldable pub text_units : MemoryMap → ℕ → Units
+text_units m a = meaning_at (abbreviation m) m a
+
+-- the address after the last word of the text at an address
+unfoldable pub end_at : MemoryMap → ℕ → Result ℕ Fault
+end_at m a = past_end (words_at m a) >>= λ ws. Ok (a + 2 * length ws)
+
+-- the same for a text that has a meaning
+unfoldable pub checked_end : MemoryMap → ℕ → Result ℕ Fault
+checked_end m a = end_at m a >>= λ end. text_units m a >>= λ us. Ok end

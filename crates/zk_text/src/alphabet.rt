@@ -1,0 +1,79 @@
+// The alphabets of a story.
+
+ghost use Rattle.std.specs.Prelude.{◌≡◌};
+ghost use Rattle.zk_text.specs.Alphabets.{row_start, alphabet_table, letter_code, letter_by};
+
+use zk_mem::memory::Memory;
+
+/// The letters of A0, A1 and A2 of the Standard, 26 each. The first of A2 begins a ten-bit code and is
+/// no letter.
+pub const DEFAULT_LETTERS: [u8; 78] =
+    *b"abcdefghijklmnopqrstuvwxyzABCDEFGHIJKLMNOPQRSTUVWXYZ \r0123456789.,!?_#'\"/\\-:()";
+
+/// One of the three alphabets (Z-Machine Standards Document 1.1, section 3.2).
+#[derive(Clone, Copy, Debug, PartialEq, Eq, Drop)]
+pub enum Row {
+    A0,
+    A1,
+    A2,
+}
+
+/// The alphabets that are in force (Standard, section 3.5).
+#[derive(Clone, Copy, Debug, PartialEq, Eq, Drop)]
+pub struct Alphabet {
+    /// The byte address of the story's own table, where it has one.
+    pub table: Option<u16>,
+}
+
+fn start_of(row: Row) -> u8
+    ensures { result ≡ row_start row }
+{
+    match row {
+        Row::A0 => 0,
+        Row::A1 => 26,
+        Row::A2 => 52,
+    }
+}
+
+/// A code of the 78 that the alphabets have, A0 first.
+#[tactic(auto, unfolding(zk_mem::specs::Map::cell_at), using(crate::proofs::Spells::read_or))]
+fn code_at(m: &Memory, table: Option<u16>, i: u16) -> u8
+    ensures { result ≡ letter_code m.now table i }
+{
+    match table {
+        None => DEFAULT_LETTERS.get(i as usize).copied().unwrap_or(0),
+        Some(a) => m.cell(a as u32 + i as u32).unwrap_or(0),
+    }
+}
+
+impl Alphabet {
+    /// The alphabets of a story: its own from version 5 on, where its file's header names a table that
+    /// lies in readable data, else those of the Standard.
+    #[tactic(auto, unfolding(crate::specs::Alphabets::alphabet_table))]
+    pub fn of(m: &Memory) -> Alphabet
+        ensures { result.table ≡ alphabet_table m.now }
+    {
+        let table = m.header().alphabet;
+        let end = table as u32 + 78;
+        if table == 0 || end > m.len() || end > 65_536 {
+            return Alphabet { table: None };
+        }
+        Alphabet { table: Some(table) }
+    }
+
+    /// The ZSCII code of a Z-character from 6 to 31 in an alphabet. An own table is read as it stands in
+    /// memory; 7 in A2 is a new line, code 13, in every table.
+    #[tactic(auto, unfolding(crate::specs::Alphabets::letter_by))]
+    pub fn letter(self, m: &Memory, row: Row, z: u8) -> u8
+        ensures { result ≡ letter_by m.now self.table row z }
+    {
+        if matches!(row, Row::A2) && z == 7 {
+            return 13;
+        }
+        code_at(
+            m,
+            self.table,
+            start_of(row) as u16 + z.saturating_sub(6) as u16,
+        )
+    }
+}

@@ -1,0 +1,204 @@
+// The extra characters of ZSCII.
+
+ghost use Rattle.std.specs.Prelude.{◌≡◌, ◌<◌, ◌^◌, IsTrue, IfSome, nat_lt, slice_get};
+ghost use Rattle.std.specs.List.{list_all};
+ghost use Rattle.zk_mem.specs.Header.{word_in};
+ghost use Rattle.zk_text.specs.Reading.{words_of};
+ghost use Rattle.zk_text.specs.Extra.{unicode_table, words_at_table, own_characters, characters, character, is_input_code, code_of, lower_code};
+
+use std::marker::Model;
+use zk_mem::memory::Memory;
+
+/// The characters of ZSCII 155 to 223 where a story has no Unicode table of its own (Standard, section
+/// 3.8.5.3).
+pub const DEFAULT_CHARACTERS: [char; 69] = [
+    'ä', 'ö', 'ü', 'Ä', 'Ö', 'Ü', 'ß', '»', '«', 'ë', 'ï', 'ÿ', 'Ë', 'Ï', 'á', 'é', 'í', 'ó', 'ú',
+    'ý', 'Á', 'É', 'Í', 'Ó', 'Ú', 'Ý', 'à', 'è', 'ì', 'ò', 'ù', 'À', 'È', 'Ì', 'Ò', 'Ù', 'â', 'ê',
+    'î', 'ô', 'û', 'Â', 'Ê', 'Î', 'Ô', 'Û', 'å', 'Å', 'ø', 'Ø', 'ã', 'ñ', 'õ', 'Ã', 'Ñ', 'Õ', 'æ',
+    'Æ', 'ç', 'Ç', 'þ', 'ð', 'Þ', 'Ð', '£', 'œ', 'Œ', '¡', '¿',
+];
+
+/// For each code of them that of its letter in lower case.
+pub const DEFAULT_LOWER: [u8; 69] = [
+    155, 156, 157, 155, 156, 157, 161, 162, 163, 164, 165, 166, 164, 165, 169, 170, 171, 172, 173,
+    174, 169, 170, 171, 172, 173, 174, 181, 182, 183, 184, 185, 181, 182, 183, 184, 185, 191, 192,
+    193, 194, 195, 191, 192, 193, 194, 195, 201, 201, 203, 203, 205, 206, 207, 205, 206, 207, 211,
+    211, 213, 213, 215, 216, 215, 216, 219, 220, 220, 222, 223,
+];
+
+/// A Unicode table in memory: its byte address, and how many words it states.
+#[derive(Clone, Copy, Debug, PartialEq, Eq, Drop)]
+pub(crate) struct Table {
+    pub(crate) at: u16,
+    pub(crate) count: u8,
+}
+
+/// The extra characters that are in force: what ZSCII 155 to 251 stand for (Z-Machine Standards Document
+/// 1.1, section 3.8.5). Contracts see it as the words of the story's own table, or none where those of
+/// the Standard are in force. Characters are given by their numbers in Unicode; a story's own may be
+/// halves of surrogate pairs.
+#[derive(Drop)]
+pub struct Extra<'a> {
+    memory: &'a Memory,
+    own: Option<Table>,
+}
+
+impl<'a> Model for Extra<'a> {
+    ghost use Rattle.zk_text.specs.Extra.{ExtraTable};
+    ghost use Rattle.zk_text.specs.Reading.{words_of};
+
+    ghost Value = { ExtraTable };
+
+    ghost view = { λ e. words_of e.memory.now.bytes e.own };
+}
+
+/// The address of the Unicode table that the header extension names.
+#[tactic(auto, unfolding(crate::specs::Extra::unicode_table))]
+fn table_address(m: &Memory) -> Option<u16>
+    ensures { result ≡ unicode_table m.now }
+{
+    let extension = m.header().extension as u32;
+    if extension == 0 {
+        return None;
+    }
+    match (m.word(extension), m.word(extension + 6)) {
+        (Ok(words), Ok(table)) => {
+            if words < 3 || table == 0 {
+                None
+            } else {
+                Some(table)
+            }
+        }
+        _ => None,
+    }
+}
+
+/// The table at an address, where all that it states lies in readable data.
+#[tactic(auto, unfolding(crate::specs::Extra::words_at_table))]
+fn table_at(m: &Memory, at: u16) -> Option<Table>
+    ensures { words_of m.now.bytes result ≡ words_at_table m.now at }
+{
+    match m.byte(at as u32) {
+        Err(_) => None,
+        Ok(count) => {
+            let end = at as u32 + 1 + 2 * count as u32;
+            if end > m.len() || end > 65_536 {
+                None
+            } else {
+                Some(Table { at, count })
+            }
+        }
+    }
+}
+
+/// The item of a table, by its index.
+#[tactic(auto, using(crate::proofs::Tables::narrow_of))]
+fn item(table: &[char], i: usize) -> Option<u16>
+    requires { IsTrue (list_all (λ c. nat_lt c 65536) table.now) }
+    ensures { result ≡ slice_get table.now i }
+{
+    match table.get(i) {
+        None => None,
+        Some(c) => Some(*c as u16),
+    }
+}
+
+/// The word at an address of memory, or 0 past its end.
+#[tactic(auto, unfolding(zk_mem::specs::Map::cell_at), using(crate::proofs::Spells::read_or))]
+fn word_or_zero(m: &Memory, a: u32) -> u16
+    requires { a < 2 ^ 20 }
+    ensures { result ≡ word_in m.now.bytes a }
+{
+    256 * m.cell(a).unwrap_or(0) as u16 + m.cell(a + 1).unwrap_or(0) as u16
+}
+
+impl<'a> Extra<'a> {
+    /// The extra characters of a story: its own from version 5 on, where the header extension of its file
+    /// names a Unicode table that lies in readable data, else those of the Standard.
+    #[tactic(auto, unfolding(crate::specs::Extra::own_characters))]
+    pub fn of(memory: &'a Memory) -> Extra<'a>
+        ensures { result ≡ own_characters memory.now }
+    {
+        match table_address(memory) {
+            None => Extra { memory, own: None },
+            Some(at) => Extra {
+                memory,
+                own: table_at(memory, at),
+            },
+        }
+    }
+
+    /// The extra character of the code 155 + i.
+    #[tactic(auto, using(crate::proofs::Tables::standard_item, crate::proofs::Tables::own_item, crate::proofs::Tables::no_item))]
+    fn extra_at(&self, i: usize) -> Option<u16>
+        ensures { result ≡ slice_get (characters self.now) i }
+    {
+        match self.own {
+            None => item(&DEFAULT_CHARACTERS, i),
+            Some(table) => {
+                if i < table.count.min(97) as usize {
+                    Some(word_or_zero(self.memory, table.at as u32 + 1 + 2 * i as u32))
+                } else {
+                    None
+                }
+            }
+        }
+    }
+
+    /// The character of a ZSCII code from 32 to 126 or from 155 to 251. Other codes have none, nor have
+    /// those past the end of the table.
+    #[tactic(auto, unfolding(crate::specs::Extra::character))]
+    pub fn to_char(&self, code: u16) -> Option<u16>
+        ensures { result ≡ character self.now code }
+    {
+        if code < 32 {
+            None
+        } else if code < 127 {
+            Some(code)
+        } else if code < 155 {
+            None
+        } else {
+            self.extra_at((code - 155) as usize)
+        }
+    }
+
+    /// The least ZSCII code of a character, from 32 to 126 or from 155 to 251, where it has one.
+    #[tactic(auto, unfolding(crate::specs::Extra::code_of), using(crate::proofs::Tables::code_here, crate::proofs::Tables::code_on, crate::proofs::Tables::code_end, crate::proofs::Tables::code_limit))]
+    pub fn from_char(&self, c: u32) -> Option<u8>
+        ensures value { result ≡ code_of self.now c }
+        ensures input { IfSome result (λ code. IsTrue (is_input_code code)) }
+    {
+        if c >= 32 && c < 127 {
+            return Some(c as u8);
+        }
+        for i in 0..97 {
+            match self.extra_at(i) {
+                None => return None,
+                Some(x) => {
+                    if x as u32 == c {
+                        return Some(155 + i as u8);
+                    }
+                }
+            }
+        }
+        None
+    }
+
+    /// The code of a letter in lower case, where the code is that of a capital: A to Z, and the extra
+    /// letters of the Standard where those are in force. Other codes stay.
+    #[tactic(auto, unfolding(crate::specs::Extra::lower_code))]
+    pub fn lower(&self, code: u8) -> u8
+        ensures { result ≡ lower_code self.now code }
+    {
+        if code >= 65 && code < 91 {
+            return code + 32;
+        }
+        if self.own.is_some() || code < 155 {
+            return code;
+        }
+        DEFAULT_LOWER
+            .get((code - 155) as usize)
+            .copied()
+            .unwrap_or(code)
+    }
+}

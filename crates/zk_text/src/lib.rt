@@ -1,0 +1,15 @@
+// The text of a story: Z-characters, ZSCII, Unicode and the keys of words.
+#![tactic(auto)]
+
+pub mod alphabet;
+pub mod extra;
+pub mod key;
+pub mod laws;
+pub mod pieces;
+pub mod shown;
+pub mod sink;
+#[cfg(test)]
+mod tests;
+pub mod text;
+pub mod unit;
+mod walk;

@@ -1,0 +1,85 @@
+// From Z-characters to the pieces of a text, one at a time.
+
+ghost use Rattle.std.specs.Prelude.{◌≡◌, ◌<◌, ◌∷◌, ◌++◌, List, ℕ};
+ghost use Rattle.zk_text.specs.Pieces.{pieces, piece_before};
+ghost use Rattle.zk_text.specs.Reading.{held_back};
+
+use crate::alphabet::Row;
+
+/// A part of a text that stands for something (Z-Machine Standards Document 1.1, sections 3.2 to 3.5).
+#[derive(Clone, Copy, Debug, PartialEq, Eq, Drop)]
+pub enum Piece {
+    /// A letter: its alphabet, and its Z-character from 6 to 31.
+    Letter(Row, u8),
+    /// A ZSCII code of ten bits, or a space.
+    Code(u16),
+    /// An abbreviation, by its number from 0 to 95.
+    Abbreviation(u16),
+}
+
+/// What a reader holds back of a piece that is not yet whole.
+#[derive(Clone, Copy, Debug, PartialEq, Eq, Drop)]
+pub(crate) enum Held {
+    Nothing,
+    /// A 1, 2 or 3.
+    First,
+    Second,
+    Third,
+    /// A 4 or a 5.
+    ShiftToA1,
+    ShiftToA2,
+    /// A 5 and a 6.
+    Escape,
+    /// These, and the upper half of a code.
+    UpperHalf(u8),
+}
+
+/// The next Z-character, where nothing is held back.
+#[tactic(auto, unfolding(crate::specs::Pieces::pieces_past))]
+fn begin(z: u8) -> (Held, Option<Piece>)
+    ensures { (zs : List ℕ) → pieces (z ∷ zs) ≡ piece_before result.1 (pieces (held_back result.0 ++ zs)) }
+{
+    match z {
+        0 => (Held::Nothing, Some(Piece::Code(32))),
+        1 => (Held::First, None),
+        2 => (Held::Second, None),
+        3 => (Held::Third, None),
+        4 => (Held::ShiftToA1, None),
+        5 => (Held::ShiftToA2, None),
+        _ => (Held::Nothing, Some(Piece::Letter(Row::A0, z))),
+    }
+}
+
+/// The next Z-character: what is held back then, and the piece that it ends.
+#[tactic(auto, unfolding(crate::specs::Pieces::pieces_past))]
+pub(crate) fn advance(held: Held, z: u8) -> (Held, Option<Piece>)
+    ensures { (zs : List ℕ) → pieces (held_back held ++ z ∷ zs) ≡ piece_before result.1 (pieces (held_back result.0 ++ zs)) }
+{
+    match held {
+        Held::Nothing => begin(z),
+        Held::First => (Held::Nothing, Some(Piece::Abbreviation(z as u16))),
+        Held::Second => (Held::Nothing, Some(Piece::Abbreviation(32 + z as u16))),
+        Held::Third => (Held::Nothing, Some(Piece::Abbreviation(64 + z as u16))),
+        Held::ShiftToA1 => {
+            if z < 6 {
+                begin(z)
+            } else {
+                (Held::Nothing, Some(Piece::Letter(Row::A1, z)))
+            }
+        }
+        Held::ShiftToA2 => {
+            if z < 6 {
+                begin(z)
+            } else if z == 6 {
+                (Held::Escape, None)
+            } else {
+                (Held::Nothing, Some(Piece::Letter(Row::A2, z)))
+            }
+        }
+        Held::Escape => (Held::UpperHalf(z), None),
+        Held::UpperHalf(high) => (
+            Held::Nothing,
+            Some(Piece::Code(32 * high as u16 + z as u16)),
+        ),
+    }
+}

@@ -1,0 +1,291 @@
+// Texts, keys and tables against values of the Standard.
+
+use crate::alphabet::{Alphabet, Row};
+use crate::extra::Extra;
+use crate::key::key;
+use crate::shown::Shown;
+use crate::sink::{Sink, SinkFault};
+use crate::text::{check_text, print_text};
+use crate::unit::Unit;
+use arrayvec::ArrayVec;
+use std::alloc::Global;
+use std::test::Fail;
+use zk_mem::fault::Fault;
+use zk_mem::memory::{Memory, Setup};
+use zk_mem::story::Story;
+
+/// A story whose header is followed by some bytes, with these values at these addresses.
+fn memory(alloc: Global, fields: &[(usize, u8)], rest: &[u8]) -> Result<Memory, Fail> {
+    let mut file = Vec::new(alloc);
+    file.extend_from_slice(&[0; 64])?;
+    file.extend_from_slice(rest)?;
+    for address in [0x05, 0x07, 0x0f] {
+        if let Some(byte) = file.get_mut(address) {
+            *byte = 0x40;
+        }
+    }
+    for (address, value) in fields {
+        if let Some(byte) = file.get_mut(*address) {
+            *byte = *value;
+        }
+    }
+    let story = Story::open(alloc, file.as_slice())?;
+    Ok(Memory::start(alloc, story, Setup { undo_states: 0 })?)
+}
+
+/// Takes so many units, and keeps their codes.
+#[derive(Drop)]
+struct Codes {
+    most: usize,
+    taken: ArrayVec<u16, 16>,
+}
+
+impl Sink for Codes {
+    ghost use Rattle.std.specs.Prelude.{⊤};
+
+    ghost gave = { λ a b us. ⊤ };
+
+    ghost may_refuse = { ⊤ };
+
+    fn put(&mut self, unit: Unit) -> Result<(), SinkFault> {
+        let code = match unit {
+            Unit::Code(code) => code,
+            Unit::Character(c) => c,
+        };
+        if self.taken.len() >= self.most || self.taken.try_push(code).is_err() {
+            return Err(SinkFault);
+        }
+        Ok(())
+    }
+
+    ghost nothing = { λ a. tt };
+
+    ghost twice = { λ a b c s t h k. tt };
+}
+
+/// Whether a text was printed whole, and its codes.
+fn printed(m: &Memory, a: u32, most: usize) -> Result<(bool, Codes), Fault> {
+    let mut codes = Codes {
+        most,
+        taken: ArrayVec::new(),
+    };
+    match check_text(m, a) {
+        Err(fault) => Err(fault),
+        Ok(_) => {
+            let whole = print_text(m, a, &mut codes).is_ok();
+            Ok((whole, codes))
+        }
+    }
+}
+
+/// A word address of an abbreviation, the abbreviation, and a text at $44 that uses it.
+const NESTED: [u8; 8] = [0x00, 0x21, 0x84, 0x05, 0x35, 0xc1, 0x80, 0xa5];
+
+const EXPANDED: [u8; 8] = [0x00, 0x21, 0xb5, 0xc5, 0x35, 0xc1, 0x80, 0xa5];
+
+#[test]
+fn prints_texts(rt: HostRuntime) -> Result<(), Fail> {
+    let rows: [(&[u8], u32, &[u16]); 4] = [
+        (&[0xb5, 0xc5], 0x40, &[104, 105]),
+        (&[0x35, 0xcd, 0x94, 0xc3], 0x40, &[104, 105, 104]),
+        (&[0x14, 0xc2, 0x80, 0xa5], 0x40, &[64]),
+        (&EXPANDED, 0x44, &[104, 105, 104, 105]),
+    ];
+    for (bytes, a, codes) in rows {
+        let m = memory(rt.alloc(), &[(0, 3), (0x19, 0x40)], bytes)?;
+        assert_eq!(rt; check_text(&m, a), Ok(m.len()), "end of the text {codes:?}");
+        let (whole, sink) = printed(&m, a, 16)?;
+        assert!(rt; whole);
+        assert_eq!(rt; sink.taken.as_slice(), codes);
+    }
+    Ok(())
+}
+
+#[test]
+fn refuses_texts(rt: HostRuntime) -> Result<(), Fail> {
+    let rows: [(&[u8], u32, Fault); 4] = [
+        (&NESTED, 0x44, Fault::NestedAbbreviation),
+        (&[0x35, 0xcd], 0x40, Fault::TextPastEnd),
+        (&[0x35, 0xcd, 0x94], 0x40, Fault::TextPastEnd),
+        (&[0x8d, 0x00, 0x30, 0xba], 0x60, Fault::TextPastEnd),
+    ];
+    for (bytes, a, fault) in rows {
+        let m = memory(rt.alloc(), &[(0, 3), (0x19, 0x40)], bytes)?;
+        assert_eq!(rt; check_text(&m, a), Err(fault));
+    }
+    Ok(())
+}
+
+#[test]
+fn stops_where_the_sink_refuses(rt: HostRuntime) -> Result<(), Fail> {
+    let m = memory(rt.alloc(), &[(0, 3)], &[0x35, 0xcd, 0x94, 0xc3])?;
+    let (whole, sink) = printed(&m, 0x40, 2)?;
+    assert!(rt; !whole);
+    assert_eq!(rt; sink.taken.as_slice(), [104, 105].as_slice());
+    Ok(())
+}
+
+#[test]
+fn spells_keys(rt: HostRuntime) -> Result<(), Fail> {
+    let rows: [(u8, &[u8], &[u8]); 5] = [
+        (3, b"take", &[0x64, 0xd0, 0xa8, 0xa5]),
+        (3, b"takes it", &[0x64, 0xd0, 0xab, 0x00]),
+        (3, b"X,", &[0x13, 0xa5, 0xcc, 0xa5]),
+        (3, b"@", &[0x14, 0xc2, 0x80, 0xa5]),
+        (5, b"i", &[0x38, 0xa5, 0x14, 0xa5, 0x94, 0xa5]),
+    ];
+    for (version, word, bytes) in rows {
+        let m = memory(rt.alloc(), &[(0, version)], &[0])?;
+        assert_eq!(rt; key(&m, word).as_slice(), bytes);
+    }
+    Ok(())
+}
+
+#[test]
+fn has_the_alphabets_of_the_standard(rt: HostRuntime) -> Result<(), Fail> {
+    let m = memory(rt.alloc(), &[(0, 5)], &[0])?;
+    let alphabet = Alphabet::of(&m);
+    let signs = b"0123456789.,!?_#'\"/\\-:()";
+    for z in 6u8..32 {
+        assert_eq!(rt; alphabet.letter(&m, Row::A0, z), b'a' + (z - 6));
+        assert_eq!(rt; alphabet.letter(&m, Row::A1, z), b'A' + (z - 6));
+        if z >= 8 {
+            assert_eq!(rt;
+                signs.get((z - 8) as usize).copied(),
+                Some(alphabet.letter(&m, Row::A2, z))
+            );
+        }
+    }
+    assert_eq!(rt; alphabet.letter(&m, Row::A2, 7), 13);
+    Ok(())
+}
+
+#[test]
+fn takes_an_own_alphabet(rt: HostRuntime) -> Result<(), Fail> {
+    let mut table = [0; 78];
+    for i in 0..78u8 {
+        if let Some(code) = table.get_mut(i as usize) {
+            *code = 33 + i;
+        }
+    }
+    let m = memory(rt.alloc(), &[(0, 5), (0x35, 0x40)], &table)?;
+    let alphabet = Alphabet::of(&m);
+    assert_eq!(rt; alphabet.letter(&m, Row::A0, 6), 33);
+    assert_eq!(rt; alphabet.letter(&m, Row::A1, 31), 84);
+    assert_eq!(rt; alphabet.letter(&m, Row::A2, 7), 13);
+    assert_eq!(rt; alphabet.letter(&m, Row::A2, 31), 110);
+    // A table that runs out of the story is none, and so is one before version 5.
+    for (version, rest) in [(5, &table[1..]), (3, &table[..])] {
+        let m = memory(rt.alloc(), &[(0, version), (0x35, 0x40)], rest)?;
+        assert_eq!(rt; Alphabet::of(&m).letter(&m, Row::A0, 6), b'a');
+    }
+    Ok(())
+}
+
+/// The characters of ZSCII 155 to 223 by their numbers in Unicode, from the Standard's table.
+const EXTRA: [u16; 69] = [
+    0xe4, 0xf6, 0xfc, 0xc4, 0xd6, 0xdc, 0xdf, 0xbb, 0xab, 0xeb, 0xef, 0xff, 0xcb, 0xcf, 0xe1, 0xe9,
+    0xed, 0xf3, 0xfa, 0xfd, 0xc1, 0xc9, 0xcd, 0xd3, 0xda, 0xdd, 0xe0, 0xe8, 0xec, 0xf2, 0xf9, 0xc0,
+    0xc8, 0xcc, 0xd2, 0xd9, 0xe2, 0xea, 0xee, 0xf4, 0xfb, 0xc2, 0xca, 0xce, 0xd4, 0xdb, 0xe5, 0xc5,
+    0xf8, 0xd8, 0xe3, 0xf1, 0xf5, 0xc3, 0xd1, 0xd5, 0xe6, 0xc6, 0xe7, 0xc7, 0xfe, 0xf0, 0xde, 0xd0,
+    0xa3, 0x153, 0x152, 0xa1, 0xbf,
+];
+
+/// The lower case of a letter of Latin-1, or of the ligature.
+fn lower_letter(c: u16) -> u16 {
+    match c {
+        0xc0..=0xde => c + 0x20,
+        0x152 => 0x153,
+        _ => c,
+    }
+}
+
+#[test]
+fn has_the_extra_characters_of_the_standard(rt: HostRuntime) -> Result<(), Fail> {
+    let m = memory(rt.alloc(), &[(0, 5)], &[0])?;
+    let extra = Extra::of(&m);
+    let mut code = 155u8;
+    for c in EXTRA {
+        assert_eq!(rt; extra.to_char(code as u16), Some(c));
+        assert_eq!(rt; extra.from_char(c as u32), Some(code));
+        assert_eq!(rt;
+            extra.from_char(lower_letter(c) as u32),
+            Some(extra.lower(code))
+        );
+        code = code.saturating_add(1);
+    }
+    for code in [0, 31, 127, 154, 224, 251, 252, 1023] {
+        assert_eq!(rt; extra.to_char(code), None);
+    }
+    assert_eq!(rt;
+        (extra.lower(b'A'), extra.lower(b'Z'), extra.lower(b'[')),
+        (b'a', b'z', b'[')
+    );
+    assert_eq!(rt;
+        (extra.from_char(0x7e), extra.from_char(0x20ac)),
+        (Some(0x7e), None)
+    );
+    Ok(())
+}
+
+/// A header extension that names a Unicode table after it, and a table that states so many characters, of
+/// which 98 are there, from U+0400 on.
+fn own_table(count: u8) -> [u8; 205] {
+    let mut bytes = [0; 205];
+    for (i, value) in [(1, 3), (7, 0x48), (8, count)] {
+        bytes[i] = value;
+    }
+    for i in 0..98u8 {
+        let at = 9 + 2 * i as usize;
+        bytes[at] = 4;
+        bytes[at + 1] = i;
+    }
+    bytes
+}
+
+#[test]
+fn takes_an_own_unicode_table(rt: HostRuntime) -> Result<(), Fail> {
+    // For each count that is stated, the first, the 97th and the 98th character, and a letter in lower case.
+    let rows = [
+        (97, Some(0x400), Some(0x460), 158),
+        (98, Some(0x400), Some(0x460), 158),
+        (0, None, None, 158),
+        (99, Some(0xe4), None, 155),
+    ];
+    for (count, first, last, lower) in rows {
+        let m = memory(rt.alloc(), &[(0, 5), (0x37, 0x40)], &own_table(count))?;
+        let extra = Extra::of(&m);
+        assert_eq!(rt; extra.to_char(155), first, "of {count}");
+        assert_eq!(rt; extra.to_char(251), last, "of {count}");
+        assert_eq!(rt; (extra.to_char(252), extra.from_char(0x461)), (None, None));
+        assert_eq!(rt; extra.from_char(0x460), last.map(|_| 251), "of {count}");
+        assert_eq!(rt; extra.lower(158), lower);
+    }
+    Ok(())
+}
+
+#[test]
+fn shows_units(rt: HostRuntime) -> Result<(), Fail> {
+    let m = memory(rt.alloc(), &[(0, 5)], &[0])?;
+    let extra = Extra::of(&m);
+    let rows = [
+        (Unit::Code(0), Shown::Nothing),
+        (Unit::Code(9), Shown::One(' ')),
+        (Unit::Code(11), Shown::TwoSpaces),
+        (Unit::Code(13), Shown::One('\n')),
+        (Unit::Code(0x41), Shown::One('A')),
+        (Unit::Code(0x9b), Shown::One('ä')),
+        (Unit::Code(10), Shown::One('?')),
+        (Unit::Code(127), Shown::One('?')),
+        (Unit::Code(224), Shown::One('?')),
+        (Unit::Code(0x141), Shown::One('?')),
+        (Unit::Character(0x20ac), Shown::One('€')),
+        (Unit::Character(0x1f), Shown::One('?')),
+        (Unit::Character(0x9f), Shown::One('?')),
+        (Unit::Character(0xd800), Shown::One('?')),
+    ];
+    for (unit, shown) in rows {
+        assert_eq!(rt; Shown::of(&extra, unit), shown, "{unit:?}");
+    }
+    Ok(())
+}

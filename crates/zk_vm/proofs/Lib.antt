@@ -1,0 +1,4 @@
+pub mod Operands
+pub mod Runs
+pub mod Steps
+pub mod Writes

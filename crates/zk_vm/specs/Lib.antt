@@ -1,0 +1,13 @@
+pub mod Arithmetic
+pub mod Bounds
+pub mod Comparison
+pub mod Consoles
+pub mod Control
+pub mod Effects
+pub mod Endings
+pub mod Finish
+pub mod Printing
+pub mod Outcome
+pub mod Printed
+pub mod Step
+pub mod Variables

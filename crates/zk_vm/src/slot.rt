@@ -1,0 +1,40 @@
+// Where saves are kept.
+
+ghost use Rattle.std.specs.Prelude.{◌≡◌, Some, IfOk, IfSome, option_map};
+ghost use Rattle.std.specs.Bool.{OnTrue};
+
+use std::alloc::{AllocError, Global};
+
+/// A place for one saved game.
+pub trait SaveSlot {
+    ghost use Rattle.std.specs.Prelude.{List, ℕ, Option};
+
+    // the file that it holds, where it tells that; none is known to be there at Some None
+    ghost held: { Self → Option (Option (List ℕ)) };
+
+    /// Keeps a file in place of the one before, or answers that it is not kept.
+    fn put(&mut self, file: &[u8]) -> bool
+        ensures kept { OnTrue result (IfSome (held self.new) (λ f. f ≡ Some file.now)) };
+
+    /// The file that is kept, where there is one.
+    fn get(&mut self, alloc: Global) -> Result<Option<Vec<u8>>, AllocError>
+        ensures found { IfOk result (λ r. IfSome (held self.old) (λ f. option_map (λ v. v.items) r ≡ f)) };
+}
+
+/// A slot that keeps nothing and has nothing.
+#[derive(Clone, Copy, Debug, PartialEq, Eq, Drop)]
+pub struct NoSlot;
+
+impl SaveSlot for NoSlot {
+    ghost use Rattle.std.specs.Prelude.{Some, None};
+
+    ghost held = { λ _. Some None };
+
+    fn put(&mut self, _file: &[u8]) -> bool {
+        false
+    }
+
+    fn get(&mut self, _alloc: Global) -> Result<Option<Vec<u8>>, AllocError> {
+        Ok(None)
+    }
+}

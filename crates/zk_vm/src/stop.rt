@@ -1,0 +1,45 @@
+// Why a machine stops, or waits.
+
+use zk_mem::fault::Fault;
+use zk_state::refusal::Limit;
+
+/// Why a machine stops. Addresses are byte addresses of instructions.
+#[derive(Clone, Copy, Debug, PartialEq, Eq, Drop)]
+pub enum Stop {
+    /// The story has ended.
+    Quit,
+    /// The instruction at an address can't be carried out.
+    Fault(u32, Fault),
+    /// The instruction at an address would go past a limit.
+    Limit(u32, Limit),
+    /// A read has found no more input.
+    EndOfInput,
+    /// The input can't be read.
+    Read,
+    /// The screen or the transcript can't be written.
+    Write,
+    /// There is no memory for a state that is kept.
+    Memory,
+}
+
+/// What a machine waits for.
+#[derive(Clone, Copy, Debug, PartialEq, Eq, Drop)]
+pub enum Event {
+    /// A line of input.
+    Line,
+    /// A character of input.
+    Char,
+    /// Whether a save is kept.
+    Save,
+    /// A file to restore, or none.
+    Restore,
+}
+
+/// What of the upper window is shown.
+#[derive(Clone, Copy, Debug, PartialEq, Eq, Drop)]
+pub enum View {
+    /// Nothing.
+    Plain,
+    /// Its rows and the status line, before each read.
+    Upper,
+}
