@@ -18,38 +18,44 @@ use Rattle.zk_code.proofs.Standing.{bind_ok, bind_err, ok_is, stands_join, byte_
 
 -- ---- type bytes
 
-bits_kind : (n : ℕ) → n < 4 → type_bits (type_by_bits n) ≡ n
-bits_kind zero h = refl
-bits_kind (suc zero) h = refl
-bits_kind (suc (suc zero)) h = refl
-bits_kind (suc (suc (suc zero))) h = refl
-bits_kind (suc (suc (suc (suc n)))) h = absurd (omega arith)
+-- the bits of the type that two bits give
+bits_of_type : (n : ℕ) → n < 4 → type_bits (type_by_bits n) ≡ n
+bits_of_type zero h = refl
+bits_of_type (suc zero) h = refl
+bits_of_type (suc (suc zero)) h = refl
+bits_of_type (suc (suc (suc zero))) h = refl
+bits_of_type (suc (suc (suc (suc n)))) h = absurd (omega arith)
 
-kind_bits : (k : OperandType) → type_by_bits (type_bits k) ≡ k
-kind_bits LargeConstant = refl
-kind_bits SmallConstant = refl
-kind_bits VariableNumber = refl
-kind_bits Omitted = refl
+-- the type that the bits of a type give
+type_of_bits : (k : OperandType) → type_by_bits (type_bits k) ≡ k
+type_of_bits LargeConstant = refl
+type_of_bits SmallConstant = refl
+type_of_bits VariableNumber = refl
+type_of_bits Omitted = refl
 
+-- a type has two bits
 bits_below : (k : OperandType) → type_bits k < 4
 bits_below LargeConstant = omega arith
 bits_below SmallConstant = omega arith
 bits_below VariableNumber = omega arith
 bits_below Omitted = omega arith
 
+-- the types that a type byte gives
 abbrev types_by : ℕ → FourTypes
 types_by t = record { first = type_by_bits (t / 64); second = type_by_bits (t / 16 % 4); third = type_by_bits (t / 4 % 4); fourth = type_by_bits (t % 4) }
 
+-- a type byte is that of its types
 type_byte_by : (t : ℕ) → t < 256 → type_byte (types_by t) ≡ t
 type_byte_by t h =
-    let p = bits_kind (t / 64) (omega arith) in
-    let q = bits_kind (t / 16 % 4) (omega arith) in
-    let r = bits_kind (t / 4 % 4) (omega arith) in
-    let s = bits_kind (t % 4) (omega arith) in
+    let p = bits_of_type (t / 64) (omega arith) in
+    let q = bits_of_type (t / 16 % 4) (omega arith) in
+    let r = bits_of_type (t / 4 % 4) (omega arith) in
+    let s = bits_of_type (t % 4) (omega arith) in
     rw (p, q, r, s) (omega arith)
 
-kinds_again : (t : FourTypes) → types_by_byte (type_byte t) ≡ four_types t
-kinds_again t =
+-- the types of a type byte are those that it is made of
+types_again : (t : FourTypes) → types_by_byte (type_byte t) ≡ four_types t
+types_again t =
     let p = bits_below t.first in
     let q = bits_below t.second in
     let r = bits_below t.third in
@@ -58,12 +64,13 @@ kinds_again t =
     let e2 : type_byte t / 16 % 4 ≡ type_bits t.second = omega arith in
     let e3 : type_byte t / 4 % 4 ≡ type_bits t.third = omega arith in
     let e4 : type_byte t % 4 ≡ type_bits t.fourth = omega arith in
-    let k1 : type_by_bits (type_byte t / 64) ≡ t.first = ap type_by_bits e1 ∙ kind_bits t.first in
-    let k2 : type_by_bits (type_byte t / 16 % 4) ≡ t.second = ap type_by_bits e2 ∙ kind_bits t.second in
-    let k3 : type_by_bits (type_byte t / 4 % 4) ≡ t.third = ap type_by_bits e3 ∙ kind_bits t.third in
-    let k4 : type_by_bits (type_byte t % 4) ≡ t.fourth = ap type_by_bits e4 ∙ kind_bits t.fourth in
+    let k1 : type_by_bits (type_byte t / 64) ≡ t.first = ap type_by_bits e1 ∙ type_of_bits t.first in
+    let k2 : type_by_bits (type_byte t / 16 % 4) ≡ t.second = ap type_by_bits e2 ∙ type_of_bits t.second in
+    let k3 : type_by_bits (type_byte t / 4 % 4) ≡ t.third = ap type_by_bits e3 ∙ type_of_bits t.third in
+    let k4 : type_by_bits (type_byte t % 4) ≡ t.fourth = ap type_by_bits e4 ∙ type_of_bits t.fourth in
     cc
 
+-- a type byte that is read is one
 one_takes : (m : MemoryMap) (a : ℕ) (x : List OperandType × ℕ) → HasBytes m → types_at m false a ≡ Ok x → (t : FourTypes) × (x.0 ≡ four_types t ++ four_omitted) × Stands m a (type_byte t ∷ []) x.1
 unfolding types_at
 one_takes m a x fits e =
@@ -72,6 +79,7 @@ one_takes m a x fits e =
     subst (λ (y : List OperandType × ℕ). (u : FourTypes) × (y.0 ≡ four_types u ++ four_omitted) × Stands m a (type_byte u ∷ []) y.1) (ok_is (types_by_byte t.0 ++ four_omitted, a + 1) x t.2)
     (types_by t.0, refl, (c ∙ ap Some (sym (type_byte_by t.0 (fits.below a t.0 c))), refl))
 
+-- two type bytes that are read are two
 two_take : (m : MemoryMap) (a : ℕ) (x : List OperandType × ℕ) → HasBytes m → types_at m true a ≡ Ok x → (t : FourTypes) × (u : FourTypes) × (x.0 ≡ four_types t ++ four_types u) × Stands m a (type_byte t ∷ type_byte u ∷ []) x.1
 unfolding types_at
 two_take m a x fits e =
@@ -82,16 +90,19 @@ two_take m a x fits e =
     subst (λ (y : List OperandType × ℕ). (v : FourTypes) × (w : FourTypes) × (y.0 ≡ four_types v ++ four_types w) × Stands m a (type_byte v ∷ type_byte w ∷ []) y.1) (ok_is (types_by_byte t.0 ++ types_by_byte u.0, a + 2) x u.2)
     (types_by t.0, types_by u.0, refl, (c ∙ ap Some (sym (type_byte_by t.0 (fits.below a t.0 c))), (d ∙ ap Some (sym (type_byte_by u.0 (fits.below (a + 1) u.0 d))), omega arith)))
 
+-- a type byte that stands there is read
 one_again : (m : MemoryMap) (a : ℕ) (t : FourTypes) (b : ℕ) → Stands m a (type_byte t ∷ []) b → types_at m false a ≡ Ok (four_types t ++ four_omitted, b)
 unfolding types_at
-one_again m a t b h = rw (byte_again m a (type_byte t) h.0, h.1) (ap (λ (ks : List OperandType). Ok (ks ++ four_omitted, b)) (kinds_again t))
+one_again m a t b h = rw (byte_again m a (type_byte t) h.0, h.1) (ap (λ (ks : List OperandType). Ok (ks ++ four_omitted, b)) (types_again t))
 
+-- two type bytes that stand there are read
 two_again : (m : MemoryMap) (a : ℕ) (t u : FourTypes) (b : ℕ) → Stands m a (type_byte t ∷ type_byte u ∷ []) b → types_at m true a ≡ Ok (four_types t ++ four_types u, b)
 unfolding types_at
 two_again m a t u b h =
     let e : a + 2 ≡ b = omega (arith, h.1.1) in
-    rw (byte_again m a (type_byte t) h.0, byte_again m (a + 1) (type_byte u) h.1.0, e) (ap (λ (ks : List OperandType). Ok (ks ++ types_by_byte (type_byte u), b)) (kinds_again t) ∙ ap (λ (ks : List OperandType). Ok (four_types t ++ ks, b)) (kinds_again u))
+    rw (byte_again m a (type_byte t) h.0, byte_again m (a + 1) (type_byte u) h.1.0, e) (ap (λ (ks : List OperandType). Ok (ks ++ types_by_byte (type_byte u), b)) (types_again t) ∙ ap (λ (ks : List OperandType). Ok (four_types t ++ ks, b)) (types_again u))
 
+-- types fail for want of bytes alone
 types_err : (m : MemoryMap) (two : Bool) (a : ℕ) (d : Fault) → types_at m two a ≡ Err d → d ≡ CodePastEnd
 unfolding types_at
 types_err m false a d e = elim (bind_err (code_byte m a) (λ t. Ok (types_by_byte t ++ four_omitted, a + 1)) d e) [ inl h ↦ byte_err m a d h | inr h ↦ absurd cc ]
@@ -101,7 +112,7 @@ types_err m true a d e =
       | inr h ↦ elim (bind_err (code_byte m (a + 1)) (λ u. Ok (types_by_byte h.0 ++ types_by_byte u, a + 2)) d h.2) [ inl p ↦ byte_err m (a + 1) d p | inr p ↦ absurd cc ]
     ]
 
--- types behind an omitted one don't matter
+-- types no_bad_behind an omitted one don't matter
 operands_pad : (m : MemoryMap) (ks more : List OperandType) (a : ℕ) → operands_at m (ks ++ Omitted ∷ more) a ≡ operands_at m ks a
 unfolding operands_at
 operands_pad m [] more a = refl
@@ -109,7 +120,7 @@ operands_pad m (k ∷ ks) more a = simp (operands_pad m ks more)
 
 -- ---- the forms
 
--- what is read behind the bytes of an opcode
+-- what is read no_bad_behind the bytes of an opcode
 abbrev pub rest_of : MemoryMap → Form → ℕ → Result Head Fault
 rest_of m (Long2OP n j k) b = with_types (two_operand m.version n) j k b
 rest_of m (Short1OP n k) b = with_types (one_operand m.version n) k Omitted b
@@ -121,6 +132,7 @@ rest_of m (DoubleVariable n t u) b = with_type_bytes m (variable_operand m.versi
 
 -- ---- a first byte that is composed
 
+-- the byte of a long form
 long_again : (m : MemoryMap) (a n : ℕ) (j k : OperandType) → n < 32 → IsLongType j → IsLongType k → head_by m a (64 * type_bit j + 32 * type_bit k + n) ≡ with_types (two_operand m.version n) j k (a + 1)
 unfolding head_by
 long_again m a n LargeConstant k h p q = absurd p
@@ -134,12 +146,14 @@ long_again m a n SmallConstant VariableNumber h p q = let t : nat_lt (32 + n) 12
 long_again m a n VariableNumber SmallConstant h p q = let t : nat_lt (64 + n) 128 ≡ true = grind (arith, nat_tests) in let r : (64 + n) % 32 ≡ n = omega arith in let s : (64 + n) / 64 % 2 ≡ 1 = omega arith in let u : (64 + n) / 32 % 2 ≡ 0 = omega arith in rw (t, r, s, u) refl
 long_again m a n VariableNumber VariableNumber h p q = let t : nat_lt (96 + n) 128 ≡ true = grind (arith, nat_tests) in let r : (96 + n) % 32 ≡ n = omega arith in let s : (96 + n) / 64 % 2 ≡ 1 = omega arith in let u : (96 + n) / 32 % 2 ≡ 1 = omega arith in rw (t, r, s, u) refl
 
+-- the bits of a type that is given
 short_bits : (k : OperandType) → IsGiven k → type_bits k < 3
 short_bits LargeConstant g = omega arith
 short_bits SmallConstant g = omega arith
 short_bits VariableNumber g = omega arith
 short_bits Omitted g = absurd g
 
+-- the byte of a short form with an operand
 short_again : (m : MemoryMap) (a n : ℕ) (k : OperandType) → n < 16 → IsGiven k → head_by m a (128 + 16 * type_bits k + n) ≡ with_types (one_operand m.version n) k Omitted (a + 1)
 unfolding head_by
 short_again m a n k h g =
@@ -148,14 +162,16 @@ short_again m a n k h g =
     let t2 : nat_lt (128 + 16 * type_bits k + n) 176 ≡ true = grind (arith, nat_tests) in
     let r : (128 + 16 * type_bits k + n) % 16 ≡ n = omega arith in
     let e : (128 + 16 * type_bits k + n) / 16 % 4 ≡ type_bits k = omega arith in
-    rw (t1, t2, r, e, kind_bits k) refl
+    rw (t1, t2, r, e, type_of_bits k) refl
 
+-- a test of two facts that exclude each other
 not_both : (x y v : ℕ) → (x ≡ y → v < 5) → x == y && nat_le 5 v ≡ false
 not_both x y v h = grind (arith, nat_tests)
 
-bare_again : (m : MemoryMap) (a n : ℕ) → n < 16 → (n ≡ 14 → m.version < 5) → head_by m a (176 + n) ≡ with_types (zero_operand m.version n) Omitted Omitted (a + 1)
+-- the byte of a short form without an operand
+short_0op_again : (m : MemoryMap) (a n : ℕ) → n < 16 → (n ≡ 14 → m.version < 5) → head_by m a (176 + n) ≡ with_types (zero_operand m.version n) Omitted Omitted (a + 1)
 unfolding head_by
-bare_again m a n h g =
+short_0op_again m a n h g =
     let t1 : nat_lt (176 + n) 128 ≡ false = grind (arith, nat_tests) in
     let t2 : nat_lt (176 + n) 176 ≡ false = grind (arith, nat_tests) in
     let t3 : (176 + n == 190 && nat_le 5 m.version) ≡ false = not_both (176 + n) 190 m.version (λ e. g (omega arith)) in
@@ -163,48 +179,55 @@ bare_again m a n h g =
     let r : (176 + n) % 16 ≡ n = omega arith in
     rw (t1, t2, t3, t4, r) refl
 
+-- the bytes of an extended form
 extended_again : (m : MemoryMap) (a n : ℕ) → 5 ≤ m.version → code_byte m (a + 1) ≡ Ok n → head_by m a 190 ≡ with_type_bytes m (extended m.version n) false (a + 1 + 1)
 unfolding head_by extended_at
 extended_again m a n h e =
     let t3 : nat_le 5 m.version ≡ true = grind (arith, nat_tests) in
     rw (t3, e) refl
 
-past_bare : (m : MemoryMap) (a b : ℕ) → 192 ≤ b → head_by m a b ≡ cond (nat_lt b 224) (with_type_bytes m (two_operand m.version (b % 32)) false (a + 1)) (with_type_bytes m (variable_operand m.version (b % 32)) (has_two_type_bytes (b % 32)) (a + 1))
+-- bytes from 192 on begin a variable form
+past_short : (m : MemoryMap) (a b : ℕ) → 192 ≤ b → head_by m a b ≡ cond (nat_lt b 224) (with_type_bytes m (two_operand m.version (b % 32)) false (a + 1)) (with_type_bytes m (variable_operand m.version (b % 32)) (has_two_type_bytes (b % 32)) (a + 1))
 unfolding head_by
-past_bare m a b h =
+past_short m a b h =
     let t1 : nat_lt b 128 ≡ false = grind (arith, nat_tests) in
     let t2 : nat_lt b 176 ≡ false = grind (arith, nat_tests) in
     let t3 : (b == 190 && nat_le 5 m.version) ≡ false = not_both b 190 m.version (λ e. absurd (omega arith)) in
     let t4 : nat_lt b 192 ≡ false = grind (arith, nat_tests) in
     rw (t1, t2, t3, t4) refl
 
-by_types_again : (m : MemoryMap) (a n : ℕ) → n < 32 → head_by m a (192 + n) ≡ with_type_bytes m (two_operand m.version n) false (a + 1)
-by_types_again m a n h =
+-- the byte of a variable form of 2OP
+variable_2op_again : (m : MemoryMap) (a n : ℕ) → n < 32 → head_by m a (192 + n) ≡ with_type_bytes m (two_operand m.version n) false (a + 1)
+variable_2op_again m a n h =
     let t : nat_lt (192 + n) 224 ≡ true = grind (arith, nat_tests) in
     let r : (192 + n) % 32 ≡ n = omega arith in
-    past_bare m a (192 + n) (omega arith) ∙ rw (t, r) refl
+    past_short m a (192 + n) (omega arith) ∙ rw (t, r) refl
 
-var_again : (m : MemoryMap) (a n : ℕ) (two : Bool) → n < 32 → has_two_type_bytes n ≡ two → head_by m a (224 + n) ≡ with_type_bytes m (variable_operand m.version n) two (a + 1)
-var_again m a n two h e =
+-- the byte of a variable form of VAR
+variable_var_again : (m : MemoryMap) (a n : ℕ) (two : Bool) → n < 32 → has_two_type_bytes n ≡ two → head_by m a (224 + n) ≡ with_type_bytes m (variable_operand m.version n) two (a + 1)
+variable_var_again m a n two h e =
     let t : nat_lt (224 + n) 224 ≡ false = grind (arith, nat_tests) in
     let r : (224 + n) % 32 ≡ n = omega arith in
-    past_bare m a (224 + n) (omega arith) ∙ rw (t, r, e) refl
+    past_short m a (224 + n) (omega arith) ∙ rw (t, r, e) refl
 
+-- a number with two type bytes fits into its bits
 wide_below : (n : ℕ) → has_two_type_bytes n ≡ true → n < 32
 wide_below n h = grind (arith, nat_tests)
 
-pub front_again : (m : MemoryMap) (f : Form) (a b : ℕ) → IsForm m.version f → Stands m a (opcode_bytes f) b → head_at m a ≡ rest_of m f b
+-- the bytes of an opcode lead to its form
+pub opcode_again : (m : MemoryMap) (f : Form) (a b : ℕ) → IsForm m.version f → Stands m a (opcode_bytes f) b → head_at m a ≡ rest_of m f b
 unfolding head_at
-front_again m (Long2OP n j k) a b f h = rw (byte_again m a (64 * type_bit j + 32 * type_bit k + n) h.0, ← h.1) (long_again m a n j k f.0 f.1 f.2)
-front_again m (Short1OP n k) a b f h = rw (byte_again m a (128 + 16 * type_bits k + n) h.0, ← h.1) (short_again m a n k f.0 f.1)
-front_again m (Short0OP n) a b f h = rw (byte_again m a (176 + n) h.0, ← h.1) (bare_again m a n f.0 f.1)
-front_again m (Extended n t) a b f h = rw (byte_again m a 190 h.0, ← h.1.1) (extended_again m a n f (byte_again m (a + 1) n h.1.0))
-front_again m (Variable2OP n t) a b f h = rw (byte_again m a (192 + n) h.0, ← h.1) (by_types_again m a n f)
-front_again m (VariableVAR n t) a b f h = rw (byte_again m a (224 + n) h.0, ← h.1) (var_again m a n false f.0 f.1)
-front_again m (DoubleVariable n t u) a b f h = rw (byte_again m a (224 + n) h.0, ← h.1) (var_again m a n true (wide_below n f) f)
+opcode_again m (Long2OP n j k) a b f h = rw (byte_again m a (64 * type_bit j + 32 * type_bit k + n) h.0, ← h.1) (long_again m a n j k f.0 f.1 f.2)
+opcode_again m (Short1OP n k) a b f h = rw (byte_again m a (128 + 16 * type_bits k + n) h.0, ← h.1) (short_again m a n k f.0 f.1)
+opcode_again m (Short0OP n) a b f h = rw (byte_again m a (176 + n) h.0, ← h.1) (short_0op_again m a n f.0 f.1)
+opcode_again m (Extended n t) a b f h = rw (byte_again m a 190 h.0, ← h.1.1) (extended_again m a n f (byte_again m (a + 1) n h.1.0))
+opcode_again m (Variable2OP n t) a b f h = rw (byte_again m a (192 + n) h.0, ← h.1) (variable_2op_again m a n f)
+opcode_again m (VariableVAR n t) a b f h = rw (byte_again m a (224 + n) h.0, ← h.1) (variable_var_again m a n false f.0 f.1)
+opcode_again m (DoubleVariable n t u) a b f h = rw (byte_again m a (224 + n) h.0, ← h.1) (variable_var_again m a n true (wide_below n f) f)
 
 -- ---- which form a first byte begins
 
+-- types that stand for any
 abbrev no_types : FourTypes
 no_types = record { first = Omitted; second = Omitted; third = Omitted; fourth = Omitted }
 
@@ -215,44 +238,50 @@ pub record Begins (m : MemoryMap) (a : ℕ) : Type 0 where
   pub is_form : IsForm m.version form
   pub bytes : Stands m a (opcode_bytes form) at
 
-long_small : (n : ℕ) → n < 2 → IsLongType (type_by_bit n) × (type_bit (type_by_bit n) ≡ n)
-long_small zero h = (tt, refl)
-long_small (suc zero) h = (tt, refl)
-long_small (suc (suc n)) h = absurd (omega arith)
+-- a bit gives a type of a long form
+long_type : (n : ℕ) → n < 2 → IsLongType (type_by_bit n) × (type_bit (type_by_bit n) ≡ n)
+long_type zero h = (tt, refl)
+long_type (suc zero) h = (tt, refl)
+long_type (suc (suc n)) h = absurd (omega arith)
 
-given_kind : (n : ℕ) → n < 3 → IsGiven (type_by_bits n)
-given_kind zero h = tt
-given_kind (suc zero) h = tt
-given_kind (suc (suc zero)) h = tt
-given_kind (suc (suc (suc n))) h = absurd (omega arith)
+-- bits below 3 give a type that is not omitted
+given_type : (n : ℕ) → n < 3 → IsGiven (type_by_bits n)
+given_type zero h = tt
+given_type (suc zero) h = tt
+given_type (suc (suc zero)) h = tt
+given_type (suc (suc (suc n))) h = absurd (omega arith)
 
-begins_var : (m : MemoryMap) (a b : ℕ) (two : Bool) → has_two_type_bytes (b % 32) ≡ two → 224 ≤ b → b < 256 → cell_at m a ≡ Some b → Begins m a
-begins_var m a b true w le lt c = record { form = DoubleVariable (b % 32) no_types no_types; at = a + 1; is_form = w; bytes = (c ∙ ap Some (omega arith), refl) }
-begins_var m a b false w le lt c = record { form = VariableVAR (b % 32) no_types; at = a + 1; is_form = (omega arith, w); bytes = (c ∙ ap Some (omega arith), refl) }
+-- bytes from 224 on begin a form
+begins_variable_var : (m : MemoryMap) (a b : ℕ) (two : Bool) → has_two_type_bytes (b % 32) ≡ two → 224 ≤ b → b < 256 → cell_at m a ≡ Some b → Begins m a
+begins_variable_var m a b true w le lt c = record { form = DoubleVariable (b % 32) no_types no_types; at = a + 1; is_form = w; bytes = (c ∙ ap Some (omega arith), refl) }
+begins_variable_var m a b false w le lt c = record { form = VariableVAR (b % 32) no_types; at = a + 1; is_form = (omega arith, w); bytes = (c ∙ ap Some (omega arith), refl) }
 
+-- bytes below 176 begin a form
 begins_low : (m : MemoryMap) (a b : ℕ) → b < 176 → cell_at m a ≡ Some b → Begins m a
 begins_low m a b lt c =
     elim (cases_lt b 128) [
       | inl h ↦
-          let j = long_small (b / 64 % 2) (omega arith) in
-          let k = long_small (b / 32 % 2) (omega arith) in
+          let j = long_type (b / 64 % 2) (omega arith) in
+          let k = long_type (b / 32 % 2) (omega arith) in
           let e : b ≡ 64 * type_bit (type_by_bit (b / 64 % 2)) + 32 * type_bit (type_by_bit (b / 32 % 2)) + b % 32 = rw (j.1, k.1) (omega arith) in
           record { form = Long2OP (b % 32) (type_by_bit (b / 64 % 2)) (type_by_bit (b / 32 % 2)); at = a + 1; is_form = (omega arith, j.0, k.0); bytes = (c ∙ ap Some e, refl) }
       | inr h ↦
-          let k = given_kind (b / 16 % 4) (omega arith) in
-          let e : b ≡ 128 + 16 * type_bits (type_by_bits (b / 16 % 4)) + b % 16 = rw (bits_kind (b / 16 % 4) (omega arith)) (omega arith) in
+          let k = given_type (b / 16 % 4) (omega arith) in
+          let e : b ≡ 128 + 16 * type_bits (type_by_bits (b / 16 % 4)) + b % 16 = rw (bits_of_type (b / 16 % 4) (omega arith)) (omega arith) in
           record { form = Short1OP (b % 16) (type_by_bits (b / 16 % 4)); at = a + 1; is_form = (omega arith, k); bytes = (c ∙ ap Some e, refl) }
     ]
 
+-- bytes from 192 on begin a form
 begins_high : (m : MemoryMap) (a b : ℕ) → 192 ≤ b → b < 256 → cell_at m a ≡ Some b → Begins m a
 begins_high m a b le lt c =
     elim (cases_lt b 224) [
       | inl h ↦ record { form = Variable2OP (b % 32) no_types; at = a + 1; is_form = omega arith; bytes = (c ∙ ap Some (omega arith), refl) }
-      | inr h ↦ begins_var m a b (has_two_type_bytes (b % 32)) refl h lt c
+      | inr h ↦ begins_variable_var m a b (has_two_type_bytes (b % 32)) refl h lt c
     ]
 
-begins_bare : (m : MemoryMap) (a b : ℕ) → 176 ≤ b → b < 192 → (b ≡ 190 → m.version < 5) → cell_at m a ≡ Some b → Begins m a
-begins_bare m a b le lt v c = record { form = Short0OP (b % 16); at = a + 1; is_form = (omega arith, λ e. v (omega arith)); bytes = (c ∙ ap Some (omega arith), refl) }
+-- bytes from 176 to 191 begin a form, but for 190 from version 5 on
+begins_0op : (m : MemoryMap) (a b : ℕ) → 176 ≤ b → b < 192 → (b ≡ 190 → m.version < 5) → cell_at m a ≡ Some b → Begins m a
+begins_0op m a b le lt v c = record { form = Short0OP (b % 16); at = a + 1; is_form = (omega arith, λ e. v (omega arith)); bytes = (c ∙ ap Some (omega arith), refl) }
 
 -- an extended opcode without its second byte
 extended_short : (m : MemoryMap) (a : ℕ) (d : Fault) → 5 ≤ m.version → code_byte m (a + 1) ≡ Err d → head_by m a 190 ≡ Err d
@@ -261,10 +290,12 @@ extended_short m a d h e =
     let t3 : nat_le 5 m.version ≡ true = grind (arith, nat_tests) in
     rw (t3, e) refl
 
-begins_ext : (m : MemoryMap) (a : ℕ) (r : Result ℕ Fault) → code_byte m (a + 1) ≡ r → 5 ≤ m.version → cell_at m a ≡ Some 190 → ((head_by m a 190 ≡ Err CodePastEnd) × (length m.bytes ≤ a + 1)) ⊎ Begins m a
-begins_ext m a (Ok n) e v c = inr (record { form = Extended n no_types; at = a + 1 + 1; is_form = v; bytes = (c, (byte_takes m (a + 1) n e, refl)) })
-begins_ext m a (Err d) e v c = inl (rw (← byte_err m (a + 1) d e) (extended_short m a d v e), byte_inside m (a + 1) d e)
+-- 190 begins a form where a byte follows
+begins_extended : (m : MemoryMap) (a : ℕ) (r : Result ℕ Fault) → code_byte m (a + 1) ≡ r → 5 ≤ m.version → cell_at m a ≡ Some 190 → ((head_by m a 190 ≡ Err CodePastEnd) × (length m.bytes ≤ a + 1)) ⊎ Begins m a
+begins_extended m a (Ok n) e v c = inr (record { form = Extended n no_types; at = a + 1 + 1; is_form = v; bytes = (c, (byte_takes m (a + 1) n e, refl)) })
+begins_extended m a (Err d) e v c = inl (rw (← byte_err m (a + 1) d e) (extended_short m a d v e), byte_inside m (a + 1) d e)
 
+-- each byte begins a form, or lacks its second byte
 begins_byte : (m : MemoryMap) (a b : ℕ) → b < 256 → cell_at m a ≡ Some b → ((head_by m a b ≡ Err CodePastEnd) × (length m.bytes ≤ a + 1)) ⊎ Begins m a
 begins_byte m a b lt c =
     elim (cases_lt b 176) [
@@ -272,128 +303,141 @@ begins_byte m a b lt c =
       | inr h ↦ elim (cases_lt b 192) [
         | inr k ↦ inr (begins_high m a b k lt c)
         | inl k ↦ elim (cases_eq b 190) [
-          | inr n ↦ inr (begins_bare m a b h k (λ e. absurd (n e)) c)
+          | inr n ↦ inr (begins_0op m a b h k (λ e. absurd (n e)) c)
           | inl e ↦ elim (cases_lt m.version 5) [
-            | inl v ↦ inr (begins_bare m a b h k (λ _. v) c)
-            | inr v ↦ rw e (begins_ext m a (code_byte m (a + 1)) refl v (rw e at c))
+            | inl v ↦ inr (begins_0op m a b h k (λ _. v) c)
+            | inr v ↦ rw e (begins_extended m a (code_byte m (a + 1)) refl v (rw e at c))
           ]
         ]
       ]
     ]
 
+-- so does each that is read
 begins_read : (m : MemoryMap) (a : ℕ) (r : Result ℕ Fault) → HasBytes m → code_byte m a ≡ r → ((head_at m a ≡ Err CodePastEnd) × (length m.bytes ≤ a + 1)) ⊎ Begins m a
 unfolding head_at
 begins_read m a (Ok b) fits e = let c = byte_takes m a b e in rw e (begins_byte m a b (fits.below a b c) c)
 begins_read m a (Err d) fits e = inl (rw (e, byte_err m a d e) refl, (let le = byte_inside m a d e in omega arith))
 
+-- at each address a form begins, or a byte lacks
 pub begins : (m : MemoryMap) (a : ℕ) → HasBytes m → ((head_at m a ≡ Err CodePastEnd) × (length m.bytes ≤ a + 1)) ⊎ Begins m a
 begins m a fits = begins_read m a (code_byte m a) fits refl
 
--- ---- behind the opcode's bytes
+-- ---- no_bad_behind the opcode's bytes
 
+-- operands are read alike by two lists of types
 abbrev Same : MemoryMap → List OperandType → List OperandType → Type 0
 Same m ks ls = (c : ℕ) → operands_at m ks c ≡ operands_at m ls c
 
 -- what is read of the form is spelled so
-pub record Fronted (m : MemoryMap) (a : ℕ) (h : Head) : Type 0 where
+pub record SpelledHead (m : MemoryMap) (a : ℕ) (h : Head) : Type 0 where
   pub form : Form
   pub is_form : IsForm m.version form
   pub listed : entry_of m.version form ≡ Some h.entry
   pub bytes : Stands m a (opcode_bytes form ++ type_bytes form) h.next
   pub same : (c : ℕ) → operands_at m h.types c ≡ operands_at m (types_of form) c
 
+-- an entry that is there
 or_ok : (op : Option Entry) (o : Entry) → or_fault BadOpcode op ≡ Ok o → op ≡ Some o
 or_ok None o e = absurd cc
 or_ok (Some p) o e = cc
 
+-- an entry that is not there
 or_err : (op : Option Entry) (d : Fault) → or_fault BadOpcode op ≡ Err d → (op ≡ None) × (d ≡ BadOpcode)
 or_err None d e = (refl, cc)
 or_err (Some p) d e = absurd cc
 
-short_takes : (op : Option Entry) (j k : OperandType) (b : ℕ) (h : Head) → with_types op j k b ≡ Ok h → (op ≡ Some h.entry) × (h.types ≡ j ∷ k ∷ Omitted ∷ Omitted ∷ four_omitted) × (b ≡ h.next)
+-- what is read of a head with types
+with_types_takes : (op : Option Entry) (j k : OperandType) (b : ℕ) (h : Head) → with_types op j k b ≡ Ok h → (op ≡ Some h.entry) × (h.types ≡ j ∷ k ∷ Omitted ∷ Omitted ∷ four_omitted) × (b ≡ h.next)
 unfolding with_types
-short_takes op j k b h e =
+with_types_takes op j k b h e =
     let o = bind_ok (or_fault BadOpcode op) (λ o. Ok (record { entry = o; types = j ∷ k ∷ Omitted ∷ Omitted ∷ four_omitted; next = b })) h e in
     let made : Head = record { entry = o.0; types = j ∷ k ∷ Omitted ∷ Omitted ∷ four_omitted; next = b } in
     subst (λ (x : Head). (op ≡ Some x.entry) × (x.types ≡ j ∷ k ∷ Omitted ∷ Omitted ∷ four_omitted) × (b ≡ x.next)) (ok_is made h o.2) (or_ok op o.0 o.1, refl, refl)
 
-variable_takes : (m : MemoryMap) (op : Option Entry) (two : Bool) (b : ℕ) (h : Head) → with_type_bytes m op two b ≡ Ok h → (op ≡ Some h.entry) × (types_at m two b ≡ Ok (h.types, h.next))
+-- what is read of a head with type bytes
+with_type_bytes_takes : (m : MemoryMap) (op : Option Entry) (two : Bool) (b : ℕ) (h : Head) → with_type_bytes m op two b ≡ Ok h → (op ≡ Some h.entry) × (types_at m two b ≡ Ok (h.types, h.next))
 unfolding with_type_bytes
-variable_takes m op two b h e =
+with_type_bytes_takes m op two b h e =
     let o = bind_ok (or_fault BadOpcode op) (λ o. types_at m two b >>= λ t. Ok (record { entry = o; types = t.0; next = t.1 })) h e in
     let t = bind_ok (types_at m two b) (λ t. Ok (record { entry = o.0; types = t.0; next = t.1 })) h o.2 in
     let made : Head = record { entry = o.0; types = t.0.0; next = t.0.1 } in
     subst (λ (x : Head). (op ≡ Some x.entry) × (types_at m two b ≡ Ok (x.types, x.next))) (ok_is made h t.2) (or_ok op o.0 o.1, t.1)
 
-pad_one : (m : MemoryMap) (ks : List OperandType) (t : FourTypes) → ks ≡ four_types t ++ four_omitted → Same m ks (four_types t)
-pad_one m ks t e c = rw e (operands_pad m (four_types t) (Omitted ∷ Omitted ∷ Omitted ∷ []) c)
+-- four types, padded to eight
+pad_four : (m : MemoryMap) (ks : List OperandType) (t : FourTypes) → ks ≡ four_types t ++ four_omitted → Same m ks (four_types t)
+pad_four m ks t e c = rw e (operands_pad m (four_types t) (Omitted ∷ Omitted ∷ Omitted ∷ []) c)
 
-pub form_takes : (m : MemoryMap) (f : Form) (a b : ℕ) (h : Head) → HasBytes m → IsForm m.version f → Stands m a (opcode_bytes f) b → rest_of m f b ≡ Ok h → Fronted m a h
+-- what is read of a form is spelled so
+pub form_takes : (m : MemoryMap) (f : Form) (a b : ℕ) (h : Head) → HasBytes m → IsForm m.version f → Stands m a (opcode_bytes f) b → rest_of m f b ≡ Ok h → SpelledHead m a h
 form_takes m (Long2OP n j k) a b h fits f s e =
-    let r = short_takes (two_operand m.version n) j k b h e in
+    let r = with_types_takes (two_operand m.version n) j k b h e in
     record { form = Long2OP n j k; is_form = f; listed = r.0; bytes = (s.0, s.1 ∙ r.2); same = λ c. rw r.1 (operands_pad m (j ∷ k ∷ []) (Omitted ∷ four_omitted) c) }
 form_takes m (Short1OP n k) a b h fits f s e =
-    let r = short_takes (one_operand m.version n) k Omitted b h e in
+    let r = with_types_takes (one_operand m.version n) k Omitted b h e in
     record { form = Short1OP n k; is_form = f; listed = r.0; bytes = (s.0, s.1 ∙ r.2); same = λ c. rw r.1 (operands_pad m (k ∷ []) (Omitted ∷ Omitted ∷ four_omitted) c) }
 form_takes m (Short0OP n) a b h fits f s e =
-    let r = short_takes (zero_operand m.version n) Omitted Omitted b h e in
+    let r = with_types_takes (zero_operand m.version n) Omitted Omitted b h e in
     record { form = Short0OP n; is_form = f; listed = r.0; bytes = (s.0, s.1 ∙ r.2); same = λ c. rw r.1 (operands_pad m [] (Omitted ∷ Omitted ∷ Omitted ∷ four_omitted) c) }
 form_takes m (Extended n t) a b h fits f s e =
-    let r = variable_takes m (extended m.version n) false b h e in
+    let r = with_type_bytes_takes m (extended m.version n) false b h e in
     let u = one_takes m b (h.types, h.next) fits r.1 in
-    record { form = Extended n u.0; is_form = f; listed = r.0; bytes = stands_join m (190 ∷ n ∷ []) (type_byte u.0 ∷ []) a b h.next s u.2; same = pad_one m h.types u.0 u.1 }
+    record { form = Extended n u.0; is_form = f; listed = r.0; bytes = stands_join m (190 ∷ n ∷ []) (type_byte u.0 ∷ []) a b h.next s u.2; same = pad_four m h.types u.0 u.1 }
 form_takes m (Variable2OP n t) a b h fits f s e =
-    let r = variable_takes m (two_operand m.version n) false b h e in
+    let r = with_type_bytes_takes m (two_operand m.version n) false b h e in
     let u = one_takes m b (h.types, h.next) fits r.1 in
-    record { form = Variable2OP n u.0; is_form = f; listed = r.0; bytes = stands_join m ((192 + n) ∷ []) (type_byte u.0 ∷ []) a b h.next s u.2; same = pad_one m h.types u.0 u.1 }
+    record { form = Variable2OP n u.0; is_form = f; listed = r.0; bytes = stands_join m ((192 + n) ∷ []) (type_byte u.0 ∷ []) a b h.next s u.2; same = pad_four m h.types u.0 u.1 }
 form_takes m (VariableVAR n t) a b h fits f s e =
-    let r = variable_takes m (variable_operand m.version n) false b h e in
+    let r = with_type_bytes_takes m (variable_operand m.version n) false b h e in
     let u = one_takes m b (h.types, h.next) fits r.1 in
-    record { form = VariableVAR n u.0; is_form = f; listed = r.0; bytes = stands_join m ((224 + n) ∷ []) (type_byte u.0 ∷ []) a b h.next s u.2; same = pad_one m h.types u.0 u.1 }
+    record { form = VariableVAR n u.0; is_form = f; listed = r.0; bytes = stands_join m ((224 + n) ∷ []) (type_byte u.0 ∷ []) a b h.next s u.2; same = pad_four m h.types u.0 u.1 }
 form_takes m (DoubleVariable n t w) a b h fits f s e =
-    let r = variable_takes m (variable_operand m.version n) true b h e in
+    let r = with_type_bytes_takes m (variable_operand m.version n) true b h e in
     let u = two_take m b (h.types, h.next) fits r.1 in
     record { form = DoubleVariable n u.0 u.1; is_form = f; listed = r.0; bytes = stands_join m ((224 + n) ∷ []) (type_byte u.0 ∷ type_byte u.1 ∷ []) a b h.next s u.3; same = λ c. ap (λ (ks : List OperandType). operands_at m ks c) u.2 }
 
 -- what is spelled so is read
-pub record Reads (m : MemoryMap) (a : ℕ) (o : Entry) (ks : List OperandType) (b : ℕ) : Type 0 where
+pub record ReadHead (m : MemoryMap) (a : ℕ) (o : Entry) (ks : List OperandType) (b : ℕ) : Type 0 where
   pub types : List OperandType
   pub read : head_at m a ≡ Ok (record { entry = o; types = types; next = b })
   pub same : (c : ℕ) → operands_at m types c ≡ operands_at m ks c
 
-pub form_again : (m : MemoryMap) (f : Form) (a p b : ℕ) (o : Entry) → head_at m a ≡ rest_of m f p → entry_of m.version f ≡ Some o → Stands m p (type_bytes f) b → Reads m a o (types_of f) b
+-- a form that is spelled is read
+pub form_again : (m : MemoryMap) (f : Form) (a p b : ℕ) (o : Entry) → head_at m a ≡ rest_of m f p → entry_of m.version f ≡ Some o → Stands m p (type_bytes f) b → ReadHead m a o (types_of f) b
 unfolding with_types with_type_bytes
 form_again m (Long2OP n j k) a p b o e q s = record { types = _; read = e ∙ rw (q, s) refl; same = λ c. operands_pad m (j ∷ k ∷ []) (Omitted ∷ four_omitted) c }
 form_again m (Short1OP n k) a p b o e q s = record { types = _; read = e ∙ rw (q, s) refl; same = λ c. operands_pad m (k ∷ []) (Omitted ∷ Omitted ∷ four_omitted) c }
 form_again m (Short0OP n) a p b o e q s = record { types = _; read = e ∙ rw (q, s) refl; same = λ c. operands_pad m [] (Omitted ∷ Omitted ∷ Omitted ∷ four_omitted) c }
-form_again m (Extended n t) a p b o e q s = record { types = _; read = e ∙ rw (q, one_again m p t b s) refl; same = pad_one m (four_types t ++ four_omitted) t refl }
-form_again m (Variable2OP n t) a p b o e q s = record { types = _; read = e ∙ rw (q, one_again m p t b s) refl; same = pad_one m (four_types t ++ four_omitted) t refl }
-form_again m (VariableVAR n t) a p b o e q s = record { types = _; read = e ∙ rw (q, one_again m p t b s) refl; same = pad_one m (four_types t ++ four_omitted) t refl }
+form_again m (Extended n t) a p b o e q s = record { types = _; read = e ∙ rw (q, one_again m p t b s) refl; same = pad_four m (four_types t ++ four_omitted) t refl }
+form_again m (Variable2OP n t) a p b o e q s = record { types = _; read = e ∙ rw (q, one_again m p t b s) refl; same = pad_four m (four_types t ++ four_omitted) t refl }
+form_again m (VariableVAR n t) a p b o e q s = record { types = _; read = e ∙ rw (q, one_again m p t b s) refl; same = pad_four m (four_types t ++ four_omitted) t refl }
 form_again m (DoubleVariable n t u) a p b o e q s = record { types = four_types t ++ four_types u; read = e ∙ rw (q, two_again m p t u b s) refl; same = λ c. refl }
 
 -- an opcode that isn't there
-short_err : (op : Option Entry) (j k : OperandType) (b : ℕ) (d : Fault) → with_types op j k b ≡ Err d → (d ≡ CodePastEnd) ⊎ ((op ≡ None) × (d ≡ BadOpcode))
+with_types_err : (op : Option Entry) (j k : OperandType) (b : ℕ) (d : Fault) → with_types op j k b ≡ Err d → (d ≡ CodePastEnd) ⊎ ((op ≡ None) × (d ≡ BadOpcode))
 unfolding with_types
-short_err op j k b d e =
+with_types_err op j k b d e =
     elim (bind_err (or_fault BadOpcode op) (λ o. Ok (record { entry = o; types = j ∷ k ∷ Omitted ∷ Omitted ∷ four_omitted; next = b })) d e) [ inl h ↦ inr (or_err op d h) | inr h ↦ absurd cc ]
 
-variable_err : (m : MemoryMap) (op : Option Entry) (two : Bool) (b : ℕ) (d : Fault) → with_type_bytes m op two b ≡ Err d → (d ≡ CodePastEnd) ⊎ ((op ≡ None) × (d ≡ BadOpcode))
+-- why a head with type bytes fails
+with_type_bytes_err : (m : MemoryMap) (op : Option Entry) (two : Bool) (b : ℕ) (d : Fault) → with_type_bytes m op two b ≡ Err d → (d ≡ CodePastEnd) ⊎ ((op ≡ None) × (d ≡ BadOpcode))
 unfolding with_type_bytes
-variable_err m op two b d e =
+with_type_bytes_err m op two b d e =
     elim (bind_err (or_fault BadOpcode op) (λ o. types_at m two b >>= λ t. Ok (record { entry = o; types = t.0; next = t.1 })) d e) [
       | inl h ↦ inr (or_err op d h)
       | inr h ↦ elim (bind_err (types_at m two b) (λ t. Ok (record { entry = h.0; types = t.0; next = t.1 })) d h.2) [ inl p ↦ inl (types_err m two b d p) | inr p ↦ absurd cc ]
     ]
 
+-- why a form fails
 form_err : (m : MemoryMap) (f : Form) (b : ℕ) (d : Fault) → rest_of m f b ≡ Err d → (d ≡ CodePastEnd) ⊎ ((entry_of m.version f ≡ None) × (d ≡ BadOpcode))
-form_err m (Long2OP n j k) b d e = short_err (two_operand m.version n) j k b d e
-form_err m (Short1OP n k) b d e = short_err (one_operand m.version n) k Omitted b d e
-form_err m (Short0OP n) b d e = short_err (zero_operand m.version n) Omitted Omitted b d e
-form_err m (Extended n t) b d e = variable_err m (extended m.version n) false b d e
-form_err m (Variable2OP n t) b d e = variable_err m (two_operand m.version n) false b d e
-form_err m (VariableVAR n t) b d e = variable_err m (variable_operand m.version n) false b d e
-form_err m (DoubleVariable n t u) b d e = variable_err m (variable_operand m.version n) true b d e
+form_err m (Long2OP n j k) b d e = with_types_err (two_operand m.version n) j k b d e
+form_err m (Short1OP n k) b d e = with_types_err (one_operand m.version n) k Omitted b d e
+form_err m (Short0OP n) b d e = with_types_err (zero_operand m.version n) Omitted Omitted b d e
+form_err m (Extended n t) b d e = with_type_bytes_err m (extended m.version n) false b d e
+form_err m (Variable2OP n t) b d e = with_type_bytes_err m (two_operand m.version n) false b d e
+form_err m (VariableVAR n t) b d e = with_type_bytes_err m (variable_operand m.version n) false b d e
+form_err m (DoubleVariable n t u) b d e = with_type_bytes_err m (variable_operand m.version n) true b d e
 
+-- a form without an entry
 form_none : (m : MemoryMap) (f : Form) (b : ℕ) → entry_of m.version f ≡ None → rest_of m f b ≡ Err BadOpcode
 unfolding with_types with_type_bytes
 form_none m (Long2OP n j k) b e = rw e refl
@@ -406,24 +450,28 @@ form_none m (DoubleVariable n t u) b e = rw e refl
 
 -- ---- the four laws of the form
 
-pub head_takes : (m : MemoryMap) (a : ℕ) (h : Head) → HasBytes m → head_at m a ≡ Ok h → Fronted m a h
+-- a head that is read is spelled so
+pub head_takes : (m : MemoryMap) (a : ℕ) (h : Head) → HasBytes m → head_at m a ≡ Ok h → SpelledHead m a h
 head_takes m a h fits e =
     elim (begins m a fits) [
       | inl p ↦ absurd cc
-      | inr p ↦ form_takes m p.form a p.at h fits p.is_form p.bytes (sym (front_again m p.form a p.at p.is_form p.bytes) ∙ e)
+      | inr p ↦ form_takes m p.form a p.at h fits p.is_form p.bytes (sym (opcode_again m p.form a p.at p.is_form p.bytes) ∙ e)
     ]
 
-pub head_again : (m : MemoryMap) (f : Form) (a p b : ℕ) (o : Entry) → IsForm m.version f → entry_of m.version f ≡ Some o → Stands m a (opcode_bytes f) p → Stands m p (type_bytes f) b → Reads m a o (types_of f) b
-head_again m f a p b o i n s t = form_again m f a p b o (front_again m f a p i s) n t
+-- a head that is spelled is read
+pub head_again : (m : MemoryMap) (f : Form) (a p b : ℕ) (o : Entry) → IsForm m.version f → entry_of m.version f ≡ Some o → Stands m a (opcode_bytes f) p → Stands m p (type_bytes f) b → ReadHead m a o (types_of f) b
+head_again m f a p b o i n s t = form_again m f a p b o (opcode_again m f a p i s) n t
 
+-- an opcode that is not there is bad
 pub head_none : (m : MemoryMap) (a : ℕ) → NamesNone m a → head_at m a ≡ Err BadOpcode
-head_none m a n = front_again m n.0 a n.1 n.2 n.3 ∙ form_none m n.0 n.1 n.4
+head_none m a n = opcode_again m n.0 a n.1 n.2 n.3 ∙ form_none m n.0 n.1 n.4
 
+-- why a head fails
 pub head_err : (m : MemoryMap) (a : ℕ) (d : Fault) → HasBytes m → head_at m a ≡ Err d → (d ≡ CodePastEnd) ⊎ (NamesNone m a × (d ≡ BadOpcode))
 head_err m a d fits e =
     elim (begins m a fits) [
       | inl p ↦ inl (cc)
-      | inr p ↦ elim (form_err m p.form p.at d (sym (front_again m p.form a p.at p.is_form p.bytes) ∙ e)) [
+      | inr p ↦ elim (form_err m p.form p.at d (sym (opcode_again m p.form a p.at p.is_form p.bytes) ∙ e)) [
         | inl q ↦ inl q
         | inr q ↦ inr ((p.form, p.at, p.is_form, p.bytes, q.0), q.1)
       ]

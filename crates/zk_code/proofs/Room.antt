@@ -15,12 +15,14 @@ use Rattle.zk_code.specs.declared.branch.Branch.{Branch}
 use Rattle.zk_code.specs.declared.operands.OperandType.{OperandType}
 use Rattle.zk_code.specs.declared.operands.OperandType.TheVariants.{LargeConstant, SmallConstant, VariableNumber, Omitted}
 use Rattle.zk_code.specs.Table.{stores, branches, has_text}
-use Rattle.zk_code.specs.Reading.{after, code_byte, code_word, is_omitted, operand_at, operands_at, store_at, branch_to, branch_by, branch_at, text_end, text_at, types_at, types_by_byte, four_omitted, with_types, with_type_bytes, head_at}
+use Rattle.zk_code.specs.Operands.{is_omitted}
+use Rattle.zk_code.specs.Reading.{after, code_byte, code_word, operand_at, operands_at, store_at, branch_to, branch_by, branch_at, text_end, text_at, types_at, types_by_byte, four_omitted, with_types, with_type_bytes, head_at}
 use Rattle.zk_code.specs.Grammar.{Form, Long2OP, Short1OP, Short0OP, Extended, Variable2OP, VariableVAR, DoubleVariable, opcode_bytes, type_bytes, types_of}
 use Rattle.zk_code.proofs.Standing.{bind_ok, bind_err, chosen, ok_is, byte_inside, word_inside, word_takes, stands_long}
 use Rattle.zk_code.proofs.Whole.{parts_at}
-use Rattle.zk_code.proofs.Heads.{head_takes, begins, rest_of, front_again}
+use Rattle.zk_code.proofs.Heads.{head_takes, begins, rest_of, opcode_again}
 
+-- an operand fails near the end of the story alone
 operand_inside : (m : MemoryMap) (k : OperandType) (a : ℕ) (d : Fault) → operand_at m k a ≡ Err d → length m.bytes ≤ a + 1
 unfolding operand_at
 operand_inside m LargeConstant a d e = elim (bind_err (code_word m a) (λ v. Ok (Large v, a + 2)) d e) [ inl h ↦ word_inside m a d h | inr h ↦ absurd cc ]
@@ -28,9 +30,11 @@ operand_inside m SmallConstant a d e = elim (bind_err (code_byte m a) (λ v. Ok 
 operand_inside m VariableNumber a d e = elim (bind_err (code_byte m a) (λ v. Ok (Variable v, a + 1)) d e) [ inl h ↦ (let le = byte_inside m a d h in omega arith) | inr h ↦ absurd cc ]
 operand_inside m Omitted a d e = absurd cc
 
+-- the address behind what was read
 abbrev ends : {A : Type 0} → A × ℕ → ℕ
 ends x = x.1
 
+-- an operand has two bytes at most
 operand_end : (m : MemoryMap) (k : OperandType) (a : ℕ) (x : Operand × ℕ) → operand_at m k a ≡ Ok x → x.1 ≤ a + 2
 unfolding operand_at
 operand_end m LargeConstant a x e = let r = bind_ok (code_word m a) (λ v. Ok (Large v, a + 2)) x e in let q : a + 2 ≡ x.1 = ap ends (ok_is (Large r.0, a + 2) x r.2) in omega arith
@@ -38,6 +42,7 @@ operand_end m SmallConstant a x e = let r = bind_ok (code_byte m a) (λ v. Ok (S
 operand_end m VariableNumber a x e = let r = bind_ok (code_byte m a) (λ v. Ok (Variable v, a + 1)) x e in let q : a + 1 ≡ x.1 = ap ends (ok_is (Variable r.0, a + 1) x r.2) in omega arith
 operand_end m Omitted a x e = let q : a ≡ x.1 = ap ends (ok_is (Small 0, a) x e) in omega arith
 
+-- operands fail near the end alone
 operands_inside : (m : MemoryMap) (ks : List OperandType) (a : ℕ) (d : Fault) → operands_at m ks a ≡ Err d → length m.bytes ≤ a + 2 * length ks
 unfolding operands_at
 operands_inside m [] a d e = absurd cc
@@ -53,6 +58,7 @@ operands_inside m (k ∷ ks) a d e =
       ]
     ]
 
+-- so many operands have twice as many bytes at most
 operands_end : (m : MemoryMap) (ks : List OperandType) (a : ℕ) (x : List Operand × ℕ) → operands_at m ks a ≡ Ok x → x.1 ≤ a + 2 * length ks
 unfolding operands_at
 operands_end m [] a x e = let q : a ≡ x.1 = ap ends (ok_is ([], a) x e) in omega arith
@@ -68,6 +74,7 @@ operands_end m (k ∷ ks) a x e =
           omega arith
     ]
 
+-- the store variable fails at the end alone
 store_inside : (m : MemoryMap) (o : Follows) (a : ℕ) (d : Fault) → store_at m o a ≡ Err d → length m.bytes ≤ a
 unfolding store_at
 store_inside m o a d e =
@@ -76,6 +83,7 @@ store_inside m o a d e =
       | inr h ↦ absurd cc
     ]
 
+-- it has one byte at most
 store_end : (m : MemoryMap) (o : Follows) (a : ℕ) (x : Option ℕ × ℕ) → store_at m o a ≡ Ok x → x.1 ≤ a + 1
 unfolding store_at
 store_end m o a x e =
@@ -87,17 +95,19 @@ store_end m o a x e =
       | inr h ↦ (let q : a ≡ x.1 = ap ends (ok_is (None, a) x h.1) in omega arith)
     ]
 
-branch_of_inside : (m : MemoryMap) (a b : ℕ) (d : Fault) → branch_by m a b ≡ Err d → length m.bytes ≤ a + 1
+-- the second byte of a branch fails near the end alone
+branch_by_inside : (m : MemoryMap) (a b : ℕ) (d : Fault) → branch_by m a b ≡ Err d → length m.bytes ≤ a + 1
 unfolding branch_by
-branch_of_inside m a b d e =
+branch_by_inside m a b d e =
     elim (chosen (nat_lt (b % 128) 64) (code_byte m (a + 1) >>= λ low. Ok (branch_to m (nat_le 128 b) (256 * (b % 64) + low) (a + 2))) (Ok (branch_to m (nat_le 128 b) (b % 64) (a + 1))) (Err d) e) [
       | inl h ↦ elim (bind_err (code_byte m (a + 1)) (λ low. Ok (branch_to m (nat_le 128 b) (256 * (b % 64) + low) (a + 2))) d h.1) [ inl p ↦ byte_inside m (a + 1) d p | inr p ↦ absurd cc ]
       | inr h ↦ absurd cc
     ]
 
-branch_of_end : (m : MemoryMap) (a b : ℕ) (x : Branch × ℕ) → branch_by m a b ≡ Ok x → x.1 ≤ a + 2
+-- a branch has two bytes
+branch_by_end : (m : MemoryMap) (a b : ℕ) (x : Branch × ℕ) → branch_by m a b ≡ Ok x → x.1 ≤ a + 2
 unfolding branch_by
-branch_of_end m a b x e =
+branch_by_end m a b x e =
     elim (chosen (nat_lt (b % 128) 64) (code_byte m (a + 1) >>= λ low. Ok (branch_to m (nat_le 128 b) (256 * (b % 64) + low) (a + 2))) (Ok (branch_to m (nat_le 128 b) (b % 64) (a + 1))) (Ok x) e) [
       | inl h ↦
           let r = bind_ok (code_byte m (a + 1)) (λ low. Ok (branch_to m (nat_le 128 b) (256 * (b % 64) + low) (a + 2))) x h.1 in
@@ -106,17 +116,19 @@ branch_of_end m a b x e =
       | inr h ↦ (let q : a + 1 ≡ x.1 = ap ends (ok_is (branch_to m (nat_le 128 b) (b % 64) (a + 1)) x h.1) in omega arith)
     ]
 
+-- a branch fails near the end alone
 branch_inside : (m : MemoryMap) (o : Follows) (a : ℕ) (d : Fault) → branch_at m o a ≡ Err d → length m.bytes ≤ a + 1
 unfolding branch_at
 branch_inside m o a d e =
     elim (chosen (branches o) (code_byte m a >>= λ b. branch_by m a b >>= λ r. Ok (Some r.0, r.1)) (Ok (None, a)) (Err d) e) [
       | inl h ↦ elim (bind_err (code_byte m a) (λ b. branch_by m a b >>= λ r. Ok (Some r.0, r.1)) d h.1) [
         | inl p ↦ (let le = byte_inside m a d p in omega arith)
-        | inr p ↦ elim (bind_err (branch_by m a p.0) (λ r. Ok (Some r.0, r.1)) d p.2) [ inl q ↦ branch_of_inside m a p.0 d q | inr q ↦ absurd cc ]
+        | inr p ↦ elim (bind_err (branch_by m a p.0) (λ r. Ok (Some r.0, r.1)) d p.2) [ inl q ↦ branch_by_inside m a p.0 d q | inr q ↦ absurd cc ]
       ]
       | inr h ↦ absurd cc
     ]
 
+-- it has two bytes at most
 branch_end : (m : MemoryMap) (o : Follows) (a : ℕ) (x : Option Branch × ℕ) → branch_at m o a ≡ Ok x → x.1 ≤ a + 2
 unfolding branch_at
 branch_end m o a x e =
@@ -125,7 +137,7 @@ branch_end m o a x e =
           let b = bind_ok (code_byte m a) (λ b. branch_by m a b >>= λ r. Ok (Some r.0, r.1)) x h.1 in
           let r = bind_ok (branch_by m a b.0) (λ r. Ok (Some r.0, r.1)) x b.2 in
           let q : r.0.1 ≡ x.1 = ap ends (ok_is (Some r.0.0, r.0.1) x r.2) in
-          let le = branch_of_end m a b.0 r.0 r.1 in
+          let le = branch_by_end m a b.0 r.0 r.1 in
           omega arith
       | inr h ↦ (let q : a ≡ x.1 = ap ends (ok_is (None, a) x h.1) in omega arith)
     ]
@@ -135,6 +147,7 @@ pub record EndsMarked (m : MemoryMap) (q : ℕ) : Type 0 where
   pub marked : (c v : ℕ) → q ≤ c → cell_at m c ≡ Some v → v ≡ 128
   pub long : q + 3 ≤ length m.bytes
 
+-- a text ends where bytes 128 stand behind it
 text_ends : (m : MemoryMap) (q n a : ℕ) (d : Fault) → HasBytes m → EndsMarked m q → length m.bytes ≤ a + 2 * n → a + 1 < length m.bytes → text_end m n a ≡ Err d → ⊥
 unfolding text_end
 text_ends m q zero a d fits r le lt e = omega arith
@@ -154,6 +167,7 @@ text_ends m q (suc n) a d fits r le lt e =
       ]
     ]
 
+-- so no text fails there
 text_inside : (m : MemoryMap) (q : ℕ) (o : Follows) (a : ℕ) (d : Fault) → HasBytes m → EndsMarked m q → a + 1 < length m.bytes → text_at m o a ≡ Err d → ⊥
 unfolding text_at
 text_inside m q o a d fits r lt e =
@@ -162,6 +176,7 @@ text_inside m q o a d fits r lt e =
       | inr h ↦ absurd cc
     ]
 
+-- types fail near the end alone
 types_inside : (m : MemoryMap) (two : Bool) (a : ℕ) (d : Fault) → types_at m two a ≡ Err d → length m.bytes ≤ a + 1
 unfolding types_at
 types_inside m false a d e = elim (bind_err (code_byte m a) (λ t. Ok (types_by_byte t ++ four_omitted, a + 1)) d e) [ inl h ↦ (let le = byte_inside m a d h in omega arith) | inr h ↦ absurd cc ]
@@ -171,25 +186,29 @@ types_inside m true a d e =
       | inr h ↦ elim (bind_err (code_byte m (a + 1)) (λ u. Ok (types_by_byte h.0 ++ types_by_byte u, a + 2)) d h.2) [ inl p ↦ byte_inside m (a + 1) d p | inr p ↦ absurd cc ]
     ]
 
-short_inside : (m : MemoryMap) (op : Option Entry) (j k : OperandType) (b : ℕ) → with_types op j k b ≡ Err CodePastEnd → length m.bytes ≤ b + 1
+-- a head with types fails near the end alone
+with_types_inside : (m : MemoryMap) (op : Option Entry) (j k : OperandType) (b : ℕ) → with_types op j k b ≡ Err CodePastEnd → length m.bytes ≤ b + 1
 unfolding with_types
-short_inside m None j k b e = absurd cc
-short_inside m (Some o) j k b e = absurd cc
+with_types_inside m None j k b e = absurd cc
+with_types_inside m (Some o) j k b e = absurd cc
 
-variable_inside : (m : MemoryMap) (op : Option Entry) (two : Bool) (b : ℕ) → with_type_bytes m op two b ≡ Err CodePastEnd → length m.bytes ≤ b + 1
+-- a head with type bytes fails near the end alone
+with_type_bytes_inside : (m : MemoryMap) (op : Option Entry) (two : Bool) (b : ℕ) → with_type_bytes m op two b ≡ Err CodePastEnd → length m.bytes ≤ b + 1
 unfolding with_type_bytes
-variable_inside m None two b e = absurd cc
-variable_inside m (Some o) two b e = elim (bind_err (types_at m two b) (λ t. Ok (record { entry = o; types = t.0; next = t.1 })) CodePastEnd e) [ inl p ↦ types_inside m two b CodePastEnd p | inr p ↦ absurd cc ]
+with_type_bytes_inside m None two b e = absurd cc
+with_type_bytes_inside m (Some o) two b e = elim (bind_err (types_at m two b) (λ t. Ok (record { entry = o; types = t.0; next = t.1 })) CodePastEnd e) [ inl p ↦ types_inside m two b CodePastEnd p | inr p ↦ absurd cc ]
 
+-- a form fails near the end alone
 form_inside : (m : MemoryMap) (f : Form) (b : ℕ) → rest_of m f b ≡ Err CodePastEnd → length m.bytes ≤ b + 1
-form_inside m (Long2OP n j k) b e = short_inside m _ j k b e
-form_inside m (Short1OP n k) b e = short_inside m _ k Omitted b e
-form_inside m (Short0OP n) b e = short_inside m _ Omitted Omitted b e
-form_inside m (Extended n t) b e = variable_inside m _ false b e
-form_inside m (Variable2OP n t) b e = variable_inside m _ false b e
-form_inside m (VariableVAR n t) b e = variable_inside m _ false b e
-form_inside m (DoubleVariable n t u) b e = variable_inside m _ true b e
+form_inside m (Long2OP n j k) b e = with_types_inside m _ j k b e
+form_inside m (Short1OP n k) b e = with_types_inside m _ k Omitted b e
+form_inside m (Short0OP n) b e = with_types_inside m _ Omitted Omitted b e
+form_inside m (Extended n t) b e = with_type_bytes_inside m _ false b e
+form_inside m (Variable2OP n t) b e = with_type_bytes_inside m _ false b e
+form_inside m (VariableVAR n t) b e = with_type_bytes_inside m _ false b e
+form_inside m (DoubleVariable n t u) b e = with_type_bytes_inside m _ true b e
 
+-- an opcode has two bytes at most
 opcode_short : (f : Form) → length (opcode_bytes f) ≤ 2
 opcode_short (Long2OP n j k) = omega arith
 opcode_short (Short1OP n k) = omega arith
@@ -199,21 +218,23 @@ opcode_short (Variable2OP n t) = omega arith
 opcode_short (VariableVAR n t) = omega arith
 opcode_short (DoubleVariable n t u) = omega arith
 
-front_short : (f : Form) → (length (opcode_bytes f ++ type_bytes f) ≤ 4) × (length (types_of f) ≤ 8)
-front_short (Long2OP n j k) = omega arith
-front_short (Short1OP n k) = omega arith
-front_short (Short0OP n) = omega arith
-front_short (Extended n t) = omega arith
-front_short (Variable2OP n t) = omega arith
-front_short (VariableVAR n t) = omega arith
-front_short (DoubleVariable n t u) = omega arith
+-- a head has four bytes and eight types at most
+head_short : (f : Form) → (length (opcode_bytes f ++ type_bytes f) ≤ 4) × (length (types_of f) ≤ 8)
+head_short (Long2OP n j k) = omega arith
+head_short (Short1OP n k) = omega arith
+head_short (Short0OP n) = omega arith
+head_short (Extended n t) = omega arith
+head_short (Variable2OP n t) = omega arith
+head_short (VariableVAR n t) = omega arith
+head_short (DoubleVariable n t u) = omega arith
 
+-- a head fails near the end alone
 head_inside : (m : MemoryMap) (a : ℕ) → HasBytes m → head_at m a ≡ Err CodePastEnd → length m.bytes ≤ a + 3
 head_inside m a fits e =
     elim (begins m a fits) [
       | inl p ↦ (let le = p.1 in omega arith)
       | inr p ↦
-          let le = form_inside m p.form p.at (sym (front_again m p.form a p.at p.is_form p.bytes) ∙ e) in
+          let le = form_inside m p.form p.at (sym (opcode_again m p.form a p.at p.is_form p.bytes) ∙ e) in
           let long = stands_long m (opcode_bytes p.form) a p.at p.bytes in
           let few = opcode_short p.form in
           omega arith
@@ -228,7 +249,7 @@ parts_inside m q a fits r room e =
       | inr h ↦
           let f = head_takes m a h.0 fits h.1 in
           let long = stands_long m (opcode_bytes f.form ++ type_bytes f.form) a h.0.next f.bytes in
-          let few = front_short f.form in
+          let few = head_short f.form in
           let at : h.0.next ≤ a + 4 = omega arith in
           elim (bind_err (operands_at m h.0.types h.0.next) (λ os. store_at m h.0.entry.follows os.1 >>= λ s. branch_at m h.0.entry.follows s.1 >>= λ br. text_at m h.0.entry.follows br.1 >>= λ t. Ok (record { opcode = h.0.entry.opcode; operands = os.0; store = s.0; branch = br.0; text = t.0; next = t.1 }, h.0.entry.least)) CodePastEnd h.2) [
             | inl p ↦ (let le = operands_inside m (types_of f.form) h.0.next CodePastEnd (sym (f.same h.0.next) ∙ p) in omega arith)

@@ -1,4 +1,4 @@
--- The fields behind the head: what is read is spelled so, and what is spelled so is read.
+-- The fields no_bad_behind the head: what is read is spelled so, and what is spelled so is read.
 use Rattle.std.proofs.Common.{◌≡◌, ℕ, zero, suc, ◌+◌, ◌*◌, ◌/◌, ◌%◌, ◌<◌, ◌≤◌, Bool, true, false, cond, List, [], ◌∷◌, ◌++◌, length, map, Option, Some, None, Ok, Err, refl, sym, ap, subst, ◌∙◌, arith, inl, inr}
 use Rattle.std.specs.Prelude.{is_some, nat_le, nat_lt}
 use Rattle.std.specs.List.{flat_map}
@@ -14,14 +14,15 @@ use Rattle.zk_code.specs.declared.operands.OperandType.TheVariants.{LargeConstan
 use Rattle.zk_code.specs.declared.branch.Branch.{Branch}
 use Rattle.zk_code.specs.declared.table.Follows.{Follows}
 use Rattle.zk_code.specs.Table.{stores, branches, has_text}
-use Rattle.zk_code.specs.Operands.{type_of}
+use Rattle.zk_code.specs.Operands.{type_of, is_omitted}
 use Rattle.zk_code.specs.Targets.{branch_target}
-use Rattle.zk_code.specs.Reading.{after, code_byte, code_word, operand_at, operands_at, is_omitted, store_at, branch_to, branch_by, branch_at, text_end, text_at}
+use Rattle.zk_code.specs.Reading.{after, code_byte, code_word, operand_at, operands_at, store_at, branch_to, branch_by, branch_at, text_end, text_at}
 use Rattle.zk_code.specs.Grammar.{Stands, IsEnd, AreOf, operand_bytes, store_bytes, BranchData, NoBranch, OneByte, TwoBytes, IsBranchData, on_bit, branch_bytes, branch_of, IsText, IsTextAt, word}
 use Rattle.zk_code.proofs.Standing.{bind_ok, bind_err, chosen, ok_is, stands_join, stands_split, stands_long, stands_inside, byte_takes, byte_again, byte_err, word_takes, word_again, word_err}
 
 -- ---- one operand
 
+-- an operand that is read is spelled so
 operand_takes : (m : MemoryMap) (t : OperandType) (a : ℕ) (o : Operand) (b : ℕ) → HasBytes m → is_omitted t ≡ false → operand_at m t a ≡ Ok (o, b) → (t ≡ type_of o) × Stands m a (operand_bytes o) b
 unfolding operand_at
 operand_takes m LargeConstant a o b fits n e =
@@ -35,12 +36,14 @@ operand_takes m VariableNumber a o b fits n e =
     subst (λ (x : Operand × ℕ). (VariableNumber ≡ type_of x.0) × Stands m a (operand_bytes x.0) x.1) (ok_is (Variable r.0, a + 1) (o, b) r.2) (refl, (byte_takes m a r.0 r.1, refl))
 operand_takes m Omitted a o b fits n e = absurd cc
 
+-- an operand that is spelled is read
 operand_again : (m : MemoryMap) (a : ℕ) (o : Operand) (b : ℕ) → Stands m a (operand_bytes o) b → operand_at m (type_of o) a ≡ Ok (o, b)
 unfolding operand_at
 operand_again m a (Large v) b h = let e : a + 2 ≡ b = omega (arith, h.1.1) in rw (word_again m a v b h, e) refl
 operand_again m a (Small v) b h = rw (byte_again m a v h.0, h.1) refl
 operand_again m a (Variable v) b h = rw (byte_again m a v h.0, h.1) refl
 
+-- an operand fails for want of bytes alone
 operand_err : (m : MemoryMap) (t : OperandType) (a : ℕ) (d : Fault) → operand_at m t a ≡ Err d → d ≡ CodePastEnd
 unfolding operand_at
 operand_err m LargeConstant a d e = elim (bind_err (code_word m a) (λ v. Ok (Large v, a + 2)) d e) [ inl h ↦ word_err m a d h | inr h ↦ absurd cc ]
@@ -48,6 +51,7 @@ operand_err m SmallConstant a d e = elim (bind_err (code_byte m a) (λ v. Ok (Sm
 operand_err m VariableNumber a d e = elim (bind_err (code_byte m a) (λ v. Ok (Variable v, a + 1)) d e) [ inl h ↦ byte_err m a d h | inr h ↦ absurd cc ]
 operand_err m Omitted a d e = absurd cc
 
+-- an operand is not omitted
 given_again : (o : Operand) → is_omitted (type_of o) ≡ false
 given_again (Large v) = refl
 given_again (Small v) = refl
@@ -55,15 +59,18 @@ given_again (Variable v) = refl
 
 -- ---- the operands
 
+-- there is one omitted type
 omitted_is : (t : OperandType) → is_omitted t ≡ true → t ≡ Omitted
 omitted_is LargeConstant e = absurd cc
 omitted_is SmallConstant e = absurd cc
 omitted_is VariableNumber e = absurd cc
 omitted_is Omitted e = refl
 
+-- what is read of some types
 abbrev Parts : MemoryMap → List OperandType → ℕ → List Operand × ℕ → Type 0
 Parts m ts a x = AreOf ts x.0 × Stands m a (flat_map operand_bytes x.0) x.1
 
+-- operands that are read are spelled so
 pub operands_take : (m : MemoryMap) (ts : List OperandType) (a : ℕ) (x : List Operand × ℕ) → HasBytes m → operands_at m ts a ≡ Ok x → AreOf ts x.0 × Stands m a (flat_map operand_bytes x.0) x.1
 unfolding operands_at
 operands_take m [] a x fits e = subst (Parts m [] a) (ok_is ([], a) x e) (([], refl, tt), refl)
@@ -80,11 +87,13 @@ operands_take m (t ∷ ts) a x fits e =
           ((second.0.0, types, second.0.2), stands_join m (operand_bytes o.0.0) (flat_map operand_bytes os.0.0) a o.0.1 os.0.1 first.1 second.1)
     ]
 
+-- at the end no operand is read
 end_again : (m : MemoryMap) (rest : List OperandType) (a : ℕ) → IsEnd rest → operands_at m rest a ≡ Ok ([], a)
 unfolding operands_at
 end_again m [] a h = refl
 end_again m (t ∷ ts) a h = rw h refl
 
+-- operands that are spelled are read, by their own types
 listed_again : (m : MemoryMap) (os : List Operand) (rest : List OperandType) (a b : ℕ) → IsEnd rest → Stands m a (flat_map operand_bytes os) b → operands_at m (map type_of os ++ rest) a ≡ Ok (os, b)
 unfolding operands_at
 listed_again m [] rest a b f h = rw (end_again m rest a f, h) refl
@@ -92,9 +101,11 @@ listed_again m (o ∷ os) rest a b f h =
     let s = stands_split m (operand_bytes o) (flat_map operand_bytes os) a b h in
     rw (given_again o, operand_again m a o s.0 s.1, listed_again m os rest s.0 b f s.2) refl
 
+-- operands that are spelled are read
 pub operands_again : (m : MemoryMap) (ts : List OperandType) (a : ℕ) (os : List Operand) (b : ℕ) → AreOf ts os → Stands m a (flat_map operand_bytes os) b → operands_at m ts a ≡ Ok (os, b)
 operands_again m ts a os b f h = rw f.1 (listed_again m os f.0 a b f.2 h)
 
+-- operands fail for want of bytes alone
 pub operands_err : (m : MemoryMap) (ts : List OperandType) (a : ℕ) (d : Fault) → operands_at m ts a ≡ Err d → d ≡ CodePastEnd
 unfolding operands_at
 operands_err m [] a d e = absurd cc
@@ -112,6 +123,7 @@ operands_err m (t ∷ ts) a d e =
 
 -- ---- the store variable
 
+-- a store variable that is read is spelled so
 pub store_takes : (m : MemoryMap) (f : Follows) (a : ℕ) (x : Option ℕ × ℕ) → store_at m f a ≡ Ok x → (is_some x.0 ≡ stores f) × Stands m a (store_bytes x.0) x.1
 unfolding store_at
 store_takes m f a x e =
@@ -122,11 +134,13 @@ store_takes m f a x e =
       | inr h ↦ rw h.0 (subst (λ (y : Option ℕ × ℕ). (is_some y.0 ≡ false) × Stands m a (store_bytes y.0) y.1) (ok_is (None, a) x h.1) (refl, refl))
     ]
 
+-- a store variable that is spelled is read
 pub store_again : (m : MemoryMap) (f : Follows) (a : ℕ) (v : Option ℕ) (b : ℕ) → is_some v ≡ stores f → Stands m a (store_bytes v) b → store_at m f a ≡ Ok (v, b)
 unfolding store_at
 store_again m f a None b e h = rw (← e, h) refl
 store_again m f a (Some v) b e h = rw (← e, byte_again m a v h.0, h.1) refl
 
+-- a store variable fails for want of bytes alone
 pub store_err : (m : MemoryMap) (f : Follows) (a : ℕ) (d : Fault) → store_at m f a ≡ Err d → d ≡ CodePastEnd
 unfolding store_at
 store_err m f a d e =
@@ -137,6 +151,7 @@ store_err m f a d e =
 
 -- ---- the branch
 
+-- bit 7 and the others make a byte
 on_split : (b : ℕ) → b < 256 → on_bit (nat_le 128 b) + b % 128 ≡ b
 on_split b h = elim (nat_le 128 b) as (λ t. nat_le 128 b ≡ t → on_bit t + b % 128 ≡ b) [ true ↦ λ e. (let le : 128 ≤ b = grind (arith, nat_tests) in omega arith) | false ↦ λ e. (let lt : b < 128 = grind (arith, nat_tests) in omega arith) ] refl
 
@@ -147,6 +162,7 @@ pub record Branched (m : MemoryMap) (a : ℕ) (v : Option Branch) (b : ℕ) : Ty
   pub branch : v ≡ branch_of (length m.bytes) b branch_data
   pub bytes : Stands m a (branch_bytes branch_data) b
 
+-- a branch that is read is spelled so, by its first byte
 branch_takes_some : (m : MemoryMap) (a b : ℕ) (x : Branch × ℕ) → HasBytes m → cell_at m a ≡ Some b → branch_by m a b ≡ Ok x → Branched m a (Some x.0) x.1
 unfolding branch_by
 branch_takes_some m a b x fits c e =
@@ -171,6 +187,7 @@ branch_takes_some m a b x fits c e =
           (record { branch_data = OneByte (nat_le 128 b) (b % 64); is_branch_data = omega arith; branch = refl; bytes = (c ∙ ap Some first, refl) })
     ]
 
+-- a branch that is read is spelled so
 pub branch_takes : (m : MemoryMap) (f : Follows) (a : ℕ) (x : Option Branch × ℕ) → HasBytes m → branch_at m f a ≡ Ok x → (is_some x.0 ≡ branches f) × Branched m a x.0 x.1
 unfolding branch_at
 branch_takes m f a x fits e =
@@ -182,10 +199,12 @@ branch_takes m f a x fits e =
       | inr h ↦ rw h.0 (subst (λ (y : Option Branch × ℕ). (is_some y.0 ≡ false) × Branched m a y.0 y.1) (ok_is (None, a) x h.1) (refl, record { branch_data = NoBranch; is_branch_data = tt; branch = refl; bytes = refl }))
     ]
 
+-- the parts of a byte of one
 one_again : (on : Bool) (v : ℕ) → v < 64 → (nat_lt ((on_bit on + 64 + v) % 128) 64 ≡ false) × (nat_le 128 (on_bit on + 64 + v) ≡ on) × ((on_bit on + 64 + v) % 64 ≡ v)
 one_again true v h = (grind (arith, nat_tests), grind (arith, nat_tests), omega arith)
 one_again false v h = (grind (arith, nat_tests), grind (arith, nat_tests), omega arith)
 
+-- the parts of two bytes
 two_again : (on : Bool) (v : ℕ) → v < 16384 → (nat_lt ((on_bit on + v / 256) % 128) 64 ≡ true) × (nat_le 128 (on_bit on + v / 256) ≡ on) × (256 * ((on_bit on + v / 256) % 64) + v % 256 ≡ v)
 two_again true v h = (grind (arith, nat_tests), grind (arith, nat_tests), omega arith)
 two_again false v h = (grind (arith, nat_tests), grind (arith, nat_tests), omega arith)
@@ -194,12 +213,14 @@ two_again false v h = (grind (arith, nat_tests), grind (arith, nat_tests), omega
 abbrev ReadBy : MemoryMap → ℕ → Branch → ℕ → Type 0
 ReadBy m a v b = (c : ℕ) × (code_byte m a ≡ Ok c) × (branch_by m a c ≡ Ok (v, b))
 
+-- a branch of one byte is read
 one_byte_again : (m : MemoryMap) (a : ℕ) (on : Bool) (offset b : ℕ) → offset < 64 → Stands m a (branch_bytes (OneByte on offset)) b → ReadBy m a (record { on = on; target = branch_target (length m.bytes) b offset }) b
 unfolding branch_by
 one_byte_again m a on offset b w h =
     let n = one_again on offset w in
     (on_bit on + 64 + offset, byte_again m a (on_bit on + 64 + offset) h.0, rw (n.0, n.1, n.2, h.1) refl)
 
+-- a branch of two bytes is read
 two_bytes_again : (m : MemoryMap) (a : ℕ) (on : Bool) (offset b : ℕ) → offset < 16384 → Stands m a (branch_bytes (TwoBytes on offset)) b → ReadBy m a (record { on = on; target = branch_target (length m.bytes) b offset }) b
 unfolding branch_by
 two_bytes_again m a on offset b w h =
@@ -207,22 +228,27 @@ two_bytes_again m a on offset b w h =
     let e : a + 2 ≡ b = omega (arith, h.1.1) in
     (on_bit on + offset / 256, byte_again m a (on_bit on + offset / 256) h.0, rw (n.0, byte_again m (a + 1) (offset % 256) h.1.0, n.1, n.2, e) refl)
 
+-- a branch is read where one follows
 some_again : (m : MemoryMap) (f : Follows) (a : ℕ) (v : Branch) (b : ℕ) → branches f ≡ true → ReadBy m a v b → branch_at m f a ≡ Ok (Some v, b)
 unfolding branch_at
 some_again m f a v b e s = rw (e, s.1, s.2) refl
 
+-- no branch is read where none follows
 none_again : (m : MemoryMap) (f : Follows) (a b : ℕ) → branches f ≡ false → a ≡ b → branch_at m f a ≡ Ok (None, b)
 unfolding branch_at
 none_again m f a b e h = rw (e, h) refl
 
+-- a branch is read by its data
 data_again : (m : MemoryMap) (f : Follows) (d : BranchData) (a b : ℕ) → is_some (branch_of (length m.bytes) b d) ≡ branches f → IsBranchData d → Stands m a (branch_bytes d) b → branch_at m f a ≡ Ok (branch_of (length m.bytes) b d, b)
 data_again m f NoBranch a b e w h = none_again m f a b (sym e) h
 data_again m f (OneByte on offset) a b e w h = some_again m f a _ b (sym e) (one_byte_again m a on offset b w h)
 data_again m f (TwoBytes on offset) a b e w h = some_again m f a _ b (sym e) (two_bytes_again m a on offset b w h)
 
+-- a branch that is spelled is read
 pub branch_again : (m : MemoryMap) (f : Follows) (d : BranchData) (a : ℕ) (v : Option Branch) (b : ℕ) → is_some v ≡ branches f → IsBranchData d → v ≡ branch_of (length m.bytes) b d → Stands m a (branch_bytes d) b → branch_at m f a ≡ Ok (v, b)
 branch_again m f d a v b e w is h = rw is (data_again m f d a b (rw is at e) w h)
 
+-- the second byte fails for want of bytes alone
 branch_by_err : (m : MemoryMap) (a b : ℕ) (d : Fault) → branch_by m a b ≡ Err d → d ≡ CodePastEnd
 unfolding branch_by
 branch_by_err m a b d e =
@@ -231,6 +257,7 @@ branch_by_err m a b d e =
       | inr h ↦ absurd cc
     ]
 
+-- a branch fails for want of bytes alone
 pub branch_err : (m : MemoryMap) (f : Follows) (a : ℕ) (d : Fault) → branch_at m f a ≡ Err d → d ≡ CodePastEnd
 unfolding branch_at
 branch_err m f a d e =
@@ -244,10 +271,12 @@ branch_err m f a d e =
 
 -- ---- the text
 
+-- a text with a word more before it
 text_more : (w : ℕ) (ws : List ℕ) → w < 32768 → IsText ws → IsText (w ∷ ws)
 text_more w [] low t = absurd t
 text_more w (x ∷ ws) low t = (low, t)
 
+-- where a text ends that is read
 text_end_takes : (m : MemoryMap) (n a b : ℕ) → HasBytes m → text_end m n a ≡ Ok b → (ws : List ℕ) × IsText ws × Stands m a (flat_map word ws) b
 unfolding text_end
 text_end_takes m zero a b fits e = absurd cc
@@ -267,6 +296,7 @@ text_end_takes m (suc n) a b fits e =
           (w.0 ∷ more.0, text_more w.0 more.0 low more.1, stands_join m (word w.0) (flat_map word more.0) a (a + 2) b here more.2)
     ]
 
+-- a text that stands there is read to its end
 text_end_again : (m : MemoryMap) (ws : List ℕ) (n a b : ℕ) → length ws ≤ n → IsText ws → Stands m a (flat_map word ws) b → text_end m n a ≡ Ok b
 unfolding text_end
 text_end_again m [] n a b le t h = absurd t
@@ -286,6 +316,7 @@ text_end_again m (w ∷ x ∷ ws) (suc n) a b le t h =
     let rest = text_end_again m (x ∷ ws) n s.0 b (omega arith) t.1 s.2 in
     rw (word_again m a w s.0 s.1, test) (rw there at rest)
 
+-- a text fails for want of bytes alone
 text_end_err : (m : MemoryMap) (n a : ℕ) (d : Fault) → text_end m n a ≡ Err d → d ≡ CodePastEnd
 unfolding text_end
 text_end_err m zero a d e = cc
@@ -299,6 +330,7 @@ text_end_err m (suc n) a d e =
 abbrev TextOf : MemoryMap → ℕ → Option ℕ × ℕ → Type 0
 TextOf m a x = (ws : List ℕ) × IsTextAt x.0 ws a × Stands m a (flat_map word ws) x.1
 
+-- a text that is read is spelled so
 pub text_takes : (m : MemoryMap) (f : Follows) (a : ℕ) (x : Option ℕ × ℕ) → HasBytes m → text_at m f a ≡ Ok x → (is_some x.0 ≡ has_text f) × ((ws : List ℕ) × IsTextAt x.0 ws a × Stands m a (flat_map word ws) x.1)
 unfolding text_at
 text_takes m f a x fits e =
@@ -310,10 +342,12 @@ text_takes m f a x fits e =
       | inr h ↦ rw h.0 (subst (λ (y : Option ℕ × ℕ). (is_some y.0 ≡ false) × TextOf m a y) (ok_is (None, a) x h.1) (refl, ([], refl, refl)))
     ]
 
+-- a text has two bytes a word
 text_long : (ws : List ℕ) → length (flat_map word ws) ≡ 2 * length ws
 text_long [] = refl
 text_long (w ∷ ws) = let r = text_long ws in omega arith
 
+-- a text that is spelled is read
 pub text_again : (m : MemoryMap) (f : Follows) (a : ℕ) (v : Option ℕ) (ws : List ℕ) (b : ℕ) → is_some v ≡ has_text f → IsTextAt v ws a → Stands m a (flat_map word ws) b → text_at m f a ≡ Ok (v, b)
 unfolding text_at
 text_again m f a None [] b e t h = rw (← e, h) refl
@@ -325,6 +359,7 @@ text_again m f a (Some p) (w ∷ ws) b e t h =
     let few : length (w ∷ ws) ≤ length m.bytes = omega (arith, text_long (w ∷ ws)) in
     rw (← e, text_end_again m (w ∷ ws) (length m.bytes) a b few t.0 h, t.1) refl
 
+-- a text fails for want of bytes alone
 pub text_err : (m : MemoryMap) (f : Follows) (a : ℕ) (d : Fault) → text_at m f a ≡ Err d → d ≡ CodePastEnd
 unfolding text_at
 text_err m f a d e =

@@ -3,3 +3,4 @@ pub mod Operands
 pub mod Targets
 pub mod Reading
 pub mod Grammar
+pub mod Laws

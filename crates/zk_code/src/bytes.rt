@@ -7,23 +7,20 @@ use zk_mem::fault::Fault;
 use zk_mem::memory::Memory;
 
 #[tactic(auto, unfolding(crate::specs::Reading::code_byte))]
-pub(crate) fn read_byte(m: &Memory, a: u32) -> Result<u8, Fault>
-    ensures value { result ≡ code_byte m.now a }
+pub(crate) fn read_byte(memory: &Memory, a: u32) -> Result<u8, Fault>
+    ensures value { result ≡ code_byte memory.now a }
     ensures bound { OnOk result (a < 524288) }
 {
-    match m.cell(a) {
-        Some(byte) => Ok(byte),
-        None => Err(Fault::CodePastEnd),
-    }
+    memory.cell(a).ok_or(Fault::CodePastEnd)
 }
 
 #[tactic(auto, unfolding(crate::specs::Reading::code_word))]
-pub(crate) fn read_word(m: &Memory, a: u32) -> Result<u16, Fault>
+pub(crate) fn read_word(memory: &Memory, a: u32) -> Result<u16, Fault>
     requires { a ≤ 2 ^ 20 }
-    ensures value { result ≡ code_word m.now a }
+    ensures value { result ≡ code_word memory.now a }
     ensures bound { OnOk result (a < 524288) }
 {
-    let high = read_byte(m, a)?;
-    let low = read_byte(m, a + 1)?;
+    let high = read_byte(memory, a)?;
+    let low = read_byte(memory, a + 1)?;
     Ok(256 * high as u16 + low as u16)
 }

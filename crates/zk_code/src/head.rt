@@ -43,23 +43,23 @@ fn type_of_bit(bit: u8) -> OperandType
 }
 
 #[tactic(auto, unfolding(crate::specs::Reading::types_at))]
-fn read_types(m: &Memory, two: bool, a: u32) -> Result<([OperandType; 8], u32), Fault>
+fn read_types(memory: &Memory, two: bool, a: u32) -> Result<([OperandType; 8], u32), Fault>
     requires { a ≤ 2 ^ 20 }
-    ensures value { result ≡ types_at m.now two a }
+    ensures value { result ≡ types_at memory.now two a }
     ensures near { IfOk result (λ x. x.1 ≤ 2 ^ 20) }
 {
     let none = OperandType::Omitted;
-    let t = read_byte(m, a)?;
-    let first = type_of_bits(t / 64);
-    let second = type_of_bits(t / 16 % 4);
-    let third = type_of_bits(t / 4 % 4);
-    let fourth = type_of_bits(t % 4);
+    let byte = read_byte(memory, a)?;
+    let first = type_of_bits(byte / 64);
+    let second = type_of_bits(byte / 16 % 4);
+    let third = type_of_bits(byte / 4 % 4);
+    let fourth = type_of_bits(byte % 4);
     if two {
-        let u = read_byte(m, a + 1)?;
-        let fifth = type_of_bits(u / 64);
-        let sixth = type_of_bits(u / 16 % 4);
-        let seventh = type_of_bits(u / 4 % 4);
-        let eighth = type_of_bits(u % 4);
+        let more = read_byte(memory, a + 1)?;
+        let fifth = type_of_bits(more / 64);
+        let sixth = type_of_bits(more / 16 % 4);
+        let seventh = type_of_bits(more / 4 % 4);
+        let eighth = type_of_bits(more % 4);
         Ok((
             [first, second, third, fourth, fifth, sixth, seventh, eighth],
             a + 2,
@@ -74,7 +74,7 @@ fn read_types(m: &Memory, two: bool, a: u32) -> Result<([OperandType; 8], u32), 
 
 /// The head whose opcode byte has the types.
 #[tactic(auto, unfolding(crate::specs::Reading::with_types))]
-fn typed(
+fn head_of(
     entry: Option<Entry>,
     first: OperandType,
     second: OperandType,
@@ -95,61 +95,59 @@ fn typed(
 
 /// The head whose types stand in type bytes, from `a` on.
 #[tactic(auto, unfolding(crate::specs::Reading::with_type_bytes))]
-fn read_typed(m: &Memory, entry: Option<Entry>, two: bool, a: u32) -> Result<Head, Fault>
+fn read_head_of(memory: &Memory, entry: Option<Entry>, two: bool, a: u32) -> Result<Head, Fault>
     requires { a ≤ 2 ^ 20 }
-    ensures value { result ≡ with_type_bytes m.now entry two a }
+    ensures value { result ≡ with_type_bytes memory.now entry two a }
     ensures near { IfOk result (λ h. h.next ≤ 2 ^ 20) }
 {
     let entry = entry.ok_or(Fault::BadOpcode)?;
-    let (types, next) = read_types(m, two, a)?;
+    let (types, next) = read_types(memory, two, a)?;
     Ok(Head { entry, types, next })
 }
 
 #[tactic(auto, unfolding(crate::specs::Reading::extended_at))]
-fn read_extended(m: &Memory, a: u32) -> Result<Head, Fault>
+fn read_extended(memory: &Memory, a: u32) -> Result<Head, Fault>
     requires { a ≤ 524288 }
-    ensures value { result ≡ extended_at m.now a }
+    ensures value { result ≡ extended_at memory.now a }
     ensures near { IfOk result (λ h. h.next ≤ 2 ^ 20) }
 {
-    let n = read_byte(m, a)?;
-    let head = read_typed(m, extended_of(n, m.version()), false, a + 1)?;
-    Ok(head)
+    let number = read_byte(memory, a)?;
+    read_head_of(memory, extended_of(number, memory.version()), false, a + 1)
 }
 
-/// The head that begins with the byte b at a.
+/// The head whose first byte, at `a`, is known.
 #[tactic(auto, unfolding(crate::specs::Reading::head_by))]
-fn read_head_by(m: &Memory, a: u32, b: u8) -> Result<Head, Fault>
+fn read_head_by(memory: &Memory, a: u32, byte: u8) -> Result<Head, Fault>
     requires { a < 524288 }
-    ensures value { result ≡ head_by m.now a b }
+    ensures value { result ≡ head_by memory.now a byte }
     ensures near { IfOk result (λ h. h.next ≤ 2 ^ 20) }
 {
-    let version = m.version();
+    let version = memory.version();
     let none = OperandType::Omitted;
-    if b < 0x80 {
-        let first = type_of_bit(b / 64 % 2);
-        let second = type_of_bit(b / 32 % 2);
-        typed(two_operand_of(b % 32, version), first, second, a + 1)
-    } else if b < 0xb0 {
-        let first = type_of_bits(b / 16 % 4);
-        typed(one_operand_of(b % 16, version), first, none, a + 1)
-    } else if b == 0xbe && version >= 5 {
-        read_extended(m, a + 1)
-    } else if b < 0xc0 {
-        typed(zero_operand_of(b % 16, version), none, none, a + 1)
-    } else if b < 0xe0 {
-        read_typed(m, two_operand_of(b % 32, version), false, a + 1)
+    if byte < 0x80 {
+        let first = type_of_bit(byte / 64 % 2);
+        let second = type_of_bit(byte / 32 % 2);
+        head_of(two_operand_of(byte % 32, version), first, second, a + 1)
+    } else if byte < 0xb0 {
+        let first = type_of_bits(byte / 16 % 4);
+        head_of(one_operand_of(byte % 16, version), first, none, a + 1)
+    } else if byte == 0xbe && version >= 5 {
+        read_extended(memory, a + 1)
+    } else if byte < 0xc0 {
+        head_of(zero_operand_of(byte % 16, version), none, none, a + 1)
+    } else if byte < 0xe0 {
+        read_head_of(memory, two_operand_of(byte % 32, version), false, a + 1)
     } else {
-        let two = two_type_bytes(b % 32);
-        read_typed(m, variable_operand_of(b % 32, version), two, a + 1)
+        let two = two_type_bytes(byte % 32);
+        read_head_of(memory, variable_operand_of(byte % 32, version), two, a + 1)
     }
 }
 
 #[tactic(auto, unfolding(crate::specs::Reading::head_at))]
-pub(crate) fn read_head(m: &Memory, a: u32) -> Result<Head, Fault>
-    ensures value { result ≡ head_at m.now a }
+pub(crate) fn read_head(memory: &Memory, a: u32) -> Result<Head, Fault>
+    ensures value { result ≡ head_at memory.now a }
     ensures near { IfOk result (λ h. h.next ≤ 2 ^ 20) }
 {
-    let b = read_byte(m, a)?;
-    let head = read_head_by(m, a, b)?;
-    Ok(head)
+    let byte = read_byte(memory, a)?;
+    read_head_by(memory, a, byte)
 }

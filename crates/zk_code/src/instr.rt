@@ -5,7 +5,7 @@ use crate::opcode::Opcode;
 use crate::operands::Operands;
 
 /// An instruction (Standard, section 4.1).
-#[derive(Drop)]
+#[derive(Debug, Drop)]
 pub struct Instr {
     pub opcode: Opcode,
     pub operands: Operands,

@@ -3,7 +3,10 @@
 ghost use Rattle.std.specs.Prelude.{◌≡◌, nat_le, if◌then◌else◌, codes};
 ghost use Rattle.zk_code.specs.Table.{name_of};
 
-/// What an instruction does: an opcode (Z-Machine Standards Document 1.1, section 14).
+/// An opcode (Z-Machine Standards Document 1.1, sections 14 and 15). Where what follows the operands
+/// differs by version, each kind has a variant of its own: `save` branches in version 3
+/// (`SaveBranch`), stores in version 4 (`SaveStore`), and is an extended opcode from version 5 on
+/// (`Save`).
 #[derive(Clone, Copy, Debug, PartialEq, Eq, Drop)]
 pub enum Opcode {
     Je,
@@ -119,7 +122,8 @@ fn call_name(version: u8) -> &'static str
     if version <= 3 { "call" } else { "call_vs" }
 }
 
-/// The name of an opcode in a version: the Standard's name for it.
+/// The Standard's name of an opcode in a version (section 14). Of an opcode that the version has not,
+/// it is the name in the versions that have it.
 #[tactic(auto, unfolding(crate::specs::Table::name_of))]
 pub fn name(opcode: Opcode, version: u8) -> &'static str
     ensures { result.now ≡ name_of version opcode }

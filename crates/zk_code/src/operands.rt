@@ -18,6 +18,16 @@ pub enum OperandType {
     Omitted,
 }
 
+impl OperandType {
+    ghost use Rattle.zk_code.specs.Operands.{is_omitted};
+
+    pub(crate) fn is_omitted(self) -> bool
+        ensures { result ≡ is_omitted self }
+    {
+        matches!(self, OperandType::Omitted)
+    }
+}
+
 /// An operand.
 #[derive(Clone, Copy, Debug, PartialEq, Eq, Drop)]
 pub enum Operand {
@@ -30,6 +40,11 @@ pub enum Operand {
 }
 
 impl Default for Operand {
+    ghost use Rattle.std.specs.Prelude.{◌≡◌};
+    ghost use Rattle.zk_code.specs.declared.operands.Operand.TheVariants.{Small};
+
+    ghost is_default = { λ o. o ≡ Small 0 };
+
     fn default() -> Operand {
         Operand::Small(0)
     }
@@ -51,7 +66,7 @@ impl Operand {
 }
 
 /// The operands of an instruction in their order, at most eight (Standard, section 4.5.1).
-#[derive(Drop)]
+#[derive(Debug, Drop)]
 pub struct Operands {
     list: ArrayVec<Operand, 8>,
 }
@@ -91,7 +106,7 @@ impl Operands {
     pub fn is_empty(&self) -> bool
         ensures { IsTrue result ↔ (length self.now ≡ 0) }
     {
-        self.list.len() == 0
+        self.list.is_empty()
     }
 
     /// The operand at an index, counted from 0.

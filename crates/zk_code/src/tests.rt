@@ -26,7 +26,10 @@ fn story(alloc: Global, version: u8, code: &[u8]) -> Result<Memory, Fail> {
     Ok(Memory::start(alloc, story, Setup { undo_states: 0 })?)
 }
 
-/// An operand count, with the forms in which every number of operands can be given.
+fn fault_of(alloc: Global, version: u8, code: &[u8]) -> Result<Option<Fault>, Fail> {
+    Ok(decode(&story(alloc, version, code)?, 0x40).err())
+}
+
 #[derive(Clone, Copy, Debug, PartialEq, Eq, Drop)]
 enum Count {
     TwoOperands,
@@ -38,10 +41,12 @@ enum Count {
 
 use Count::{Extended, OneOperand, TwoOperands, VariableOperands, ZeroOperands};
 
-/// The opcode tables of the Standard, section 14: the first and the last version that have a number
-/// so, the name, the least number of operands, and whether a store variable, a branch or a text
-/// follows them.
-static ROWS: [(Count, u8, u8, u8, &str, u8, &str); 107] = [
+/// The operand count and the number, the first and the last version that have it, the name, the least
+/// number of operands, and what follows them: a store variable, a branch, a text.
+type Row = (Count, u8, u8, u8, &'static str, u8, &'static str);
+
+/// The opcode tables of the Standard, section 14.
+static ROWS: [Row; 107] = [
     (TwoOperands, 1, 1, 8, "je", 2, "b"),
     (TwoOperands, 2, 1, 8, "jl", 2, "b"),
     (TwoOperands, 3, 1, 8, "jg", 2, "b"),
@@ -151,11 +156,7 @@ static ROWS: [(Count, u8, u8, u8, &str, u8, &str); 107] = [
     (Extended, 13, 5, 8, "set_true_colour", 2, ""),
 ];
 
-fn row_of(
-    count: Count,
-    number: u8,
-    version: u8,
-) -> Option<&'static (Count, u8, u8, u8, &'static str, u8, &'static str)> {
+fn row_of(count: Count, number: u8, version: u8) -> Option<&'static Row> {
     for row in &ROWS {
         if row.0 == count && row.1 == number && row.2 <= version && version <= row.3 {
             return Some(row);
@@ -164,7 +165,8 @@ fn row_of(
     None
 }
 
-/// The bytes of an opcode with so many operands, each the small constant 1.
+/// The bytes up to the operands, each of which is the small constant 1, in a form that can have any
+/// number of them.
 fn front(alloc: Global, count: Count, number: u8, operands: u8) -> Result<Vec<u8>, Fail> {
     let types = match operands {
         0 => 0xff,
@@ -174,33 +176,25 @@ fn front(alloc: Global, count: Count, number: u8, operands: u8) -> Result<Vec<u8
         _ => 0x55,
     };
     let mut code = match count {
-        Count::TwoOperands => [0xc0 | number, types].to_vec(alloc)?,
-        Count::OneOperand => [0x90 | number].to_vec(alloc)?,
-        Count::ZeroOperands => [0xb0 | number].to_vec(alloc)?,
-        Count::VariableOperands if number == 12 || number == 26 => [
-            0xe0 | number,
-            types,
-            0xff,
-        ].to_vec(alloc)?,
-        Count::VariableOperands => [0xe0 | number, types].to_vec(alloc)?,
-        Count::Extended => [0xbe, number, types].to_vec(alloc)?,
+        TwoOperands => [0xc0 | number, types].to_vec(alloc)?,
+        OneOperand => [0x90 | number].to_vec(alloc)?,
+        ZeroOperands => [0xb0 | number].to_vec(alloc)?,
+        VariableOperands => [0xe0 | number, types].to_vec(alloc)?,
+        Extended => [0xbe, number, types].to_vec(alloc)?,
     };
+    if count == VariableOperands && (number == 12 || number == 26) {
+        code.push(0xff)?;
+    }
     for _i in 0..operands {
         code.push(1)?;
     }
     Ok(code)
 }
 
-/// The bytes of an instruction with all that follows the operands.
-fn whole(
-    alloc: Global,
-    count: Count,
-    number: u8,
-    operands: u8,
-    marks: &str,
-) -> Result<Vec<u8>, Fail> {
-    let mut code = front(alloc, count, number, operands)?;
-    for &mark in marks.as_bytes() {
+/// The bytes of a row's instruction with so many operands.
+fn instruction(alloc: Global, row: &Row, operands: u8) -> Result<Vec<u8>, Fail> {
+    let mut code = front(alloc, row.0, row.1, operands)?;
+    for &mark in row.6.as_bytes() {
         match mark {
             b's' => code.push(0x05)?,
             b'b' => code.push(0xc1)?,
@@ -210,77 +204,46 @@ fn whole(
     Ok(code)
 }
 
-fn check_row(
-    rt: &impl Abort,
-    alloc: Global,
-    version: u8,
-    row: &(Count, u8, u8, u8, &str, u8, &str),
-) -> Result<(), Fail> {
+/// What follows the operands of an instruction that ends at an address.
+fn follow_of(marks: &str, end: u32) -> (Option<u8>, Option<Branch>, Option<u32>) {
+    match marks.as_bytes() {
+        b"s" => (Some(5), None, None),
+        b"b" => (None, TRUE, None),
+        b"sb" => (Some(5), TRUE, None),
+        b"t" => (None, None, end.checked_sub(2)),
+        _ => (None, None, None),
+    }
+}
+
+fn check_row(rt: &impl Abort, alloc: Global, version: u8, row: &Row) -> Result<(), Fail> {
     let (count, number, _, _, wanted, least, marks) = *row;
-    let code = whole(alloc, count, number, least, marks)?;
+    let code = instruction(alloc, row, least)?;
     let instr = decode(&story(alloc, version, code.as_slice())?, 0x40)?;
     assert!(rt;
         name(instr.opcode, version) == wanted,
-        "{wanted} in version {version}"
+        "{count:?} {number} in version {version}"
     );
     assert_eq!(rt;
         instr.operands.len(),
         least as usize,
-        "operands of {wanted}"
-    );
-    assert_eq!(rt; instr.next as usize, 0x40 + code.len(), "end of {wanted}");
-    let has = |mark: u8| marks.as_bytes().contains(&mark);
-    assert_eq!(rt;
-        instr.store,
-        if has(b's') { Some(5) } else { None },
-        "store of {wanted}"
-    );
-    let branch = Branch {
-        on: true,
-        target: Target::ReturnTrue,
-    };
-    assert_eq!(rt;
-        instr.branch,
-        if has(b'b') { Some(branch) } else { None },
-        "branch of {wanted}"
+        "{count:?} {number} in version {version}"
     );
     assert_eq!(rt;
-        instr.text,
-        if has(b't') {
-            Some(instr.next - 2)
-        } else {
-            None
-        },
-        "text of {wanted}"
+        instr.next as usize,
+        0x40 + code.len(),
+        "{count:?} {number} in version {version}"
     );
-    Ok(())
-}
-
-fn check_number(
-    rt: &impl Abort,
-    alloc: Global,
-    version: u8,
-    count: Count,
-    number: u8,
-) -> Result<(), Fail> {
-    let Some(row) = row_of(count, number, version) else {
-        let code = front(alloc, count, number, 0)?;
-        let bare = if count == Count::Extended { 2 } else { 1 };
-        let short = code.as_slice().get(..bare).unwrap_or(&[]);
-        let refused = decode(&story(alloc, version, short)?, 0x40).err();
+    let follow = (instr.store, instr.branch, instr.text);
+    assert_eq!(rt;
+        follow,
+        follow_of(marks, instr.next),
+        "{count:?} {number} in version {version}"
+    );
+    if least > 0 && count != OneOperand {
+        let code = instruction(alloc, row, least - 1)?;
+        let fault = fault_of(alloc, version, code.as_slice())?;
         assert_eq!(rt;
-            refused,
-            Some(Fault::BadOpcode),
-            "{count:?} {number} in version {version}"
-        );
-        return Ok(());
-    };
-    check_row(rt, alloc, version, row)?;
-    if row.5 > 0 && count != Count::OneOperand {
-        let code = whole(alloc, count, number, row.5 - 1, row.6)?;
-        let refused = decode(&story(alloc, version, code.as_slice())?, 0x40).err();
-        assert_eq!(rt;
-            refused,
+            fault,
             Some(Fault::MissingOperand),
             "{count:?} {number} in version {version}"
         );
@@ -288,22 +251,43 @@ fn check_number(
     Ok(())
 }
 
+fn check(
+    rt: &impl Abort,
+    alloc: Global,
+    version: u8,
+    count: Count,
+    number: u8,
+) -> Result<(), Fail> {
+    if let Some(row) = row_of(count, number, version) {
+        return check_row(rt, alloc, version, row);
+    }
+    let code = front(alloc, count, number, 0)?;
+    let bytes = if count == Extended { 2 } else { 1 };
+    let fault = fault_of(alloc, version, code.as_slice().get(..bytes).unwrap_or(&[]))?;
+    assert_eq!(rt;
+        fault,
+        Some(Fault::BadOpcode),
+        "{count:?} {number} in version {version}"
+    );
+    Ok(())
+}
+
 #[test]
 fn opcode_tables(rt: HostRuntime) -> Result<(), Fail> {
     for version in [3, 5, 8] {
         for number in 0..32 {
-            check_number(&rt, rt.alloc(), version, TwoOperands, number)?;
-            check_number(&rt, rt.alloc(), version, VariableOperands, number)?;
+            check(&rt, rt.alloc(), version, TwoOperands, number)?;
+            check(&rt, rt.alloc(), version, VariableOperands, number)?;
         }
         for number in 0..16 {
-            check_number(&rt, rt.alloc(), version, OneOperand, number)?;
+            check(&rt, rt.alloc(), version, OneOperand, number)?;
             if number != 14 || version < 5 {
-                check_number(&rt, rt.alloc(), version, ZeroOperands, number)?;
+                check(&rt, rt.alloc(), version, ZeroOperands, number)?;
             }
         }
         if version >= 5 {
             for number in 0..=255 {
-                check_number(&rt, rt.alloc(), version, Extended, number)?;
+                check(&rt, rt.alloc(), version, Extended, number)?;
             }
         }
     }
@@ -315,23 +299,20 @@ const TRUE: Option<Branch> = Some(Branch {
     target: Target::ReturnTrue,
 });
 
-const FALSE: Option<Branch> = Some(Branch {
-    on: true,
-    target: Target::ReturnFalse,
-});
+/// The small constants 1 to 8.
+const EIGHT: [Operand; 8] = [
+    Small(1),
+    Small(2),
+    Small(3),
+    Small(4),
+    Small(5),
+    Small(6),
+    Small(7),
+    Small(8),
+];
 
-/// Instructions of each form: the version, the bytes from 0x40 on, the name, the operands, the store
-/// variable, the branch, the address of the text, and the address after it.
-static FORMS: [(
-    u8,
-    &[u8],
-    &str,
-    &[Operand],
-    Option<u8>,
-    Option<Branch>,
-    Option<u32>,
-    u32,
-); 23] = [
+/// Instructions of each form: the version, the bytes, the name, the operands, and what follows them.
+static FORMS: [(u8, &[u8], &str, &[Operand], Option<u8>, Option<Branch>); 20] = [
     // long
     (
         3,
@@ -340,28 +321,22 @@ static FORMS: [(
         &[Variable(1), Small(2)],
         Some(0),
         None,
-        None,
-        0x44,
     ),
     (
         3,
-        b"\x61\x10\x00\xc0",
+        b"\x61\x10\x00\xc1",
         "je",
         &[Variable(16), Variable(0)],
         None,
-        FALSE,
-        None,
-        0x44,
+        TRUE,
     ),
     (
         3,
-        b"\x01\xff\x07\xc1",
-        "je",
+        b"\x0d\xff\x07",
+        "store",
         &[Small(255), Small(7)],
         None,
-        TRUE,
         None,
-        0x44,
     ),
     (
         5,
@@ -370,21 +345,10 @@ static FORMS: [(
         &[Small(5), Variable(255)],
         None,
         None,
-        None,
-        0x43,
     ),
     // short
-    (
-        3,
-        b"\x8c\xff\xfe",
-        "jump",
-        &[Large(0xfffe)],
-        None,
-        None,
-        None,
-        0x43,
-    ),
-    (3, b"\x95\x00", "inc", &[Small(0)], None, None, None, 0x42),
+    (3, b"\x8c\xff\xfe", "jump", &[Large(0xfffe)], None, None),
+    (3, b"\x95\x00", "inc", &[Small(0)], None, None),
     (
         3,
         b"\xa1\x01\x10\xc1",
@@ -392,60 +356,25 @@ static FORMS: [(
         &[Variable(1)],
         Some(16),
         TRUE,
-        None,
-        0x44,
     ),
-    (3, b"\xba", "quit", &[], None, None, None, 0x41),
-    (
-        3,
-        b"\xb2\xb5\xc5\xbb\xba",
-        "print",
-        &[],
-        None,
-        None,
-        Some(0x41),
-        0x43,
-    ),
-    (
-        3,
-        b"\xb3\x35\x51\xc6\x85",
-        "print_ret",
-        &[],
-        None,
-        None,
-        Some(0x41),
-        0x45,
-    ),
+    (3, b"\xba", "quit", &[], None, None),
     // variable
+    (3, b"\xe6\xbf\x00", "print_num", &[Variable(0)], None, None),
     (
         3,
-        b"\xe6\xbf\x00",
-        "print_num",
-        &[Variable(0)],
-        None,
-        None,
-        None,
-        0x43,
-    ),
-    (
-        3,
-        b"\xc1\x55\x01\x02\x03\x04\xc1",
+        b"\xc1\x57\x08\x09\x0a\xc1",
         "je",
-        &[Small(1), Small(2), Small(3), Small(4)],
+        &[Small(8), Small(9), Small(10)],
         None,
         TRUE,
-        None,
-        0x47,
     ),
     (
         3,
-        b"\xe0\x1b\x12\x34\x56\x07\x08",
+        b"\xe0\x2f\x12\x34\x56\x78",
         "call",
-        &[Large(0x1234), Small(0x56), Variable(7)],
-        Some(8),
+        &[Large(0x1234), Variable(0x56)],
+        Some(0x78),
         None,
-        None,
-        0x47,
     ),
     (
         8,
@@ -454,18 +383,6 @@ static FORMS: [(
         &[Large(0x1234)],
         Some(0),
         None,
-        None,
-        0x45,
-    ),
-    (
-        5,
-        b"\xf7\x57\x01\x02\x03\x05\xc1",
-        "scan_table",
-        &[Small(1), Small(2), Small(3)],
-        Some(5),
-        TRUE,
-        None,
-        0x47,
     ),
     // an omitted type before others
     (
@@ -475,55 +392,31 @@ static FORMS: [(
         &[Large(0x1234)],
         Some(0),
         None,
-        None,
-        0x45,
     ),
-    (
-        5,
-        b"\xf6\xd5\x00",
-        "read_char",
-        &[],
-        Some(0),
-        None,
-        None,
-        0x43,
-    ),
+    (5, b"\xf6\xd5\x00", "read_char", &[], Some(0), None),
     // two type bytes
     (
         5,
         b"\xec\x55\x55\x01\x02\x03\x04\x05\x06\x07\x08\x00",
         "call_vs2",
+        &EIGHT,
+        Some(0),
+        None,
+    ),
+    (
+        5,
+        b"\xfa\x55\x6f\x01\x02\x03\x04\x05\x06",
+        "call_vn2",
         &[
             Small(1),
             Small(2),
             Small(3),
             Small(4),
             Small(5),
-            Small(6),
-            Small(7),
-            Small(8),
-        ],
-        Some(0),
-        None,
-        None,
-        0x4c,
-    ),
-    (
-        5,
-        b"\xfa\x00\x2f\x00\x01\x00\x02\x00\x03\x00\x04\x00\x05\x06",
-        "call_vn2",
-        &[
-            Large(1),
-            Large(2),
-            Large(3),
-            Large(4),
-            Large(5),
             Variable(6),
         ],
         None,
         None,
-        None,
-        0x4e,
     ),
     (
         8,
@@ -532,8 +425,6 @@ static FORMS: [(
         &[Large(0x1234), Small(0x56), Variable(7)],
         Some(0),
         None,
-        None,
-        0x48,
     ),
     // extended
     (
@@ -543,43 +434,41 @@ static FORMS: [(
         &[Large(0xfff8), Large(0xffff)],
         Some(0),
         None,
-        None,
-        0x48,
     ),
-    (
-        5,
-        b"\xbe\x09\xff\x00",
-        "save_undo",
-        &[],
-        Some(0),
-        None,
-        None,
-        0x44,
-    ),
-    (
-        8,
-        b"\xbe\x00\xc0\x11",
-        "save",
-        &[],
-        Some(0x11),
-        None,
-        None,
-        0x44,
-    ),
+    (5, b"\xbe\x09\xff\x00", "save_undo", &[], Some(0), None),
+    (8, b"\xbe\x00\xc0\x11", "save", &[], Some(0x11), None),
 ];
 
 #[test]
 fn forms(rt: HostRuntime) -> Result<(), Fail> {
-    for &(version, code, wanted, operands, store, branch, text, next) in &FORMS {
-        let memory = story(rt.alloc(), version, code)?;
-        let instr = decode(&memory, 0x40)?;
+    for &(version, code, wanted, operands, store, branch) in &FORMS {
+        let instr = decode(&story(rt.alloc(), version, code)?, 0x40)?;
         assert!(rt; name(instr.opcode, version) == wanted, "{wanted}");
         assert_eq!(rt; instr.operands.as_slice(), operands, "operands of {wanted}");
         assert_eq!(rt;
-            (instr.store, instr.branch, instr.text, instr.next),
-            (store, branch, text, next),
+            instr.operands.get(0),
+            operands.first().copied(),
             "{wanted}"
         );
+        assert_eq!(rt; instr.operands.is_empty(), operands.is_empty(), "{wanted}");
+        assert_eq!(rt; (instr.store, instr.branch), (store, branch), "{wanted}");
+        assert_eq!(rt; instr.next as usize, 0x40 + code.len(), "end of {wanted}");
+    }
+    Ok(())
+}
+
+/// Code that begins with a text, and the address after that.
+static TEXTS: [(&[u8], u32); 3] = [
+    (b"\xb2\xb5\xc5\xbb\xba", 0x43),
+    (b"\xb3\x35\x51\xc6\x85", 0x45),
+    (b"\xb2\x7f\xff\x00\x00\x80\x00", 0x47),
+];
+
+#[test]
+fn texts(rt: HostRuntime) -> Result<(), Fail> {
+    for &(code, next) in &TEXTS {
+        let instr = decode(&story(rt.alloc(), 3, code)?, 0x40)?;
+        assert_eq!(rt; (instr.text, instr.next), (Some(0x41), next), "{code:?}");
     }
     Ok(())
 }
@@ -677,7 +566,7 @@ static FAULTS: [(u8, &[u8], Fault); 26] = [
 #[test]
 fn faults(rt: HostRuntime) -> Result<(), Fail> {
     for &(version, code, fault) in &FAULTS {
-        let refused = decode(&story(rt.alloc(), version, code)?, 0x40).err();
+        let refused = fault_of(rt.alloc(), version, code)?;
         assert_eq!(rt; refused, Some(fault), "{code:?} in version {version}");
     }
     let memory = story(rt.alloc(), 3, b"\xba")?;

@@ -1,6 +1,6 @@
 // The memory of a story that runs.
 
-ghost use Rattle.std.specs.Prelude.{◌≡◌, ◌≤◌, ◌<◌, ℕ, Ok, Err, IfOk, OnSome, MatchResult, length, take, get_or, nat_lt, if◌then◌else◌};
+ghost use Rattle.std.specs.Prelude.{◌≡◌, ◌≤◌, ◌<◌, ℕ, Ok, Err, IfOk, IfErr, IsOk, OnOk, OnSome, MatchResult, length, take, get_or, nat_lt, if◌then◌else◌};
 ghost use Rattle.zk_mem.specs.Header.{header_of};
 ghost use Rattle.zk_mem.specs.Map.{byte_at, word_at, byte_put, word_put, cell_at, HasBytes, KeepsFile};
 ghost use Rattle.zk_mem.specs.Fresh.{with_fields, with_values, standard_fields, screen_fields_3, screen_fields_4, screen_fields_5, fresh};
@@ -197,6 +197,19 @@ impl Memory {
         self.bytes[at] = (value >> 8) as u8;
         self.bytes[at + 1] = (value & 0xff) as u8;
         Ok(())
+    }
+
+    /// Whether a word can be written at an address: the refusals are those of `set_word`.
+    #[tactic(auto, unfolding(crate::specs::Map::word_put))]
+    pub fn check_word(&self, a: u32) -> Result<(), Fault>
+        ensures ok { OnOk result ((value : ℕ) → IsOk (word_put self.now a value)) }
+        ensures err { IfErr result (λ e. (value : ℕ) → word_put self.now a value ≡ Err e) }
+    {
+        if a < self.header.static_base as u32 - 1 {
+            Ok(())
+        } else {
+            Err(refused(a, self.readable - 1))
+        }
     }
 
     /// The length of the story, in bytes.

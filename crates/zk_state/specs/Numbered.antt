@@ -1,4 +1,4 @@
--- Frames as they are kept: a record for each, and one list of words with the numbers of their frames.
+-- Frames as they are kept: a record for each, and one list of words, each with its frame's number.
 use Rattle.std.specs.Prelude.{◌≡◌, ℕ, ◌+◌, ◌≤◌, List, [], ◌∷◌, All, map, filter, reverse, length, vec_capacity, nat_eq}
 use Rattle.zk_state.specs.declared.frames.NumberedWord.{NumberedWord}
 use Rattle.zk_state.specs.declared.frames.FrameRecord.{FrameRecord}
@@ -11,7 +11,13 @@ words_of n ws = map (λ w. w.value) (filter (λ w. nat_eq w.frame n) ws)
 
 -- the frame of a record and its words
 abbrev pub frame_with : FrameRecord → List ℕ → Frame
-frame_with r ws = record { locals = r.locals.items; words = ws; place = r.place; result = r.result; supplied = r.supplied }
+frame_with r ws = record {
+  locals = r.locals.items;
+  words = ws;
+  place = r.place;
+  result = r.result;
+  supplied = r.supplied;
+}
 
 -- the frames of records, newest first: the number of each is how many lie below it
 unfoldable pub frames_with : List FrameRecord → List NumberedWord → List Frame
@@ -20,7 +26,12 @@ frames_with (r ∷ rs) ws = frame_with r (words_of (length rs) ws) ∷ frames_wi
 
 -- the frames of the current record, of those of its callers with the newest last, and of the words
 abbrev pub list_of : FrameRecord → List FrameRecord → List NumberedWord → ℕ → ℕ → FrameList
-list_of current callers ws f m = record { current = frame_with current (words_of (length callers) ws); callers = frames_with (reverse callers) ws; most_frames = f; most_words = m }
+list_of current callers ws f m = record {
+  current = frame_with current (words_of (length callers) ws);
+  callers = frames_with (reverse callers) ws;
+  most_frames = f;
+  most_words = m;
+}
 
 -- the frames that contracts speak of
 abbrev pub seen : Inside → FrameList
@@ -40,9 +51,11 @@ locals_in (f ∷ fs) = length f.locals + locals_in fs
 abbrev pub IsRecord : FrameRecord → Type 0
 IsRecord r = IsFrame (frame_with r [])
 
--- the count of local variables is right, the words go by their frames, and there is room up to the bounds
+-- the count of local variables is right, the words go by their frames, and there is room up to the
+-- bounds
 pub record IsKept (f : Inside) : Type 0 where
-  pub locals : f.local_count ≡ length f.current.locals.items + locals_in (frames_with (reverse f.callers.items) f.words.items)
+  pub locals : f.local_count ≡ length f.current.locals.items
+      + locals_in (frames_with (reverse f.callers.items) f.words.items)
   pub rises : Rises 0 f.words.items (length f.callers.items)
   pub total : total_of (seen f) ≡ f.local_count + length f.words.items
   pub frames : length f.callers.items + 1 ≤ f.most_frames

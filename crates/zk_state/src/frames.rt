@@ -12,7 +12,7 @@ use zk_mem::fault::Fault;
 /// The most local variables that a routine has (Standard, section 5.2).
 const LOCALS: usize = 15;
 
-/// Where a routine returns to: the byte address, and the variable that takes its result, if any does.
+/// Where a routine returns to: the byte address, and the variable that takes its result, if any.
 #[derive(Clone, Copy, Debug, PartialEq, Eq, Drop)]
 pub struct Return {
     pub place: u32,
@@ -35,9 +35,9 @@ struct FrameRecord {
     supplied: u8,
 }
 
-/// The frames of the routines that have called one another (Standard, section 6.1), within bounds on
-/// their number and on the words that they hold together: local variables and evaluation stacks.
-/// All room is taken at the start, so no other call can fail for want of memory.
+/// The frames of the routines that have called one another (Standard, section 6.1), within bounds
+/// on their number and on the words that they hold together: local variables and evaluation
+/// stacks. All room is taken at the start, so no other call can fail for want of memory.
 #[derive(Drop)]
 pub struct Frames {
     current: FrameRecord,
@@ -61,8 +61,8 @@ impl Model for Frames {
 }
 
 impl Frames {
-    /// The first frame alone, without local variables and words (Standard, section 5.5). There may be
-    /// at most `most_frames` frames, the first among them, and `most_words` words.
+    /// The first frame alone, without local variables and words (Standard, section 5.5). There may
+    /// be at most `most_frames` frames, the first among them, and `most_words` words.
     pub fn new(alloc: Global, most_frames: u16, most_words: u16) -> Result<Frames, AllocError>
         requires { 1 ≤ most_frames }
         ensures { IfOk result (λ s. s ≡ first_frames most_frames most_words) }
@@ -84,8 +84,8 @@ impl Frames {
         })
     }
 
-    /// The number of the current frame, which is how many lie above the first (Standard, section 15,
-    /// catch).
+    /// The number of the current frame, which is how many lie above the first (Standard, section
+    /// 15, catch).
     pub fn depth(&self) -> u16
         ensures value { result ≡ length self.now.callers }
         ensures bounded { IsBounded self.now }
@@ -107,8 +107,8 @@ impl Frames {
         self.current.supplied
     }
 
-    /// Pushes a word on the evaluation stack (Standard, section 6.3). Where there is no room for it,
-    /// this is `Limit::Words`.
+    /// Pushes a word on the evaluation stack (Standard, section 6.3). Where there is no room for
+    /// it, this is `Limit::Words`.
     #[tactic(auto, unfolding(crate::specs::Frames::pushed, crate::specs::Frames::within_bounds))]
     pub fn push(&mut self, value: u16) -> Result<(), Refusal>
         ensures { MatchResult result
@@ -133,8 +133,8 @@ impl Frames {
         }
     }
 
-    /// Pulls the newest word off the evaluation stack (Standard, section 6.3). Where the current routine
-    /// has none there, this is `Fault::StackEmpty`.
+    /// Pulls the newest word off the evaluation stack (Standard, section 6.3). Where the current
+    /// routine has none there, this is `Fault::StackEmpty`.
     #[tactic(auto, unfolding(crate::specs::Frames::popped))]
     pub fn pop(&mut self) -> Result<u16, Fault>
         ensures { MatchResult result
@@ -148,8 +148,8 @@ impl Frames {
         Ok(word.value)
     }
 
-    /// The newest word of the evaluation stack, which stays there (Standard, section 6.3.4). Where the
-    /// current routine has none there, this is `Fault::StackEmpty`.
+    /// The newest word of the evaluation stack, which stays there (Standard, section 6.3.4). Where
+    /// the current routine has none there, this is `Fault::StackEmpty`.
     #[tactic(auto, unfolding(crate::specs::Frames::top_of))]
     pub fn top(&self) -> Result<u16, Fault>
         ensures { result ≡ top_of self.now }
@@ -160,8 +160,8 @@ impl Frames {
         Ok(self.words[self.words.len() - 1].value)
     }
 
-    /// Puts a word in the place of the newest one of the evaluation stack (Standard, section 6.3.4).
-    /// Where the current routine has none there, this is `Fault::StackEmpty`.
+    /// Puts a word in the place of the newest one of the evaluation stack (Standard, section
+    /// 6.3.4). Where the current routine has none there, this is `Fault::StackEmpty`.
     #[tactic(auto, unfolding(crate::specs::Frames::with_top))]
     pub fn set_top(&mut self, value: u16) -> Result<(), Fault>
         ensures { MatchResult result
@@ -207,9 +207,10 @@ impl Frames {
         Err(Fault::NoSuchLocal)
     }
 
-    /// Begins a routine with these local variables. It will return to the byte address `place`, its
-    /// result goes to the variable `store`, and it was given `supplied` arguments (Standard, section
-    /// 6.4). With a frame too many this is `Limit::Frames`, else with words too many `Limit::Words`.
+    /// Begins a routine with these local variables. It will return to the byte address `place`,
+    /// its result goes to the variable `store`, and it was given `supplied` arguments (Standard,
+    /// section 6.4). With a frame too many this is `Limit::Frames`, else with words too many
+    /// `Limit::Words`.
     #[tactic(auto, unfolding(crate::specs::Frames::called, crate::specs::Frames::within_bounds))]
     pub fn call(
         &mut self,
@@ -223,7 +224,8 @@ impl Frames {
         requires supplied { supplied ≤ 7 }
         ensures { MatchResult result
             (λ _. called self.old locals.now place store supplied ≡ Ok self.new)
-            (λ e. (called self.old locals.now place store supplied ≡ Err e) × (self.new ≡ self.old)) }
+            (λ e. (called self.old locals.now place store supplied ≡ Err e)
+            × (self.new ≡ self.old)) }
     {
         if self.callers.len() + 1 >= self.most_frames {
             return Err(Refusal::Limit(Limit::Frames));
@@ -245,8 +247,8 @@ impl Frames {
         Ok(())
     }
 
-    /// Leaves the current routine, with its words, for the one that called it, and tells where that
-    /// goes on (Standard, section 6.3.2). In the first frame this is `Fault::ReturnFromMain`.
+    /// Leaves the current routine, with its words, for the one that called it, and tells where
+    /// that goes on (Standard, section 6.3.2). In the first frame this is `Fault::ReturnFromMain`.
     #[tactic(auto, unfolding(crate::specs::Frames::left))]
     pub fn leave(&mut self) -> Result<Return, Fault>
         ensures { MatchResult result
@@ -269,8 +271,8 @@ impl Frames {
         }
     }
 
-    /// Drops the frames above the one of a number, where the first has number 0 (Standard, section 15,
-    /// throw). Where there is no such frame, this is `Fault::BadFrame`.
+    /// Drops the frames above the one of a number, where the first has number 0 (Standard, section
+    /// 15, throw). Where there is no such frame, this is `Fault::BadFrame`.
     #[tactic(auto, unfolding(crate::specs::Frames::unwound))]
     pub fn unwind(&mut self, number: u16) -> Result<(), Fault>
         ensures { MatchResult result

@@ -1,3 +1,4 @@
+pub mod Lists
 pub mod Joins
 pub mod TextWords
 pub mod Spells

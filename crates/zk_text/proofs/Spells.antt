@@ -1,8 +1,7 @@
 -- Spelling a key.
-use Rattle.std.proofs.Common.{◌≡◌, ◌≤◌, ◌<◌, ℕ, zero, suc, ◌+◌, ◌-◌, List, [], ◌∷◌, ◌++◌, length, take, drop, get_or, Some, None, ◌==◌, true, false, drop-cons, append_assoc, add-one, refl, unwrap_or, slice_get, sym, ◌∙◌, arith}
+use Rattle.std.proofs.Common.{◌≡◌, ◌≤◌, ◌<◌, ℕ, zero, suc, ◌+◌, ◌-◌, List, [], ◌∷◌, ◌++◌, length, take, drop, get_or, Some, None, ◌==◌, true, false, drop-cons, append_assoc, add-one, refl, sym, ◌∙◌, arith}
 use Rattle.std.proofs.lemmas.Bool.Decides.{nat_tests}
 use Rattle.std.proofs.lemmas.List.{append-nil, drop_all, take-append-le}
-use Rattle.std.proofs.lemmas.Option.{unwrap_or-slice_get}
 use Rattle.std.proofs.Common.{length-append}
 use Rattle.std.proofs.lemmas.List.{length-take, take_all}
 use Rattle.zk_mem.specs.Map.{MemoryMap}
@@ -49,9 +48,6 @@ five_on n i h = let e : n - i ≡ suc (n - (i + 1)) = omega arith in rw e refl
 pub five_end : (n i : ℕ) → n ≤ i → fives (n - i) ≡ []
 unfolding fives
 five_end n i h = let e : n - i ≡ zero = omega arith in rw e refl
-
-pub read_or : (xs : List ℕ) (i d : ℕ) → unwrap_or (slice_get xs i) d ≡ get_or xs i d
-read_or xs i d = unwrap_or-slice_get xs i d
 
 pub length-fives : (n : ℕ) → length (fives n) ≡ n
 unfolding fives

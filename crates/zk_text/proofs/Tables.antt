@@ -1,10 +1,11 @@
 -- Unicode tables and the codes of characters.
-use Rattle.std.proofs.Common.{◌≡◌, ◌≤◌, ◌<◌, ◌⊎◌, inl, inr, ℕ, zero, suc, ◌+◌, ◌-◌, ◌*◌, List, [], ◌∷◌, length, take, drop, get_or, slice_get, Some, None, Bool, true, false, nat_lt, ◌==◌, if◌then◌else◌, drop-cons, add-one, refl, ◌∙◌, ap, arith, length-take, min}
+use Rattle.std.proofs.Common.{◌≡◌, ◌≤◌, ◌<◌, ◌⊎◌, inl, inr, ℕ, zero, suc, ◌+◌, ◌-◌, ◌*◌, List, [], ◌∷◌, length, take, drop, get_or, slice_get, Some, None, Bool, true, false, nat_lt, ◌==◌, if◌then◌else◌, refl, ◌∙◌, ap, arith, length-take, min}
 use Rattle.std.proofs.lemmas.Bool.Decides.{nat_tests}
 use Rattle.std.proofs.lemmas.Grind.{common_steps}
 use Rattle.std.proofs.lemmas.List.{drop_all, get_or-take}
-use Rattle.std.proofs.lemmas.Option.{slice_get_within, get_or_from_slice_get, slice_get_cases, slice_get-get_or, slice_get_past}
+use Rattle.std.proofs.lemmas.Option.{slice_get-get_or, slice_get_past}
 use Rattle.std.specs.List.{list_all}
+use Rattle.zk_text.proofs.Lists.{drop_item, past}
 use Rattle.zk_mem.specs.Header.{word_in}
 use Rattle.zk_text.specs.declared.extra.TheConstants.{DEFAULT_CHARACTERS}
 use Rattle.zk_text.specs.Laws.{CodeIsLeast, CharacterHasCode}
@@ -51,19 +52,6 @@ pub narrow_of : (xs : List ℕ) (i c : ℕ) → list_all (λ (x : ℕ). nat_lt x
 narrow_of [] i c all h = absurd cc
 narrow_of (x ∷ xs) zero c all h = let same : x ≡ c = cc in let narrow : x < 65536 = grind (arith, nat_tests, common_steps) in omega (arith, same, narrow)
 narrow_of (x ∷ xs) (suc i) c all h = narrow_of xs i c (grind (arith, nat_tests, common_steps)) h
-
-drop_item : (xs : List ℕ) (i x : ℕ) → slice_get xs i ≡ Some x → drop i xs ≡ x ∷ drop (i + 1) xs
-drop_item xs i x h =
-    let within : i < length xs = slice_get_within xs i x h in
-    let here : get_or xs i x ≡ x = get_or_from_slice_get xs i x x h in
-    rw (add-one, drop-cons xs i x, here) refl
-
-past : (xs : List ℕ) (i : ℕ) → slice_get xs i ≡ None → length xs ≤ i
-past xs i h = go (slice_get_cases xs i).1
-  where
-    go : (((x : ℕ) × (i < length xs) × (slice_get xs i ≡ Some x) × (get_or xs i x ≡ x)) ⊎ ((length xs ≤ i) × (slice_get xs i ≡ None))) → length xs ≤ i
-    go (inl p) = let there : slice_get xs i ≡ Some p.0 = p.2 in absurd cc
-    go (inr p) = p.0
 
 -- a search for a code goes on, ends with it or without
 pub code_on : (xs : List ℕ) (i x c : ℕ) → slice_get xs i ≡ Some x → (x ≡ c → ⊥) → code_from (drop i xs) (155 + i) c ≡ code_from (drop (i + 1) xs) (155 + (i + 1)) c

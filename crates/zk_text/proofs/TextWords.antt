@@ -1,8 +1,8 @@
 -- The words of a text, one after another.
-use Rattle.std.proofs.Common.{◌≡◌, ◌≤◌, ◌<◌, ◌⊎◌, inl, inr, ℕ, ◌+◌, ◌*◌, List, [], ◌∷◌, ◌++◌, length, drop, get_or, Option, Some, None, Ok, Err, nat_le, Bool, true, false, drop-cons, add-one, refl, sym, ap, ◌∙◌, slice_get, arith}
+use Rattle.std.proofs.Common.{◌≡◌, ◌≤◌, ◌<◌, ℕ, ◌+◌, ◌*◌, List, [], ◌∷◌, ◌++◌, length, drop, Option, Some, None, Ok, Err, nat_le, Bool, true, false, refl, sym, ap, ◌∙◌, slice_get, arith}
 use Rattle.std.proofs.lemmas.Bool.Decides.{nat_tests}
 use Rattle.std.proofs.lemmas.List.{drop_all, length-drop}
-use Rattle.std.proofs.lemmas.Option.{slice_get_within, get_or_from_slice_get, slice_get_cases}
+use Rattle.zk_text.proofs.Lists.{drop_item, past}
 use Rattle.zk_mem.specs.Map.{MemoryMap}
 use Rattle.zk_mem.specs.declared.fault.Fault.TheVariants.{TextPastEnd}
 use Rattle.zk_text.specs.declared.pieces.Held.{Held}
@@ -14,25 +14,12 @@ use Rattle.zk_text.specs.Laws.{TextFits}
 use Rattle.zk_mem.specs.Results.{◌>>=◌}
 use Rattle.zk_text.specs.Meaning.{Units, values, meaning, end_at, past_end}
 
-drop_byte : (xs : List ℕ) (i x : ℕ) → slice_get xs i ≡ Some x → drop i xs ≡ x ∷ drop (i + 1) xs
-drop_byte xs i x h =
-    let within : i < length xs = slice_get_within xs i x h in
-    let here : get_or xs i x ≡ x = get_or_from_slice_get xs i x x h in
-    rw (add-one, drop-cons xs i x, here) refl
-
-past : (xs : List ℕ) (i : ℕ) → slice_get xs i ≡ None → length xs ≤ i
-past xs i h = go (slice_get_cases xs i).1
-  where
-    go : (((x : ℕ) × (i < length xs) × (slice_get xs i ≡ Some x) × (get_or xs i x ≡ x)) ⊎ ((length xs ≤ i) × (slice_get xs i ≡ None))) → length xs ≤ i
-    go (inl p) = let there : slice_get xs i ≡ Some p.0 = p.2 in absurd cc
-    go (inr p) = p.0
-
 pub word_there : (m : MemoryMap) (a high low : ℕ) → slice_get m.bytes a ≡ Some high → slice_get m.bytes (a + 1) ≡ Some low → words_at m a ≡ word_and (256 * high + low) (words_at m (a + 2))
 unfolding words_at words_in
 word_there m a high low h k =
     let two : a + 1 + 1 ≡ a + 2 = omega arith in
-    let first = drop_byte m.bytes a high h in
-    let second = drop_byte m.bytes (a + 1) low k in
+    let first = drop_item m.bytes a high h in
+    let second = drop_item m.bytes (a + 1) low k in
     rw (first, second, two) refl
 
 pub no_byte : (m : MemoryMap) (a : ℕ) → slice_get m.bytes a ≡ None → words_at m a ≡ None
@@ -43,7 +30,7 @@ pub one_byte : (m : MemoryMap) (a high : ℕ) → slice_get m.bytes a ≡ Some h
 unfolding words_at words_in
 one_byte m a high h k =
     let gone : length m.bytes ≤ a + 1 = past m.bytes (a + 1) k in
-    let first = drop_byte m.bytes a high h in
+    let first = drop_item m.bytes a high h in
     rw (first, drop_all (a + 1) m.bytes gone) refl
 
 pub words_gone : (m : MemoryMap) (a : ℕ) → length m.bytes ≤ a → words_at m a ≡ None
@@ -74,16 +61,16 @@ word_first m a w vs e h = go (nat_le 32768 w) refl
     go false test = let p = before_some w (words_at m (a + 2)) vs (sym (rw test at e) ∙ h) in (p.0, p.2)
 
 -- what is held back at the end shows nothing
-pub held_ends : (m : MemoryMap) (abbreviation : ℕ → Units) (h : Held) → meaning m abbreviation (held_back h ++ z_characters []) ≡ Ok []
+pub held_ends : (m : MemoryMap) (expand : ℕ → Units) (h : Held) → meaning m expand (held_back h ++ z_characters []) ≡ Ok []
 unfolding values pieces_past z_characters
-held_ends m abbreviation held.Nothing = refl
-held_ends m abbreviation held.First = refl
-held_ends m abbreviation held.Second = refl
-held_ends m abbreviation held.Third = refl
-held_ends m abbreviation held.ShiftToA1 = refl
-held_ends m abbreviation held.ShiftToA2 = refl
-held_ends m abbreviation held.Escape = refl
-held_ends m abbreviation (held.UpperHalf h) = refl
+held_ends m expand held.Nothing = refl
+held_ends m expand held.First = refl
+held_ends m expand held.Second = refl
+held_ends m expand held.Third = refl
+held_ends m expand held.ShiftToA1 = refl
+held_ends m expand held.ShiftToA2 = refl
+held_ends m expand held.Escape = refl
+held_ends m expand (held.UpperHalf h) = refl
 
 -- the end of a text is that of what is left of it
 end_before : (a w : ℕ) (o : Option (List ℕ)) → (past_end (word_before w o) >>= λ ws. Ok (a + 2 * length ws)) ≡ (past_end o >>= λ ws. Ok (a + 2 + 2 * length ws))

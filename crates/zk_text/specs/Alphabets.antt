@@ -16,7 +16,8 @@ row_start A2 = 52
 unfoldable pub alphabet_table : MemoryMap → Option ℕ
 alphabet_table m =
     if (header_of m.file).alphabet == 0 then None
-    else if nat_le ((header_of m.file).alphabet + 78) (readable_end m) then Some (header_of m.file).alphabet
+    else if nat_le ((header_of m.file).alphabet + 78) (readable_end m)
+    then Some (header_of m.file).alphabet
     else None
 
 -- a code of the 78: of the story's own, as its memory stands, or of the Standard's (section 3.5.3)

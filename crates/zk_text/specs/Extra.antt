@@ -16,15 +16,20 @@ words_from bytes a (suc n) = word_in bytes a ∷ words_from bytes (a + 2) n
 
 -- the third word of a header extension, where it has three and the third is not 0
 abbrev pub third_word : Result ℕ Fault → Result ℕ Fault → Option ℕ
-third_word (Ok words) (Ok third) = if nat_lt words 3 then None else if third == 0 then None else Some third
+third_word (Ok words) (Ok third) =
+    if nat_lt words 3 then None else if third == 0 then None else Some third
 third_word (Ok words) (Err f) = None
 third_word (Err f) third = None
 
--- the address of the story's Unicode table, if its header extension names one (sections 3.8.5.2, 11.1.7)
+-- the address of the Unicode table that a header extension names (section 11.1.7)
+abbrev pub table_named : MemoryMap → ℕ → Option ℕ
+table_named m extension = third_word (word_at m extension) (word_at m (extension + 6))
+
+-- the address of the story's Unicode table, if it has a header extension that names one (section
+-- 3.8.5.2)
 unfoldable pub unicode_table : MemoryMap → Option ℕ
 unicode_table m =
-    if (header_of m.file).extension == 0 then None
-    else third_word (word_at m (header_of m.file).extension) (word_at m ((header_of m.file).extension + 6))
+    if (header_of m.file).extension == 0 then None else table_named m (header_of m.file).extension
 
 -- the n words after a count, where they all lie in readable data
 abbrev pub stated_words : MemoryMap → ℕ → Result ℕ Fault → ExtraTable
@@ -44,8 +49,8 @@ words_of_table m (Some at) = words_at_table m at
 unfoldable pub own_characters : MemoryMap → ExtraTable
 own_characters m = words_of_table m (unicode_table m)
 
--- the extra characters in force, from code 155 on: an own table replaces the whole of the Standard's, and
--- its words past the 97th are not used (sections 3.8.5.2 and 3.8.5.3)
+-- the extra characters in force, from code 155 on: an own table replaces the whole of the
+-- Standard's, and its words past the 97th are not used (sections 3.8.5.2 and 3.8.5.3)
 abbrev pub characters : ExtraTable → List ℕ
 characters None = DEFAULT_CHARACTERS
 characters (Some words) = take 97 words

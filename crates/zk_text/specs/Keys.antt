@@ -8,7 +8,8 @@ use Rattle.zk_text.specs.Alphabets.{letter_of}
 -- the first of n Z-characters from z on whose letter in an alphabet is c
 unfoldable pub place_from : MemoryMap → Row → ℕ → ℕ → ℕ → Option ℕ
 place_from m row c zero z = None
-place_from m row c (suc n) z = if letter_of m row z == c then Some z else place_from m row c n (z + 1)
+place_from m row c (suc n) z =
+    if letter_of m row z == c then Some z else place_from m row c n (z + 1)
 
 -- the Z-character of a letter in A0 or A1
 abbrev pub place : MemoryMap → Row → ℕ → Option ℕ
@@ -44,16 +45,23 @@ abbrev pub key_characters : MemoryMap → ℕ → List ℕ → List ℕ
 key_characters m most text = take most (spellings m text ++ fives most)
 
 -- the word of three Z-characters of a list, high to low, five bits each (section 3.2)
-abbrev pub word_of : List ℕ → ℕ → ℕ
-word_of zs i = 1024 * (slice_index zs i % 32) + 32 * (slice_index zs (i + 1) % 32) + slice_index zs (i + 2) % 32
+abbrev pub packed_word : List ℕ → ℕ → ℕ
+packed_word zs i =
+    1024 * (slice_index zs i % 32) + 32 * (slice_index zs (i + 1) % 32) + slice_index zs (i + 2) % 32
 
 -- high byte first
 abbrev pub two_bytes : ℕ → List ℕ
 two_bytes w = w / 256 ∷ w % 256 ∷ []
 
--- the key of a word: two or three words, of which the last is marked
+-- six Z-characters in two words, nine in three, the last one marked
+abbrev pub two_words : List ℕ → List ℕ
+two_words zs = two_bytes (packed_word zs 0) ++ two_bytes (32768 + packed_word zs 3)
+
+abbrev pub three_words : List ℕ → List ℕ
+three_words zs =
+    two_bytes (packed_word zs 0) ++ two_bytes (packed_word zs 3) ++ two_bytes (32768 + packed_word zs 6)
+
+-- the key of a word, of ZSCII codes
 unfoldable pub key_of : MemoryMap → List ℕ → List ℕ
 key_of m text =
-    if nat_lt m.version 4
-    then (let zs : List ℕ = key_characters m 6 text in two_bytes (word_of zs 0) ++ two_bytes (32768 + word_of zs 3))
-    else (let zs : List ℕ = key_characters m 9 text in two_bytes (word_of zs 0) ++ two_bytes (word_of zs 3) ++ two_bytes (32768 + word_of zs 6))
+    if nat_lt m.version 4 then two_words (key_characters m 6 text) else three_words (key_characters m 9 text)

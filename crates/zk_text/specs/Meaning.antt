@@ -26,18 +26,19 @@ joined (Ok us) (Ok vs) = Ok (us ++ vs)
 
 -- what a piece stands for, by the letters of the alphabets and by what abbreviations stand for
 abbrev pub value : (Row → ℕ → ℕ) → (ℕ → Units) → Piece → Units
-value letter abbreviation (piece.Letter row z) = Ok (unit.Code (letter row z) ∷ [])
-value letter abbreviation (piece.Code code) = Ok (unit.Code code ∷ [])
-value letter abbreviation (piece.Abbreviation n) = abbreviation n
+value letter expand (piece.Letter row z) = Ok (unit.Code (letter row z) ∷ [])
+value letter expand (piece.Code code) = Ok (unit.Code code ∷ [])
+value letter expand (piece.Abbreviation n) = expand n
 
 -- what pieces stand for, one after another
 unfoldable pub values : (Row → ℕ → ℕ) → (ℕ → Units) → List Piece → Units
-values letter abbreviation [] = Ok []
-values letter abbreviation (p ∷ ps) = joined (value letter abbreviation p) (values letter abbreviation ps)
+values letter expand [] = Ok []
+values letter expand (p ∷ ps) =
+    joined (value letter expand p) (values letter expand ps)
 
 -- what a list of Z-characters means, by what abbreviations stand for
 abbrev pub meaning : MemoryMap → (ℕ → Units) → List ℕ → Units
-meaning m abbreviation zs = values (letter_of m) abbreviation (pieces zs)
+meaning m expand zs = values (letter_of m) expand (pieces zs)
 
 -- a text without an end inside the story is a fault
 abbrev pub past_end : {A : Type 0} → Option A → Result A Fault
@@ -46,7 +47,8 @@ past_end (Some x) = Ok x
 
 -- what the text at an address means, by what abbreviations stand for
 abbrev pub meaning_at : (ℕ → Units) → MemoryMap → ℕ → Units
-meaning_at abbreviation m a = past_end (words_at m a) >>= λ ws. meaning m abbreviation (z_characters ws)
+meaning_at expand m a =
+    past_end (words_at m a) >>= λ ws. meaning m expand (z_characters ws)
 
 -- an abbreviation inside an abbreviation stands for nothing (section 3.3.1)
 abbrev pub no_abbreviation : ℕ → Units
@@ -60,7 +62,8 @@ table_word (Err f) = Err TextPastEnd
 -- what an abbreviation stands for: its table has word addresses (sections 3.3 and 1.2.2)
 unfoldable pub abbreviation : MemoryMap → ℕ → Units
 abbreviation m n =
-    table_word (word_at m ((header_of m.file).abbreviations + 2 * n)) >>= λ w. meaning_at no_abbreviation m (2 * w)
+    table_word (word_at m ((header_of m.file).abbreviations + 2 * n))
+    >>= λ w. meaning_at no_abbreviation m (2 * w)
 
 -- what the text at an address means
 unfoldable pub text_units : MemoryMap → ℕ → Units

@@ -27,7 +27,8 @@ a1_cut (x ∷ zs) = if nat_lt x 6 then (None, 0) else (Some (Letter A1 x), 1)
 -- after 5: one letter of A2, or a code
 abbrev pub a2_cut : List ℕ → Cut
 a2_cut [] = (None, 0)
-a2_cut (x ∷ zs) = if nat_lt x 6 then (None, 0) else if x == 6 then code_cut zs else (Some (Letter A2 x), 1)
+a2_cut (x ∷ zs) =
+    if nat_lt x 6 then (None, 0) else if x == 6 then code_cut zs else (Some (Letter A2 x), 1)
 
 -- the piece that z begins, where zs follow; 0 is a space (section 3.5.1)
 abbrev pub cut : ℕ → List ℕ → Cut

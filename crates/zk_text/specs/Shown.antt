@@ -20,8 +20,8 @@ abbrev pub visible_or_mark : Option ℕ → ℕ
 visible_or_mark None = 63
 visible_or_mark (Some c) = visible c
 
--- what a unit shows: null nothing, a tab a space, a sentence space two, a new line itself, other codes and
--- characters one character (sections 3.8.2 to 3.8.5)
+-- what a unit shows: null nothing, a tab a space, a sentence space two, a new line itself, other
+-- codes and characters one character (sections 3.8.2 to 3.8.5)
 unfoldable pub shown : ExtraTable → Unit → List ℕ
 shown t (Code code) =
     if code == 0 then []

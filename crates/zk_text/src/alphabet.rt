@@ -5,8 +5,8 @@ ghost use Rattle.zk_text.specs.Alphabets.{row_start, alphabet_table, letter_code
 
 use zk_mem::memory::Memory;
 
-/// The letters of A0, A1 and A2 of the Standard, 26 each. The first of A2 begins a ten-bit code and is
-/// no letter.
+/// The letters of A0, A1 and A2 of the Standard, 26 each. The first of A2 begins a ten-bit code and
+/// is no letter.
 pub const DEFAULT_LETTERS: [u8; 78] =
     *b"abcdefghijklmnopqrstuvwxyzABCDEFGHIJKLMNOPQRSTUVWXYZ \r0123456789.,!?_#'\"/\\-:()";
 
@@ -36,7 +36,7 @@ fn start_of(row: Row) -> u8
 }
 
 /// A code of the 78 that the alphabets have, A0 first.
-#[tactic(auto, unfolding(zk_mem::specs::Map::cell_at), using(crate::proofs::Spells::read_or))]
+#[tactic(auto, unfolding(zk_mem::specs::Map::cell_at), using(crate::proofs::Lists::read_or))]
 fn code_at(m: &Memory, table: Option<u16>, i: u16) -> u8
     ensures { result ≡ letter_code m.now table i }
 {
@@ -47,8 +47,8 @@ fn code_at(m: &Memory, table: Option<u16>, i: u16) -> u8
 }
 
 impl Alphabet {
-    /// The alphabets of a story: its own from version 5 on, where its file's header names a table that
-    /// lies in readable data, else those of the Standard.
+    /// The alphabets of a story: its own from version 5 on, where its file's header names a table
+    /// that lies in readable data, else those of the Standard.
     #[tactic(auto, unfolding(crate::specs::Alphabets::alphabet_table))]
     pub fn of(m: &Memory) -> Alphabet
         ensures { result.table ≡ alphabet_table m.now }
@@ -61,8 +61,8 @@ impl Alphabet {
         Alphabet { table: Some(table) }
     }
 
-    /// The ZSCII code of a Z-character from 6 to 31 in an alphabet. An own table is read as it stands in
-    /// memory; 7 in A2 is a new line, code 13, in every table.
+    /// The ZSCII code of a Z-character from 6 to 31 in an alphabet. An own table is read as it
+    /// stands in memory; 7 in A2 is a new line, code 13, in every table.
     #[tactic(auto, unfolding(crate::specs::Alphabets::letter_by))]
     pub fn letter(self, m: &Memory, row: Row, z: u8) -> u8
         ensures { result ≡ letter_by m.now self.table row z }

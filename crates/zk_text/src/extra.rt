@@ -9,8 +9,8 @@ ghost use Rattle.zk_text.specs.Extra.{unicode_table, words_at_table, own_charact
 use std::marker::Model;
 use zk_mem::memory::Memory;
 
-/// The characters of ZSCII 155 to 223 where a story has no Unicode table of its own (Standard, section
-/// 3.8.5.3).
+/// The characters of ZSCII 155 to 223 where a story has no Unicode table of its own (Standard,
+/// section 3.8.5.3).
 pub const DEFAULT_CHARACTERS: [char; 69] = [
     'ä', 'ö', 'ü', 'Ä', 'Ö', 'Ü', 'ß', '»', '«', 'ë', 'ï', 'ÿ', 'Ë', 'Ï', 'á', 'é', 'í', 'ó', 'ú',
     'ý', 'Á', 'É', 'Í', 'Ó', 'Ú', 'Ý', 'à', 'è', 'ì', 'ò', 'ù', 'À', 'È', 'Ì', 'Ò', 'Ù', 'â', 'ê',
@@ -33,10 +33,10 @@ pub(crate) struct Table {
     pub(crate) count: u8,
 }
 
-/// The extra characters that are in force: what ZSCII 155 to 251 stand for (Z-Machine Standards Document
-/// 1.1, section 3.8.5). Contracts see it as the words of the story's own table, or none where those of
-/// the Standard are in force. Characters are given by their numbers in Unicode; a story's own may be
-/// halves of surrogate pairs.
+/// The extra characters that are in force: what ZSCII 155 to 251 stand for (Z-Machine Standards
+/// Document 1.1, section 3.8.5). Contracts see it as the words of the story's own table, or none
+/// where those of the Standard are in force. Characters are given by their numbers in Unicode; a
+/// story's own may be halves of surrogate pairs.
 #[derive(Drop)]
 pub struct Extra<'a> {
     memory: &'a Memory,
@@ -104,7 +104,7 @@ fn item(table: &[char], i: usize) -> Option<u16>
 }
 
 /// The word at an address of memory, or 0 past its end.
-#[tactic(auto, unfolding(zk_mem::specs::Map::cell_at), using(crate::proofs::Spells::read_or))]
+#[tactic(auto, unfolding(zk_mem::specs::Map::cell_at), using(crate::proofs::Lists::read_or))]
 fn word_or_zero(m: &Memory, a: u32) -> u16
     requires { a < 2 ^ 20 }
     ensures { result ≡ word_in m.now.bytes a }
@@ -113,8 +113,8 @@ fn word_or_zero(m: &Memory, a: u32) -> u16
 }
 
 impl<'a> Extra<'a> {
-    /// The extra characters of a story: its own from version 5 on, where the header extension of its file
-    /// names a Unicode table that lies in readable data, else those of the Standard.
+    /// The extra characters of a story: its own from version 5 on, where the header extension of
+    /// its file names a Unicode table that lies in readable data, else those of the Standard.
     #[tactic(auto, unfolding(crate::specs::Extra::own_characters))]
     pub fn of(memory: &'a Memory) -> Extra<'a>
         ensures { result ≡ own_characters memory.now }
@@ -145,20 +145,16 @@ impl<'a> Extra<'a> {
         }
     }
 
-    /// The character of a ZSCII code from 32 to 126 or from 155 to 251. Other codes have none, nor have
-    /// those past the end of the table.
+    /// The character of a ZSCII code from 32 to 126 or from 155 to 251. Other codes have none, nor
+    /// have those past the end of the table.
     #[tactic(auto, unfolding(crate::specs::Extra::character))]
     pub fn to_char(&self, code: u16) -> Option<u16>
         ensures { result ≡ character self.now code }
     {
-        if code < 32 {
-            None
-        } else if code < 127 {
-            Some(code)
-        } else if code < 155 {
-            None
-        } else {
-            self.extra_at((code - 155) as usize)
+        match code {
+            32..=126 => Some(code),
+            155.. => self.extra_at((code - 155) as usize),
+            _ => None,
         }
     }
 
@@ -168,7 +164,7 @@ impl<'a> Extra<'a> {
         ensures value { result ≡ code_of self.now c }
         ensures input { IfSome result (λ code. IsTrue (is_input_code code)) }
     {
-        if c >= 32 && c < 127 {
+        if matches!(c, 32..=126) {
             return Some(c as u8);
         }
         for i in 0..97 {
@@ -184,21 +180,19 @@ impl<'a> Extra<'a> {
         None
     }
 
-    /// The code of a letter in lower case, where the code is that of a capital: A to Z, and the extra
-    /// letters of the Standard where those are in force. Other codes stay.
+    /// The code of a letter in lower case, where the code is that of a capital: A to Z, and the
+    /// extra letters of the Standard where those are in force. Other codes stay.
     #[tactic(auto, unfolding(crate::specs::Extra::lower_code))]
     pub fn lower(&self, code: u8) -> u8
         ensures { result ≡ lower_code self.now code }
     {
-        if code >= 65 && code < 91 {
-            return code + 32;
+        match code {
+            b'A'..=b'Z' => code + 32,
+            155.. if self.own.is_none() => DEFAULT_LOWER
+                .get((code - 155) as usize)
+                .copied()
+                .unwrap_or(code),
+            _ => code,
         }
-        if self.own.is_some() || code < 155 {
-            return code;
-        }
-        DEFAULT_LOWER
-            .get((code - 155) as usize)
-            .copied()
-            .unwrap_or(code)
     }
 }

@@ -2,7 +2,7 @@
 
 ghost use Rattle.std.specs.Prelude.{◌≡◌, ◌≤◌, ◌<◌, ◌∷◌, ◌++◌, List, ℕ, length, take, ◌-◌, ◌+◌, nat_lt, if◌then◌else◌};
 ghost use Rattle.zk_text.specs.Alphabets.{alphabet_table};
-ghost use Rattle.zk_text.specs.Keys.{place_from, a2_place, spelling, key_characters, word_of, two_bytes, key_of};
+ghost use Rattle.zk_text.specs.Keys.{place_from, a2_place, spelling, key_characters, packed_word, two_bytes, key_of};
 
 use crate::alphabet::{Alphabet, Row};
 use arrayvec::ArrayVec;
@@ -41,7 +41,8 @@ fn put_character(zs: &mut ArrayVec<u8, 9>, most: usize, z: u8)
     requires room { length zs.old.items ≤ most }
     requires nine { most ≤ 9 }
     ensures room { length zs.new.items ≤ most }
-    ensures next { (rest : List ℕ) → take most (zs.new.items ++ rest) ≡ take most (zs.old.items ++ z ∷ rest) }
+    ensures next { (rest : List ℕ) →
+        take most (zs.new.items ++ rest) ≡ take most (zs.old.items ++ z ∷ rest) }
 {
     if zs.len() < most {
         zs.push(z);
@@ -54,7 +55,8 @@ fn put_letter(m: &Memory, alphabet: Alphabet, zs: &mut ArrayVec<u8, 9>, most: us
     requires room { length zs.old.items ≤ most }
     requires nine { most ≤ 9 }
     ensures room { length zs.new.items ≤ most }
-    ensures next { (rest : List ℕ) → take most (zs.new.items ++ rest) ≡ take most (zs.old.items ++ (spelling m.now c ++ rest)) }
+    ensures next { (rest : List ℕ) →
+        take most (zs.new.items ++ rest) ≡ take most (zs.old.items ++ (spelling m.now c ++ rest)) }
 {
     if c == 32 {
         put_character(zs, most, 0);
@@ -92,9 +94,9 @@ fn characters_of_key(m: &Memory, text: &[u8], most: usize) -> ArrayVec<u8, 9>
     zs
 }
 
-fn word_at(zs: &[u8], i: usize) -> u16
+fn word_from(zs: &[u8], i: usize) -> u16
     requires { i + 2 < length zs.now }
-    ensures value { result ≡ word_of zs.now i }
+    ensures value { result ≡ packed_word zs.now i }
     ensures unmarked { result < 32768 }
 {
     1024 * (zs[i] % 32) as u16 + 32 * (zs[i + 1] % 32) as u16 + (zs[i + 2] % 32) as u16
@@ -108,9 +110,9 @@ fn put_word(bytes: &mut ArrayVec<u8, 6>, w: u16)
     bytes.push((w % 256) as u8);
 }
 
-/// The key of a word, whose letters are ZSCII codes: 4 bytes in version 3, 6 from version 4 on (Z-Machine
-/// Standards Document 1.1, sections 3.7, 13.3 and 13.4). Letters are spelled by the alphabets in force;
-/// what is over the 6 or 9 Z-characters of a key is cut off.
+/// The key of a word, whose letters are ZSCII codes: 4 bytes in version 3, 6 from version 4 on
+/// (Z-Machine Standards Document 1.1, sections 3.7, 13.3 and 13.4). Letters are spelled by the
+/// alphabets in force; what is over the 6 or 9 Z-characters of a key is cut off.
 #[tactic(auto, unfolding(crate::specs::Keys::key_of))]
 pub fn key(m: &Memory, text: &[u8]) -> ArrayVec<u8, 6>
     ensures value { result.items ≡ key_of m.now text.now }
@@ -119,13 +121,13 @@ pub fn key(m: &Memory, text: &[u8]) -> ArrayVec<u8, 6>
     let mut bytes = ArrayVec::new();
     if m.version() < 4 {
         let zs = characters_of_key(m, text, 6);
-        put_word(&mut bytes, word_at(zs.as_slice(), 0));
-        put_word(&mut bytes, 0x8000 + word_at(zs.as_slice(), 3));
+        put_word(&mut bytes, word_from(zs.as_slice(), 0));
+        put_word(&mut bytes, 0x8000 + word_from(zs.as_slice(), 3));
     } else {
         let zs = characters_of_key(m, text, 9);
-        put_word(&mut bytes, word_at(zs.as_slice(), 0));
-        put_word(&mut bytes, word_at(zs.as_slice(), 3));
-        put_word(&mut bytes, 0x8000 + word_at(zs.as_slice(), 6));
+        put_word(&mut bytes, word_from(zs.as_slice(), 0));
+        put_word(&mut bytes, word_from(zs.as_slice(), 3));
+        put_word(&mut bytes, 0x8000 + word_from(zs.as_slice(), 6));
     }
     bytes
 }

@@ -1,12 +1,13 @@
 // From Z-characters to the pieces of a text, one at a time.
 
-ghost use Rattle.std.specs.Prelude.{◌≡◌, ◌<◌, ◌∷◌, ◌++◌, List, ℕ};
+ghost use Rattle.std.specs.Prelude.{◌≡◌, ◌∷◌, ◌++◌, List, ℕ};
 ghost use Rattle.zk_text.specs.Pieces.{pieces, piece_before};
 ghost use Rattle.zk_text.specs.Reading.{held_back};
 
 use crate::alphabet::Row;
 
-/// A part of a text that stands for something (Z-Machine Standards Document 1.1, sections 3.2 to 3.5).
+/// A part of a text that stands for something (Z-Machine Standards Document 1.1, sections 3.2 to
+/// 3.5).
 #[derive(Clone, Copy, Debug, PartialEq, Eq, Drop)]
 pub enum Piece {
     /// A letter: its alphabet, and its Z-character from 6 to 31.
@@ -36,8 +37,10 @@ pub(crate) enum Held {
 
 /// The next Z-character, where nothing is held back.
 #[tactic(auto, unfolding(crate::specs::Pieces::pieces_past))]
+#[inline(always)]
 fn begin(z: u8) -> (Held, Option<Piece>)
-    ensures { (zs : List ℕ) → pieces (z ∷ zs) ≡ piece_before result.1 (pieces (held_back result.0 ++ zs)) }
+    ensures { (zs : List ℕ) →
+        pieces (z ∷ zs) ≡ piece_before result.1 (pieces (held_back result.0 ++ zs)) }
 {
     match z {
         0 => (Held::Nothing, Some(Piece::Code(32))),
@@ -52,8 +55,10 @@ fn begin(z: u8) -> (Held, Option<Piece>)
 
 /// The next Z-character: what is held back then, and the piece that it ends.
 #[tactic(auto, unfolding(crate::specs::Pieces::pieces_past))]
+#[inline(always)]
 pub(crate) fn advance(held: Held, z: u8) -> (Held, Option<Piece>)
-    ensures { (zs : List ℕ) → pieces (held_back held ++ z ∷ zs) ≡ piece_before result.1 (pieces (held_back result.0 ++ zs)) }
+    ensures { (zs : List ℕ) →
+        pieces (held_back held ++ z ∷ zs) ≡ piece_before result.1 (pieces (held_back result.0 ++ zs)) }
 {
     match held {
         Held::Nothing => begin(z),

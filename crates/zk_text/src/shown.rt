@@ -10,8 +10,10 @@ use crate::unit::Unit;
 /// The characters that a unit shows.
 #[derive(Clone, Copy, Debug, PartialEq, Eq, Drop)]
 pub enum Shown {
+    /// Of the null code.
     Nothing,
     One(char),
+    /// Of a sentence space.
     TwoSpaces,
 }
 
@@ -19,10 +21,10 @@ pub enum Shown {
 fn visible_char(c: u16) -> char
     ensures { result ≡ visible c }
 {
-    if c < 32 || c >= 127 && c < 160 {
-        return '?';
+    match c {
+        0..=31 | 127..=159 => '?',
+        _ => char::from_u32(c as u32).unwrap_or('?'),
     }
-    char::from_u32(c as u32).unwrap_or('?')
 }
 
 /// What a ZSCII code of a character shows.
@@ -36,8 +38,9 @@ fn code_char(extra: &Extra<'_>, code: u16) -> char
 }
 
 impl Shown {
-    /// What a unit shows, by the extra characters in force (Z-Machine Standards Document 1.1, sections
-    /// 3.8 and 7.1): a new line is the character 10, and `?` stands for whatever has no character.
+    /// What a unit shows, by the extra characters in force (Z-Machine Standards Document 1.1,
+    /// sections 3.8 and 7.1): a new line is the character 10, and `?` stands for whatever has no
+    /// character.
     #[tactic(auto, unfolding(crate::specs::Shown::shown))]
     pub fn of(extra: &Extra<'_>, unit: Unit) -> Shown
         ensures { characters_shown result ≡ shown extra.now unit }

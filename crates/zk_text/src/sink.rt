@@ -1,6 +1,6 @@
 // Where the units of a text go.
 
-ghost use Rattle.std.specs.Prelude.{◌≡◌, ◌∷◌, [], ◌++◌, List, OnOk, OnErr};
+ghost use Rattle.std.specs.Prelude.{◌∷◌, [], List, OnOk, OnErr};
 
 use crate::unit::Unit;
 
@@ -8,28 +8,30 @@ use crate::unit::Unit;
 #[derive(Clone, Copy, Debug, PartialEq, Eq, Drop)]
 pub struct SinkFault;
 
-/// Takes the units of a text, one by one.
+/// Takes the units of a text, one by one, until it refuses one.
 ///
-/// `gave a b us` says what comes of a sink `a` that is given `us`: it is `b`, and took all of them or,
-/// where it refused, a first part. `may_refuse` is false of a sink that takes whatever comes. Two laws
-/// tie the parts of a text together: `nothing` changes nothing, and what is given `twice` is given at
-/// once.
+/// A sink says by two relations what comes of it: `gave a b us`, where a sink `a` was given `us`,
+/// took them all and is `b` then, and `refused a b us`, where it took a first part of `us`, refused
+/// the next and is `b` then. Three laws join the parts of a text: `nothing` changes nothing, what
+/// is given `twice` is given at once, and what is refused `late` is refused in the whole.
 pub trait Sink {
     ghost use Rattle.std.specs.Prelude.{List, [], ◌++◌};
     ghost use Rattle.zk_text.specs.declared.unit.Unit.{Unit};
 
     ghost gave: { Self → Self → List Unit → Type 0 };
 
-    ghost may_refuse: { Type 0 };
+    ghost refused: { Self → Self → List Unit → Type 0 };
 
-    /// Takes a unit, or refuses it. A sink that refused has taken a first part of every text that
-    /// begins with the unit.
+    /// Takes a unit, or refuses it. A unit that is refused ends every text that begins with it.
     fn put(&mut self, unit: Unit) -> Result<(), SinkFault>
-        ensures taken { OnOk result (gave self.old self.new (unit ∷ [])) }
-        ensures refused { OnErr result ((more : List Unit) → gave self.old self.new (unit ∷ more)) }
-        ensures sure { OnErr result may_refuse };
+        ensures ok { OnOk result (gave self.old self.new (unit ∷ [])) }
+        ensures err { OnErr result ((more : List Unit) → refused self.old self.new (unit ∷ more)) };
 
     ghost nothing: { (a : Self) → gave a a [] };
 
-    ghost twice: { (a b c : Self) (s t : List Unit) → gave a b s → gave b c t → gave a c (s ++ t) };
+    ghost twice: { (a b c : Self) (s t : List Unit) →
+        gave a b s → gave b c t → gave a c (s ++ t) };
+
+    ghost late: { (a b c : Self) (s t : List Unit) →
+        gave a b s → refused b c t → refused a c (s ++ t) };
 }

@@ -45,7 +45,7 @@ impl Sink for Codes {
 
     ghost gave = { λ a b us. ⊤ };
 
-    ghost may_refuse = { ⊤ };
+    ghost refused = { λ a b us. ⊤ };
 
     fn put(&mut self, unit: Unit) -> Result<(), SinkFault> {
         let code = match unit {
@@ -61,6 +61,8 @@ impl Sink for Codes {
     ghost nothing = { λ a. tt };
 
     ghost twice = { λ a b c s t h k. tt };
+
+    ghost late = { λ a b c s t h k. tt };
 }
 
 /// Whether a text was printed whole, and its codes.
@@ -228,8 +230,8 @@ fn has_the_extra_characters_of_the_standard(rt: HostRuntime) -> Result<(), Fail>
     Ok(())
 }
 
-/// A header extension that names a Unicode table after it, and a table that states so many characters, of
-/// which 98 are there, from U+0400 on.
+/// A header extension that names a Unicode table after it, and a table that states so many
+/// characters, of which 98 are there, from U+0400 on.
 fn own_table(count: u8) -> [u8; 205] {
     let mut bytes = [0; 205];
     for (i, value) in [(1, 3), (7, 0x48), (8, count)] {
@@ -245,7 +247,8 @@ fn own_table(count: u8) -> [u8; 205] {
 
 #[test]
 fn takes_an_own_unicode_table(rt: HostRuntime) -> Result<(), Fail> {
-    // For each count that is stated, the first, the 97th and the 98th character, and a letter in lower case.
+    // For each count that is stated, the first, the 97th and the 98th character, and a letter in
+    // lower case.
     let rows = [
         (97, Some(0x400), Some(0x460), 158),
         (98, Some(0x400), Some(0x460), 158),

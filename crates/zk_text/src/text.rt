@@ -1,7 +1,7 @@
 // Texts: where they end, and their units given to a sink.
 
-ghost use Rattle.std.specs.Prelude.{◌≡◌, ◌≤◌, List, Ok, IsOk, OnOk, OnErr, IfOk, length, ◌++◌};
-ghost use Rattle.zk_text.specs.Meaning.{end_at, text_units, checked_end};
+ghost use Rattle.std.specs.Prelude.{◌≡◌, ◌≤◌, List, Ok, IsOk, OnOk, OnErr, IfOk, length};
+ghost use Rattle.zk_text.specs.Meaning.{text_units, checked_end};
 ghost use Rattle.zk_text.specs.declared.unit.Unit.{Unit};
 
 use crate::alphabet::Alphabet;
@@ -20,7 +20,7 @@ impl Sink for Silent {
 
     ghost gave = { λ a b us. ⊤ };
 
-    ghost may_refuse = { ⊥ };
+    ghost refused = { λ a b us. ⊥ };
 
     fn put(&mut self, _unit: Unit) -> Result<(), SinkFault> {
         Ok(())
@@ -29,12 +29,15 @@ impl Sink for Silent {
     ghost nothing = { λ a. tt };
 
     ghost twice = { λ a b c s t h k. tt };
+
+    ghost late = { λ a b c s t h k. k };
 }
 
-/// The byte address after the text at a byte address, where the text has a meaning (Z-Machine Standards
-/// Document 1.1, section 3). It is `TextPastEnd` where the text has no last word inside the story. Else
-/// its first abbreviation without a meaning decides: `TextPastEnd` where the abbreviation's address can't
-/// be read or its text has no last word, `NestedAbbreviation` where its text uses an abbreviation.
+/// The byte address after the text at a byte address, where the text has a meaning (Z-Machine
+/// Standards Document 1.1, section 3). It is `TextPastEnd` where the text has no last word inside
+/// the story. Else its first abbreviation without a meaning decides: `TextPastEnd` where the
+/// abbreviation's address can't be read or its text has no last word, `NestedAbbreviation` where
+/// its text uses an abbreviation.
 #[tactic(auto, unfolding(crate::specs::Meaning::checked_end, crate::specs::Meaning::end_at, crate::specs::Meaning::text_units), using(crate::proofs::TextWords::end_inside))]
 pub fn check_text(m: &Memory, a: u32) -> Result<u32, Fault>
     ensures value { result ≡ checked_end m.now a }
@@ -55,14 +58,15 @@ pub fn check_text(m: &Memory, a: u32) -> Result<u32, Fault>
     }
 }
 
-/// Gives a sink the units of the text at a byte address, which has a meaning (see `check_text`), in one
-/// pass. Where the sink refuses, it was given a first part of them.
-#[tactic(auto, unfolding(crate::specs::Meaning::text_units))]
+/// Gives a sink the units of the text at a byte address, which has a meaning (see `check_text`), in
+/// one pass. Where the sink refuses, it was given a first part of them.
+#[tactic(auto, unfolding(crate::specs::Meaning::text_units), using(crate::proofs::Joins::refused_alone))]
 pub fn print_text<S: Sink>(m: &Memory, a: u32, sink: &mut S) -> Result<(), SinkFault>
     requires { IsOk (text_units m.now a) }
-    ensures all { OnOk result ((us : List Unit) → text_units m.now a ≡ Ok us → S.gave sink.old sink.new us) }
-    ensures part { OnErr result ((us more : List Unit) → text_units m.now a ≡ Ok us → S.gave sink.old sink.new (us ++ more)) }
-    ensures sure { OnErr result S.may_refuse }
+    ensures ok { OnOk result ((us : List Unit) → text_units m.now a ≡ Ok us →
+        S.gave sink.old sink.new us) }
+    ensures err { OnErr result ((us : List Unit) → text_units m.now a ≡ Ok us →
+        S.refused sink.old sink.new us) }
 {
     match walk_text::<Outside, S>(m, Alphabet::of(m), a, sink) {
         Ok(()) => Ok(()),

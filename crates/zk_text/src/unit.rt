@@ -3,10 +3,10 @@
 /// A unit of printed text.
 #[derive(Clone, Copy, Debug, PartialEq, Eq, Drop)]
 pub enum Unit {
-    /// A ZSCII code (Z-Machine Standards Document 1.1, section 3.8). A text has codes below 1024; the
-    /// operand of print_char may be any number, and one over 255 is no character's code.
+    /// A ZSCII code (Z-Machine Standards Document 1.1, section 3.8). A text has codes below 1024;
+    /// the operand of print_char may be any number, and one over 255 is no character's code.
     Code(u16),
-    /// A Unicode character of 16 bits, as print_unicode names it. It may be half of a surrogate pair,
-    /// which is no character.
+    /// A Unicode character of 16 bits, as print_unicode names it. It may be half of a surrogate
+    /// pair, which is no character.
     Character(u16),
 }

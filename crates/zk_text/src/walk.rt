@@ -1,12 +1,11 @@
 // Walks over texts: one walk prints and checks, inside abbreviations and outside of them.
 
-ghost use Rattle.std.specs.Prelude.{◌≡◌, ◌<◌, ◌∷◌, [], ◌++◌, List, ℕ, Some, None, MatchResult, IfOk, IfErr, IfSome, IfNone, ◌+◌, nat_le};
+ghost use Rattle.std.specs.Prelude.{◌≡◌, ◌<◌, ◌∷◌, [], ◌++◌, List, ℕ, Some, None, IfOk, IfErr, IfSome, IfNone, ◌+◌, nat_le};
 ghost use Rattle.zk_text.specs.Alphabets.{alphabet_table, letter_of};
 ghost use Rattle.zk_text.specs.Words.{words_at, word_and, z_characters};
-ghost use Rattle.zk_text.specs.Pieces.{pieces, piece_before};
 ghost use Rattle.zk_text.specs.Reading.{held_back};
 ghost use Rattle.zk_text.specs.Meaning.{value, meaning, end_at};
-ghost use Rattle.zk_text.specs.Walks.{Walked, Passes};
+ghost use Rattle.zk_text.specs.Walks.{Walked, Passes, trouble_of};
 
 use crate::alphabet::Alphabet;
 use crate::pieces::{Held, Piece, advance};
@@ -37,7 +36,8 @@ pub(crate) trait Abbreviations {
         sink: &mut S,
     ) -> Result<(), Trouble>
         requires { alphabet.table ≡ alphabet_table m.now }
-        ensures { MatchResult result (λ _. Walked S.may_refuse None (S.gave sink.old sink.new) (stands m.now number)) (λ t. Walked S.may_refuse (Some t) (S.gave sink.old sink.new) (stands m.now number)) };
+        ensures { Walked (trouble_of result) (S.gave sink.old sink.new) (S.refused sink.old sink.new)
+            (stands m.now number) };
 }
 
 /// Inside an abbreviation, where none is allowed.
@@ -85,6 +85,7 @@ impl Abbreviations for Outside {
 
 /// The word of a text at an address, where the story goes on for so long.
 #[tactic(auto, unfolding(zk_mem::specs::Map::cell_at, crate::specs::Words::words_at), using(crate::proofs::TextWords::word_there, crate::proofs::TextWords::no_byte, crate::proofs::TextWords::one_byte))]
+#[inline(always)]
 fn word_at(m: &Memory, a: u32) -> Option<u16>
     ensures some { IfSome result (λ w. words_at m.now a ≡ word_and w (words_at m.now (a + 2))) }
     ensures none { IfNone result (words_at m.now a ≡ None) }
@@ -100,6 +101,7 @@ fn word_at(m: &Memory, a: u32) -> Option<u16>
 }
 
 /// Whether a word is marked as the last of its text.
+#[inline(always)]
 fn is_last(w: u16) -> bool
     ensures { result ≡ nat_le 32768 w }
 {
@@ -126,8 +128,10 @@ pub(crate) fn end_of(m: &Memory, a: u32) -> Result<u32, Fault>
     Err(Fault::TextPastEnd)
 }
 
+#[inline(always)]
 fn give<S: Sink>(code: u16, sink: &mut S) -> Result<(), Trouble>
-    ensures { MatchResult result (λ _. S.gave sink.old sink.new (Unit.Code code ∷ [])) (λ t. (t ≡ Trouble.Refused) × S.may_refuse × ((more : List Unit) → S.gave sink.old sink.new (Unit.Code code ∷ more))) }
+    ensures { Walked (trouble_of result) (S.gave sink.old sink.new) (S.refused sink.old sink.new)
+        (Ok (Unit.Code code ∷ [])) }
 {
     match sink.put(Unit::Code(code)) {
         Ok(()) => Ok(()),
@@ -135,6 +139,7 @@ fn give<S: Sink>(code: u16, sink: &mut S) -> Result<(), Trouble>
     }
 }
 
+#[inline(always)]
 fn walk_piece<A: Abbreviations, S: Sink>(
     m: &Memory,
     alphabet: Alphabet,
@@ -142,7 +147,8 @@ fn walk_piece<A: Abbreviations, S: Sink>(
     sink: &mut S,
 ) -> Result<(), Trouble>
     requires { alphabet.table ≡ alphabet_table m.now }
-    ensures { MatchResult result (λ _. Walked S.may_refuse None (S.gave sink.old sink.new) (value (letter_of m.now) (A.stands m.now) piece)) (λ t. Walked S.may_refuse (Some t) (S.gave sink.old sink.new) (value (letter_of m.now) (A.stands m.now) piece)) }
+    ensures { Walked (trouble_of result) (S.gave sink.old sink.new) (S.refused sink.old sink.new)
+        (value (letter_of m.now) (A.stands m.now) piece) }
 {
     match piece {
         Piece::Letter(row, z) => give(alphabet.letter(m, row, z) as u16, sink),
@@ -153,6 +159,7 @@ fn walk_piece<A: Abbreviations, S: Sink>(
 
 /// One Z-character: what is held back then.
 #[tactic(auto, using(crate::proofs::Joins::held_on, crate::proofs::Joins::piece_ok, crate::proofs::Joins::piece_err))]
+#[inline(always)]
 fn walk_character<A: Abbreviations, S: Sink>(
     m: &Memory,
     alphabet: Alphabet,
@@ -161,8 +168,12 @@ fn walk_character<A: Abbreviations, S: Sink>(
     sink: &mut S,
 ) -> Result<Held, Trouble>
     requires { alphabet.table ≡ alphabet_table m.now }
-    ensures ok { IfOk result (λ next. (zs : List ℕ) → Passes S.may_refuse S.gave sink.old sink.new (meaning m.now (A.stands m.now) (held_back held ++ z ∷ zs)) (meaning m.now (A.stands m.now) (held_back next ++ zs))) }
-    ensures err { IfErr result (λ t. (zs : List ℕ) → Walked S.may_refuse (Some t) (S.gave sink.old sink.new) (meaning m.now (A.stands m.now) (held_back held ++ z ∷ zs))) }
+    ensures ok { IfOk result (λ next. (zs : List ℕ) → Passes S.gave S.refused sink.old sink.new
+        (meaning m.now (A.stands m.now) (held_back held ++ z ∷ zs))
+        (meaning m.now (A.stands m.now) (held_back next ++ zs))) }
+    ensures err { IfErr result (λ t. (zs : List ℕ) →
+        Walked (Some t) (S.gave sink.old sink.new) (S.refused sink.old sink.new)
+        (meaning m.now (A.stands m.now) (held_back held ++ z ∷ zs))) }
 {
     let (next, piece) = advance(held, z);
     match piece {
@@ -178,6 +189,7 @@ fn walk_character<A: Abbreviations, S: Sink>(
 
 /// The three Z-characters of a word.
 #[tactic(auto, unfolding(crate::specs::Words::z_characters))]
+#[inline(always)]
 fn walk_word<A: Abbreviations, S: Sink>(
     m: &Memory,
     alphabet: Alphabet,
@@ -186,8 +198,12 @@ fn walk_word<A: Abbreviations, S: Sink>(
     sink: &mut S,
 ) -> Result<Held, Trouble>
     requires { alphabet.table ≡ alphabet_table m.now }
-    ensures ok { IfOk result (λ next. (ws : List ℕ) → Passes S.may_refuse S.gave sink.old sink.new (meaning m.now (A.stands m.now) (held_back held ++ z_characters (w ∷ ws))) (meaning m.now (A.stands m.now) (held_back next ++ z_characters ws))) }
-    ensures err { IfErr result (λ t. (ws : List ℕ) → Walked S.may_refuse (Some t) (S.gave sink.old sink.new) (meaning m.now (A.stands m.now) (held_back held ++ z_characters (w ∷ ws)))) }
+    ensures ok { IfOk result (λ next. (ws : List ℕ) → Passes S.gave S.refused sink.old sink.new
+        (meaning m.now (A.stands m.now) (held_back held ++ z_characters (w ∷ ws)))
+        (meaning m.now (A.stands m.now) (held_back next ++ z_characters ws))) }
+    ensures err { IfErr result (λ t. (ws : List ℕ) →
+        Walked (Some t) (S.gave sink.old sink.new) (S.refused sink.old sink.new)
+        (meaning m.now (A.stands m.now) (held_back held ++ z_characters (w ∷ ws)))) }
 {
     match walk_character::<A, S>(m, alphabet, held, (w / 1024 % 32) as u8, sink) {
         Err(trouble) => Err(trouble),
@@ -209,7 +225,9 @@ pub(crate) fn walk_text<A: Abbreviations, S: Sink>(
     sink: &mut S,
 ) -> Result<(), Trouble>
     requires { alphabet.table ≡ alphabet_table m.now }
-    ensures { (ws : List ℕ) → words_at m.now a ≡ Some ws → MatchResult result (λ _. Walked S.may_refuse None (S.gave sink.old sink.new) (meaning m.now (A.stands m.now) (z_characters ws))) (λ t. Walked S.may_refuse (Some t) (S.gave sink.old sink.new) (meaning m.now (A.stands m.now) (z_characters ws))) }
+    ensures { (ws : List ℕ) → words_at m.now a ≡ Some ws →
+        Walked (trouble_of result) (S.gave sink.old sink.new) (S.refused sink.old sink.new)
+        (meaning m.now (A.stands m.now) (z_characters ws)) }
 {
     let mut at = a;
     let mut held = Held::Nothing;

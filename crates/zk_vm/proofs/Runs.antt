@@ -1,55 +1,40 @@
 -- Runs, step by step.
-use Rattle.std.proofs.Common.{◌≡◌, ℕ, ◌+◌, ◌-◌, ◌<◌, ◌≤◌, suc, zero, List, [], ◌++◌, Ok, Err, arith, refl, ap, sym, subst}
-use Rattle.std.specs.Prelude.{Result}
+use Rattle.std.proofs.Common.{◌≡◌, ◌∙◌, ℕ, ◌+◌, ◌-◌, ◌<◌, ◌≤◌, suc, zero, List, ◌++◌, Result, Ok, Err, arith, refl, ap, sym, subst}
 use Rattle.zk_state.specs.declared.refusal.Limit.TheVariants.{Steps}
 use Rattle.zk_vm.specs.declared.stop.Stop.{Stop}
 use Rattle.zk_vm.specs.declared.stop.Stop.TheVariants.{Limit}
-use Rattle.zk_vm.specs.Step.{State, Texts, no_text, text_joined, Step, Goes, Quits, Faults, step, state_after, text_of, result_of}
-use Rattle.zk_vm.specs.Outcome.{Outcome, stopped_by, followed, outcome, IsOwnStop, LimitsOnlyCut, Leads, LimitsCutThere}
-
-goes_on : (place : ℕ) (old : State) (r : Step) (rest : State → Outcome) → result_of place r ≡ Ok tt
-    → followed place r rest ≡ record { stop = (rest (state_after old r)).stop; text = text_joined (text_of r) (rest (state_after old r)).text }
-goes_on place old (Goes s t) rest h = refl
-goes_on place old (Quits t) rest h = absurd cc
-goes_on place old (Faults f) rest h = absurd cc
-
-ends_there : (place : ℕ) (r : Step) (stop : Stop) (rest : State → Outcome) → result_of place r ≡ Err stop → followed place r rest ≡ record { stop = stop; text = text_of r }
-ends_there place (Goes s t) stop rest h = absurd cc
-ends_there place (Quits t) stop rest h = cc
-ends_there place (Faults f) stop rest h = cc
+use Rattle.zk_vm.specs.Step.{State, Texts, text_joined, step, state_after, text_of, result_of}
+use Rattle.zk_vm.specs.Outcome.{Outcome, stopped_by, followed, outcome, IsNoStepLimit, StepLimitOnlyCuts, Leads, StepLimitCutsThere}
 
 pub run_goes : (n i : ℕ) (s : State) → i < n → result_of s.place (step s) ≡ Ok tt
     → outcome (n - i) s ≡ record { stop = (outcome (n - (i + 1)) (state_after s (step s))).stop; text = text_joined (text_of (step s)) (outcome (n - (i + 1)) (state_after s (step s))).text }
 unfolding outcome
-run_goes n i s lt h = let e : n - i ≡ suc (n - (i + 1)) = omega arith in rw e (goes_on s.place s (step s) (outcome (n - (i + 1))) h)
+run_goes n i s lt h = let e : n - i ≡ suc (n - (i + 1)) = omega arith in rw (e, h) refl
 
 pub run_ends : (n i : ℕ) (s : State) (stop : Stop) → i < n → result_of s.place (step s) ≡ Err stop → outcome (n - i) s ≡ record { stop = stop; text = text_of (step s) }
 unfolding outcome
-run_ends n i s stop lt h = let e : n - i ≡ suc (n - (i + 1)) = omega arith in rw e (ends_there s.place (step s) stop (outcome (n - (i + 1))) h)
+run_ends n i s stop lt h = let e : n - i ≡ suc (n - (i + 1)) = omega arith in rw (e, h) refl
 
 pub run_limit : (n i : ℕ) (s : State) → n ≤ i → outcome (n - i) s ≡ stopped_by (Limit s.place Steps)
 unfolding outcome
 run_limit n i s h = let e : n - i ≡ zero = omega arith in rw e refl
 
-same_end : (n m place : ℕ) (r : Step) → ((s : State) → IsOwnStop (outcome n s).stop → outcome m s ≡ outcome n s) → IsOwnStop (followed place r (outcome n)).stop
-    → followed place r (outcome m) ≡ followed place r (outcome n)
-same_end n m place (Goes s t) same own = ap (λ (o : Outcome). record { stop = o.stop; text = text_joined t o.text }) (same s own)
-same_end n m place (Quits t) same own = refl
-same_end n m place (Faults f) same own = refl
+same_end : (r : Result (Unit {0}) Stop) (t : Texts) (few more : Outcome) → (IsNoStepLimit few.stop → more ≡ few) → IsNoStepLimit (followed r t few).stop → followed r t more ≡ followed r t few
+same_end (Ok x) t few more same own = ap (λ (o : Outcome). record { stop = o.stop; text = text_joined t o.text }) (same own)
+same_end (Err stop) t few more same own = refl
 
-pub limits_only_cut : LimitsOnlyCut
+pub step_limit_only_cuts : StepLimitOnlyCuts
 unfolding outcome
-limits_only_cut zero k s own = absurd own
-limits_only_cut (suc n) k s own =
+step_limit_only_cuts zero k s own = absurd own
+step_limit_only_cuts (suc n) k s own =
     let e : suc n + k ≡ suc (n + k) = omega arith in
-    rw e (same_end n (n + k) s.place (step s) (λ s'. limits_only_cut n k s') own)
+    rw e (same_end (result_of s.place (step s)) (text_of (step s)) (outcome n (state_after s (step s))) (outcome (n + k) (state_after s (step s)))
+    (step_limit_only_cuts n k (state_after s (step s))) own)
 
-pub limits_cut_there : LimitsCutThere
+pub step_limit_cuts_there : StepLimitCutsThere
 unfolding outcome
-limits_cut_there zero s end text h = rw (h.0, h.1) refl
-limits_cut_there (suc n) s end text h =
-    let rest = limits_cut_there n h.0 end h.2 h.4 in
-    rw (h.3, rest, h.5) refl
+step_limit_cuts_there zero s end text h = rw (h.0, h.1) refl
+step_limit_cuts_there (suc n) s end text h = rw (h.1, step_limit_cuts_there n (state_after s (step s)) end h.0 h.2, h.3) refl
 
 -- what shows the rest of a run shows the whole
 abbrev pub ShowsRest : {S : Type 0} → (S → S → List ℕ → List ℕ → Type 0) → S → S → Texts → Texts → Type 0

@@ -1,4 +1,6 @@
 pub mod Arithmetic
+pub mod Arrays
+pub mod Assignment
 pub mod Bounds
 pub mod Comparison
 pub mod Consoles
@@ -6,8 +8,11 @@ pub mod Control
 pub mod Effects
 pub mod Endings
 pub mod Finish
-pub mod Printing
+pub mod Idle
+pub mod Limited
 pub mod Outcome
 pub mod Printed
+pub mod Printing
+pub mod Routines
 pub mod Step
 pub mod Variables

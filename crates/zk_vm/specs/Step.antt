@@ -6,7 +6,9 @@ use Rattle.zk_code.specs.declared.instr.Instr.{Instr}
 use Rattle.zk_code.specs.Reading.{instr_at}
 use Rattle.zk_vm.specs.declared.ending.Next.{Next}
 use Rattle.zk_vm.specs.declared.ending.Next.TheVariants.{At, End}
-use Rattle.zk_vm.specs.declared.ending.Output.{Output}
+use Rattle.zk_state.specs.declared.refusal.Refusal.{Refusal}
+use Rattle.zk_state.specs.declared.refusal.Refusal.TheVariants as refusal
+use Rattle.zk_state.specs.Frames.{FrameList, within_bounds}
 use Rattle.zk_vm.specs.declared.stop.Stop.{Stop}
 use Rattle.zk_vm.specs.declared.stop.Stop.TheVariants as stop
 use Rattle.zk_vm.specs.declared.workspace.Workspace.{Workspace}
@@ -34,13 +36,14 @@ no_text = record { screen = []; script = [] }
 abbrev pub text_joined : Texts → Texts → Texts
 text_joined s t = record { screen = s.screen ++ t.screen; script = s.script ++ t.script }
 
--- an instruction is carried out: its operands, its effect, its finish
-unfoldable pub carried_out : Workspace → Instr → Result (Workspace × (Next × Output)) Fault
+-- an instruction is carried out: its operands, its effect, its finish. What it prints is the text that stands
+-- there once its effect is made.
+unfoldable pub carried_out : Workspace → Instr → Result (Workspace × (Next × List ℕ)) Fault
 carried_out w i = do
   vs ← operands_read w i.operands
   e ← effect_of vs.0 i vs.1
-  n ← finished e.0 i e.1.ending
-  Ok (n.0, (n.1, e.1.output))
+  n ← finished e.0 i vs.1 e.1.ending
+  Ok (n.0, (n.1, characters_of e.0.memory e.1.output))
 
 -- A step goes on in a state, or ends the story, and shows some text; or it is a fault, and shows none.
 pub data Step : Type 0 where
@@ -48,16 +51,16 @@ pub data Step : Type 0 where
   Quits : (text : Texts) → Step
   Faults : (fault : Fault) → Step
 
--- what is shown of an output
-abbrev pub shown_of : Workspace → Output → Texts
-shown_of w output = record { screen = characters_of w.memory output; script = [] }
+-- characters on the screen alone
+abbrev pub on_screen : List ℕ → Texts
+on_screen characters = record { screen = characters; script = [] }
 
-abbrev pub led : State → Workspace → Output → Next → Step
-led s w output (At place) = Goes (record { workspace = w; place = place; steps = s.steps + 1 }) (shown_of w output)
-led s w output End = Quits (shown_of w output)
+abbrev pub led_to : State → Workspace → List ℕ → Next → Step
+led_to s w text (At place) = Goes (record { workspace = w; place = place; steps = s.steps + 1 }) (on_screen text)
+led_to s w text End = Quits (on_screen text)
 
-abbrev pub settled : State → Result (Workspace × (Next × Output)) Fault → Step
-settled s (Ok r) = led s r.0 r.1.1 r.1.0
+abbrev pub settled : State → Result (Workspace × (Next × List ℕ)) Fault → Step
+settled s (Ok r) = led_to s r.0 r.1.1 r.1.0
 settled s (Err f) = Faults f
 
 -- the step from a state: the instruction at its place is carried out
@@ -70,14 +73,25 @@ state_after old (Goes s text) = s
 state_after old (Quits text) = old
 state_after old (Faults f) = old
 
--- what a step shows
-abbrev pub text_of : Step → Texts
-text_of (Goes s text) = text
-text_of (Quits text) = text
-text_of (Faults f) = no_text
+-- what follows from a step at a place that goes on: too many frames or words are a stop
+abbrev pub stop_over : ℕ → Result FrameList Refusal → Result (Unit {0}) Stop
+stop_over place (Ok s) = Ok tt
+stop_over place (Err (refusal.Limit l)) = Err (stop.Limit place l)
+stop_over place (Err (refusal.Fault f)) = Err (stop.Fault place f)
 
--- why a step at a place is the last, if it is
+-- why a run stops with a step at a place, if it does: the story ends, a fault, or a limit that the next
+-- state is over
 abbrev pub result_of : ℕ → Step → Result (Unit {0}) Stop
-result_of place (Goes s text) = Ok tt
+result_of place (Goes s text) = stop_over place (within_bounds s.workspace.frames)
 result_of place (Quits text) = Err stop.Quit
 result_of place (Faults f) = Err (stop.Fault place f)
+
+abbrev pub text_within : Result FrameList Refusal → Texts → Texts
+text_within (Ok s) text = text
+text_within (Err e) text = no_text
+
+-- what a run shows of a step: nothing where its next state is over a limit
+abbrev pub text_of : Step → Texts
+text_of (Goes s text) = text_within (within_bounds s.workspace.frames) text
+text_of (Quits text) = text
+text_of (Faults f) = no_text

@@ -1,4 +1,4 @@
-// Comparisons.
+// Tests of words.
 
 ghost use Rattle.std.specs.Prelude.{IfOk, ◌≡◌, ◌==◌};
 ghost use Rattle.std.specs.List.{list_any};
@@ -32,8 +32,13 @@ pub fn comparison_effect(opcode: Opcode, values: &Values) -> Result<Effect, Faul
     ensures value { result ≡ comparison opcode values.now }
     ensures silent { IfOk result (λ e. e.output ≡ Output.Nothing) }
 {
+    let (x, y) = (values.get(0), values.get(1));
     match opcode {
         Opcode::Je => Ok(Effect::tests(equals_another(values.as_slice()))),
+        Opcode::Jl => Ok(Effect::tests(x.cast_signed() < y.cast_signed())),
+        Opcode::Jg => Ok(Effect::tests(y.cast_signed() < x.cast_signed())),
+        Opcode::Jz => Ok(Effect::tests(x == 0)),
+        Opcode::Test => Ok(Effect::tests(x & y == y)),
         _ => Err(Fault::BadOpcode),
     }
 }

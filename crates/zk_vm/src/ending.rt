@@ -7,6 +7,12 @@ pub enum Ending {
     GoOn(Option<u16>, Option<bool>),
     /// Jumps by an offset.
     Jump(u16),
+    /// Calls the routine at a packed address with the values of the other operands.
+    Call(u16),
+    /// Returns a value from the current routine.
+    Return(u16),
+    /// Returns a value from the frame of a number, where the first frame has number 0.
+    Throw(u16, u16),
     /// The story has ended.
     Quit,
 }
@@ -23,6 +29,8 @@ pub enum Output {
     Number(u16),
     /// The text at a byte address.
     Text(u32),
+    /// The text at a byte address, and a new line.
+    Line(u32),
 }
 
 /// What an effect does beside its changes of the workspace.
@@ -43,7 +51,7 @@ pub enum Next {
 
 impl Effect {
     ghost use Rattle.std.specs.Prelude.{◌≡◌};
-    ghost use Rattle.zk_vm.specs.Endings.{ends, gives, tests, prints};
+    ghost use Rattle.zk_vm.specs.Endings.{ends, goes_on, gives, tests, prints};
 
     /// Nothing is printed.
     pub fn ends(ending: Ending) -> Effect
@@ -53,6 +61,13 @@ impl Effect {
             output: Output::Nothing,
             ending,
         }
+    }
+
+    /// The next instruction follows.
+    pub fn goes_on() -> Effect
+        ensures { result ≡ goes_on }
+    {
+        Effect::ends(Ending::GoOn(None, None))
     }
 
     /// The instruction gives a result.

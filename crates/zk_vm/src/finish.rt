@@ -1,76 +1,173 @@
 // Where an instruction leads.
 
-ghost use Rattle.std.specs.Prelude.{◌≡◌, ◌≤◌, ◌^◌, Ok, Err, None, MatchResult, OnOk};
-ghost use Rattle.zk_vm.specs.Finish.{place_of, branched, stored, gone_on, finished};
+ghost use Rattle.std.specs.Prelude.{◌≡◌, ◌≤◌, ◌^◌, Ok, Err, MatchResult, true};
+ghost use Rattle.zk_vm.specs.Finish.{way_of, way_on, led, gone, gone_on, finished, beside_stack, leads_away};
+ghost use Rattle.zk_vm.specs.Limited.{limited_next};
+ghost use Rattle.zk_vm.specs.Routines.{stored};
 
+use crate::call::call_routine;
 use crate::ending::{Ending, Next};
-use crate::variables::write_variable;
+use crate::routines::{return_value, store, throw_value};
+use crate::values::Values;
+use crate::variables::write_named;
 use crate::workspace::Workspace;
-use zk_code::branch::jump_target;
-use zk_code::branch::{Branch, Target};
+use zk_code::branch::{Branch, Target, jump_target};
 use zk_code::instr::Instr;
 use zk_mem::fault::Fault;
+use zk_state::refusal::Refusal;
 
-#[tactic(auto, unfolding(crate::specs::Finish::place_of))]
-fn place(target: Target) -> Result<u32, Fault>
-    ensures { result ≡ place_of target }
+/// The way on from an instruction.
+#[derive(Clone, Copy, Debug, PartialEq, Eq, Drop)]
+pub enum Way {
+    /// To a byte address in the story.
+    To(u32),
+    /// Back to the caller, with a value.
+    Back(u16),
+    /// Out of the story.
+    Out,
+}
+
+fn way_to(target: Target) -> Way
+    ensures { result ≡ way_of target }
 {
     match target {
-        Target::At(a) => Ok(a),
-        Target::ReturnFalse | Target::ReturnTrue => Err(Fault::ReturnFromMain),
-        Target::Below(_) | Target::Past(_) => Err(Fault::BadTarget),
+        Target::At(a) => Way::To(a),
+        Target::ReturnFalse => Way::Back(0),
+        Target::ReturnTrue => Way::Back(1),
+        Target::Below(_) | Target::Past(_) => Way::Out,
     }
 }
 
-#[tactic(auto, unfolding(crate::specs::Finish::branched))]
-fn take_branch(branch: Option<Branch>, next: u32, truth: Option<bool>) -> Result<u32, Fault>
-    ensures { result ≡ branched branch next truth }
+/// The way on from an instruction, by its branch and the truth that it has tested.
+#[tactic(auto, unfolding(crate::specs::Finish::way_on))]
+fn way_after(branch: Option<Branch>, next: u32, truth: Option<bool>) -> Way
+    ensures { result ≡ way_on branch next truth }
 {
     match (branch, truth) {
-        (Some(branch), Some(truth)) if branch.on == truth => place(branch.target),
-        _ => Ok(next),
+        (Some(branch), Some(truth)) if branch.on == truth => way_to(branch.target),
+        _ => Way::To(next),
     }
 }
 
-#[tactic(auto, unfolding(crate::specs::Finish::stored))]
-fn store(workspace: &mut Workspace, variable: Option<u8>, value: Option<u16>) -> Result<(), Fault>
-    ensures value { MatchResult result (λ _. stored workspace.old variable value ≡ Ok workspace.new) (λ e. stored workspace.old variable value ≡ Err e) }
-    ensures kept { value ≡ None → workspace.new ≡ workspace.old }
+#[tactic(auto, unfolding(crate::specs::Finish::led))]
+fn lead(workspace: &mut Workspace, way: Way) -> Result<Next, Refusal>
+    ensures { MatchResult result
+        (λ n. limited_next (led workspace.old way) ≡ Ok (workspace.new, n))
+        (λ e. limited_next (led workspace.old way) ≡ Err e) }
+{
+    match way {
+        Way::To(place) => {
+            workspace.is_bounded();
+            Ok(Next::At(place))
+        }
+        Way::Back(value) => return_value(workspace, value),
+        Way::Out => Err(Refusal::Fault(Fault::BadTarget)),
+    }
+}
+
+/// Stores a result, but for one on the evaluation stack, which goes with its routine.
+#[tactic(auto, unfolding(crate::specs::Routines::stored, crate::specs::Variables::variable_written))]
+fn store_beside(
+    workspace: &mut Workspace,
+    variable: Option<u8>,
+    value: Option<u16>,
+) -> Result<(), Fault>
+    ensures { MatchResult result
+        (λ _. stored workspace.old (beside_stack variable) value ≡ Ok workspace.new)
+        (λ e. stored workspace.old (beside_stack variable) value ≡ Err e) }
 {
     match (variable, value) {
-        (Some(variable), Some(value)) => write_variable(workspace, variable, value),
+        (Some(variable), Some(value)) if variable != 0 => {
+            write_named(workspace, variable, value)
+        }
         _ => Ok(()),
     }
 }
 
+/// Stores a result, and goes on to a place in the story.
+#[tactic(auto, unfolding(crate::specs::Finish::gone, crate::specs::Finish::led), using(crate::proofs::Ways::to_refused, crate::proofs::Ways::to_kept))]
+fn go_to(
+    workspace: &mut Workspace,
+    variable: Option<u8>,
+    value: Option<u16>,
+    place: u32,
+) -> Result<Next, Refusal>
+    ensures { MatchResult result
+        (λ n. limited_next (gone workspace.old variable value (Way.To place)) ≡ Ok (workspace.new, n))
+        (λ e. limited_next (gone workspace.old variable value (Way.To place)) ≡ Err e) }
+{
+    match store(workspace, variable, value) {
+        Ok(()) => {
+            workspace.is_bounded();
+            Ok(Next::At(place))
+        }
+        Err(refusal) => Err(refusal),
+    }
+}
+
+/// Stores a result, and leaves the routine or the story.
+#[tactic(auto, using(crate::proofs::Ways::away_stored, crate::proofs::Ways::away_faults))]
+fn go_away(
+    workspace: &mut Workspace,
+    variable: Option<u8>,
+    value: Option<u16>,
+    way: Way,
+) -> Result<Next, Refusal>
+    requires { leads_away way ≡ true }
+    ensures { MatchResult result
+        (λ n. limited_next (gone workspace.old variable value way) ≡ Ok (workspace.new, n))
+        (λ e. limited_next (gone workspace.old variable value way) ≡ Err e) }
+{
+    match store_beside(workspace, variable, value) {
+        Ok(()) => lead(workspace, way),
+        Err(fault) => Err(Refusal::Fault(fault)),
+    }
+}
+
+/// Stores a result and takes a branch.
 #[tactic(auto, unfolding(crate::specs::Finish::gone_on))]
 fn go_on(
     workspace: &mut Workspace,
     i: &Instr,
     value: Option<u16>,
     truth: Option<bool>,
-) -> Result<Next, Fault>
-    ensures value { MatchResult result (λ n. gone_on workspace.old i.now value truth ≡ Ok (workspace.new, n)) (λ e. gone_on workspace.old i.now value truth ≡ Err e) }
-    ensures kept { value ≡ None → OnOk result (workspace.new ≡ workspace.old) }
+) -> Result<Next, Refusal>
+    ensures { MatchResult result
+        (λ n. limited_next (gone_on workspace.old i.now value truth) ≡ Ok (workspace.new, n))
+        (λ e. limited_next (gone_on workspace.old i.now value truth) ≡ Err e) }
 {
-    store(workspace, i.store, value)?;
-    let place = take_branch(i.branch, i.next, truth)?;
-    Ok(Next::At(place))
+    match way_after(i.branch, i.next, truth) {
+        Way::To(place) => go_to(workspace, i.store, value, place),
+        Way::Back(back) => go_away(workspace, i.store, value, Way::Back(back)),
+        Way::Out => go_away(workspace, i.store, value, Way::Out),
+    }
 }
 
 /// Stores an instruction's result and finds where the machine goes on.
 #[tactic(auto, unfolding(crate::specs::Finish::finished))]
-pub fn finish(workspace: &mut Workspace, i: &Instr, ending: Ending) -> Result<Next, Fault>
+pub fn finish(
+    workspace: &mut Workspace,
+    i: &Instr,
+    values: &Values,
+    ending: Ending,
+) -> Result<Next, Refusal>
     requires { i.now.next ≤ 2 ^ 20 }
-    ensures value { MatchResult result (λ n. finished workspace.old i.now ending ≡ Ok (workspace.new, n)) (λ e. finished workspace.old i.now ending ≡ Err e) }
-    ensures kept { ending ≡ Ending.GoOn None None → OnOk result (workspace.new ≡ workspace.old) }
+    ensures { MatchResult result
+        (λ n. limited_next (finished workspace.old i.now values.now ending) ≡ Ok (workspace.new, n))
+        (λ e. limited_next (finished workspace.old i.now values.now ending) ≡ Err e) }
 {
     match ending {
         Ending::GoOn(value, truth) => { go_on(workspace, i, value, truth) }
         Ending::Jump(offset) => {
-            let place = place(jump_target(workspace.memory.len(), i.next, offset))?;
-            Ok(Next::At(place))
+            let way = way_to(jump_target(workspace.memory.len(), i.next, offset));
+            match lead(workspace, way) {
+                Ok(next) => Ok(next),
+                Err(refusal) => Err(refusal),
+            }
         }
+        Ending::Call(routine) => call_routine(workspace, i, routine, values.rest()),
+        Ending::Return(value) => return_value(workspace, value),
+        Ending::Throw(value, frame) => throw_value(workspace, value, frame),
         Ending::Quit => Ok(Next::End),
     }
 }

@@ -1,21 +1,27 @@
 // The machine that runs a story.
 #![tactic(auto)]
 
-mod arithmetic;
-mod comparison;
+pub mod arithmetic;
+pub mod arrays;
+pub mod assignment;
+pub mod call;
+pub mod comparison;
 mod console;
-mod control;
-mod effects;
-mod ending;
-mod finish;
+pub mod control;
+pub mod effects;
+pub mod ending;
+pub mod finish;
+pub mod group;
+pub mod idle;
 pub mod limits;
 pub mod machine;
-mod printer;
-mod printing;
+pub mod printer;
+pub mod printing;
+pub mod routines;
 pub mod screen;
 pub mod slot;
+pub mod step;
 pub mod stop;
-mod step;
-mod values;
-mod variables;
-mod workspace;
+pub mod values;
+pub mod variables;
+pub mod workspace;

@@ -5,12 +5,11 @@ ghost use Rattle.zk_term.specs.Devices.{Device, Shows};
 ghost use Rattle.zk_vm.specs.Bounds.{AreInRange};
 ghost use Rattle.zk_code.specs.Reading.{instr_at};
 ghost use Rattle.zk_vm.specs.Step.{step, result_of, state_after, text_of};
-ghost use Rattle.zk_vm.specs.Outcome.{begun, outcome, outcome_of, with_stop, LimitsOnlyCut, LimitsCutThere};
+ghost use Rattle.zk_vm.specs.Outcome.{begun, outcome, outcome_of, with_stop, StepLimitOnlyCuts, StepLimitCutsThere};
 
 use crate::console::Console;
 use crate::ending::Next;
 use crate::limits::Limits;
-use crate::printer::show;
 use crate::screen::Screen;
 use crate::slot::SaveSlot;
 use crate::step::carry_out;
@@ -22,7 +21,8 @@ use zk_code::decode::decode;
 use zk_code::instr::Instr;
 use zk_mem::memory::{Memory, Setup};
 use zk_mem::story::Story;
-use zk_state::refusal::Limit;
+use zk_state::frames::Frames;
+use zk_state::refusal::{Limit, Refusal};
 use zk_term::source::Source;
 use zk_term::target::Target;
 
@@ -66,9 +66,10 @@ impl Machine {
         let setup = Setup {
             undo_states: limits.undo,
         };
+        let frames = Frames::new(alloc, limits.frames, limits.words)?;
         let memory = Memory::start(alloc, story, setup)?;
         Ok(Machine {
-            workspace: Workspace { memory },
+            workspace: Workspace { memory, frames },
             place,
             steps: 0,
             limits,
@@ -88,19 +89,15 @@ impl Machine {
         ensures counted { OnOk result (self.new.state.steps ≡ self.old.state.steps + 1) }
         ensures limits { self.new.limits ≡ self.old.limits }
     {
-        match carry_out(&mut self.workspace, i) {
-            Ok((next, output)) => {
-                show(screen, &self.workspace.memory, output);
-                match next {
-                    Next::At(place) => {
-                        self.place = place;
-                        self.steps += 1;
-                        Ok(())
-                    }
-                    Next::End => Err(Stop::Quit),
-                }
+        match carry_out(&mut self.workspace, i, screen) {
+            Ok(Next::At(place)) => {
+                self.place = place;
+                self.steps += 1;
+                Ok(())
             }
-            Err(fault) => Err(Stop::Fault(self.place, fault)),
+            Ok(Next::End) => Err(Stop::Quit),
+            Err(Refusal::Fault(fault)) => Err(Stop::Fault(self.place, fault)),
+            Err(Refusal::Limit(limit)) => Err(Stop::Limit(self.place, limit)),
         }
     }
 
@@ -192,16 +189,16 @@ pub fn play<R: Source, S: Target, T: Target, K: SaveSlot>(
     stop
 }
 
-/// A run that stops by itself is the same under any greater limit.
-#[tactic(auto, using(crate::proofs::Runs::limits_only_cut))]
-pub fn limits_only_cut()
-    ensures { LimitsOnlyCut }
+/// A run that stops for another reason is the same under any greater limit on steps.
+#[tactic(auto, using(crate::proofs::Runs::step_limit_only_cuts))]
+pub fn step_limit_only_cuts()
+    ensures { StepLimitOnlyCuts }
 {
 }
 
-/// A run that is stopped by its limit has made as many steps as the limit says.
-#[tactic(auto, using(crate::proofs::Runs::limits_cut_there))]
-pub fn limits_cut_there()
-    ensures { LimitsCutThere }
+/// Where as many steps lead on as the limit says, the run stops there, by the limit on steps.
+#[tactic(auto, using(crate::proofs::Runs::step_limit_cuts_there))]
+pub fn step_limit_cuts_there()
+    ensures { StepLimitCutsThere }
 {
 }

@@ -81,6 +81,18 @@ fn put_number<K: Sink>(sink: &mut K, word: u16) -> Result<(), SinkFault>
     put_codes(sink, buffer.format(word.cast_signed()).as_bytes())
 }
 
+/// Gives a sink a text and a new line.
+fn put_line<K: Sink>(memory: &Memory, a: u32, sink: &mut K) -> Result<(), SinkFault>
+    requires { IsReady memory.now (Output.Line a) }
+    ensures taken { OnOk result (K.gave sink.old sink.new (units_of memory.now (Output.Line a))) }
+    ensures sure { OnErr result K.may_refuse }
+{
+    match print_text(memory, a, sink) {
+        Ok(()) => sink.put(Unit::Code(13)),
+        Err(SinkFault) => Err(SinkFault),
+    }
+}
+
 /// Gives a sink what an instruction prints.
 #[tactic(auto, unfolding(crate::specs::Printing::units_of))]
 fn put_output<K: Sink>(memory: &Memory, output: Output, sink: &mut K) -> Result<(), SinkFault>
@@ -94,6 +106,7 @@ fn put_output<K: Sink>(memory: &Memory, output: Output, sink: &mut K) -> Result<
         Output::Character(character) => sink.put(Unit::Character(character)),
         Output::Number(word) => put_number(sink, word),
         Output::Text(a) => print_text(memory, a, sink),
+        Output::Line(a) => put_line(memory, a, sink),
     }
 }
 

@@ -1,9 +1,9 @@
 // What instructions print.
 
 ghost use Rattle.std.specs.Prelude.{◌≡◌, IfOk};
-ghost use Rattle.zk_vm.specs.Printing.{printing, prints_text, prints_inline, IsPrintable};
+ghost use Rattle.zk_vm.specs.Printing.{printing, prints_text, prints_line, prints_inline, IsPrintable};
 
-use crate::ending::{Effect, Output};
+use crate::ending::{Effect, Ending, Output};
 use crate::values::Values;
 use zk_code::opcode::Opcode;
 use zk_mem::fault::Fault;
@@ -29,6 +29,20 @@ fn print_inline(memory: &Memory, text: Option<u32>) -> Result<Effect, Fault>
     }
 }
 
+fn print_line(memory: &Memory, text: Option<u32>) -> Result<Effect, Fault>
+    ensures value { result ≡ prints_line memory.now text }
+    ensures ready { IfOk result (λ e. IsPrintable memory.now e.output e.ending) }
+{
+    let Some(a) = text else {
+        return Ok(Effect::ends(Ending::Return(1)));
+    };
+    check_text(memory, a)?;
+    Ok(Effect {
+        output: Output::Line(a),
+        ending: Ending::Return(1),
+    })
+}
+
 /// The effect of an opcode that prints. Texts are checked before anything is shown.
 #[tactic(auto, unfolding(crate::specs::Printing::printing))]
 pub fn printing_effect(
@@ -49,6 +63,7 @@ pub fn printing_effect(
         Opcode::PrintUnicode => Ok(Effect::prints(Output::Character(first))),
         Opcode::PrintAddr => print_at(memory, first as u32),
         Opcode::PrintPaddr => print_at(memory, unpack(memory.version(), first)),
+        Opcode::PrintRet => print_line(memory, text),
         _ => Err(Fault::BadOpcode),
     }
 }

@@ -1,6 +1,6 @@
 // The values of operands.
 
-ghost use Rattle.std.specs.Prelude.{◌≡◌, ◌<◌, ◌≤◌, [], ◌∷◌, ◌++◌, Ok, Err, length, slice_index, MatchResult};
+ghost use Rattle.std.specs.Prelude.{◌≡◌, ◌<◌, ◌≤◌, [], ◌∷◌, ◌++◌, Ok, Err, drop, length, slice_index, MatchResult};
 ghost use Rattle.zk_vm.specs.Variables.{operand_read, operands_read};
 
 use crate::variables::read_variable;
@@ -45,6 +45,17 @@ impl Values {
         ensures { result ≡ slice_index self.now i }
     {
         self.list.get(i).copied().unwrap_or(0)
+    }
+
+    /// The values of the operands after the first.
+    pub fn rest(&self) -> &[u16]
+        ensures value { result.now ≡ drop 1 self.now }
+        ensures few { length result.now ≤ 7 }
+    {
+        match self.list.as_slice() {
+            [] => &[],
+            [_, rest @ ..] => rest,
+        }
     }
 
     pub fn as_slice(&self) -> &[u16]

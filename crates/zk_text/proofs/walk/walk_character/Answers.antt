@@ -6,4 +6,4 @@ use Rattle.zk_text.proofs.walk.walk_character.Goals as goal
 pub returns-in-Ok-clause-ok : goal.returns-in-Ok-clause-ok
 returns-in-Ok-clause-ok g c = λ zs.
     let ends = rw c.in-Some.is at (c.advance-next.ensures zs) in
-    piece_ok g.S.Sink.may_refuse g.S.Sink.gave g.met.S.Sink.twice c.args.sink.now c.walk_piece.new.sink c.args.m.now (g.A.Abbreviations.stands c.args.m.now) c.in-Some.piece (held_back c.args.held ++ c.args.z ∷ zs) (held_back c.advance-next.result.0 ++ zs) ends c.in-Ok.ensures
+    piece_ok g.S.Sink.gave g.S.Sink.refused g.met.S.Sink.twice g.met.S.Sink.late c.args.sink.now c.walk_piece.new.sink c.args.m.now (g.A.Abbreviations.stands c.args.m.now) c.in-Some.piece (held_back c.args.held ++ c.args.z ∷ zs) (held_back c.advance-next.result.0 ++ zs) ends c.in-Ok.ensures

@@ -17,4 +17,5 @@ returns-then-is_last g c = λ ws h.
 pub returns : goal.returns
 returns g c = λ ws h.
     let rest = c.loop-i.invariant.rest ws h in
-    absurd (text_within c.args.m.now c.loop-i.at rest.0 (omega (arith, c.len-i-end.ensures.value)) rest.1)
+    let gone : ⊥ = text_within c.args.m.now c.loop-i.at rest.0 (omega (arith, c.len-i-end.ensures.value)) rest.1 in
+    elim gone [ ]
