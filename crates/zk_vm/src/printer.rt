@@ -1,11 +1,13 @@
 // Units of text on a screen.
 
-ghost use Rattle.std.specs.Prelude.{◌≡◌, [], OnOk, OnErr, map, ℕ};
+ghost use Rattle.std.specs.Prelude.{[], ◌∷◌, List, map, ℕ, IsOk};
+ghost use Rattle.zk_text.specs.declared.unit.Unit.{Unit};
+ghost use Rattle.zk_text.specs.Meaning.{text_units};
 ghost use Rattle.zk_text.specs.declared.unit.Unit.TheVariants as unit;
 ghost use Rattle.std.specs.Int.{cast_signed, w16};
 ghost use Rattle.std.specs.Fmt.{signed_decimal};
 ghost use Rattle.zk_text.specs.Shown.{characters_shown};
-ghost use Rattle.zk_vm.specs.Printing.{units_of, characters_of, IsReady};
+ghost use Rattle.zk_vm.specs.Printing.{units_of, units_or_none, characters_of, IsReady};
 
 use crate::ending::Output;
 use crate::screen::Screen;
@@ -46,7 +48,7 @@ impl<'a, S: Screen> Sink for Printer<'a, S> {
 
     ghost gave = { λ a b us. (b.screen.ghost_name ≡ a.screen.ghost_name) × (b.extra.now ≡ a.extra.now) × S.shows a.screen.now b.screen.now (shown_all a.extra.now us) [] };
 
-    ghost may_refuse = { ⊥ };
+    ghost refused = { λ a b us. ⊥ };
 
     #[tactic(auto, using(crate::specs::Printed::printed_one))]
     fn put(&mut self, unit: Unit) -> Result<(), SinkFault> {
@@ -57,68 +59,68 @@ impl<'a, S: Screen> Sink for Printer<'a, S> {
     ghost nothing = { λ a. (refl, refl, printed_nothing S.shows a.extra.now a.screen.now (S.nothing a.screen.now)) };
 
     ghost twice = { λ a b c s t h k. (k.0 ∙ h.0, k.1 ∙ h.1, printed_twice S.shows a.extra.now b.extra.now a.screen.now b.screen.now c.screen.now s t h.1 (λ x y p q. S.twice a.screen.now b.screen.now c.screen.now x y [] [] p q) h.2 k.2) };
+
+    ghost late = { λ a b c s t h k. k };
 }
 
-/// Gives a sink some ZSCII codes.
-fn put_codes<K: Sink>(sink: &mut K, codes: &[u8]) -> Result<(), SinkFault>
-    ensures taken { OnOk result (K.gave sink.old sink.new (map (λ (c : ℕ). unit.Code c) codes.now)) }
-    ensures sure { OnErr result K.may_refuse }
+/// Gives a unit to a sink that refuses none.
+fn give<K: Sink>(sink: &mut K, unit: Unit)
+    requires { (a b : K) (us : List Unit) → K.refused a b us → ⊥ }
+    ensures { K.gave sink.old sink.new (unit ∷ []) }
 {
-    for code in codes {
-        match sink.put(Unit::Code(*code as u16)) {
-            Ok(()) => {}
-            Err(SinkFault) => return Err(SinkFault),
-        }
-    }
-    Ok(())
-}
-
-fn put_number<K: Sink>(sink: &mut K, word: u16) -> Result<(), SinkFault>
-    ensures taken { OnOk result (K.gave sink.old sink.new (map (λ (c : ℕ). unit.Code c) (signed_decimal (cast_signed w16 word)))) }
-    ensures sure { OnErr result K.may_refuse }
-{
-    let mut buffer = Buffer::new();
-    put_codes(sink, buffer.format(word.cast_signed()).as_bytes())
-}
-
-/// Gives a sink a text and a new line.
-fn put_line<K: Sink>(memory: &Memory, a: u32, sink: &mut K) -> Result<(), SinkFault>
-    requires { IsReady memory.now (Output.Line a) }
-    ensures taken { OnOk result (K.gave sink.old sink.new (units_of memory.now (Output.Line a))) }
-    ensures sure { OnErr result K.may_refuse }
-{
-    match print_text(memory, a, sink) {
-        Ok(()) => sink.put(Unit::Code(13)),
-        Err(SinkFault) => Err(SinkFault),
-    }
-}
-
-/// Gives a sink what an instruction prints.
-#[tactic(auto, unfolding(crate::specs::Printing::units_of))]
-fn put_output<K: Sink>(memory: &Memory, output: Output, sink: &mut K) -> Result<(), SinkFault>
-    requires { IsReady memory.now output }
-    ensures taken { OnOk result (K.gave sink.old sink.new (units_of memory.now output)) }
-    ensures sure { OnErr result K.may_refuse }
-{
-    match output {
-        Output::Nothing => Ok(()),
-        Output::Code(code) => sink.put(Unit::Code(code)),
-        Output::Character(character) => sink.put(Unit::Character(character)),
-        Output::Number(word) => put_number(sink, word),
-        Output::Text(a) => print_text(memory, a, sink),
-        Output::Line(a) => put_line(memory, a, sink),
-    }
-}
-
-/// Gives what an instruction prints to a sink that takes whatever comes.
-fn give_output<K: Sink>(memory: &Memory, output: Output, sink: &mut K)
-    requires ready { IsReady memory.now output }
-    requires sure { ¬ K.may_refuse }
-    ensures { K.gave sink.old sink.new (units_of memory.now output) }
-{
-    match put_output(memory, output, sink) {
+    match sink.put(unit) {
         Ok(()) => {}
         Err(SinkFault) => unreachable!(),
+    }
+}
+
+/// Gives a text to a sink that refuses no unit.
+fn give_text<K: Sink>(sink: &mut K, memory: &Memory, a: u32)
+    requires sure { (a b : K) (us : List Unit) → K.refused a b us → ⊥ }
+    requires ready { IsOk (text_units memory.now a) }
+    ensures { K.gave sink.old sink.new (units_or_none (text_units memory.now a)) }
+{
+    match print_text(memory, a, sink) {
+        Ok(()) => {}
+        Err(SinkFault) => unreachable!(),
+    }
+}
+
+/// Gives ZSCII codes to a sink that refuses no unit.
+fn give_codes<K: Sink>(sink: &mut K, codes: &[u8])
+    requires { (a b : K) (us : List Unit) → K.refused a b us → ⊥ }
+    ensures { K.gave sink.old sink.new (map (λ (c : ℕ). unit.Code c) codes.now) }
+{
+    for code in codes {
+        give(sink, Unit::Code(*code as u16));
+    }
+}
+
+fn give_number<K: Sink>(sink: &mut K, word: u16)
+    requires { (a b : K) (us : List Unit) → K.refused a b us → ⊥ }
+    ensures { K.gave sink.old sink.new (map (λ (c : ℕ). unit.Code c) (signed_decimal (cast_signed w16 word))) }
+{
+    let mut buffer = Buffer::new();
+    give_codes(sink, buffer.format(word.cast_signed()).as_bytes());
+}
+
+/// Gives what an instruction prints to a sink that refuses no unit.
+#[tactic(auto, unfolding(crate::specs::Printing::units_of))]
+fn give_output<K: Sink>(memory: &Memory, output: Output, sink: &mut K)
+    requires sure { (a b : K) (us : List Unit) → K.refused a b us → ⊥ }
+    requires ready { IsReady memory.now output }
+    ensures { K.gave sink.old sink.new (units_of memory.now output) }
+{
+    match output {
+        Output::Nothing => {}
+        Output::Code(code) => give(sink, Unit::Code(code)),
+        Output::Character(character) => give(sink, Unit::Character(character)),
+        Output::Number(word) => give_number(sink, word),
+        Output::Text(a) => give_text(sink, memory, a),
+        Output::Line(a) => {
+            give_text(sink, memory, a);
+            give(sink, Unit::Code(13));
+        }
     }
 }
 

@@ -4,6 +4,8 @@
 ghost use Rattle.zk_vm.specs.Bounds.{AreInRange};
 
 mod report;
+#[cfg(test)]
+mod tests;
 mod words;
 
 use crate::report::{refuse, report};
@@ -28,7 +30,9 @@ const MOST_BYTES: u64 = 524_289;
 /// The bytes of a story file, as many as a story may have and one more.
 fn read_story(rt: &HostRuntime, path: &str) -> io::Result<Vec<u8>> {
     let mut bytes = Vec::new(rt.alloc());
-    File::open(rt, path)?.take(MOST_BYTES).read_to_end(&mut bytes)?;
+    File::open(rt, path)?
+        .take(MOST_BYTES)
+        .read_to_end(&mut bytes)?;
     Ok(bytes)
 }
 

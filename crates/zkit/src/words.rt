@@ -48,8 +48,7 @@ pub fn play_words(words: &[String]) -> Option<PlayWords<'_>> {
             steps: 10_000_000,
         }),
         [_, command, option, steps, story]
-            if command.as_str() == "play" && option.as_str() == "--steps" =>
-        {
+            if command.as_str() == "play" && option.as_str() == "--steps" => {
             let steps = steps_of(steps.as_str())?;
             Some(PlayWords {
                 story: story.as_str(),
