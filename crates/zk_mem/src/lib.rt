@@ -5,3 +5,5 @@ pub mod fault;
 pub mod header;
 pub mod memory;
 pub mod story;
+#[cfg(test)]
+mod tests;

@@ -5,3 +5,5 @@ pub mod nothing;
 pub mod over;
 pub mod source;
 pub mod target;
+#[cfg(test)]
+mod tests;

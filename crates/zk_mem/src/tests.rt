@@ -1,0 +1,104 @@
+// Stories that are opened, and the memory that they start with.
+
+use crate::fault::Fault;
+use crate::header::unpack;
+use crate::memory::{Memory, Setup};
+use crate::story::Story;
+use std::alloc::Global;
+use std::process::Abort;
+use std::test::Fail;
+
+/// The bytes of a story whose static memory begins at an address, with bytes of 255 in its flags.
+fn story_bytes(alloc: Global, version: u8, static_base: u8) -> Result<Vec<u8>, Fail> {
+    let mut bytes = vec![in alloc; 0u8; 256]?;
+    bytes[0x00] = version;
+    bytes[0x01] = 0xff;
+    bytes[0x03] = 7;
+    bytes[0x07] = 0x40;
+    bytes[0x0d] = 0x50;
+    bytes[0x0f] = static_base;
+    bytes[0x10] = 0xff;
+    bytes[0x11] = 0xff;
+    bytes[0x17] = b'9';
+    bytes[0x37] = 0x60;
+    bytes[0xff] = 0x12;
+    Ok(bytes)
+}
+
+fn started(
+    rt: &(impl Abort + AllocGlobal),
+    version: u8,
+    static_base: u8,
+    undo_states: u8,
+) -> Result<Memory, Fail> {
+    let bytes = story_bytes(rt.alloc(), version, static_base)?;
+    let story = Story::open(rt.alloc(), bytes.as_slice())?;
+    Ok(Memory::start(rt.alloc(), story, Setup { undo_states })?)
+}
+
+#[test]
+fn headers_are_read(rt: HostRuntime) -> Result<(), Fail> {
+    let bytes = story_bytes(rt.alloc(), 5, 0x80)?;
+    let header = Story::open(rt.alloc(), bytes.as_slice())?.header();
+    assert_eq!(rt; header.version, 5);
+    assert_eq!(rt; header.release, 7);
+    assert_eq!(rt; header.first_instruction, 0x40);
+    assert_eq!(rt; header.globals, 0x50);
+    assert_eq!(rt; header.static_base, 0x80);
+    assert_eq!(rt; header.flags_2, 0xffff);
+    assert_eq!(rt; header.serial, [0, 0, 0, 0, 0, b'9']);
+    assert_eq!(rt; header.extension, 0x60);
+    assert_eq!(rt; started(&rt, 3, 0x80, 16)?.header().extension, 0);
+    Ok(())
+}
+
+// Fields by version: Flags 1, the high and the low byte of Flags 2, then those that say what interpreter
+// and which screen there are.
+#[test]
+fn fields_are_set_at_the_start(rt: HostRuntime) -> Result<(), Fail> {
+    for (version, undo_states, fields) in [
+        (3, 16, [0xaf, 0xff, 0xff, 0, 0, 0, 0, 0, 0, 0, 0]),
+        (5, 16, [0x50, 0xfe, 0x17, 6, 65, 255, 80, 80, 255, 2, 9]),
+        (8, 0, [0x50, 0xfe, 0x07, 6, 65, 255, 80, 80, 255, 2, 9]),
+    ] {
+        let memory = started(&rt, version, 0x80, undo_states)?;
+        for (address, field) in [
+            0x01, 0x10, 0x11, 0x1e, 0x1f, 0x20, 0x21, 0x23, 0x25, 0x2c, 0x2d,
+        ]
+        .iter()
+        .zip(fields)
+        {
+            assert_eq!(rt; memory.byte(*address), Ok(field), "{version} {address}");
+        }
+        assert_eq!(rt; memory.word(0x32), Ok(0x0101));
+        assert_eq!(rt; memory.original()[0x01], 0xff);
+    }
+    Ok(())
+}
+
+#[test]
+fn dynamic_memory_alone_is_written(rt: HostRuntime) -> Result<(), Fail> {
+    let mut memory = started(&rt, 3, 0x80, 16)?;
+    assert_eq!(rt; memory.set_word(0x7e, 0x1234), Ok(()));
+    assert_eq!(rt; memory.word(0x7e), Ok(0x1234));
+    assert_eq!(rt; memory.set_word(0x7f, 0x5678), Err(Fault::ReadOnly));
+    assert_eq!(rt; memory.byte(0x7f), Ok(0x34));
+    assert_eq!(rt; memory.set_byte(0x80, 1), Err(Fault::ReadOnly));
+    assert_eq!(rt; memory.set_byte(0x100, 1), Err(Fault::BadAddress));
+    assert_eq!(rt; memory.set_word(0xff, 1), Err(Fault::BadAddress));
+    assert_eq!(rt; memory.word(0xff), Err(Fault::BadAddress));
+    assert_eq!(rt; memory.byte(0xff), Ok(0x12));
+    assert_eq!(rt; memory.byte(0xffff_ffff), Err(Fault::BadAddress));
+    assert_eq!(rt; memory.cell(0xff), Some(0x12));
+    assert_eq!(rt; memory.cell(0x100), None);
+    assert_eq!(rt; memory.dynamic().len(), 0x80);
+    assert_eq!(rt; memory.check_word(0x7f), Err(Fault::ReadOnly));
+    Ok(())
+}
+
+#[test]
+fn packed_addresses(rt: HostRuntime) {
+    for (version, address) in [(3, 0x1fffe), (4, 0x3fffc), (5, 0x3fffc), (8, 0x7fff8)] {
+        assert_eq!(rt; unpack(version, 0xffff), address);
+    }
+}
