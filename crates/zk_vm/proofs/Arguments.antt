@@ -1,5 +1,5 @@
 -- Arguments and initial values, one local variable after another.
-use Rattle.std.proofs.Common.{◌≡◌, ◌∙◌, ℕ, zero, suc, ◌+◌, ◌-◌, ◌<◌, ◌≤◌, List, [], ◌∷◌, ◌++◌, drop, get_or, refl, sym, ap, arith, add-one, append-nil, append_assoc}
+use Rattle.std.proofs.Common.{◌≡◌, ℕ, zero, suc, ◌+◌, ◌-◌, ◌<◌, ◌≤◌, List, [], ◌∷◌, ◌++◌, drop, get_or, refl, sym, ap, arith, add-one, append-nil, append_assoc}
 use Rattle.zk_mem.specs.Map.{MemoryMap}
 use Rattle.zk_vm.specs.Routines.{initial_value, initial_values, with_arguments}
 

@@ -1,5 +1,5 @@
 -- An effect that prints goes on to the next instruction, or returns.
-use Rattle.std.proofs.Common.{◌≡◌, ℕ, Option, None, Some, refl}
+use Rattle.std.proofs.Common.{◌≡◌, ℕ, None, Some, refl}
 use Rattle.zk_mem.specs.Map.{MemoryMap}
 use Rattle.zk_vm.specs.declared.ending.Ending.{Ending}
 use Rattle.zk_vm.specs.declared.ending.Ending.TheVariants.{GoOn, Jump, Call, Return, Throw, Quit}

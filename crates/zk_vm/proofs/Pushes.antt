@@ -1,6 +1,5 @@
 -- A word that is pushed, or for which there is no room.
-use Rattle.std.proofs.Common.{◌≡◌, ℕ, Bool, true, false, Result, Ok, Err, nat_lt, refl, ap, arith}
-use Rattle.std.specs.Prelude.{if◌then◌else◌}
+use Rattle.std.proofs.Common.{◌≡◌, ℕ, Ok, Err, refl, ap, arith}
 use Rattle.std.proofs.lemmas.Grind.{common_steps}
 use Rattle.zk_state.specs.declared.refusal.Refusal.{Refusal}
 use Rattle.zk_state.specs.declared.refusal.Refusal.TheVariants as refusal

@@ -1,5 +1,5 @@
 -- A text that has a meaning.
-use Rattle.std.proofs.Common.{◌≡◌, ℕ, List, Result, Ok, Err, IsOk, refl, rules}
+use Rattle.std.proofs.Common.{◌≡◌, ℕ, List, Ok, Err, IsOk, refl, rules}
 use Rattle.zk_mem.specs.Map.{MemoryMap}
 use Rattle.zk_text.specs.declared.unit.Unit as text
 use Rattle.zk_text.specs.Meaning.{Units, text_units}

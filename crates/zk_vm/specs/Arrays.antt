@@ -3,7 +3,7 @@ use Rattle.std.specs.Prelude.{ℕ, ◌+◌, ◌*◌, ◌%◌, Result, Ok, Err}
 use Rattle.zk_mem.specs.declared.fault.Fault.{Fault}
 use Rattle.zk_mem.specs.declared.fault.Fault.TheVariants.{BadOpcode}
 use Rattle.zk_mem.specs.Results.{◌>>=◌}
-use Rattle.zk_mem.specs.Map.{MemoryMap, byte_at, word_at, byte_put, word_put}
+use Rattle.zk_mem.specs.Map.{byte_at, word_at, byte_put, word_put}
 use Rattle.zk_code.specs.declared.opcode.Opcode.{Opcode}
 use Rattle.zk_code.specs.declared.opcode.Opcode.TheVariants.{Loadw, Loadb, Storew, Storeb}
 use Rattle.zk_vm.specs.declared.ending.Effect.{Effect}

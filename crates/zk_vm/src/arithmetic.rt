@@ -35,7 +35,11 @@ fn remainder(x: u16, y: u16) -> Result<Effect, Fault>
 fn shift_left(x: u16, places: u16) -> u16
     ensures { result ≡ shifted_left x places }
 {
-    if places > 15 { 0 } else { x.wrapping_shl(places as u32) }
+    if places > 15 {
+        0
+    } else {
+        x.wrapping_shl(places as u32)
+    }
 }
 
 #[tactic(auto, unfolding(crate::specs::Arithmetic::shifted_right))]
@@ -50,19 +54,31 @@ fn shift_right(x: u16, places: u16) -> u16
 fn shift_signed(x: u16, places: u16) -> u16
     ensures { result ≡ sign_shifted x places }
 {
-    if x < 0x8000 { shift_right(x, places) } else { !shift_right(!x, places) }
+    if x < 0x8000 {
+        shift_right(x, places)
+    } else {
+        !shift_right(!x, places)
+    }
 }
 
 fn log_shift(x: u16, places: u16) -> u16
     ensures { result ≡ shifted shifted_right x places }
 {
-    if places < 0x8000 { shift_left(x, places) } else { shift_right(x, places.wrapping_neg()) }
+    if places < 0x8000 {
+        shift_left(x, places)
+    } else {
+        shift_right(x, places.wrapping_neg())
+    }
 }
 
 fn art_shift(x: u16, places: u16) -> u16
     ensures { result ≡ shifted sign_shifted x places }
 {
-    if places < 0x8000 { shift_left(x, places) } else { shift_signed(x, places.wrapping_neg()) }
+    if places < 0x8000 {
+        shift_left(x, places)
+    } else {
+        shift_signed(x, places.wrapping_neg())
+    }
 }
 
 /// The effect of an opcode that gives a word made of words. A zero divisor is `DivisionByZero`.

@@ -34,7 +34,11 @@ fn length_of_values(memory: &Memory, count: u8) -> u32
     ensures value { result ≡ values_length memory.now count }
     ensures bound { result ≤ 510 }
 {
-    if memory.version() < 5 { 2 * count as u32 } else { 0 }
+    if memory.version() < 5 {
+        2 * count as u32
+    } else {
+        0
+    }
 }
 
 /// How many local variables the routine at a byte address has, where it has at most 15 and lies in the
@@ -58,7 +62,11 @@ fn initial_value(memory: &Memory, a: u32) -> u16
     requires { a < 2 ^ 24 }
     ensures { result ≡ initial_value memory.now a }
 {
-    if memory.version() < 5 { word_at(memory, a) } else { 0 }
+    if memory.version() < 5 {
+        word_at(memory, a)
+    } else {
+        0
+    }
 }
 
 /// The argument at an index, or the initial value where there is none.
@@ -107,7 +115,10 @@ pub fn call_routine(
     let locals = locals_of(&workspace.memory, a + 1, count, arguments);
     let start = a + 1 + length_of_values(&workspace.memory, count);
     let supplied = arguments.len() as u8;
-    match workspace.frames.call(locals.as_slice(), i.next, i.store, supplied) {
+    match workspace
+        .frames
+        .call(locals.as_slice(), i.next, i.store, supplied)
+    {
         Ok(()) => Ok(Next::At(start)),
         Err(refusal) => Err(refusal),
     }

@@ -2,6 +2,7 @@
 
 ghost use Rattle.std.specs.Prelude.{◌≡◌, ◌≤◌, ◌<◌, ◌+◌, ◌-◌, ◌^◌, ◌||◌, Bool, true, false, Some, Ok, Err, IfOk, OnOk, if◌then◌else◌};
 ghost use Rattle.zk_term.specs.Devices.{Device, Shows};
+ghost use Rattle.zk_state.specs.Frames.{IsBounded};
 ghost use Rattle.zk_vm.specs.Bounds.{AreInRange};
 ghost use Rattle.zk_code.specs.Reading.{instr_at};
 ghost use Rattle.zk_vm.specs.Step.{step, result_of, state_after, text_of};
@@ -140,13 +141,16 @@ impl Machine {
         ensures text { S.shows screen.old screen.new (outcome_of self.old).text.screen (outcome_of self.old).text.script }
         ensures stopped { self.new.stopped ≡ Some (outcome_of self.old).stop }
         ensures limits { self.new.limits ≡ self.old.limits }
-        ensures bound { self.new.state.steps ≤ self.new.limits.steps }
+        ensures steps { self.new.state.steps ≤ self.new.limits.steps }
+        ensures frames { IsBounded self.new.state.workspace.frames }
     {
         if let Some(stop) = self.stopped {
+            let _depth = self.workspace.frames.depth();
             return Err(stop);
         }
         let stop = self.steps_to_stop(screen);
         self.stopped = Some(stop);
+        let _depth = self.workspace.frames.depth();
         Err(stop)
     }
 
@@ -193,12 +197,10 @@ pub fn play<R: Source, S: Target, T: Target, K: SaveSlot>(
 #[tactic(auto, using(crate::proofs::Runs::step_limit_only_cuts))]
 pub fn step_limit_only_cuts()
     ensures { StepLimitOnlyCuts }
-{
-}
+{}
 
 /// Where as many steps lead on as the limit says, the run stops there, by the limit on steps.
 #[tactic(auto, using(crate::proofs::Runs::step_limit_cuts_there))]
 pub fn step_limit_cuts_there()
     ensures { StepLimitCutsThere }
-{
-}
+{}

@@ -16,7 +16,11 @@ use zk_state::refusal::Refusal;
 fn call_effect(routine: u16) -> Effect
     ensures { result ≡ calls routine }
 {
-    if routine == 0 { Effect::gives(0) } else { Effect::ends(Ending::Call(routine)) }
+    if routine == 0 {
+        Effect::gives(0)
+    } else {
+        Effect::ends(Ending::Call(routine))
+    }
 }
 
 /// Whether the current routine was given the argument of a number.

@@ -113,7 +113,12 @@ fn return_showing<S: Screen>(
 
 /// Shows an output and goes on to the next instruction.
 #[tactic(auto, using(crate::proofs::Steps::goes_on_next))]
-fn go_on_showing<S: Screen>(workspace: &Workspace, i: &Instr, output: Output, screen: &mut S) -> Next
+fn go_on_showing<S: Screen>(
+    workspace: &Workspace,
+    i: &Instr,
+    output: Output,
+    screen: &mut S,
+) -> Next
     requires { IsReady workspace.now.memory output }
     ensures value { (vs : List ℕ) → limited_next (finished workspace.now i.now vs (Ending.GoOn None None)) ≡ Ok (workspace.now, result) }
     ensures text { S.shows screen.old screen.new (characters_of workspace.now.memory output) [] }

@@ -1,4 +1,4 @@
-use Rattle.std.proofs.Common.{◌≡◌, ◌-◌, ◌≤◌}
+use Rattle.std.proofs.Common.{◌≡◌, ◌-◌}
 use Rattle.zk_vm.specs.Outcome.{outcome}
 use Rattle.zk_vm.proofs.Runs.{ShowsRest}
 use Rattle.zk_vm.proofs.machine.Machine.steps_to_stop.Given as goal
