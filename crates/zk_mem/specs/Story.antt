@@ -12,10 +12,12 @@ greatest_length version =
     else if version == 8 then Some 524288
     else None
 
+-- a version without a greatest length is not played
 abbrev pub is_unknown : Option ℕ → Bool
 is_unknown None = true
 is_unknown (Some most) = false
 
+-- a file longer than its version allows
 abbrev pub is_over : Option ℕ → ℕ → Bool
 is_over None n = false
 is_over (Some most) n = nat_lt most n

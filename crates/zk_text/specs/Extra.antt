@@ -41,6 +41,7 @@ stated_words m at (Ok n) =
 unfoldable pub words_at_table : MemoryMap → ℕ → ExtraTable
 words_at_table m at = stated_words m at (byte_at m at)
 
+-- the words of a table, where the header extension names one
 abbrev pub words_of_table : MemoryMap → Option ℕ → ExtraTable
 words_of_table m None = None
 words_of_table m (Some at) = words_at_table m at

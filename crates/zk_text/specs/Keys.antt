@@ -57,6 +57,7 @@ two_bytes w = w / 256 ∷ w % 256 ∷ []
 abbrev pub two_words : List ℕ → List ℕ
 two_words zs = two_bytes (packed_word zs 0) ++ two_bytes (32768 + packed_word zs 3)
 
+-- nine Z-characters, packed three to a word
 abbrev pub three_words : List ℕ → List ℕ
 three_words zs =
     two_bytes (packed_word zs 0) ++ two_bytes (packed_word zs 3) ++ two_bytes (32768 + packed_word zs 6)

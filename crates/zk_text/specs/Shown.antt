@@ -16,6 +16,7 @@ visible c =
     else if nat_lt c 0xe000 then 63
     else c
 
+-- a question mark where there is no character
 abbrev pub visible_or_mark : Option ℕ → ℕ
 visible_or_mark None = 63
 visible_or_mark (Some c) = visible c

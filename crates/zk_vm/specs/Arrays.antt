@@ -11,10 +11,11 @@ use Rattle.zk_vm.specs.declared.workspace.Workspace.{Workspace}
 use Rattle.zk_vm.specs.Endings.{goes_on, gives}
 use Rattle.zk_vm.specs.Variables.{with_memory}
 
--- the byte address of a byte and of a word of an array, a sum of 16 bits
+-- the byte address of a byte of an array, a sum of 16 bits
 abbrev pub byte_of : ℕ → ℕ → ℕ
 byte_of array index = (array + index) % 65536
 
+-- the byte address of a word of an array, a sum of 16 bits
 abbrev pub word_of : ℕ → ℕ → ℕ
 word_of array index = (array + 2 * index) % 65536
 

@@ -29,6 +29,7 @@ pub record Texts : Type 0 where
   pub screen : List ℕ
   pub script : List ℕ
 
+-- nothing is shown
 abbrev pub no_text : Texts
 no_text = record { screen = []; script = [] }
 
@@ -55,10 +56,12 @@ pub data Step : Type 0 where
 abbrev pub on_screen : List ℕ → Texts
 on_screen characters = record { screen = characters; script = [] }
 
+-- what an instruction that was carried out leads to
 abbrev pub led_to : State → Workspace → List ℕ → Next → Step
 led_to s w text (At place) = Goes (record { workspace = w; place = place; steps = s.steps + 1 }) (on_screen text)
 led_to s w text End = Quits (on_screen text)
 
+-- the step that an instruction makes
 abbrev pub settled : State → Result (Workspace × (Next × List ℕ)) Fault → Step
 settled s (Ok r) = led_to s r.0 r.1.1 r.1.0
 settled s (Err f) = Faults f
@@ -86,6 +89,7 @@ result_of place (Goes s text) = stop_over place (within_bounds s.workspace.frame
 result_of place (Quits text) = Err stop.Quit
 result_of place (Faults f) = Err (stop.Fault place f)
 
+-- a text, unless frames or words are too many
 abbrev pub text_within : Result FrameList Refusal → Texts → Texts
 text_within (Ok s) text = text
 text_within (Err e) text = no_text
