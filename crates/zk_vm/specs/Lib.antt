@@ -10,6 +10,7 @@ pub mod Endings
 pub mod Finish
 pub mod Idle
 pub mod Limited
+pub mod Objects
 pub mod Outcome
 pub mod Printed
 pub mod Printing

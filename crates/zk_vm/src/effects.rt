@@ -12,6 +12,7 @@ use crate::control::control_effect;
 use crate::ending::Effect;
 use crate::group::Group;
 use crate::idle::idle_effect;
+use crate::objects::on_objects;
 use crate::printing::printing_effect;
 use crate::routines::on_routines;
 use crate::values::Values;
@@ -45,6 +46,11 @@ fn group(opcode: Opcode) -> Group
         Opcode::Nop | Opcode::SetColour | Opcode::SetTrueColour => Group::Idle,
         Opcode::SetTextStyle | Opcode::BufferMode | Opcode::SoundEffect => Group::Idle,
         Opcode::SetFont | Opcode::Piracy | Opcode::CheckUnicode => Group::Idle,
+        Opcode::Jin | Opcode::TestAttr | Opcode::SetAttr | Opcode::ClearAttr => Group::Objects,
+        Opcode::InsertObj | Opcode::RemoveObj | Opcode::PutProp => Group::Objects,
+        Opcode::GetProp | Opcode::GetPropAddr | Opcode::GetNextProp => Group::Objects,
+        Opcode::GetPropLen | Opcode::GetParent | Opcode::GetSibling => Group::Objects,
+        Opcode::GetChild | Opcode::PrintObj => Group::Objects,
         _ => Group::Absent,
     }
 }
@@ -68,6 +74,7 @@ fn fallible_effect(
         Group::Comparison => comparison_effect(i.opcode, values),
         Group::Assignment => assignment_effect(i.opcode, workspace, first, second),
         Group::Arrays => on_array(i.opcode, workspace, first, second, values.get(2)),
+        Group::Objects => on_objects(i.opcode, workspace, first, second, values.get(2)),
         Group::Routines => on_routines(i.opcode, workspace, first, second),
         Group::Control => control_effect(i.opcode, values),
         Group::Printing => printing_effect(i.opcode, &workspace.memory, i.text, values),

@@ -8,6 +8,7 @@ pub enum Group {
     Assignment,
     Push,
     Arrays,
+    Objects,
     Routines,
     Control,
     Printing,

@@ -15,6 +15,7 @@ mod group;
 mod idle;
 pub mod limits;
 pub mod machine;
+mod objects;
 mod printer;
 mod printing;
 mod routines;

@@ -19,7 +19,7 @@ fn print_at(memory: &Memory, a: u32) -> Result<Effect, Fault>
     Ok(Effect::prints(Output::Text(a)))
 }
 
-fn print_inline(memory: &Memory, text: Option<u32>) -> Result<Effect, Fault>
+pub fn print_inline(memory: &Memory, text: Option<u32>) -> Result<Effect, Fault>
     ensures value { result ≡ prints_inline memory.now text }
     ensures ready { IfOk result (λ e. IsPrintable memory.now e.output e.ending) }
 {

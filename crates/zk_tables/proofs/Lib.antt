@@ -1,0 +1,9 @@
+pub mod Steps
+pub mod ChainSteps
+pub mod ListSteps
+pub mod Writes
+pub mod TreeSteps
+pub mod ChainLaw
+pub mod ListLaw
+pub mod LinkLaw
+pub mod DecidedLaw

@@ -1,0 +1,7 @@
+use Rattle.std.proofs.Common.{◌≡◌, ◌-◌}
+use Rattle.zk_tables.specs.Tree.{naming_among}
+use Rattle.zk_tables.proofs.ChainSteps.{naming_from}
+use Rattle.zk_tables.proofs.chain.find_naming.Given as goal
+
+abbrev pub invariant-loop-i : goal.invariant-loop-i
+invariant-loop-i l = naming_from l.m (l.most - l.i) l.named l.place l.fn.o ≡ naming_among l.m l.fn.parent l.fn.o

@@ -1,0 +1,7 @@
+pub mod Layout
+pub mod Links
+pub mod Chain
+pub mod Tree
+pub mod Attributes
+pub mod PropertyList
+pub mod Properties

@@ -1,0 +1,62 @@
+// The attributes of objects.
+
+ghost use Rattle.std.specs.Prelude.{◌≡◌, ◌≤◌, ◌<◌, ℕ, Ok, Err, MatchResult, bit_or, bit_and, ◌-◌, if◌then◌else◌};
+ghost use Rattle.zk_tables.specs.Attributes.{attribute_at, attribute_put, attribute_bit, with_bits};
+
+use crate::layout::{entry, layout_for};
+use zk_mem::fault::Fault;
+use zk_mem::memory::Memory;
+
+/// The bit of an attribute in its byte.
+fn bit(n: u16) -> u8
+    ensures { result ≡ attribute_bit n }
+{
+    1 << (7 - n % 8)
+}
+
+/// Whether an object has an attribute (Standard, section 12.3). Object 0 has none, and an attribute that
+/// the version lacks is not there.
+///
+/// `BadObject` where the object has no entry in data.
+#[tactic(auto, unfolding(crate::specs::Attributes::attribute_at))]
+pub fn attribute(m: &Memory, o: u16, n: u16) -> Result<bool, Fault>
+    ensures { result ≡ attribute_at m.now o n }
+{
+    if o == 0 {
+        return Ok(false);
+    }
+    let entry = entry(m, o)?;
+    if n >= 8 * layout_for(m).attribute_bytes as u16 {
+        return Ok(false);
+    }
+    let byte = m.byte(entry + (n / 8) as u32)?;
+    Ok(byte & bit(n) != 0)
+}
+
+/// Gives an attribute to an object, or takes it (Standard, section 12.3). For object 0, and for an
+/// attribute that the version lacks, nothing happens.
+///
+/// `BadObject` where the object has no entry in data, then `ReadOnly` where the attribute's byte lies
+/// outside dynamic memory, also if the attribute is as wanted. A refusal changes nothing.
+#[tactic(auto, unfolding(crate::specs::Attributes::attribute_put))]
+pub fn set_attribute(m: &mut Memory, o: u16, n: u16, on: bool) -> Result<(), Fault>
+    ensures { MatchResult result (λ _. attribute_put m.old o n on ≡ Ok m.new) (λ e. (attribute_put m.old o n on ≡ Err e) × (m.new ≡ m.old)) }
+{
+    if o == 0 {
+        return Ok(());
+    }
+    let entry = entry(m, o)?;
+    if n >= 8 * layout_for(m).attribute_bytes as u16 {
+        return Ok(());
+    }
+    let a = entry + (n / 8) as u32;
+    let byte = m.byte(a)?;
+    m.set_byte(a, changed(byte, bit(n), on))
+}
+
+/// A byte with bits of it on or off.
+fn changed(byte: u8, bits: u8, on: bool) -> u8
+    ensures { result ≡ with_bits byte bits on }
+{
+    if on { byte | bits } else { byte & !bits }
+}

@@ -1,0 +1,34 @@
+// Laws of the objects of a story.
+
+ghost use Rattle.zk_tables.specs.Chain.{ChildrenAreChains};
+ghost use Rattle.zk_tables.specs.Links.{LinksAreWritten};
+ghost use Rattle.zk_tables.specs.Properties.{ListsDecide};
+ghost use Rattle.zk_tables.specs.PropertyList.{ListsAreRead, AtMostOneList};
+
+/// A link that was written names the object, and all other links name what they named.
+pub fn links_are_written()
+    ensures { LinksAreWritten }
+{}
+
+/// What a walk along siblings finds is the chain of an object's children, a repeat or an object without an
+/// entry: one of the three is there, and no two are.
+pub fn children_are_chains()
+    ensures { ChildrenAreChains }
+{}
+
+/// What is read at an address is the property list that the bytes spell there, or they leave data before a
+/// zero byte: one of the two holds.
+pub fn lists_are_read()
+    ensures { ListsAreRead }
+{}
+
+/// An address has at most one property list.
+pub fn at_most_one_list()
+    ensures { AtMostOneList }
+{}
+
+/// The property list that the bytes of an object's property table spell decides each call of `properties`
+/// that asks for a property.
+pub fn lists_decide()
+    ensures { ListsDecide }
+{}

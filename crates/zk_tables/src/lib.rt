@@ -1,0 +1,13 @@
+// The objects of a story: their tree, attributes and properties.
+#![tactic(auto)]
+
+pub mod attributes;
+mod chain;
+pub mod laws;
+mod layout;
+mod links;
+mod lists;
+pub mod properties;
+#[cfg(test)]
+mod tests;
+pub mod tree;

@@ -1,0 +1,161 @@
+// Property lists.
+
+ghost use Rattle.std.specs.Prelude.{◌≡◌, ◌≤◌, ◌<◌, ℕ, Ok, Err, IfOk, IfSome, IsOk, MatchResult, ◌+◌};
+ghost use Rattle.zk_tables.specs.PropertyList.{list_byte, long_length, property_by, property_at, properties_from, found_at, first_number_from, first_number_at, number_after_at};
+
+use crate::layout::data_end;
+use zk_mem::fault::Fault;
+use zk_mem::memory::Memory;
+
+/// A property in a property list (Standard, section 12.4).
+#[derive(Clone, Copy)]
+pub struct Property {
+    pub number: u8,
+    /// The byte address of its data.
+    pub address: u32,
+    /// The length of its data, in bytes.
+    pub length: u8,
+}
+
+impl Property {
+    /// The byte address after its data.
+    fn end(self) -> u32
+        requires { self.address ≤ 65537 }
+        ensures { result ≡ self.address + self.length }
+    {
+        self.address + self.length as u32
+    }
+}
+
+/// A byte of a property list.
+#[tactic(auto, unfolding(crate::specs::PropertyList::list_byte))]
+pub(crate) fn read_list_byte(m: &Memory, a: u32) -> Result<u8, Fault>
+    ensures value { result ≡ list_byte m.now a }
+    ensures bound { IfOk result (λ _. a < 65536) }
+{
+    if a >= data_end(m) {
+        return Err(Fault::BadProperty);
+    }
+    m.byte(a)
+}
+
+/// The length in the second of two size bytes (Standard, section 12.4.2.1).
+pub(crate) fn length_in(second: u8) -> u8
+    ensures value { result ≡ long_length second }
+    ensures bound { result ≤ 64 }
+{
+    if second % 64 == 0 { 64 } else { second % 64 }
+}
+
+#[tactic(auto, unfolding(crate::specs::PropertyList::property_by))]
+fn read_property_by(m: &Memory, a: u32, first: u8) -> Result<Option<Property>, Fault>
+    requires { a < 65536 }
+    ensures value { result ≡ property_by m.now a first }
+    ensures bound { IfOk result (λ r. IfSome r (λ p. p.address ≤ 65537)) }
+{
+    if first == 0 {
+        return Ok(None);
+    }
+    if m.version() < 4 {
+        return Ok(Some(Property {
+            number: first % 32,
+            address: a + 1,
+            length: first / 32 + 1,
+        }));
+    }
+    if first < 128 {
+        return Ok(Some(Property {
+            number: first % 64,
+            address: a + 1,
+            length: first / 64 + 1,
+        }));
+    }
+    let second = read_list_byte(m, a + 1)?;
+    Ok(Some(Property {
+        number: first % 64,
+        address: a + 2,
+        length: length_in(second),
+    }))
+}
+
+/// The property whose size bytes begin at an address, or none at the end of a list.
+#[tactic(auto, unfolding(crate::specs::PropertyList::property_at))]
+fn read_property(m: &Memory, a: u32) -> Result<Option<Property>, Fault>
+    ensures value { result ≡ property_at m.now a }
+    ensures bound { IfOk result (λ r. IfSome r (λ p. p.address ≤ 65537)) }
+    ensures within { IfOk result (λ _. a < 65536) }
+{
+    let first = read_list_byte(m, a)?;
+    read_property_by(m, a, first)
+}
+
+/// Whether a list goes on from an address to its end, with so many properties at most.
+fn check_list(m: &Memory, a: u32, most: u32) -> Result<(), Fault>
+    ensures { MatchResult result (λ _. IsOk (properties_from m.now most a)) (λ e. properties_from m.now most a ≡ Err e) }
+{
+    let mut at = a;
+    for _i in 0..most {
+        match read_property(m, at)? {
+            Some(property) => at = property.end(),
+            None => return Ok(()),
+        }
+    }
+    Err(Fault::BadProperty)
+}
+
+/// The first property of a number in the list at an address.
+pub(crate) fn find(m: &Memory, a: u32, n: u16) -> Result<Option<Property>, Fault>
+    ensures value { result ≡ found_at m.now a n }
+    ensures bound { IfOk result (λ r. IfSome r (λ p. p.address < 65536)) }
+{
+    let most = data_end(m);
+    let mut at = a;
+    for i in 0..most {
+        let Some(property) = read_property(m, at)? else {
+            return Ok(None);
+        };
+        at = property.end();
+        if property.number as u16 == n {
+            check_list(m, at, most - i - 1)?;
+            return Ok(Some(property));
+        }
+    }
+    Err(Fault::BadProperty)
+}
+
+/// The number of the first property of a list, or 0.
+fn read_first_number(m: &Memory, a: u32, most: u32) -> Result<u16, Fault>
+    ensures { result ≡ first_number_from m.now most a }
+{
+    check_list(m, a, most)?;
+    match read_property(m, a)? {
+        Some(property) => Ok(property.number as u16),
+        None => Ok(0),
+    }
+}
+
+/// The number of the first property of the list at an address, or 0.
+#[tactic(auto, unfolding(crate::specs::PropertyList::first_number_at))]
+pub(crate) fn find_first_number(m: &Memory, a: u32) -> Result<u16, Fault>
+    ensures { result ≡ first_number_at m.now a }
+{
+    read_first_number(m, a, data_end(m))
+}
+
+/// The number of the property after the first one of a number, or 0.
+pub(crate) fn find_number_after(m: &Memory, a: u32, n: u16) -> Result<u16, Fault>
+    ensures { result ≡ number_after_at m.now a n }
+{
+    let most = data_end(m);
+    let mut at = a;
+    for i in 0..most {
+        let Some(property) = read_property(m, at)? else {
+            return Err(Fault::BadProperty);
+        };
+        at = property.end();
+        if property.number as u16 == n {
+            return read_first_number(m, at, most - i - 1);
+        }
+    }
+    Err(Fault::BadProperty)
+}
