@@ -1,6 +1,7 @@
 // The words of the command line.
 
-ghost use Rattle.std.specs.Prelude.{◌≤◌, IfSome};
+ghost use Rattle.std.specs.Prelude.{◌≡◌, ◌≤◌, IfSome, SomeIff};
+ghost use Rattle.zkit.specs.Words.{IsStepCount, number_in};
 ghost use Rattle.zk_vm.specs.Bounds.{AreInRange};
 
 use zk_vm::limits::Limits;
@@ -19,7 +20,8 @@ pub struct PlayWords<'a> {
 impl PlayWords<'_> {
     /// The limits of the run.
     pub fn limits(&self) -> Limits
-        ensures { AreInRange result }
+        ensures value { result ≡ record { frames = 1024; words = 16384; undo = 16; steps = self.now.steps } }
+        ensures in_range { AreInRange result }
     {
         Limits {
             frames: 1024,
@@ -32,7 +34,8 @@ impl PlayWords<'_> {
 
 /// A number of steps from 1 to 1,000,000,000.
 fn steps_of(word: &str) -> Option<u32>
-    ensures { IfSome result (λ n. (1 ≤ n) × (n ≤ 1000000000)) }
+    ensures value { SomeIff result (IsStepCount word.now) (number_in word.now) }
+    ensures in_range { IfSome result (λ n. (1 ≤ n) × (n ≤ 1000000000)) }
 {
     match word.parse::<u64>() {
         Ok(n) if n >= 1 && n <= 1_000_000_000 => Some(n as u32),
