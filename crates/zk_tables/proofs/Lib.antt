@@ -7,3 +7,4 @@ pub mod ChainLaw
 pub mod ListLaw
 pub mod LinkLaw
 pub mod DecidedLaw
+pub mod RemovalLaw

@@ -9,13 +9,15 @@ use Rattle.zk_tables.specs.declared.links.Link.TheVariants.{Parent, Sibling, Chi
 use Rattle.zk_tables.specs.declared.links.Place.{Place}
 use Rattle.zk_tables.specs.Layout.{layout_of, entry_of}
 
--- the parent of an object, its sibling, its child
+-- the parent of an object
 abbrev pub parent_of : ℕ → Place
 parent_of o = record { link = Parent; object = o }
 
+-- its sibling
 abbrev pub sibling_of : ℕ → Place
 sibling_of o = record { link = Sibling; object = o }
 
+-- its child
 abbrev pub child_of : ℕ → Place
 child_of o = record { link = Child; object = o }
 

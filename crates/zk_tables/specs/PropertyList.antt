@@ -109,17 +109,19 @@ abbrev pub number_after : ℕ → List Property → Result ℕ Fault
 number_after n [] = Err BadProperty
 number_after n (p ∷ ps) = if p.number == n then Ok (first_number ps) else number_after n ps
 
--- and in the list at a: the first property of a number, the number of the first property, and the number
--- of the property after the first one of a number
+-- the first property of a number in the list at a
 unfoldable pub found_at : MemoryMap → ℕ → ℕ → Result (Option Property) Fault
 found_at m a n = properties_at m a >>= λ ps. Ok (first_with n ps)
 
+-- the number of the first property, or 0, where there may be so many
 unfoldable pub first_number_from : MemoryMap → ℕ → ℕ → Result ℕ Fault
 first_number_from m n a = properties_from m n a >>= λ ps. Ok (first_number ps)
 
+-- the same in the list at a
 unfoldable pub first_number_at : MemoryMap → ℕ → Result ℕ Fault
 first_number_at m a = first_number_from m (readable_end m) a
 
+-- the number of the property after the first one of a number in the list at a
 unfoldable pub number_after_at : MemoryMap → ℕ → ℕ → Result ℕ Fault
 number_after_at m a n = properties_at m a >>= λ ps. number_after n ps
 

@@ -1,14 +1,14 @@
 -- Taking an object out of the tree, and putting it in (Standard, sections 12.3 and 15, remove_obj and
 -- insert_obj).
-use Rattle.std.specs.Prelude.{ℕ, List, [], ◌∷◌, Option, Some, None, Result, Ok, Err, ◌==◌, ◌||◌, if◌then◌else◌}
+use Rattle.std.specs.Prelude.{◌≡◌, ◌≢◌, ℕ, List, [], ◌∷◌, Option, Some, None, Result, Ok, Err, ◌==◌, ◌||◌, if◌then◌else◌}
 use Rattle.zk_mem.specs.declared.fault.Fault.{Fault}
-use Rattle.zk_mem.specs.declared.fault.Fault.TheVariants.{BadTree}
+use Rattle.zk_mem.specs.declared.fault.Fault.TheVariants.{BadObject, BadTree}
 use Rattle.zk_mem.specs.Results.{◌>>=◌}
 use Rattle.zk_mem.specs.Map.{MemoryMap}
 use Rattle.zk_tables.specs.declared.links.Place.{Place}
 use Rattle.zk_tables.specs.Layout.{entry_of}
 use Rattle.zk_tables.specs.Links.{parent_of, sibling_of, child_of, link_at, link_put}
-use Rattle.zk_tables.specs.Chain.{children_of}
+use Rattle.zk_tables.specs.Chain.{children_of, IsChain, Repeats, MeetsBad}
 
 -- the link that names o, in a chain whose first object a link names
 abbrev pub naming_in : Place → List ℕ → ℕ → Result Place Fault
@@ -56,3 +56,16 @@ inserted m o d =
     if o == 0 || d == 0
     then Ok m
     else (entry_of m o >>= λ _. entry_of m d >>= λ _. removed m o >>= λ without. linked without o d)
+
+-- ---- a law
+
+-- the chain of the parent's children decides what is removed; one that repeats an object or meets a bad
+-- one refuses
+pub record IsRemoval (m : MemoryMap) (o parent : ℕ) : Type 0 where
+  pub chain : (xs : List ℕ) → IsChain m parent xs → removed m o ≡ (naming_in (child_of parent) xs o >>= λ place. unlinked m place o)
+  pub repeats : Repeats m parent → removed m o ≡ Err BadTree
+  pub meets_bad : MeetsBad m parent → removed m o ≡ Err BadObject
+
+-- of each object with a parent
+abbrev pub ChainsDecide : Type 0
+ChainsDecide = (m : MemoryMap) (o parent : ℕ) → parent ≢ 0 → link_at m (parent_of o) ≡ Ok parent → IsRemoval m o parent

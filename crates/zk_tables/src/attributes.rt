@@ -1,6 +1,6 @@
 // The attributes of objects.
 
-ghost use Rattle.std.specs.Prelude.{◌≡◌, ◌≤◌, ◌<◌, ℕ, Ok, Err, MatchResult, bit_or, bit_and, ◌-◌, if◌then◌else◌};
+ghost use Rattle.std.specs.Prelude.{◌≡◌, Ok, Err, MatchResult};
 ghost use Rattle.zk_tables.specs.Attributes.{attribute_at, attribute_put, attribute_bit, with_bits};
 
 use crate::layout::{entry, layout_for};

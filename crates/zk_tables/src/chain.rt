@@ -1,6 +1,6 @@
 // Walks along the children of an object.
 
-ghost use Rattle.std.specs.Prelude.{◌≡◌, ◌≤◌, ◌<◌, ℕ, Ok, Err, IsOk, MatchResult};
+ghost use Rattle.std.specs.Prelude.{◌≡◌, Err, IsOk, MatchResult};
 ghost use Rattle.zk_tables.specs.Chain.{chain_from};
 ghost use Rattle.zk_tables.specs.Tree.{naming_among};
 

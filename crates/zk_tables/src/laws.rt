@@ -3,6 +3,7 @@
 ghost use Rattle.zk_tables.specs.Chain.{ChildrenAreChains};
 ghost use Rattle.zk_tables.specs.Links.{LinksAreWritten};
 ghost use Rattle.zk_tables.specs.Properties.{ListsDecide};
+ghost use Rattle.zk_tables.specs.Tree.{ChainsDecide};
 ghost use Rattle.zk_tables.specs.PropertyList.{ListsAreRead, AtMostOneList};
 
 /// A link that was written names the object, and all other links name what they named.
@@ -14,6 +15,11 @@ pub fn links_are_written()
 /// entry: one of the three is there, and no two are.
 pub fn children_are_chains()
     ensures { ChildrenAreChains }
+{}
+
+/// The chain of a parent's children decides what `remove` does with one of them.
+pub fn chains_decide()
+    ensures { ChainsDecide }
 {}
 
 /// What is read at an address is the property list that the bytes spell there, or they leave data before a

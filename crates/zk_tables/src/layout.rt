@@ -1,6 +1,6 @@
 // How the object table is laid out.
 
-ghost use Rattle.std.specs.Prelude.{◌≡◌, ◌≤◌, ◌<◌, ℕ, IfOk, OnOk};
+ghost use Rattle.std.specs.Prelude.{◌≡◌, ◌≤◌, ◌<◌, IfOk};
 ghost use Rattle.zk_mem.specs.Map.{readable_end};
 ghost use Rattle.zk_tables.specs.Layout.{layout_of, default_words_start, first_entry, entry_of, entries};
 

@@ -1,6 +1,6 @@
 // The links of objects.
 
-ghost use Rattle.std.specs.Prelude.{◌≡◌, ◌≤◌, ◌<◌, ℕ, Ok, Err, IfOk, MatchResult};
+ghost use Rattle.std.specs.Prelude.{◌≡◌, ◌≤◌, ◌<◌, Ok, Err, IfOk, MatchResult};
 ghost use Rattle.zk_tables.specs.Links.{address_of, number_at, number_put, link_at, link_put, write_test, order_of, parent_of, sibling_of, child_of};
 
 use crate::layout::{entry, layout_for};

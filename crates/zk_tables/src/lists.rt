@@ -1,6 +1,6 @@
 // Property lists.
 
-ghost use Rattle.std.specs.Prelude.{◌≡◌, ◌≤◌, ◌<◌, ℕ, Ok, Err, IfOk, IfSome, IsOk, MatchResult, ◌+◌};
+ghost use Rattle.std.specs.Prelude.{◌≡◌, ◌≤◌, ◌<◌, Err, IfOk, IfSome, IsOk, MatchResult, ◌+◌};
 ghost use Rattle.zk_tables.specs.PropertyList.{list_byte, long_length, property_by, property_at, properties_from, found_at, first_number_from, first_number_at, number_after_at};
 
 use crate::layout::data_end;

@@ -1,6 +1,6 @@
 // The properties and names of objects.
 
-ghost use Rattle.std.specs.Prelude.{◌≡◌, ◌≤◌, ◌<◌, ℕ, Ok, Err, IfOk, IfSome, MatchResult};
+ghost use Rattle.std.specs.Prelude.{◌≡◌, ◌<◌, Ok, Err, IfOk, IfSome, MatchResult};
 ghost use Rattle.zk_tables.specs.Properties.{table_of, list_of, property_of, default_of, value_in, value_put_in, property_value, property_address_of, next_property_of, property_put, length_by, property_length_of, name_of};
 
 use crate::layout::{entry, layout_for};

@@ -1,6 +1,6 @@
 // The tree of objects.
 
-ghost use Rattle.std.specs.Prelude.{◌≡◌, ◌≤◌, ◌<◌, ℕ, Ok, Err, IsOk, MatchResult};
+ghost use Rattle.std.specs.Prelude.{◌≡◌, Ok, Err, IsOk, MatchResult};
 ghost use Rattle.zk_tables.specs.Links.{link_at, parent_of, sibling_of, child_of};
 ghost use Rattle.zk_tables.specs.Tree.{naming_of, unlinked_where, removed, linked, inserted};
 
