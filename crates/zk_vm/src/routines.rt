@@ -1,9 +1,8 @@
 // Routines: calls and returns, catch and throw.
 
 ghost use Rattle.std.specs.Prelude.{◌≡◌, ◌≤◌, ◌<◌, ◌^◌, Ok, Err, IfOk, IfSome, MatchResult, length};
-ghost use Rattle.zk_vm.specs.Limited.{limited_next};
+ghost use Rattle.zk_vm.specs.Limited.{limited, limited_next};
 ghost use Rattle.zk_vm.specs.Routines.{routine_effect, calls, was_supplied, returned, thrown, stored};
-ghost use Rattle.zk_vm.specs.Limited.{limited};
 
 use crate::ending::{Effect, Ending, Next, Output};
 use crate::variables::write_variable;
