@@ -1,5 +1,5 @@
 -- What is done to objects and properties (Standard, sections 12 and 15).
-use Rattle.std.specs.Prelude.{ℕ, Bool, true, false, ◌==◌, not, Option, Some, None, Result, Ok, Err}
+use Rattle.std.specs.Prelude.{ℕ, true, false, ◌==◌, not, Some, Result, Ok, Err}
 use Rattle.zk_mem.specs.declared.fault.Fault.{Fault}
 use Rattle.zk_mem.specs.declared.fault.Fault.TheVariants.{BadOpcode}
 use Rattle.zk_mem.specs.Results.{◌>>=◌}

@@ -180,6 +180,8 @@ pub fn play<R: Source, S: Target, T: Target, K: SaveSlot>(
     ensures script { Shows (record { taken = T.taken script.old; failed = false }) (record { taken = T.taken script.new; failed = S.failed screen.new || T.failed script.new }) (outcome_of machine.old).text.script }
     ensures stopped { machine.new.stopped ≡ Some result }
     ensures limits { machine.new.limits ≡ machine.old.limits }
+    ensures reader { _reader.new ≡ _reader.old }
+    ensures slot { _slot.new ≡ _slot.old }
 {
     let mut console = Console::new(screen, script);
     let stop = match machine.run(&mut console) {
