@@ -206,11 +206,19 @@ excluded_from m a BadOpcode h = h
 excluded_from m a MissingOperand h = h
 excluded_from m a d h = absurd h
 
+-- a refusal has its reason
+pub refused_for : (m : MemoryMap) (a : ℕ) (d : Fault) → HasBytes m → instr_at m a ≡ Err d → IsRefusal m a d
+refused_for m a d fits e = refusal_from m a d fits (refused_at m a d fits e)
+
+-- a reason that is there refuses
+pub refusing_for : (m : MemoryMap) (a : ℕ) (d : Fault) → HasBytes m → IsRefusal m a d → instr_at m a ≡ Err d
+refusing_for m a d fits h = refusing_at m a d fits (excluded_from m a d h)
+
 -- as clauses of a result
 pub is_refused : (m : MemoryMap) (a : ℕ) (r : Result Instr Fault) → HasBytes m → r ≡ instr_at m a → IfErr r (IsRefusal m a)
 is_refused m a (Ok i) fits e = tt
-is_refused m a (Err d) fits e = refusal_from m a d fits (refused_at m a d fits (sym e))
+is_refused m a (Err d) fits e = refused_for m a d fits (sym e)
 
 -- a refusal whose reason is there is the result
 pub is_refusing : (m : MemoryMap) (a : ℕ) (r : Result Instr Fault) → HasBytes m → r ≡ instr_at m a → (d : Fault) → IsRefusal m a d → r ≡ Err d
-is_refusing m a r fits e d h = e ∙ refusing_at m a d fits (excluded_from m a d h)
+is_refusing m a r fits e d h = e ∙ refusing_for m a d fits h
