@@ -41,3 +41,13 @@ pub enum Refusal {
     #[error(transparent)]
     Limit(Limit),
 }
+
+impl From<Fault> for Refusal {
+    ghost use Rattle.std.specs.Prelude.{◌≡◌};
+
+    ghost from_gives = { λ fault refusal. refusal ≡ Refusal.Fault fault };
+
+    fn from(fault: Fault) -> Refusal {
+        Refusal::Fault(fault)
+    }
+}
