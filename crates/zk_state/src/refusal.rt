@@ -44,8 +44,9 @@ pub enum Refusal {
 
 impl From<Fault> for Refusal {
     ghost use Rattle.std.specs.Prelude.{◌≡◌};
+    ghost use Rattle.zk_state.specs.declared.refusal.Refusal.TheVariants as refusal;
 
-    ghost from_gives = { λ fault refusal. refusal ≡ Refusal.Fault fault };
+    ghost from_gives = { λ fault made. made ≡ refusal.Fault fault };
 
     fn from(fault: Fault) -> Refusal {
         Refusal::Fault(fault)
