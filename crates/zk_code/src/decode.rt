@@ -4,7 +4,7 @@ ghost use Rattle.std.specs.Prelude.{ℕ, Ok, Err, IfErr, ◌≡◌, ◌≤◌, �
 ghost use Rattle.zk_mem.specs.declared.fault.Fault.{Fault};
 ghost use Rattle.zk_code.specs.declared.instr.Instr.{Instr};
 ghost use Rattle.zk_code.specs.Grammar.{IsInstruction, IsRefusal};
-ghost use Rattle.zk_code.specs.Reading.{operand_at, operands_at, store_at, branch_by, branch_at, text_end, text_at, instr_at};
+ghost use Rattle.zk_code.specs.Reading.{operand_at, operands_at, store_at, branch_by, branch_at, text_at, instr_at};
 
 use crate::branch::{Branch, target_of_branch};
 use crate::bytes::{read_byte, read_word};
@@ -96,24 +96,6 @@ fn read_branch(memory: &Memory, follows: Follows, a: u32) -> Result<(Option<Bran
     }
 }
 
-#[tactic(auto, using(crate::proofs::TextSteps::text_step, crate::proofs::TextSteps::text_last, crate::proofs::TextSteps::text_fault, crate::proofs::TextSteps::text_none))]
-fn end_of_text(memory: &Memory, a: u32) -> Result<u32, Fault>
-    requires { a ≤ 2 ^ 20 }
-    ensures value { result ≡ text_end memory.now (length memory.now.bytes) a }
-    ensures near { IfOk result (λ e. e ≤ 2 ^ 20) }
-{
-    let mut at = a;
-    // there are fewer words than bytes
-    for _i in 0..memory.len() {
-        let word = read_word(memory, at)?;
-        at += 2;
-        if word >= 0x8000 {
-            return Ok(at);
-        }
-    }
-    Err(Fault::CodePastEnd)
-}
-
 #[tactic(auto, unfolding(crate::specs::Reading::text_at))]
 fn read_text(memory: &Memory, follows: Follows, a: u32) -> Result<(Option<u32>, u32), Fault>
     requires { a ≤ 2 ^ 20 }
@@ -121,7 +103,9 @@ fn read_text(memory: &Memory, follows: Follows, a: u32) -> Result<(Option<u32>, 
     ensures near { IfOk result (λ x. x.1 ≤ 2 ^ 20) }
 {
     if follows.has_text() {
-        let end = end_of_text(memory, a)?;
+        // the end lies inside the story
+        memory.len();
+        let end = memory.text_end(a).ok_or(Fault::CodePastEnd)?;
         Ok((Some(a), end))
     } else {
         Ok((None, a))
