@@ -112,7 +112,7 @@ types_err m true a d e =
       | inr h ↦ elim (bind_err (code_byte m (a + 1)) (λ u. Ok (types_by_byte h.0 ++ types_by_byte u, a + 2)) d h.2) [ inl p ↦ byte_err m (a + 1) d p | inr p ↦ absurd cc ]
     ]
 
--- types no_bad_behind an omitted one don't matter
+-- types behind an omitted one don't matter
 operands_pad : (m : MemoryMap) (ks more : List OperandType) (a : ℕ) → operands_at m (ks ++ Omitted ∷ more) a ≡ operands_at m ks a
 unfolding operands_at
 operands_pad m [] more a = refl
@@ -120,7 +120,7 @@ operands_pad m (k ∷ ks) more a = simp (operands_pad m ks more)
 
 -- ---- the forms
 
--- what is read no_bad_behind the bytes of an opcode
+-- what is read behind the bytes of an opcode
 abbrev pub rest_of : MemoryMap → Form → ℕ → Result Head Fault
 rest_of m (Long2OP n j k) b = with_types (two_operand m.version n) j k b
 rest_of m (Short1OP n k) b = with_types (one_operand m.version n) k Omitted b
@@ -322,7 +322,7 @@ begins_read m a (Err d) fits e = inl (rw (e, byte_err m a d e) refl, (let le = b
 pub begins : (m : MemoryMap) (a : ℕ) → HasBytes m → ((head_at m a ≡ Err CodePastEnd) × (length m.bytes ≤ a + 1)) ⊎ Begins m a
 begins m a fits = begins_read m a (code_byte m a) fits refl
 
--- ---- no_bad_behind the opcode's bytes
+-- ---- behind the opcode's bytes
 
 -- operands are read alike by two lists of types
 abbrev Same : MemoryMap → List OperandType → List OperandType → Type 0

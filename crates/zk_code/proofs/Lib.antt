@@ -1,6 +1,6 @@
 pub mod OperandSteps
-pub mod TextSteps
 pub mod Standing
+pub mod Texts
 pub mod Tails
 pub mod Heads
 pub mod Whole

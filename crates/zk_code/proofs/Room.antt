@@ -1,5 +1,5 @@
 -- Where there are bytes enough, nothing fails for lack of bytes.
-use Rattle.std.proofs.Common.{◌≡◌, ℕ, zero, suc, ◌+◌, ◌*◌, ◌/◌, ◌%◌, ◌<◌, ◌≤◌, Bool, true, false, cond, List, [], ◌∷◌, ◌++◌, length, Option, Some, None, Ok, Err, sym, ap, ◌∙◌, arith, inl, inr}
+use Rattle.std.proofs.Common.{◌≡◌, ℕ, zero, suc, ◌+◌, ◌*◌, ◌/◌, ◌%◌, ◌<◌, ◌≤◌, Bool, true, false, List, [], ◌∷◌, ◌++◌, length, Option, Some, None, Ok, Err, refl, sym, ap, ◌∙◌, arith, inl, inr}
 use Rattle.std.specs.Prelude.{nat_le, nat_lt}
 use Rattle.std.proofs.lemmas.Bool.{cases_lt}
 use Rattle.std.proofs.lemmas.Bool.Decides.{nat_tests}
@@ -7,6 +7,9 @@ use Rattle.zk_mem.specs.declared.fault.Fault.{Fault}
 use Rattle.zk_mem.specs.declared.fault.Fault.TheVariants.{CodePastEnd}
 use Rattle.zk_mem.specs.Results.{◌>>=◌}
 use Rattle.zk_mem.specs.Map.{MemoryMap, cell_at, HasBytes}
+use Rattle.zk_mem.specs.Header.{word_in}
+use Rattle.zk_mem.specs.Words.{word_before, words_at, text_end_at}
+use Rattle.zk_mem.proofs.TextWords as memory
 use Rattle.zk_code.specs.declared.table.Entry.{Entry}
 use Rattle.zk_code.specs.declared.table.Follows.{Follows}
 use Rattle.zk_code.specs.declared.operands.Operand.{Operand}
@@ -16,9 +19,9 @@ use Rattle.zk_code.specs.declared.operands.OperandType.{OperandType}
 use Rattle.zk_code.specs.declared.operands.OperandType.TheVariants.{LargeConstant, SmallConstant, VariableNumber, Omitted}
 use Rattle.zk_code.specs.Table.{stores, branches, has_text}
 use Rattle.zk_code.specs.Operands.{is_omitted}
-use Rattle.zk_code.specs.Reading.{after, code_byte, code_word, operand_at, operands_at, store_at, branch_to, branch_by, branch_at, text_end, text_at, types_at, types_by_byte, four_omitted, with_types, with_type_bytes, head_at}
+use Rattle.zk_code.specs.Reading.{or_fault, after, code_byte, code_word, operand_at, operands_at, store_at, branch_to, branch_by, branch_at, text_at, types_at, types_by_byte, four_omitted, with_types, with_type_bytes, head_at}
 use Rattle.zk_code.specs.Grammar.{Form, Long2OP, Short1OP, Short0OP, Extended, Variable2OP, VariableVAR, DoubleVariable, opcode_bytes, type_bytes, types_of}
-use Rattle.zk_code.proofs.Standing.{bind_ok, bind_err, chosen, ok_is, byte_inside, word_inside, word_takes, stands_long}
+use Rattle.zk_code.proofs.Standing.{bind_ok, bind_err, chosen, ok_is, byte_inside, word_inside, word_here, word_stands, stands_long}
 use Rattle.zk_code.proofs.Whole.{parts_at}
 use Rattle.zk_code.proofs.Heads.{head_takes, begins, rest_of, opcode_again}
 
@@ -147,32 +150,45 @@ pub record EndsMarked (m : MemoryMap) (q : ℕ) : Type 0 where
   pub marked : (c v : ℕ) → q ≤ c → cell_at m c ≡ Some v → v ≡ 128
   pub long : q + 3 ≤ length m.bytes
 
--- a text ends where bytes 128 stand behind it
-text_ends : (m : MemoryMap) (q n a : ℕ) (d : Fault) → HasBytes m → EndsMarked m q → length m.bytes ≤ a + 2 * n → a + 1 < length m.bytes → text_end m n a ≡ Err d → ⊥
-unfolding text_end
-text_ends m q zero a d fits r le lt e = omega arith
-text_ends m q (suc n) a d fits r le lt e =
-    elim (bind_err (code_word m a) (λ w. cond (nat_le 32768 w) (Ok (a + 2)) (text_end m n (a + 2))) d e) [
-      | inl h ↦ (let p = word_inside m a d h in omega arith)
-      | inr h ↦ elim (chosen (nat_le 32768 h.0) (Ok (a + 2)) (text_end m n (a + 2)) (Err d) h.2) [
-        | inl p ↦ absurd cc
-        | inr p ↦
-            let test : nat_le 32768 h.0 ≡ false = p.0 in
-            let low : h.0 < 32768 = grind (arith, nat_tests) in
-            let here = word_takes m a h.0 fits h.1 in
-            elim (cases_lt a q) [
-              | inl before ↦ (let long = r.long in text_ends m q n (a + 2) d fits r (omega arith) (omega arith) p.1)
-              | inr after ↦ (let high = r.marked a (h.0 / 256) after here.0 in omega arith)
-            ]
-      ]
+-- no words before which a word stands
+before_none : (w : ℕ) (o : Option (List ℕ)) → word_before w o ≡ None → o ≡ None
+before_none w None e = refl
+before_none w (Some ws) e = absurd cc
+
+-- a text whose words are there ends
+end_none : (m : MemoryMap) (a : ℕ) (d : Fault) → (words_at m a ≡ None → ⊥) → (o : Option (List ℕ)) → words_at m a ≡ o → or_fault CodePastEnd (text_end_at m a) ≡ Err d → ⊥
+unfolding text_end_at
+end_none m a d some None there e = some there
+end_none m a d some (Some ws) there e = let end = rw there at e in absurd cc
+
+-- there are words of a text where bytes 128 stand behind it
+words_end : (m : MemoryMap) (q n a : ℕ) → HasBytes m → EndsMarked m q → length m.bytes ≤ a + 2 * n → a + 1 < length m.bytes → words_at m a ≡ None → ⊥
+words_end m q zero a fits r le lt e = omega arith
+words_end m q (suc n) a fits r le lt e =
+    let w = word_in m.bytes a in
+    let there = word_here m a lt in
+    elim (chosen (nat_le 32768 w) (Some (w ∷ [])) (word_before w (words_at m (a + 2))) None (sym (memory.word_there m a w there) ∙ e)) [
+      | inl p ↦ absurd cc
+      | inr p ↦
+          let test : nat_le 32768 w ≡ false = p.0 in
+          let low : w < 32768 = grind (arith, nat_tests) in
+          let here = word_stands m a w fits there in
+          elim (cases_lt a q) [
+            | inl before ↦ (let long = r.long in words_end m q n (a + 2) fits r (omega arith) (omega arith) (before_none w (words_at m (a + 2)) p.1))
+            | inr after ↦ (let high = r.marked a (w / 256) after here.0 in omega arith)
+          ]
     ]
+
+-- so a text ends there
+text_ends : (m : MemoryMap) (q a : ℕ) (d : Fault) → HasBytes m → EndsMarked m q → a + 1 < length m.bytes → or_fault CodePastEnd (text_end_at m a) ≡ Err d → ⊥
+text_ends m q a d fits r lt e = end_none m a d (λ none. words_end m q (length m.bytes) a fits r (omega arith) lt none) (words_at m a) refl e
 
 -- so no text fails there
 text_inside : (m : MemoryMap) (q : ℕ) (o : Follows) (a : ℕ) (d : Fault) → HasBytes m → EndsMarked m q → a + 1 < length m.bytes → text_at m o a ≡ Err d → ⊥
 unfolding text_at
 text_inside m q o a d fits r lt e =
-    elim (chosen (has_text o) (text_end m (length m.bytes) a >>= λ e. Ok (Some a, e)) (Ok (None, a)) (Err d) e) [
-      | inl h ↦ elim (bind_err (text_end m (length m.bytes) a) (λ e. Ok (Some a, e)) d h.1) [ inl p ↦ text_ends m q (length m.bytes) a d fits r (omega arith) lt p | inr p ↦ absurd cc ]
+    elim (chosen (has_text o) (or_fault CodePastEnd (text_end_at m a) >>= λ e. Ok (Some a, e)) (Ok (None, a)) (Err d) e) [
+      | inl h ↦ elim (bind_err (or_fault CodePastEnd (text_end_at m a)) (λ e. Ok (Some a, e)) d h.1) [ inl p ↦ text_ends m q a d fits r lt p | inr p ↦ absurd cc ]
       | inr h ↦ absurd cc
     ]
 

@@ -1,5 +1,5 @@
--- The fields no_bad_behind the head: what is read is spelled so, and what is spelled so is read.
-use Rattle.std.proofs.Common.{◌≡◌, ℕ, zero, suc, ◌+◌, ◌*◌, ◌/◌, ◌%◌, ◌<◌, ◌≤◌, Bool, true, false, cond, List, [], ◌∷◌, ◌++◌, length, map, Option, Some, None, Ok, Err, refl, sym, ap, subst, ◌∙◌, arith, inl, inr}
+-- The fields behind the head: what is read is spelled so, and what is spelled so is read.
+use Rattle.std.proofs.Common.{◌≡◌, ℕ, ◌+◌, ◌*◌, ◌/◌, ◌%◌, ◌<◌, ◌≤◌, Bool, true, false, List, [], ◌∷◌, ◌++◌, length, map, Option, Some, None, Ok, Err, refl, sym, ap, subst, ◌∙◌, arith, inl, inr}
 use Rattle.std.specs.Prelude.{is_some, nat_le, nat_lt}
 use Rattle.std.specs.List.{flat_map}
 use Rattle.std.proofs.lemmas.Bool.Decides.{nat_tests}
@@ -7,6 +7,7 @@ use Rattle.zk_mem.specs.declared.fault.Fault.{Fault}
 use Rattle.zk_mem.specs.declared.fault.Fault.TheVariants.{CodePastEnd}
 use Rattle.zk_mem.specs.Results.{◌>>=◌}
 use Rattle.zk_mem.specs.Map.{MemoryMap, cell_at, HasBytes}
+use Rattle.zk_mem.specs.Words.{text_end_at}
 use Rattle.zk_code.specs.declared.operands.Operand.{Operand}
 use Rattle.zk_code.specs.declared.operands.Operand.TheVariants.{Large, Small, Variable}
 use Rattle.zk_code.specs.declared.operands.OperandType.{OperandType}
@@ -16,9 +17,10 @@ use Rattle.zk_code.specs.declared.table.Follows.{Follows}
 use Rattle.zk_code.specs.Table.{stores, branches, has_text}
 use Rattle.zk_code.specs.Operands.{type_of, is_omitted}
 use Rattle.zk_code.specs.Targets.{branch_target}
-use Rattle.zk_code.specs.Reading.{after, code_byte, code_word, operand_at, operands_at, store_at, branch_to, branch_by, branch_at, text_end, text_at}
-use Rattle.zk_code.specs.Grammar.{Stands, IsEnd, AreOf, operand_bytes, store_bytes, BranchData, NoBranch, OneByte, TwoBytes, IsBranchData, on_bit, branch_bytes, branch_of, IsText, IsTextAt, word}
-use Rattle.zk_code.proofs.Standing.{bind_ok, bind_err, chosen, ok_is, stands_join, stands_split, stands_long, stands_inside, byte_takes, byte_again, byte_err, word_takes, word_again, word_err}
+use Rattle.zk_code.specs.Reading.{or_fault, after, code_byte, code_word, operand_at, operands_at, store_at, branch_to, branch_by, branch_at, text_at}
+use Rattle.zk_code.specs.Grammar.{Stands, IsEnd, AreOf, operand_bytes, store_bytes, BranchData, NoBranch, OneByte, TwoBytes, IsBranchData, on_bit, branch_bytes, branch_of, IsTextAt, word}
+use Rattle.zk_code.proofs.Texts.{text_end_takes, text_end_again}
+use Rattle.zk_code.proofs.Standing.{bind_ok, bind_err, chosen, ok_is, stands_join, stands_split, byte_takes, byte_again, byte_err, cell_takes, cell_err, word_takes, word_again, word_err}
 
 -- ---- one operand
 
@@ -271,61 +273,6 @@ branch_err m f a d e =
 
 -- ---- the text
 
--- a text with a word more before it
-text_more : (w : ℕ) (ws : List ℕ) → w < 32768 → IsText ws → IsText (w ∷ ws)
-text_more w [] low t = absurd t
-text_more w (x ∷ ws) low t = (low, t)
-
--- where a text ends that is read
-text_end_takes : (m : MemoryMap) (n a b : ℕ) → HasBytes m → text_end m n a ≡ Ok b → (ws : List ℕ) × IsText ws × Stands m a (flat_map word ws) b
-unfolding text_end
-text_end_takes m zero a b fits e = absurd cc
-text_end_takes m (suc n) a b fits e =
-    let w = bind_ok (code_word m a) (λ w. cond (nat_le 32768 w) (Ok (a + 2)) (text_end m n (a + 2))) b e in
-    let here = word_takes m a w.0 fits w.1 in
-    elim (chosen (nat_le 32768 w.0) (Ok (a + 2)) (text_end m n (a + 2)) (Ok b) w.2) [
-      | inl h ↦
-          let test : nat_le 32768 w.0 ≡ true = h.0 in
-          let high : 32768 ≤ w.0 = grind (arith, nat_tests) in
-          let end : a + 2 ≡ b = ok_is (a + 2) b h.1 in
-          (w.0 ∷ [], high, (here.0, (here.1.0, omega arith)))
-      | inr h ↦
-          let test : nat_le 32768 w.0 ≡ false = h.0 in
-          let low : w.0 < 32768 = grind (arith, nat_tests) in
-          let more = text_end_takes m n (a + 2) b fits h.1 in
-          (w.0 ∷ more.0, text_more w.0 more.0 low more.1, stands_join m (word w.0) (flat_map word more.0) a (a + 2) b here more.2)
-    ]
-
--- a text that stands there is read to its end
-text_end_again : (m : MemoryMap) (ws : List ℕ) (n a b : ℕ) → length ws ≤ n → IsText ws → Stands m a (flat_map word ws) b → text_end m n a ≡ Ok b
-unfolding text_end
-text_end_again m [] n a b le t h = absurd t
-text_end_again m (w ∷ ws) zero a b le t h = absurd (omega arith)
-text_end_again m (w ∷ []) (suc n) a b le t h =
-    let s = stands_split m (word w) [] a b h in
-    let long = stands_long m (word w) a s.0 s.1 in
-    let end : a + 2 ≡ b = omega (arith, s.2) in
-    let test : nat_le 32768 w ≡ true = grind (arith, nat_tests) in
-    rw (word_again m a w s.0 s.1, test, end) refl
-text_end_again m (w ∷ x ∷ ws) (suc n) a b le t h =
-    let s = stands_split m (word w) (flat_map word (x ∷ ws)) a b h in
-    let long = stands_long m (word w) a s.0 s.1 in
-    let there : s.0 ≡ a + 2 = omega arith in
-    let low : w < 32768 = t.0 in
-    let test : nat_le 32768 w ≡ false = grind (arith, nat_tests) in
-    let rest = text_end_again m (x ∷ ws) n s.0 b (omega arith) t.1 s.2 in
-    rw (word_again m a w s.0 s.1, test) (rw there at rest)
-
--- a text fails for want of bytes alone
-text_end_err : (m : MemoryMap) (n a : ℕ) (d : Fault) → text_end m n a ≡ Err d → d ≡ CodePastEnd
-unfolding text_end
-text_end_err m zero a d e = cc
-text_end_err m (suc n) a d e =
-    elim (bind_err (code_word m a) (λ w. cond (nat_le 32768 w) (Ok (a + 2)) (text_end m n (a + 2))) d e) [
-      | inl h ↦ word_err m a d h
-      | inr h ↦ elim (chosen (nat_le 32768 h.0) (Ok (a + 2)) (text_end m n (a + 2)) (Err d) h.2) [ inl p ↦ absurd cc | inr p ↦ text_end_err m n (a + 2) d p.1 ]
-    ]
-
 -- the words of the text that is read, if one is
 abbrev TextOf : MemoryMap → ℕ → Option ℕ × ℕ → Type 0
 TextOf m a x = (ws : List ℕ) × IsTextAt x.0 ws a × Stands m a (flat_map word ws) x.1
@@ -334,36 +281,26 @@ TextOf m a x = (ws : List ℕ) × IsTextAt x.0 ws a × Stands m a (flat_map word
 pub text_takes : (m : MemoryMap) (f : Follows) (a : ℕ) (x : Option ℕ × ℕ) → HasBytes m → text_at m f a ≡ Ok x → (is_some x.0 ≡ has_text f) × ((ws : List ℕ) × IsTextAt x.0 ws a × Stands m a (flat_map word ws) x.1)
 unfolding text_at
 text_takes m f a x fits e =
-    elim (chosen (has_text f) (text_end m (length m.bytes) a >>= λ e. Ok (Some a, e)) (Ok (None, a)) (Ok x) e) [
+    elim (chosen (has_text f) (or_fault CodePastEnd (text_end_at m a) >>= λ e. Ok (Some a, e)) (Ok (None, a)) (Ok x) e) [
       | inl h ↦
-          let b = bind_ok (text_end m (length m.bytes) a) (λ e. Ok (Some a, e)) x h.1 in
-          let t = text_end_takes m (length m.bytes) a b.0 fits b.1 in
+          let b = bind_ok (or_fault CodePastEnd (text_end_at m a)) (λ e. Ok (Some a, e)) x h.1 in
+          let t = text_end_takes m a b.0 fits (cell_takes (text_end_at m a) b.0 b.1) in
           rw h.0 (subst (λ (y : Option ℕ × ℕ). (is_some y.0 ≡ true) × TextOf m a y) (ok_is (Some a, b.0) x b.2) (refl, (t.0, (t.1, refl), t.2)))
       | inr h ↦ rw h.0 (subst (λ (y : Option ℕ × ℕ). (is_some y.0 ≡ false) × TextOf m a y) (ok_is (None, a) x h.1) (refl, ([], refl, refl)))
     ]
-
--- a text has two bytes a word
-text_long : (ws : List ℕ) → length (flat_map word ws) ≡ 2 * length ws
-text_long [] = refl
-text_long (w ∷ ws) = let r = text_long ws in omega arith
 
 -- a text that is spelled is read
 pub text_again : (m : MemoryMap) (f : Follows) (a : ℕ) (v : Option ℕ) (ws : List ℕ) (b : ℕ) → is_some v ≡ has_text f → IsTextAt v ws a → Stands m a (flat_map word ws) b → text_at m f a ≡ Ok (v, b)
 unfolding text_at
 text_again m f a None [] b e t h = rw (← e, h) refl
 text_again m f a None (w ∷ ws) b e t h = absurd cc
-text_again m f a (Some p) [] b e t h = absurd t.0
-text_again m f a (Some p) (w ∷ ws) b e t h =
-    let inside = stands_inside m (flat_map word (w ∷ ws)) a b (omega (arith, text_long (w ∷ ws))) h in
-    let long = stands_long m (flat_map word (w ∷ ws)) a b h in
-    let few : length (w ∷ ws) ≤ length m.bytes = omega (arith, text_long (w ∷ ws)) in
-    rw (← e, text_end_again m (w ∷ ws) (length m.bytes) a b few t.0 h, t.1) refl
+text_again m f a (Some p) ws b e t h = rw (← e, text_end_again m a b ws t.0 h, t.1) refl
 
 -- a text fails for want of bytes alone
 pub text_err : (m : MemoryMap) (f : Follows) (a : ℕ) (d : Fault) → text_at m f a ≡ Err d → d ≡ CodePastEnd
 unfolding text_at
 text_err m f a d e =
-    elim (chosen (has_text f) (text_end m (length m.bytes) a >>= λ e. Ok (Some a, e)) (Ok (None, a)) (Err d) e) [
-      | inl h ↦ elim (bind_err (text_end m (length m.bytes) a) (λ e. Ok (Some a, e)) d h.1) [ inl p ↦ text_end_err m (length m.bytes) a d p | inr p ↦ absurd cc ]
+    elim (chosen (has_text f) (or_fault CodePastEnd (text_end_at m a) >>= λ e. Ok (Some a, e)) (Ok (None, a)) (Err d) e) [
+      | inl h ↦ elim (bind_err (or_fault CodePastEnd (text_end_at m a)) (λ e. Ok (Some a, e)) d h.1) [ inl p ↦ cell_err (text_end_at m a) d p | inr p ↦ absurd cc ]
       | inr h ↦ absurd cc
     ]

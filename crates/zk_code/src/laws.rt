@@ -1,6 +1,6 @@
 // Laws of the instructions of a story.
 
-ghost use Rattle.zk_code.specs.Laws.{AtMostOne, EndsInside, FoundIsSpelled, ReasonRefuses, RefusedWithReason, SameBytes, SpelledIsFound};
+ghost use Rattle.zk_code.specs.Laws.{AtMostOne, EndsInside, FoundIsSpelled, ReasonRefuses, RefusedWithReason, SameBytes, SpelledIsFound, TextIsWords, WordsAreText};
 
 /// Reading from an address on finds the instruction that the grammar spells there, and that alone; and
 /// it refuses for the reasons that the grammar gives, and for those alone.
@@ -29,4 +29,11 @@ pub fn ends_inside()
 /// length.
 pub fn same_bytes()
     ensures { SameBytes }
+{}
+
+/// A text that the grammar spells at an address is what memory has as the words of the text there, and
+/// the other way round.
+pub fn texts_are_words()
+    ensures read { WordsAreText }
+    ensures spelled { TextIsWords }
 {}
