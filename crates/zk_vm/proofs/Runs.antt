@@ -3,7 +3,8 @@ use Rattle.std.proofs.Common.{◌≡◌, ℕ, ◌+◌, ◌-◌, ◌<◌, ◌≤�
 use Rattle.zk_state.specs.declared.refusal.Limit.TheVariants.{Steps}
 use Rattle.zk_vm.specs.declared.stop.Stop.{Stop}
 use Rattle.zk_vm.specs.declared.stop.Stop.TheVariants.{Limit}
-use Rattle.zk_vm.specs.Step.{State, Texts, text_joined, step, state_after, text_of, result_of}
+use Rattle.zk_step.specs.Routing.{Texts, text_joined}
+use Rattle.zk_vm.specs.Step.{State, step, state_after, text_of, result_of}
 use Rattle.zk_vm.specs.Outcome.{Outcome, stopped_by, followed, outcome, IsNoStepLimit, StepLimitOnlyCuts, StepLimitCutsThere}
 
 pub run_goes : (n i : ℕ) (s : State) → i < n → result_of s.place (step s) ≡ Ok tt

@@ -9,13 +9,11 @@ ghost use Rattle.zk_vm.specs.Step.{step, result_of, state_after, text_of};
 ghost use Rattle.zk_vm.specs.Outcome.{begun, outcome, outcome_of, with_stop, StepLimitOnlyCuts, StepLimitCutsThere};
 
 use crate::console::Console;
-use crate::ending::Next;
 use crate::limits::Limits;
 use crate::screen::Screen;
 use crate::slot::SaveSlot;
 use crate::step::carry_out;
 use crate::stop::{Event, Stop, View};
-use crate::workspace::Workspace;
 use std::alloc::{AllocError, Global};
 use std::marker::Model;
 use zk_code::decode::decode;
@@ -24,6 +22,8 @@ use zk_mem::memory::{Memory, Setup};
 use zk_mem::story::Story;
 use zk_state::frames::Frames;
 use zk_state::refusal::{Limit, Refusal};
+use zk_step::ending::Next;
+use zk_step::workspace::Workspace;
 use zk_term::source::Source;
 use zk_term::target::Target;
 

@@ -1,0 +1,17 @@
+pub mod Arithmetic
+pub mod Arrays
+pub mod Assignment
+pub mod Comparison
+pub mod Control
+pub mod Effects
+pub mod Endings
+pub mod Finish
+pub mod Idle
+pub mod Instructions
+pub mod Limited
+pub mod Objects
+pub mod Printing
+pub mod Routines
+pub mod Routing
+pub mod Values
+pub mod Variables
