@@ -1,3 +1,4 @@
 pub mod Runs
+pub mod Showing
 pub mod Texts
 pub mod Writes
