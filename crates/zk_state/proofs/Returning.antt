@@ -85,7 +85,8 @@ module _ (current caller : FrameRecord) (callers : List FrameRecord) (xs : List 
   back_full x v e zero le = (
     with_word plain x,
     record { place = current.place; result = current.result },
-    given x (with_word plain x) (rw (e, zero) refl), e ∙ ap (λ (n : ℕ). Some n) zero,
+    given x (with_word plain x) (rw (e, zero) refl),
+    e ∙ ap (λ (n : ℕ). Some n) zero,
     push_full caller callers rest f m under.0 floor x under.2 (omega arith) (omega (arith, long)),
   )
 

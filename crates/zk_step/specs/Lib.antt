@@ -8,6 +8,7 @@ pub mod Endings
 pub mod Finish
 pub mod Idle
 pub mod Instructions
+pub mod Laws
 pub mod Limited
 pub mod Objects
 pub mod Printing

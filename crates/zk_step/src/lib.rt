@@ -12,6 +12,7 @@ pub mod ending;
 mod finish;
 mod idle;
 pub mod instruction;
+pub mod laws;
 mod objects;
 mod printing;
 mod returning;
