@@ -97,6 +97,14 @@ impl Frames {
         self.callers.len() as u16
     }
 
+    /// There are no more frames and words than there may be.
+    #[inline(always)]
+    pub fn is_bounded(&self)
+        ensures { IsBounded self.now }
+    {
+        let _ = self.depth();
+    }
+
     /// How many words all frames hold together, local variables included.
     pub fn words(&self) -> u32
         ensures { result ≡ total_of self.now }

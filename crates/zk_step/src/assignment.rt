@@ -1,5 +1,6 @@
 // What is done to variables and to the evaluation stack.
 
+ghost use Rattle.zk_state.specs.Frames.{bounds_of};
 ghost use Rattle.std.specs.Prelude.{◌≡◌, Ok, Err, IfOk, IfErr, MatchResult};
 ghost use Rattle.zk_step.specs.Assignment.{assignment, moved, pushing};
 ghost use Rattle.zk_step.specs.Effects.{Refuses};
@@ -15,9 +16,10 @@ use zk_state::refusal::Refusal;
 /// Adds to the variable that an operand names, and answers its new value.
 #[tactic(auto, unfolding(crate::specs::Assignment::moved))]
 fn count(workspace: &mut Workspace, variable: u16, step: u16) -> Result<u16, Fault>
-    ensures { MatchResult result
+    ensures value { MatchResult result
         (λ x. moved workspace.old variable step ≡ Ok (workspace.new, x))
         (λ e. moved workspace.old variable step ≡ Err e) }
+    ensures bounds { bounds_of workspace.new.frames ≡ bounds_of workspace.old.frames }
 {
     let old = read_indirect(workspace, variable)?;
     let value = old.wrapping_add(step);
@@ -26,7 +28,7 @@ fn count(workspace: &mut Workspace, variable: u16, step: u16) -> Result<u16, Fau
 }
 
 /// The effect of an opcode on variables and the stack.
-#[tactic(auto, unfolding(crate::specs::Assignment::assignment))]
+#[tactic(auto, unfolding(crate::specs::Assignment::assignment), using(zk_state::proofs::Kept::popped_bounds))]
 pub fn assignment_effect(
     operation: Assignment,
     workspace: &mut Workspace,
@@ -36,6 +38,7 @@ pub fn assignment_effect(
         (λ e. assignment operation workspace.old values.now ≡ Ok (workspace.new, e))
         (λ f. assignment operation workspace.old values.now ≡ Err f) }
     ensures silent { IfOk result (λ e. e.output ≡ Output.Nothing) }
+    ensures bounds { bounds_of workspace.new.frames ≡ bounds_of workspace.old.frames }
 {
     let (variable, operand) = (values.first(), values.second());
     match operation {
@@ -77,11 +80,12 @@ pub fn assignment_effect(
 }
 
 /// Pushes a word on the evaluation stack.
-#[tactic(auto, unfolding(zk_state::specs::Frames::pushed), using(crate::proofs::Pushes::pushed_ok, crate::proofs::Pushes::pushed_refused))]
+#[tactic(auto, unfolding(zk_state::specs::Frames::pushed), using(zk_state::proofs::Kept::pushed_bounds, crate::proofs::Pushes::pushed_ok, crate::proofs::Pushes::pushed_refused))]
 pub fn push_effect(workspace: &mut Workspace, values: &Values) -> Result<Effect, Refusal>
     ensures ok { IfOk result (λ e. pushing workspace.old values.now ≡ Ok (workspace.new, e)) }
     ensures err { IfErr result (λ r. Refuses r (pushing workspace.old values.now)) }
     ensures silent { IfOk result (λ e. e.output ≡ Output.Nothing) }
+    ensures bounds { bounds_of workspace.new.frames ≡ bounds_of workspace.old.frames }
 {
     match workspace.frames.push(values.first()) {
         Ok(()) => Ok(Effect::goes_on()),

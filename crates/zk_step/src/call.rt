@@ -1,5 +1,6 @@
 // Calling a routine.
 
+ghost use Rattle.zk_state.specs.Frames.{bounds_of};
 ghost use Rattle.std.specs.Prelude.{◌≡◌, ◌≤◌, ◌<◌, ◌^◌, Ok, Err, IfSome, MatchResult, length, slice_index_or};
 ghost use Rattle.zk_step.specs.Limited.{limited_next};
 ghost use Rattle.zk_step.specs.Routines.{called, count_at, initial_value, initial_values, values_length, with_arguments};
@@ -78,7 +79,7 @@ fn locals_of(memory: &Memory, values: u32, count: u8, arguments: &[u16]) -> Arra
 
 /// Calls the routine at a packed address with arguments. A routine outside the story, or with more than 15
 /// local variables, is `BadTarget`.
-#[tactic(auto, unfolding(crate::specs::Routines::called, crate::specs::Routines::routine_at, zk_state::specs::Frames::called), using(crate::proofs::WithinBounds::kept_with, crate::proofs::WithinBounds::kept_refused))]
+#[tactic(auto, unfolding(crate::specs::Routines::called, crate::specs::Routines::routine_at, zk_state::specs::Frames::called), using(zk_state::proofs::Kept::called_bounds, crate::proofs::WithinBounds::kept_with, crate::proofs::WithinBounds::kept_refused))]
 pub fn call_routine(
     workspace: &mut Workspace,
     i: &Instr,
@@ -87,9 +88,10 @@ pub fn call_routine(
 ) -> Result<Next, Refusal>
     requires near { i.now.next ≤ 2 ^ 20 }
     requires few { length arguments.now ≤ 7 }
-    ensures { MatchResult result
+    ensures value { MatchResult result
         (λ n. limited_next (called workspace.old i.now routine arguments.now) ≡ Ok (workspace.new, n))
         (λ e. limited_next (called workspace.old i.now routine arguments.now) ≡ Err e) }
+    ensures bounds { bounds_of workspace.new.frames ≡ bounds_of workspace.old.frames }
 {
     let header = unpack(workspace.memory.version(), routine);
     let Some(count) = local_count(&workspace.memory, header) else {

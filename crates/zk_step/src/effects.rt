@@ -1,5 +1,6 @@
 // What instructions do, by the groups of their opcodes.
 
+ghost use Rattle.zk_state.specs.Frames.{bounds_of};
 ghost use Rattle.std.specs.Prelude.{◌≡◌, ◌≢◌, Ok, Err, IfOk, IfErr, MatchResult};
 ghost use Rattle.zk_step.specs.Effects.{effect_by, effect_of, Refuses};
 ghost use Rattle.zk_step.specs.Printing.{IsPrintable};
@@ -33,6 +34,7 @@ fn effect_by(
         (λ e. effect_by opcode workspace.old text values.now ≡ Ok (workspace.new, e))
         (λ f. effect_by opcode workspace.old text values.now ≡ Err f) }
     ensures ready { IfOk result (λ e. IsPrintable workspace.old.memory workspace.new.memory e.output e.ending) }
+    ensures bounds { bounds_of workspace.new.frames ≡ bounds_of workspace.old.frames }
 {
     match opcode {
         Opcode::Arithmetic(operation) => arithmetic_effect(operation, values),
@@ -62,6 +64,7 @@ pub fn effect(workspace: &mut Workspace, i: &Instr, values: &Values) -> Result<E
     ensures ok { IfOk result (λ e. effect_of workspace.old i.now values.now ≡ Ok (workspace.new, e)) }
     ensures err { IfErr result (λ r. Refuses r (effect_of workspace.old i.now values.now)) }
     ensures ready { IfOk result (λ e. IsPrintable workspace.old.memory workspace.new.memory e.output e.ending) }
+    ensures bounds { bounds_of workspace.new.frames ≡ bounds_of workspace.old.frames }
 {
     match i.opcode {
         Opcode::Push => push_effect(workspace, values),

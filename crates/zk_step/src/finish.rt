@@ -1,5 +1,6 @@
 // Where an instruction leads.
 
+ghost use Rattle.zk_state.specs.Frames.{bounds_of};
 ghost use Rattle.std.specs.Prelude.{◌≡◌, ◌≤◌, ◌^◌, Ok, Err, IfErr, IsOk, OnOk, MatchResult, true};
 ghost use Rattle.zk_step.specs.Finish.{way_of, way_on, led, gone, gone_on, finished, beside_stack, leads_away};
 ghost use Rattle.zk_step.specs.Limited.{limited_next};
@@ -52,9 +53,10 @@ fn way_after(branch: Option<Branch>, next: u32, truth: Option<bool>) -> Way
 
 #[tactic(auto, unfolding(crate::specs::Finish::led))]
 fn lead(workspace: &mut Workspace, way: Way) -> Result<Next, Refusal>
-    ensures { MatchResult result
+    ensures value { MatchResult result
         (λ n. limited_next (led workspace.old way) ≡ Ok (workspace.new, n))
         (λ e. limited_next (led workspace.old way) ≡ Err e) }
+    ensures bounds { bounds_of workspace.new.frames ≡ bounds_of workspace.old.frames }
 {
     match way {
         Way::To(place) => {
@@ -73,9 +75,10 @@ fn store_beside(
     variable: Option<u8>,
     value: Option<u16>,
 ) -> Result<(), Fault>
-    ensures { MatchResult result
+    ensures value { MatchResult result
         (λ _. stored workspace.old (beside_stack variable) value ≡ Ok workspace.new)
         (λ e. stored workspace.old (beside_stack variable) value ≡ Err e) }
+    ensures bounds { bounds_of workspace.new.frames ≡ bounds_of workspace.old.frames }
 {
     match (variable, value) {
         (Some(variable), Some(value)) if variable != 0 => {
@@ -93,9 +96,10 @@ fn go_to(
     value: Option<u16>,
     place: u32,
 ) -> Result<Next, Refusal>
-    ensures { MatchResult result
+    ensures value { MatchResult result
         (λ n. limited_next (gone workspace.old variable value (Way.To place)) ≡ Ok (workspace.new, n))
         (λ e. limited_next (gone workspace.old variable value (Way.To place)) ≡ Err e) }
+    ensures bounds { bounds_of workspace.new.frames ≡ bounds_of workspace.old.frames }
 {
     match store(workspace, variable, value) {
         Ok(()) => {
@@ -115,9 +119,10 @@ fn go_away(
     way: Way,
 ) -> Result<Next, Refusal>
     requires { leads_away way ≡ true }
-    ensures { MatchResult result
+    ensures value { MatchResult result
         (λ n. limited_next (gone workspace.old variable value way) ≡ Ok (workspace.new, n))
         (λ e. limited_next (gone workspace.old variable value way) ≡ Err e) }
+    ensures bounds { bounds_of workspace.new.frames ≡ bounds_of workspace.old.frames }
 {
     match store_beside(workspace, variable, value) {
         Ok(()) => lead(workspace, way),
@@ -133,9 +138,10 @@ fn go_on(
     value: Option<u16>,
     truth: Option<bool>,
 ) -> Result<Next, Refusal>
-    ensures { MatchResult result
+    ensures value { MatchResult result
         (λ n. limited_next (gone_on workspace.old i.now value truth) ≡ Ok (workspace.new, n))
         (λ e. limited_next (gone_on workspace.old i.now value truth) ≡ Err e) }
+    ensures bounds { bounds_of workspace.new.frames ≡ bounds_of workspace.old.frames }
 {
     match way_after(i.branch, i.next, truth) {
         Way::To(place) => go_to(workspace, i.store, value, place),
@@ -153,9 +159,10 @@ pub fn finish(
     ending: Ending,
 ) -> Result<Next, Refusal>
     requires { i.now.next ≤ 2 ^ 20 }
-    ensures { MatchResult result
+    ensures value { MatchResult result
         (λ n. limited_next (finished workspace.old i.now values.now ending) ≡ Ok (workspace.new, n))
         (λ e. limited_next (finished workspace.old i.now values.now ending) ≡ Err e) }
+    ensures bounds { bounds_of workspace.new.frames ≡ bounds_of workspace.old.frames }
 {
     match ending {
         Ending::GoOn(value, truth) => go_on(workspace, i, value, truth),

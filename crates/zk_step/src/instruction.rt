@@ -1,5 +1,6 @@
 // An instruction, from its operands to the next place.
 
+ghost use Rattle.zk_state.specs.Frames.{bounds_of};
 ghost use Rattle.std.specs.Prelude.{◌≡◌, ◌≤◌, ◌^◌, Ok, Err, IfOk, IfErr, IsOk, OnOk, MatchResult};
 ghost use Rattle.zk_step.specs.Finish.{finished};
 ghost use Rattle.zk_step.specs.Instructions.{carried_out, HasBegun};
@@ -28,6 +29,7 @@ pub fn begin(workspace: &mut Workspace, i: &Instr) -> Result<Begun, Refusal>
     ensures ok { IfOk result (λ b. HasBegun workspace.old i.now workspace.new b.values b.effect) }
     ensures err { IfErr result (λ e. limited_move (carried_out workspace.old i.now) ≡ Err e) }
     ensures ready { IfOk result (λ b. IsPrintable workspace.old.memory workspace.new.memory b.effect.output b.effect.ending) }
+    ensures bounds { bounds_of workspace.new.frames ≡ bounds_of workspace.old.frames }
 {
     let values = match read_operands(workspace, &i.operands) {
         Ok(values) => values,
@@ -52,9 +54,10 @@ pub fn check(workspace: &Workspace, i: &Instr, begun: &Begun) -> Result<(), Refu
 /// Stores an instruction's result and finds where the machine goes on.
 pub fn finish(workspace: &mut Workspace, i: &Instr, begun: &Begun) -> Result<Next, Refusal>
     requires { i.now.next ≤ 2 ^ 20 }
-    ensures { MatchResult result
+    ensures value { MatchResult result
         (λ n. limited_next (finished workspace.old i.now begun.now.values begun.now.effect.ending) ≡ Ok (workspace.new, n))
         (λ e. limited_next (finished workspace.old i.now begun.now.values begun.now.effect.ending) ≡ Err e) }
+    ensures bounds { bounds_of workspace.new.frames ≡ bounds_of workspace.old.frames }
 {
     finish_ending(workspace, i, &begun.values, begun.effect.ending)
 }

@@ -1,5 +1,6 @@
 // Results are stored, and values returned.
 
+ghost use Rattle.zk_state.specs.Frames.{bounds_of};
 ghost use Rattle.std.specs.Prelude.{◌≡◌, ◌<◌, ℕ, Ok, Err, IfErr, IfSome, IsOk, OnOk, MatchResult};
 ghost use Rattle.zk_step.specs.Limited.{limited, limited_next};
 ghost use Rattle.zk_step.specs.Routines.{returned, thrown, stored};
@@ -19,6 +20,7 @@ pub fn store(
     ensures value { MatchResult result
         (λ _. limited (stored workspace.old variable value) ≡ Ok workspace.new)
         (λ e. limited (stored workspace.old variable value) ≡ Err e) }
+    ensures bounds { bounds_of workspace.new.frames ≡ bounds_of workspace.old.frames }
 {
     match (variable, value) {
         (Some(variable), Some(value)) => write_variable(workspace, variable, value),
@@ -30,11 +32,12 @@ pub fn store(
 }
 
 /// Returns a value from the current routine to its caller.
-#[tactic(auto, unfolding(crate::specs::Routines::returned))]
+#[tactic(auto, unfolding(crate::specs::Routines::returned), using(zk_state::proofs::Kept::left_bounds))]
 pub fn return_value(workspace: &mut Workspace, value: u16) -> Result<Next, Refusal>
-    ensures { MatchResult result
+    ensures value { MatchResult result
         (λ n. limited_next (returned workspace.old value) ≡ Ok (workspace.new, n))
         (λ e. limited_next (returned workspace.old value) ≡ Err e) }
+    ensures bounds { bounds_of workspace.new.frames ≡ bounds_of workspace.old.frames }
 {
     match workspace.frames.leave() {
         Err(fault) => Err(Refusal::Fault(fault)),
@@ -49,11 +52,12 @@ pub fn return_value(workspace: &mut Workspace, value: u16) -> Result<Next, Refus
 }
 
 /// Returns a value from the frame of a number to its caller.
-#[tactic(auto, unfolding(crate::specs::Routines::thrown))]
+#[tactic(auto, unfolding(crate::specs::Routines::thrown), using(zk_state::proofs::Kept::unwound_bounds))]
 pub fn throw_value(workspace: &mut Workspace, value: u16, frame: u16) -> Result<Next, Refusal>
-    ensures { MatchResult result
+    ensures value { MatchResult result
         (λ n. limited_next (thrown workspace.old value frame) ≡ Ok (workspace.new, n))
         (λ e. limited_next (thrown workspace.old value frame) ≡ Err e) }
+    ensures bounds { bounds_of workspace.new.frames ≡ bounds_of workspace.old.frames }
 {
     match workspace.frames.unwind(frame) {
         Err(fault) => Err(Refusal::Fault(fault)),

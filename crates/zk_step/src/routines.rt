@@ -1,5 +1,6 @@
 // Calls, returns, and what is asked of frames.
 
+ghost use Rattle.zk_state.specs.Frames.{bounds_of};
 ghost use Rattle.std.specs.Prelude.{◌≡◌, Ok, Err, IfOk, MatchResult};
 ghost use Rattle.zk_step.specs.Routines.{call_effect, routine_effect, calls, was_supplied};
 
@@ -45,7 +46,7 @@ fn is_supplied(workspace: &Workspace, number: u16) -> bool
 }
 
 /// The effect of an opcode that returns or looks at frames.
-#[tactic(auto, unfolding(crate::specs::Routines::routine_effect))]
+#[tactic(auto, unfolding(crate::specs::Routines::routine_effect), using(zk_state::proofs::Kept::popped_bounds))]
 pub fn routine_effect(
     operation: Routine,
     workspace: &mut Workspace,
@@ -55,6 +56,7 @@ pub fn routine_effect(
         (λ e. routine_effect operation workspace.old values.now ≡ Ok (workspace.new, e))
         (λ f. routine_effect operation workspace.old values.now ≡ Err f) }
     ensures silent { IfOk result (λ e. e.output ≡ Output.Nothing) }
+    ensures bounds { bounds_of workspace.new.frames ≡ bounds_of workspace.old.frames }
 {
     let first = values.first();
     match operation {

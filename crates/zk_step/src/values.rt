@@ -1,5 +1,6 @@
 // The values of operands.
 
+ghost use Rattle.zk_state.specs.Frames.{bounds_of};
 ghost use Rattle.std.specs.Prelude.{◌≡◌, ◌<◌, ◌≤◌, [], ◌∷◌, ◌++◌, Ok, Err, drop, take, length, slice_index, MatchResult};
 ghost use Rattle.zk_step.specs.Values.{first, second, third};
 ghost use Rattle.zk_step.specs.Variables.{operand_read, operands_read};
@@ -87,7 +88,8 @@ impl Values {
 
 #[tactic(auto, unfolding(crate::specs::Variables::operand_read))]
 fn read_operand(workspace: &mut Workspace, operand: Operand) -> Result<u16, Fault>
-    ensures { MatchResult result (λ x. operand_read workspace.old operand ≡ Ok (workspace.new, x)) (λ e. operand_read workspace.old operand ≡ Err e) }
+    ensures value { MatchResult result (λ x. operand_read workspace.old operand ≡ Ok (workspace.new, x)) (λ e. operand_read workspace.old operand ≡ Err e) }
+    ensures bounds { bounds_of workspace.new.frames ≡ bounds_of workspace.old.frames }
 {
     match operand {
         Operand::Large(value) => Ok(value),
@@ -98,7 +100,8 @@ fn read_operand(workspace: &mut Workspace, operand: Operand) -> Result<u16, Faul
 
 /// The values of operands, first to last.
 pub fn read_operands(workspace: &mut Workspace, operands: &Operands) -> Result<Values, Fault>
-    ensures { MatchResult result (λ v. operands_read workspace.old operands.now ≡ Ok (workspace.new, v)) (λ e. operands_read workspace.old operands.now ≡ Err e) }
+    ensures value { MatchResult result (λ v. operands_read workspace.old operands.now ≡ Ok (workspace.new, v)) (λ e. operands_read workspace.old operands.now ≡ Err e) }
+    ensures bounds { bounds_of workspace.new.frames ≡ bounds_of workspace.old.frames }
 {
     let _few = operands.len();
     let mut values = Values::new();

@@ -1,5 +1,6 @@
 // Variables: the evaluation stack, locals and globals.
 
+ghost use Rattle.zk_state.specs.Frames.{bounds_of};
 ghost use Rattle.std.specs.Prelude.{◌≡◌, ◌≤◌, Ok, Err, MatchResult};
 ghost use Rattle.zk_step.specs.Limited.{limited};
 ghost use Rattle.zk_step.specs.Variables.{global_address, named_read, named_written, variable_read, variable_written, indirect_read, indirect_written};
@@ -29,11 +30,12 @@ fn read_named(workspace: &Workspace, variable: u8) -> Result<u16, Fault>
 }
 
 /// Gives a local or global variable a value.
-#[tactic(auto, unfolding(crate::specs::Variables::named_written))]
+#[tactic(auto, unfolding(crate::specs::Variables::named_written), using(zk_state::proofs::Kept::local_bounds))]
 pub fn write_named(workspace: &mut Workspace, variable: u8, value: u16) -> Result<(), Fault>
     ensures value { MatchResult result
         (λ _. named_written workspace.old variable value ≡ Ok workspace.new)
         (λ e. named_written workspace.old variable value ≡ Err e) }
+    ensures bounds { bounds_of workspace.new.frames ≡ bounds_of workspace.old.frames }
 {
     if variable < 16 {
         workspace.frames.set_local(variable, value)?;
@@ -46,11 +48,12 @@ pub fn write_named(workspace: &mut Workspace, variable: u8, value: u16) -> Resul
 }
 
 /// The value of a variable. Variable 0 pulls the newest word of the evaluation stack.
-#[tactic(auto, unfolding(crate::specs::Variables::variable_read))]
+#[tactic(auto, unfolding(crate::specs::Variables::variable_read), using(zk_state::proofs::Kept::popped_bounds))]
 pub fn read_variable(workspace: &mut Workspace, variable: u8) -> Result<u16, Fault>
-    ensures { MatchResult result
+    ensures value { MatchResult result
         (λ x. variable_read workspace.old variable ≡ Ok (workspace.new, x))
         (λ e. variable_read workspace.old variable ≡ Err e) }
+    ensures bounds { bounds_of workspace.new.frames ≡ bounds_of workspace.old.frames }
 {
     if variable == 0 {
         let value = workspace.frames.pop()?;
@@ -62,11 +65,12 @@ pub fn read_variable(workspace: &mut Workspace, variable: u8) -> Result<u16, Fau
 }
 
 /// Pushes a word on the evaluation stack.
-#[tactic(auto, unfolding(crate::specs::Variables::variable_written, zk_state::specs::Frames::pushed), using(crate::proofs::WithinBounds::kept_within, crate::proofs::WithinBounds::kept_refused))]
+#[tactic(auto, unfolding(crate::specs::Variables::variable_written, zk_state::specs::Frames::pushed), using(zk_state::proofs::Kept::pushed_bounds, crate::proofs::WithinBounds::kept_within, crate::proofs::WithinBounds::kept_refused))]
 fn push(workspace: &mut Workspace, value: u16) -> Result<(), Refusal>
     ensures value { MatchResult result
         (λ _. limited (variable_written workspace.old 0 value) ≡ Ok workspace.new)
         (λ e. limited (variable_written workspace.old 0 value) ≡ Err e) }
+    ensures bounds { bounds_of workspace.new.frames ≡ bounds_of workspace.old.frames }
 {
     match workspace.frames.push(value) {
         Ok(()) => Ok(()),
@@ -80,6 +84,7 @@ pub fn write_variable(workspace: &mut Workspace, variable: u8, value: u16) -> Re
     ensures value { MatchResult result
         (λ _. limited (variable_written workspace.old variable value) ≡ Ok workspace.new)
         (λ e. limited (variable_written workspace.old variable value) ≡ Err e) }
+    ensures bounds { bounds_of workspace.new.frames ≡ bounds_of workspace.old.frames }
 {
     if variable == 0 {
         return push(workspace, value);
@@ -110,11 +115,12 @@ pub fn read_indirect(workspace: &Workspace, variable: u16) -> Result<u16, Fault>
 
 /// Gives a variable that an operand names a value. On the evaluation stack it takes the place of the
 /// newest word.
-#[tactic(auto, unfolding(crate::specs::Variables::indirect_written))]
+#[tactic(auto, unfolding(crate::specs::Variables::indirect_written), using(zk_state::proofs::Kept::top_bounds))]
 pub fn write_indirect(workspace: &mut Workspace, variable: u16, value: u16) -> Result<(), Fault>
-    ensures { MatchResult result
+    ensures value { MatchResult result
         (λ _. indirect_written workspace.old variable value ≡ Ok workspace.new)
         (λ e. indirect_written workspace.old variable value ≡ Err e) }
+    ensures bounds { bounds_of workspace.new.frames ≡ bounds_of workspace.old.frames }
 {
     if variable > 255 {
         Err(Fault::NoSuchLocal)

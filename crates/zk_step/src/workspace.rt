@@ -21,6 +21,6 @@ impl Workspace {
     pub fn is_bounded(&self)
         ensures { within_bounds self.now.frames ≡ Ok self.now.frames }
     {
-        let _depth = self.frames.depth();
+        self.frames.is_bounded();
     }
 }

@@ -1,3 +1,4 @@
+pub mod FrameLimits
 pub mod Runs
 pub mod Showing
 pub mod Texts

@@ -2,6 +2,7 @@
 #![tactic(auto)]
 
 mod console;
+pub mod laws;
 pub mod limits;
 pub mod machine;
 mod printer;
