@@ -1,5 +1,6 @@
 pub mod OperandSteps
 pub mod Standing
+pub mod Steps
 pub mod Texts
 pub mod Tails
 pub mod Heads
