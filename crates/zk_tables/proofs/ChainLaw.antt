@@ -24,7 +24,7 @@ entry_counted l (inl e) table end o h = let few = rw e at h.few in let room = rw
 entry_counted l (inr e) table end o h = let few = rw e at h.few in let room = rw e at h.within in rw e (omega arith)
 
 -- an object with a sibling link is one of those that fit
-linked_counted : (m : MemoryMap) (o v : ℕ) → o ≢ 0 → link_at m (sibling_of o) ≡ Ok v → o ≤ entries m
+pub linked_counted : (m : MemoryMap) (o v : ℕ) → o ≢ 0 → link_at m (sibling_of o) ≡ Ok v → o ≤ entries m
 unfolding entries
 linked_counted m o v ne h =
     let e = link_entry m (sibling_of o) v ne h in

@@ -18,14 +18,14 @@ use Rattle.zk_tables.proofs.Writes.{IsSameShape, layouts, entry_there, entry_tak
 -- ---- bytes
 
 -- a byte that is written
-byte_writes : (m n : MemoryMap) (a v : ℕ) → byte_put m a v ≡ Ok n → (with_byte m a v ≡ n) × (nat_lt a (readable_end m) ≡ true)
+pub byte_writes : (m n : MemoryMap) (a v : ℕ) → byte_put m a v ≡ Ok n → (with_byte m a v ≡ n) × (nat_lt a (readable_end m) ≡ true)
 unfolding byte_put
 byte_writes m n a v h = elim (chosen (nat_lt a (readable_end m)) _ _ _ h) [
   | inl t ↦ elim (chosen (nat_lt a m.static_base) _ _ _ t.1) [ inl u ↦ (same_map _ n u.1, t.0) | inr u ↦ absurd cc ]
   | inr t ↦ absurd cc
 ]
 
-word_writes : (m n : MemoryMap) (a v : ℕ) → word_put m a v ≡ Ok n → (with_byte (with_byte m a (v / 256)) (a + 1) (v % 256) ≡ n) × (nat_lt (a + 1) (readable_end m) ≡ true)
+pub word_writes : (m n : MemoryMap) (a v : ℕ) → word_put m a v ≡ Ok n → (with_byte (with_byte m a (v / 256)) (a + 1) (v % 256) ≡ n) × (nat_lt (a + 1) (readable_end m) ≡ true)
 unfolding word_put
 word_writes m n a v h = elim (chosen (nat_lt (a + 1) (readable_end m)) _ _ _ h) [
   | inl t ↦ elim (chosen (nat_lt (a + 1) m.static_base) _ _ _ t.1) [ inl u ↦ (same_map _ n u.1, t.0) | inr u ↦ absurd cc ]
@@ -125,7 +125,7 @@ late_apart m place q a b e h k =
 real_place : (m : MemoryMap) (place : Place) (a : ℕ) → address_of m place ≡ Ok a → eqb place.object 0 ≡ false
 real_place m place a h = let s = standing m place a h in let counted = s.counted in ne_eqb place.object 0 (λ e. omega arith)
 
-address_same : (m n : MemoryMap) (place : Place) → IsSameShape m n → address_of n place ≡ address_of m place
+pub address_same : (m n : MemoryMap) (place : Place) → IsSameShape m n → address_of n place ≡ address_of m place
 unfolding address_of
 address_same m n place s = rw (entry_same m n place.object s, s.version) refl
 
@@ -155,11 +155,11 @@ number_other m n a b o ne apart v h = elim (layouts m.version) [
       rw (v, e) back)
 ]
 
-written : (m n : MemoryMap) (place : Place) (o : ℕ) → link_put m place o ≡ Ok n → (a : ℕ) × (address_of m place ≡ Ok a) × (number_put m a o ≡ Ok n)
+pub written : (m n : MemoryMap) (place : Place) (o : ℕ) → link_put m place o ≡ Ok n → (a : ℕ) × (address_of m place ≡ Ok a) × (number_put m a o ≡ Ok n)
 unfolding link_put
 written m n place o h = bind_ok (address_of m place) (λ a. number_put m a o) n h
 
-link_read : (m n : MemoryMap) (place : Place) (o : ℕ) → o < 65536 → ((layout_of m.version).link_bytes ≡ 1 → o < 256) → link_put m place o ≡ Ok n → link_at n place ≡ Ok o
+pub link_read : (m n : MemoryMap) (place : Place) (o : ℕ) → o < 65536 → ((layout_of m.version).link_bytes ≡ 1 → o < 256) → link_put m place o ≡ Ok n → link_at n place ≡ Ok o
 unfolding link_at
 link_read m n place o small fits h =
     let shape = put_shape m n place o h in
@@ -173,7 +173,7 @@ other_at m n place q o (Ok b) ne shape a h k s =
     let differ : b ≢ a = λ z. ne (sym (one_link m place q a h (s ∙ ap (λ (x : ℕ). Ok x) z))) in
     number_other m n a b o differ (λ e. (late_apart m place q a b e h s, late_apart m q place b a e s h)) shape.version k
 
-link_other : (m n : MemoryMap) (place q : Place) (o : ℕ) → q ≢ place → link_put m place o ≡ Ok n → link_at n q ≡ link_at m q
+pub link_other : (m n : MemoryMap) (place q : Place) (o : ℕ) → q ≢ place → link_put m place o ≡ Ok n → link_at n q ≡ link_at m q
 unfolding link_at
 link_other m n place q o ne h =
     let shape = put_shape m n place o h in

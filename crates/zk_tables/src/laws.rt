@@ -4,6 +4,7 @@ ghost use Rattle.zk_tables.specs.Chain.{ChildrenAreChains};
 ghost use Rattle.zk_tables.specs.Links.{LinksAreWritten};
 ghost use Rattle.zk_tables.specs.Properties.{ListsDecide};
 ghost use Rattle.zk_tables.specs.Tree.{ChainsDecide};
+ghost use Rattle.zk_tables.specs.TreeLaws.{RemovalsTakeOut};
 ghost use Rattle.zk_tables.specs.PropertyList.{ListsAreRead, AtMostOneList};
 
 /// A link that was written names the object, and all other links name what they named.
@@ -20,6 +21,12 @@ pub fn children_are_chains()
 /// The chain of a parent's children decides what `remove` does with one of them.
 pub fn chains_decide()
     ensures { ChainsDecide }
+{}
+
+/// An object that was removed has no parent and no sibling, the link that named it names the sibling that
+/// it had, nothing else changes, and its parent's children are those that were, without it.
+pub fn removals_take_out()
+    ensures { RemovalsTakeOut }
 {}
 
 /// What is read at an address is the property list that the bytes spell there, or they leave data before a
