@@ -205,7 +205,7 @@ front_of m x (o ∷ os) y q p h =
     record { zs = o ∷ f.zs; path = (p.0, p.1, (p.2.0, p.2.1, f.path)) })
     (or_cases (eqb q o) (list_any (eqb q) os) h)
 
-apart_each : (o : ℕ) (os : List ℕ) → list_any (eqb o) os ≡ false → AllByRecursion (λ y. eqb o y ≡ false) os
+pub apart_each : (o : ℕ) (os : List ℕ) → list_any (eqb o) os ≡ false → AllByRecursion (λ y. eqb o y ≡ false) os
 apart_each o [] h = tt
 apart_each o (y ∷ ys) h = let p = or_parts (eqb o y) (list_any (eqb o) ys) h in (p.0, apart_each o ys p.1)
 

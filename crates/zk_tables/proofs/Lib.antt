@@ -11,3 +11,4 @@ pub mod Paths
 pub mod DecidedLaw
 pub mod RemovalLaw
 pub mod TakenLaw
+pub mod PutInLaw

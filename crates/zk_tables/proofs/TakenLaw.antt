@@ -80,7 +80,7 @@ three_links m n o place next s few np ns h =
 -- ---- what becomes of chains
 
 -- a link that is none of three is kept
-kept_by_three : (m n : MemoryMap) (a b c q : Place) → ChangesOnly m n (a ∷ b ∷ c ∷ []) → q ≢ a → q ≢ b → q ≢ c → link_at n q ≡ link_at m q
+pub kept_by_three : (m n : MemoryMap) (a b c q : Place) → ChangesOnly m n (a ∷ b ∷ c ∷ []) → q ≢ a → q ≢ b → q ≢ c → link_at n q ≡ link_at m q
 kept_by_three m n a b c q only na nb nc =
     only.links q (λ h. ⊎_elim (λ e. na (sym e)) (λ h. ⊎_elim (λ e. nb (sym e)) (λ h. ⊎_elim (λ e. nc (sym e)) (λ h. none_of q h) (one_of c q [] h)) (one_of b q (c ∷ []) h)) (one_of a q (b ∷ c ∷ []) h))
 

@@ -143,7 +143,7 @@ insertion_of m o d t = let e = t.entry in let f = t.into_entry in rw (ne_eqb o 0
 pub insertion_fails : (m : MemoryMap) (o d : ℕ) (e : Fault) → AreThere m o d → removed m o ≡ Err e → inserted m o d ≡ Err e
 insertion_fails m o d e t h = insertion_of m o d t ∙ (rw h refl)
 
-removed_shape : (m n : MemoryMap) (o : ℕ) → removed m o ≡ Ok n → IsSameShape m n
+pub removed_shape : (m n : MemoryMap) (o : ℕ) → removed m o ≡ Ok n → IsSameShape m n
 unfolding removed
 removed_shape m n o h = let e = bind_ok (naming_of m o) (unlinked_where m o) n h in where_shape m n o e.0 e.2
 

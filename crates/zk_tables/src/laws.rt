@@ -4,7 +4,7 @@ ghost use Rattle.zk_tables.specs.Chain.{ChildrenAreChains};
 ghost use Rattle.zk_tables.specs.Links.{LinksAreWritten};
 ghost use Rattle.zk_tables.specs.Properties.{ListsDecide};
 ghost use Rattle.zk_tables.specs.Tree.{ChainsDecide};
-ghost use Rattle.zk_tables.specs.TreeLaws.{RemovalsTakeOut};
+ghost use Rattle.zk_tables.specs.TreeLaws.{RemovalsTakeOut, InsertionsPutFirst};
 ghost use Rattle.zk_tables.specs.PropertyList.{ListsAreRead, AtMostOneList};
 
 /// A link that was written names the object, and all other links name what they named.
@@ -27,6 +27,12 @@ pub fn chains_decide()
 /// it had, nothing else changes, and its parent's children are those that were, without it.
 pub fn removals_take_out()
     ensures { RemovalsTakeOut }
+{}
+
+/// An object that was inserted is the destination's first child, before those that the destination had
+/// once the object was taken out of its parent, and nothing else changes.
+pub fn insertions_put_first()
+    ensures { InsertionsPutFirst }
 {}
 
 /// What is read at an address is the property list that the bytes spell there, or they leave data before a
