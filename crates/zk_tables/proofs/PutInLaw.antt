@@ -1,15 +1,13 @@
 -- What an insertion leaves of the links, and of chains.
-use Rattle.std.proofs.Common.{◌≡◌, ◌≢◌, ℕ, ◌+◌, ◌*◌, ◌<◌, false, List, [], ◌∷◌, length, Ok, refl, sym, ap, ◌∙◌, arith, eqb, inl, inr, ⊎_elim, ◌⊎◌, nat_lt, ◌||◌}
-use Rattle.std.specs.Prelude.{get_or}
+use Rattle.std.proofs.Common.{◌≡◌, ◌≢◌, ℕ, ◌<◌, false, List, [], ◌∷◌, Ok, refl, sym, ap, ◌∙◌, arith, eqb, inl, inr, ⊎_elim, ◌⊎◌, ◌||◌}
 use Rattle.std.specs.List.{Contains, list_any}
 use Rattle.std.proofs.lemmas.Map.Keys.{IsDistinct-cons}
 use Rattle.std.proofs.lemmas.Map.Views.{Contains-from_any, list_any-from_Contains}
-use Rattle.std.proofs.lemmas.Option.{slice_get-get_or}
-use Rattle.std.proofs.lemmas.Bool.{eqb-true, both_ways, ne_eqb, ltb-true, cases_Bool, cases_eq}
+use Rattle.std.proofs.lemmas.Bool.{eqb-true, both_ways, ne_eqb, cases_Bool, cases_eq}
 use Rattle.std.proofs.lemmas.Cmp.{nat_eq_equiv}
-use Rattle.zk_mem.specs.Map.{MemoryMap, HasBytes, readable_end, word_at, cell_at}
+use Rattle.zk_mem.specs.Map.{MemoryMap, HasBytes}
 use Rattle.zk_tables.specs.declared.links.Place.{Place}
-use Rattle.zk_tables.specs.Layout.{entry_of}
+use Rattle.zk_tables.specs.Layout.{late_layout, entry_of}
 use Rattle.zk_tables.specs.Links.{parent_of, sibling_of, child_of, address_of, number_at, link_at, link_put}
 use Rattle.zk_tables.specs.Chain.{IsPath, IsChain}
 use Rattle.zk_tables.specs.Tree.{removed, linked, inserted}
@@ -26,26 +24,11 @@ use Rattle.zk_tables.proofs.TakenLaw.{IsSmall, object_small, same_small, names_i
 
 -- ---- numbers that a link has
 
-byte_in : (m : MemoryMap) (a : ℕ) → HasBytes m → a < length m.bytes → get_or m.bytes a 0 < 256
-unfolding cell_at
-byte_in m a fits inside = fits.below a (get_or m.bytes a 0) (slice_get-get_or m.bytes a 0 inside)
-
-word_small : (m : MemoryMap) (a v : ℕ) → HasBytes m → word_at m a ≡ Ok v → v < 65536
-unfolding word_at
-word_small m a v fits h = elim (chosen (nat_lt (a + 1) (readable_end m)) _ _ _ h) [
-  | inl t ↦ (let low : a + 1 < readable_end m = ltb-true (a + 1) (readable_end m) t.0 in
-      let whole : 256 * get_or m.bytes a 0 + get_or m.bytes (a + 1) 0 ≡ v = same_value _ v t.1 in
-      let high = byte_in m a fits (omega arith) in
-      let rest = byte_in m (a + 1) fits (omega arith) in
-      omega arith)
-  | inr t ↦ absurd cc
-]
-
 number_small : (m : MemoryMap) (a v : ℕ) → HasBytes m → number_at m a ≡ Ok v → IsSmall m v
 unfolding number_at
 number_small m a v fits h = elim (layouts m.version) [
-  | inl e ↦ (let low : v < 256 = byte_small m a v fits (rw e at h) in record { low = omega arith; fits = λ one. low })
-  | inr e ↦ (let low : v < 65536 = word_small m a v fits (rw e at h) in record { low = low; fits = λ one. let no : 2 ≡ 1 = rw e at one in absurd (omega arith) })
+  | inl e ↦ (let low : v < 256 = byte_small m a v fits (rw e at h) in record { fits = λ one. low })
+  | inr e ↦ record { fits = λ one. let no : late_layout.link_bytes ≡ 1 = rw e at one in absurd (omega arith) }
 ]
 
 link_small : (m : MemoryMap) (q : Place) (v : ℕ) → HasBytes m → link_at m q ≡ Ok v → IsSmall m v

@@ -20,34 +20,31 @@ use Rattle.zk_tables.proofs.Paths.{found, path_kept, path_without, KeepsSiblings
 
 -- ---- numbers that a link has room for
 
+-- a link of a byte has room for the number
 pub record IsSmall (m : MemoryMap) (v : ℕ) : Type 0 where
-  pub low : v < 65536
   pub fits : (layout_of m.version).link_bytes ≡ 1 → v < 256
 
-small_by : (l : Layout) → ((l ≡ early_layout) ⊎ (l ≡ late_layout)) → (v : ℕ) → v ≤ l.most_objects → (v < 65536) × (l.link_bytes ≡ 1 → v < 256)
-small_by l (inl e) v h = let few : v ≤ 255 = rw e at h in (omega arith, λ one. omega arith)
-small_by l (inr e) v h =
-    let few : v ≤ 65535 = rw e at h in
-    (omega arith, λ one. let no : 2 ≡ 1 = rw e at one in absurd (omega arith))
+small_by : (l : Layout) → ((l ≡ early_layout) ⊎ (l ≡ late_layout)) → (v : ℕ) → v ≤ l.most_objects → l.link_bytes ≡ 1 → v < 256
+small_by l (inl e) v h one = let few : v ≤ 255 = rw e at h in omega arith
+small_by l (inr e) v h one = let no : late_layout.link_bytes ≡ 1 = rw e at one in absurd (omega arith)
 
 -- the number of an object that may have an entry
 pub object_small : (m : MemoryMap) (v : ℕ) → v ≤ (layout_of m.version).most_objects → IsSmall m v
-object_small m v h = let s = small_by (layout_of m.version) (layouts m.version) v h in record { low = s.0; fits = s.1 }
+object_small m v h = record { fits = small_by (layout_of m.version) (layouts m.version) v h }
 
 entries_few : (m : MemoryMap) (v : ℕ) → v ≤ entries m → v ≤ (layout_of m.version).most_objects
 unfolding entries entries_in
 entries_few m v h = omega arith
 
-pub counted_small : (m : MemoryMap) (v : ℕ) → v ≤ entries m → IsSmall m v
+counted_small : (m : MemoryMap) (v : ℕ) → v ≤ entries m → IsSmall m v
 counted_small m v h = object_small m v (entries_few m v h)
 
 pub same_small : (m n : MemoryMap) (v : ℕ) → n.version ≡ m.version → IsSmall m v → IsSmall n v
-same_small m n v e s =
-    record { low = s.low; fits = λ one. s.fits (ap (λ (x : ℕ). (layout_of x).link_bytes) (sym e) ∙ one) }
+same_small m n v e s = record { fits = λ one. s.fits (ap (λ (x : ℕ). (layout_of x).link_bytes) (sym e) ∙ one) }
 
 -- a link that is written names the object
 pub names_it : (m n : MemoryMap) (place : Place) (v : ℕ) → IsSmall m v → link_put m place v ≡ Ok n → link_at n place ≡ Ok v
-names_it m n place v s h = link_read m n place v s.low s.fits h
+names_it m n place v s h = link_read m n place v s.fits h
 
 -- ---- the three links
 

@@ -60,4 +60,4 @@ pub record WritesLink (m n : MemoryMap) (place : Place) (o : ℕ) : Type 0 where
 
 -- a link that is written, where it has room for the object's number
 abbrev pub LinksAreWritten : Type 0
-LinksAreWritten = (m n : MemoryMap) (place : Place) (o : ℕ) → o < 65536 → ((layout_of m.version).link_bytes ≡ 1 → o < 256) → link_put m place o ≡ Ok n → WritesLink m n place o
+LinksAreWritten = (m n : MemoryMap) (place : Place) (o : ℕ) → ((layout_of m.version).link_bytes ≡ 1 → o < 256) → link_put m place o ≡ Ok n → WritesLink m n place o

@@ -23,11 +23,13 @@ pub record ChangesOnly (m n : MemoryMap) (places : List Place) : Type 0 where
   -- every other link names what it named
   pub links : (q : Place) → (Contains places q → ⊥) → link_at n q ≡ link_at m q
   -- every byte outside these links is as it was
-  pub bytes : (a : ℕ) → ((place : Place) → Contains places place → IsByteOf m place a → ⊥) → cell_at n a ≡ cell_at m a
-  -- the story is as long as it was
-  pub long : length n.bytes ≡ length m.bytes
-  -- version, static base, file and undo states are as they were
-  pub rest : n ≡ record m { bytes = n.bytes }
+  pub others : (a : ℕ) → ((place : Place) → Contains places place → IsByteOf m place a → ⊥) → cell_at n a ≡ cell_at m a
+  -- and so is all else that memory has
+  pub version : n.version ≡ m.version
+  pub static_base : n.static_base ≡ m.static_base
+  pub file : n.file ≡ m.file
+  pub undo_states : n.undo_states ≡ m.undo_states
+  pub size : length n.bytes ≡ length m.bytes
 
 -- objects, without one of them
 abbrev pub without : ℕ → List ℕ → List ℕ
