@@ -1,7 +1,7 @@
 // The links of objects.
 
-ghost use Rattle.std.specs.Prelude.{◌≡◌, ◌≤◌, ◌<◌, Ok, Err, IfOk, MatchResult};
-ghost use Rattle.zk_tables.specs.Links.{address_of, number_at, number_put, link_at, link_put, write_test, order_of, parent_of, sibling_of, child_of};
+ghost use Rattle.std.specs.Prelude.{◌≡◌, ◌≤◌, ◌<◌, [], ◌∷◌, Ok, Err, IfOk, MatchResult};
+ghost use Rattle.zk_tables.specs.Links.{address_of, number_at, number_put, link_at, link_put, write_test, write_tests, order_of, parent_of, sibling_of, child_of};
 
 use crate::layout::{entry, layout_for};
 use zk_mem::fault::Fault;
@@ -119,7 +119,7 @@ pub(crate) fn write_link(memory: &mut Memory, place: Place, object: u16) -> Resu
 
 /// Whether a link may be written: `ReadOnly` where it lies outside dynamic memory.
 #[tactic(auto, unfolding(crate::specs::Links::write_test))]
-pub(crate) fn check_write(memory: &Memory, place: Place) -> Result<(), Fault>
+fn check_write(memory: &Memory, place: Place) -> Result<(), Fault>
     ensures { result ≡ write_test memory.now place }
 {
     let address = address(memory, place)?;
@@ -129,4 +129,18 @@ pub(crate) fn check_write(memory: &Memory, place: Place) -> Result<(), Fault>
     } else {
         Err(Fault::ReadOnly)
     }
+}
+
+/// Whether three links may be written: the first that may not decides.
+pub(crate) fn check_writes(
+    memory: &Memory,
+    first: Place,
+    second: Place,
+    third: Place,
+) -> Result<(), Fault>
+    ensures { result ≡ write_tests memory.now first (second ∷ third ∷ []) }
+{
+    check_write(memory, first)?;
+    check_write(memory, second)?;
+    check_write(memory, third)
 }

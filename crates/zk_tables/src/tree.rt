@@ -7,7 +7,7 @@ ghost use Rattle.zk_tables.specs.Tree.{naming_of, unlinked_where, removed, linke
 use crate::chain::find_naming;
 use crate::layout::entry;
 use crate::links::{
-    Place, check_write, child_link, parent_link, read_link, sibling_link, write_link,
+    Place, check_writes, child_link, parent_link, read_link, sibling_link, write_link,
 };
 use zk_mem::fault::Fault;
 use zk_mem::memory::Memory;
@@ -58,9 +58,7 @@ fn check_removal(memory: &Memory, object: u16) -> Result<Option<Place>, Fault>
     let Some(place) = naming_link(memory, object)? else {
         return Ok(None);
     };
-    check_write(memory, place)?;
-    check_write(memory, parent_link(object))?;
-    check_write(memory, sibling_link(object))?;
+    check_writes(memory, place, parent_link(object), sibling_link(object))?;
     Ok(Some(place))
 }
 
@@ -116,9 +114,12 @@ pub fn insert(memory: &mut Memory, object: u16, destination: u16) -> Result<(), 
     entry(memory, object)?;
     entry(memory, destination)?;
     let place = check_removal(memory, object)?;
-    check_write(memory, sibling_link(object))?;
-    check_write(memory, parent_link(object))?;
-    check_write(memory, child_link(destination))?;
+    check_writes(
+        memory,
+        sibling_link(object),
+        parent_link(object),
+        child_link(destination),
+    )?;
     unlink(memory, object, place)?;
     link_first(memory, object, destination)
 }
