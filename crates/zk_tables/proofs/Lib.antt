@@ -12,3 +12,4 @@ pub mod DecidedLaw
 pub mod RemovalLaw
 pub mod TakenLaw
 pub mod PutInLaw
+pub mod MadeLaw

@@ -116,7 +116,7 @@ pub record AreThere (m : MemoryMap) (o d : ℕ) : Type 0 where
   pub entry : entry_of m o ≡ Ok at
   pub into_entry : entry_of m d ≡ Ok into_at
 
-insertion_of : (m : MemoryMap) (o d : ℕ) → AreThere m o d → inserted m o d ≡ (removed m o >>= λ without. linked without o d)
+pub insertion_of : (m : MemoryMap) (o d : ℕ) → AreThere m o d → inserted m o d ≡ (removed m o >>= λ without. linked without o d)
 unfolding inserted
 insertion_of m o d t = let e = t.entry in let f = t.into_entry in rw (ne_eqb o 0 t.real, ne_eqb d 0 t.real_into, e, f) refl
 
@@ -144,7 +144,7 @@ insertion_refused m o d e t ok w =
     let bad = all_refused m n.0 (sibling_of o, l.0) ((parent_of o, d) ∷ (child_of d, o) ∷ []) e shape w in
     insertion_of m o d t ∙ (rw n.1 (l.1 ∙ bad))
 
-linked_done : (m n : MemoryMap) (o d : ℕ) → AreThere m o d → IsSameShape m n → write_tests m (sibling_of o) (parent_of o ∷ child_of d ∷ []) ≡ Ok tt → IsOk (linked n o d)
+pub linked_done : (m n : MemoryMap) (o d : ℕ) → AreThere m o d → IsSameShape m n → write_tests m (sibling_of o) (parent_of o ∷ child_of d ∷ []) ≡ Ok tt → IsOk (linked n o d)
 linked_done m n o d t shape w =
     let l = linked_writes m n o d t shape in
     let done = all_written m n (sibling_of o, l.0) ((parent_of o, d) ∷ (child_of d, o) ∷ []) shape w in

@@ -1,10 +1,12 @@
 -- What becomes of the tree when an object is taken out of it or put in (Standard, sections 12.3 and 15,
 -- remove_obj and insert_obj).
-use Rattle.std.specs.Prelude.{◌≡◌, ◌≢◌, ℕ, ◌+◌, ◌<◌, ◌≤◌, List, [], ◌∷◌, length, nat_eq, not, ◌⊎◌, Ok}
+use Rattle.std.specs.Prelude.{◌≡◌, ◌≢◌, ℕ, ◌+◌, ◌<◌, ◌≤◌, List, [], ◌∷◌, length, nat_eq, not, ◌⊎◌, true, false, Ok, Err, IsOk}
 use Rattle.std.specs.List.{Contains, filter}
+use Rattle.zk_mem.specs.declared.fault.Fault.{Fault}
+use Rattle.zk_mem.specs.declared.fault.Fault.TheVariants.{BadObject, BadTree}
 use Rattle.zk_mem.specs.Map.{MemoryMap, HasBytes, cell_at}
 use Rattle.zk_tables.specs.declared.links.Place.{Place}
-use Rattle.zk_tables.specs.Layout.{layout_of}
+use Rattle.zk_tables.specs.Layout.{layout_of, is_entry}
 use Rattle.zk_tables.specs.Links.{parent_of, sibling_of, child_of, address_of, link_at}
 use Rattle.zk_tables.specs.Chain.{IsChain}
 use Rattle.zk_tables.specs.Tree.{removed, inserted}
@@ -113,3 +115,53 @@ pub record IsInserted (m n : MemoryMap) (object destination : ℕ) : Type 0 wher
 -- each insertion, where memory holds bytes
 abbrev pub InsertionsPutFirst : Type 0
 InsertionsPutFirst = (m n : MemoryMap) (object destination : ℕ) → HasBytes m → inserted m object destination ≡ Ok n → IsInserted m n object destination
+
+-- ---- when they are made
+
+-- a link that may be written
+pub record IsWritable (m : MemoryMap) (place : Place) : Type 0 where
+  -- the link begins here
+  pub start : ℕ
+  pub address : address_of m place ≡ Ok start
+  -- and ends in dynamic memory (section 1.1.1)
+  pub dynamic : start + (layout_of m.version).link_bytes ≤ m.static_base
+
+-- the links that a removal writes may be written
+pub record IsFreeToGo (m : MemoryMap) (object parent : ℕ) : Type 0 where
+  pub naming : (place : Place) → IsNaming m object parent place → IsWritable m place
+  pub its_parent : IsWritable m (parent_of object)
+  pub its_sibling : IsWritable m (sibling_of object)
+
+-- whether an object is removed
+pub record IsRemovable (m : MemoryMap) (object parent : ℕ) : Type 0 where
+  -- without a parent, it is, and nothing changes
+  pub lone : parent ≡ 0 → removed m object ≡ Ok m
+  -- where it is among its parent's children, it is
+  pub among : (xs : List ℕ) → parent ≢ 0 → IsChain m parent xs → Contains xs object → IsFreeToGo m object parent → IsOk (removed m object)
+  -- where it is not, it is refused
+  pub strange : (xs : List ℕ) → parent ≢ 0 → IsChain m parent xs → (Contains xs object → ⊥) → removed m object ≡ Err BadTree
+
+-- each object with the parent that it has
+abbrev pub RemovalsAreMade : Type 0
+RemovalsAreMade = (m : MemoryMap) (object parent : ℕ) → link_at m (parent_of object) ≡ Ok parent → IsRemovable m object parent
+
+-- the links that an insertion writes may be written
+pub record IsFreeToCome (m : MemoryMap) (object destination : ℕ) : Type 0 where
+  pub its_parent : IsWritable m (parent_of object)
+  pub its_sibling : IsWritable m (sibling_of object)
+  pub first : IsWritable m (child_of destination)
+
+-- whether an object is inserted
+pub record IsInsertable (m : MemoryMap) (object destination : ℕ) : Type 0 where
+  -- where one of the two is 0, nothing changes
+  pub none : (object ≡ 0) ⊎ (destination ≡ 0) → inserted m object destination ≡ Ok m
+  -- where one has no entry, it is refused
+  pub bad : object ≢ 0 → destination ≢ 0 → (is_entry m object ≡ false) ⊎ (is_entry m destination ≡ false) → inserted m object destination ≡ Err BadObject
+  -- what is not removed is not inserted, for the same reason
+  pub stays : (e : Fault) → is_entry m object ≡ true → is_entry m destination ≡ true → removed m object ≡ Err e → inserted m object destination ≡ Err e
+  -- else it is inserted
+  pub comes : is_entry m object ≡ true → is_entry m destination ≡ true → IsOk (removed m object) → IsFreeToCome m object destination → IsOk (inserted m object destination)
+
+-- each two objects
+abbrev pub InsertionsAreMade : Type 0
+InsertionsAreMade = (m : MemoryMap) (object destination : ℕ) → IsInsertable m object destination
