@@ -3,7 +3,7 @@
 use Rattle.std.specs.Prelude.{◌≡◌, ◌≢◌, ℕ, ◌+◌, ◌<◌, ◌≤◌, List, [], ◌∷◌, length, nat_eq, not, ◌⊎◌, true, false, Ok, Err, IsOk}
 use Rattle.std.specs.List.{Contains, filter}
 use Rattle.zk_mem.specs.declared.fault.Fault.{Fault}
-use Rattle.zk_mem.specs.declared.fault.Fault.TheVariants.{BadObject, BadTree}
+use Rattle.zk_mem.specs.declared.fault.Fault.TheVariants.{BadObject, BadTree, ReadOnly}
 use Rattle.zk_mem.specs.Map.{MemoryMap, HasBytes, cell_at}
 use Rattle.zk_tables.specs.declared.links.Place.{Place}
 use Rattle.zk_tables.specs.Layout.{layout_of, is_entry}
@@ -127,7 +127,7 @@ pub record IsWritable (m : MemoryMap) (place : Place) : Type 0 where
   pub dynamic : start + (layout_of m.version).link_bytes ≤ m.static_base
 
 -- the links that a removal writes may be written
-pub record IsFreeToGo (m : MemoryMap) (object parent : ℕ) : Type 0 where
+pub record AllowsRemoval (m : MemoryMap) (object parent : ℕ) : Type 0 where
   pub naming : (place : Place) → IsNaming m object parent place → IsWritable m place
   pub its_parent : IsWritable m (parent_of object)
   pub its_sibling : IsWritable m (sibling_of object)
@@ -137,8 +137,10 @@ pub record IsRemovable (m : MemoryMap) (object parent : ℕ) : Type 0 where
   -- without a parent, it is, and nothing changes
   pub lone : parent ≡ 0 → removed m object ≡ Ok m
   -- where it is among its parent's children, it is
-  pub among : (xs : List ℕ) → parent ≢ 0 → IsChain m parent xs → Contains xs object → IsFreeToGo m object parent → IsOk (removed m object)
-  -- where it is not, it is refused
+  pub among : (xs : List ℕ) → parent ≢ 0 → IsChain m parent xs → Contains xs object → AllowsRemoval m object parent → IsOk (removed m object)
+  -- else it is refused as read-only
+  pub fixed : (xs : List ℕ) (e : Fault) → parent ≢ 0 → IsChain m parent xs → Contains xs object → removed m object ≡ Err e → e ≡ ReadOnly
+  -- where it is not among them, it is refused
   pub strange : (xs : List ℕ) → parent ≢ 0 → IsChain m parent xs → (Contains xs object → ⊥) → removed m object ≡ Err BadTree
 
 -- each object with the parent that it has
@@ -146,7 +148,7 @@ abbrev pub RemovalsAreMade : Type 0
 RemovalsAreMade = (m : MemoryMap) (object parent : ℕ) → link_at m (parent_of object) ≡ Ok parent → IsRemovable m object parent
 
 -- the links that an insertion writes may be written
-pub record IsFreeToCome (m : MemoryMap) (object destination : ℕ) : Type 0 where
+pub record AllowsInsertion (m : MemoryMap) (object destination : ℕ) : Type 0 where
   pub its_parent : IsWritable m (parent_of object)
   pub its_sibling : IsWritable m (sibling_of object)
   pub first : IsWritable m (child_of destination)
@@ -159,8 +161,10 @@ pub record IsInsertable (m : MemoryMap) (object destination : ℕ) : Type 0 wher
   pub bad : object ≢ 0 → destination ≢ 0 → (is_entry m object ≡ false) ⊎ (is_entry m destination ≡ false) → inserted m object destination ≡ Err BadObject
   -- what is not removed is not inserted, for the same reason
   pub stays : (e : Fault) → is_entry m object ≡ true → is_entry m destination ≡ true → removed m object ≡ Err e → inserted m object destination ≡ Err e
-  -- else it is inserted
-  pub comes : is_entry m object ≡ true → is_entry m destination ≡ true → IsOk (removed m object) → IsFreeToCome m object destination → IsOk (inserted m object destination)
+  -- what is removed is refused as read-only alone
+  pub fixed : (e : Fault) → is_entry m object ≡ true → is_entry m destination ≡ true → IsOk (removed m object) → inserted m object destination ≡ Err e → e ≡ ReadOnly
+  -- and else inserted
+  pub comes : is_entry m object ≡ true → is_entry m destination ≡ true → IsOk (removed m object) → AllowsInsertion m object destination → IsOk (inserted m object destination)
 
 -- each two objects
 abbrev pub InsertionsAreMade : Type 0
