@@ -8,6 +8,7 @@ use Rattle.std.specs.List.{list_all}
 use Rattle.zk_text.proofs.Lists.{drop_item, past}
 use Rattle.zk_mem.specs.Header.{word_in}
 use Rattle.zk_text.specs.declared.extra.TheConstants.{DEFAULT_CHARACTERS}
+use Rattle.zk_text.specs.Standard.{standard_characters}
 use Rattle.zk_text.specs.Laws.{CodeIsLeast, CharacterHasCode}
 use Rattle.zk_text.specs.Extra.{ExtraTable, words_from, characters, character, is_ascii, code_from, code_of}
 
@@ -39,6 +40,7 @@ word_gone : (bytes : List ℕ) (a n i : ℕ) → min n 97 ≤ i → slice_get (t
 word_gone bytes a n i h = slice_get_past _ i (omega (arith, h, length-take 97 (words_from bytes a n), length-words_from bytes a n))
 
 pub standard_item : (t : ExtraTable) (i : ℕ) → t ≡ None → slice_get (characters t) i ≡ slice_get DEFAULT_CHARACTERS i
+unfolding standard_characters
 standard_item t i h = rw h refl
 
 pub own_item : (t : ExtraTable) (bytes : List ℕ) (a n i : ℕ) → t ≡ Some (words_from bytes a n) → i < min n 97 → slice_get (characters t) i ≡ Some (word_in bytes (a + 2 * i))
@@ -72,6 +74,7 @@ unfolding code_from
 code_end xs i code c h = let gone : length xs ≤ i = past xs i h in rw (drop_all i xs gone) refl
 
 few : (t : ExtraTable) → length (characters t) ≤ 97
+unfolding standard_characters
 few None = omega arith
 few (Some ws) = omega (arith, length-take 97 ws)
 
@@ -137,7 +140,7 @@ unfolding character
 character_of t code c true test h = let e = rw test at h in inl (test, cc)
 character_of t code c false test h = inr (beyond_ascii t code c (nat_lt code 155) refl (rw test at h))
 
-character_cases : (t : ExtraTable) (code c : ℕ) → character t code ≡ Some c → ((is_ascii code ≡ true) × (code ≡ c)) ⊎ ((155 ≤ code) × (slice_get (characters t) (code - 155) ≡ Some c))
+pub character_cases : (t : ExtraTable) (code c : ℕ) → character t code ≡ Some c → ((is_ascii code ≡ true) × (code ≡ c)) ⊎ ((155 ≤ code) × (slice_get (characters t) (code - 155) ≡ Some c))
 character_cases t code c h = character_of t code c (is_ascii code) refl h
 
 extra_character : (t : ExtraTable) (code : ℕ) → 155 ≤ code → character t code ≡ slice_get (characters t) (code - 155)

@@ -1,3 +1,4 @@
+pub mod Standard
 pub mod Alphabets
 pub mod Words
 pub mod Pieces
@@ -8,3 +9,4 @@ pub mod Extra
 pub mod Shown
 pub mod Keys
 pub mod Laws
+pub mod TableLaws

@@ -1,6 +1,6 @@
 // The extra characters of ZSCII.
 
-ghost use Rattle.std.specs.Prelude.{◌≡◌, ◌<◌, ◌^◌, IsTrue, IfSome, nat_lt, slice_get};
+ghost use Rattle.std.specs.Prelude.{◌≡◌, ◌<◌, ◌≤◌, ◌^◌, None, IsTrue, IfSome, nat_lt, slice_get};
 ghost use Rattle.std.specs.List.{list_all};
 ghost use Rattle.zk_mem.specs.Header.{word_in};
 ghost use Rattle.zk_text.specs.Reading.{words_of};
@@ -103,6 +103,18 @@ fn item(table: &[char], i: usize) -> Option<u16>
     }
 }
 
+/// An extra character's code in lower case, by the Standard's table.
+#[tactic(auto, using(crate::proofs::Lower::lower_extra, crate::proofs::Lists::read_or))]
+fn standard_lower(code: u8) -> u8
+    requires { 155 ≤ code }
+    ensures { result ≡ lower_code None code }
+{
+    DEFAULT_LOWER
+        .get((code - 155) as usize)
+        .copied()
+        .unwrap_or(code)
+}
+
 /// The word at an address of memory, or 0 past its end.
 #[tactic(auto, unfolding(zk_mem::specs::Map::cell_at), using(crate::proofs::Lists::read_or))]
 fn word_or_zero(m: &Memory, a: u32) -> u16
@@ -182,16 +194,13 @@ impl<'a> Extra<'a> {
 
     /// The code of a letter in lower case, where the code is that of a capital: A to Z, and the
     /// extra letters of the Standard where those are in force. Other codes stay.
-    #[tactic(auto, unfolding(crate::specs::Extra::lower_code))]
+    #[tactic(auto, using(crate::proofs::Lower::lower_capital, crate::proofs::Lower::below_capitals, crate::proofs::Lower::above_capitals, crate::proofs::Lower::lower_own))]
     pub fn lower(&self, code: u8) -> u8
         ensures { result ≡ lower_code self.now code }
     {
         match code {
             b'A'..=b'Z' => code + 32,
-            155.. if self.own.is_none() => DEFAULT_LOWER
-                .get((code - 155) as usize)
-                .copied()
-                .unwrap_or(code),
+            155.. if self.own.is_none() => standard_lower(code),
             _ => code,
         }
     }

@@ -1,6 +1,7 @@
 // What holds of texts and of extra characters.
 
 ghost use Rattle.zk_text.specs.Laws.{SpaceIsPiece, LetterIsPiece, A1IsPiece, A2IsPiece, CodeIsPiece, AbbreviationIsPiece, ShiftShowsNothing, EndIsCut, NestedIsFault, OthersMean, TextFits, CodeIsLeast, CharacterHasCode, ShownInParts};
+ghost use Rattle.zk_text.specs.TableLaws.{A0IsSmall, A1IsCapital, A2HasDigits, A2HasNewLine, ExtraIsBeyondAscii, CodesDiffer, SmallIsAbove, CapitalHasSmall, LowerIsSmall, OthersStay, OwnLowersAscii, LowerOfA1, LowerTwice};
 
 /// A list of Z-characters is cut into these pieces (Z-Machine Standards Document 1.1, sections 3.2
 /// to 3.6). The cases cover each list.
@@ -43,4 +44,33 @@ pub fn codes_are_least()
 #[tactic(auto, using(crate::proofs::ShownLemmas::shown_in_parts))]
 pub fn shown_in_parts()
     ensures { ShownInParts }
+{}
+
+/// The alphabets of the Standard (sections 3.5.3 and 3.5.5.1).
+#[tactic(auto, using(crate::proofs::Standard::a0_is_small, crate::proofs::Standard::a1_is_capital, crate::proofs::Standard::a2_has_digits, crate::proofs::Standard::a2_has_new_line))]
+pub fn alphabets_are_standard()
+    ensures small { A0IsSmall }
+    ensures capital { A1IsCapital }
+    ensures digits { A2HasDigits }
+    ensures new_line { A2HasNewLine }
+{}
+
+/// Under the table of the Standard each character has one code.
+#[tactic(auto, using(crate::proofs::Standard::extra_is_beyond_ascii, crate::proofs::Standard::codes_differ))]
+pub fn standard_codes_differ()
+    ensures ascii { ExtraIsBeyondAscii }
+    ensures differ { CodesDiffer }
+{}
+
+/// Codes in lower case: each capital, and only a capital, becomes its small letter, by Unicode's
+/// numbers. Under a story's own table A to Z alone change.
+#[tactic(auto, using(crate::proofs::LowerLaws::small_is_above, crate::proofs::LowerLaws::capital_has_small, crate::proofs::LowerLaws::lower_is_small, crate::proofs::LowerLaws::others_stay, crate::proofs::LowerLaws::own_lowers_ascii, crate::proofs::LowerLaws::lower_of_a1, crate::proofs::LowerLaws::lower_twice))]
+pub fn lower_is_of_capitals()
+    ensures above { SmallIsAbove }
+    ensures all { CapitalHasSmall }
+    ensures small { LowerIsSmall }
+    ensures others { OthersStay }
+    ensures own { OwnLowersAscii }
+    ensures a1 { LowerOfA1 }
+    ensures twice { LowerTwice }
 {}
