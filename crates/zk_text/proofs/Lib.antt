@@ -3,6 +3,8 @@ pub mod Below
 pub mod Joins
 pub mod TextWords
 pub mod Spells
+pub mod Places
+pub mod SpellLaws
 pub mod Cases
 pub mod Tables
 pub mod Standard

@@ -10,3 +10,4 @@ pub mod Shown
 pub mod Keys
 pub mod Laws
 pub mod TableLaws
+pub mod KeyLaws

@@ -1,6 +1,7 @@
 // What holds of texts and of extra characters.
 
 ghost use Rattle.zk_text.specs.Laws.{SpaceIsPiece, LetterIsPiece, A1IsPiece, A2IsPiece, CodeIsPiece, AbbreviationIsPiece, ShiftShowsNothing, EndIsCut, NestedIsFault, OthersMean, TextFits, CodeIsLeast, CharacterHasCode, ShownInParts};
+ghost use Rattle.zk_text.specs.KeyLaws.{PlaceIsFirst, A2PlaceIsFirst, SpaceIsZero, NewLineIsSeven, SpellingsMean, KeyMeans, KeyIsText};
 ghost use Rattle.zk_text.specs.TableLaws.{A0IsSmall, A1IsCapital, A2HasDigits, A2HasNewLine, ExtraIsBeyondAscii, CodesDiffer, SmallIsAbove, CapitalHasSmall, LowerIsSmall, OthersStay, OwnLowersAscii, LowerOfA1, LowerTwice};
 
 /// A list of Z-characters is cut into these pieces (Z-Machine Standards Document 1.1, sections 3.2
@@ -73,4 +74,21 @@ pub fn lower_is_of_capitals()
     ensures own { OwnLowersAscii }
     ensures a1 { LowerOfA1 }
     ensures twice { LowerTwice }
+{}
+
+/// The place of a letter is the first Z-character that stands for it: of 6 to 31 in A0 and A1, of 7
+/// to 31 in A2.
+#[tactic(auto, using(crate::proofs::Places::place_is_first, crate::proofs::Places::a2_place_is_first))]
+pub fn places_are_first()
+    ensures place { PlaceIsFirst }
+    ensures a2 { A2PlaceIsFirst }
+{}
+
+/// What is spelled for a key, read as a text, means the letters of the word.
+#[tactic(auto, using(crate::proofs::SpellLaws::spellings_mean, crate::proofs::SpellLaws::key_means, crate::proofs::SpellLaws::space_is_zero, crate::proofs::SpellLaws::new_line_is_seven))]
+pub fn keys_mean_their_words()
+    ensures spelled { SpellingsMean }
+    ensures key { KeyMeans }
+    ensures space { SpaceIsZero }
+    ensures new_line { NewLineIsSeven }
 {}
