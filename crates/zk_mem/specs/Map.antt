@@ -1,9 +1,9 @@
 -- The memory map of a story (Standard, section 1.1), and how its data is read and written.
-use Rattle.std.specs.Prelude.{◌≡◌, ℕ, ◌+◌, ◌*◌, ◌/◌, ◌%◌, ◌<◌, ◌≤◌, List, length, drop, slice_index, slice_get, slice_set, Option, Some, Result, Ok, Err, nat_lt, min, if◌then◌else◌}
+use Rattle.std.specs.Prelude.{◌≡◌, ℕ, ◌+◌, ◌*◌, ◌/◌, ◌%◌, ◌<◌, ◌≤◌, List, length, drop, slice_index, slice_get, slice_set, Option, Some, None, Result, Ok, Err, nat_lt, min, if◌then◌else◌}
 use Rattle.zk_mem.specs.declared.fault.Fault.{Fault}
 use Rattle.zk_mem.specs.declared.fault.Fault.TheVariants.{BadAddress, ReadOnly}
 use Rattle.zk_mem.specs.declared.header.Header.{Header}
-use Rattle.zk_mem.specs.Header.{header_of}
+use Rattle.zk_mem.specs.Header.{header_of, word_in}
 
 -- the version, the address where dynamic memory ends, the bytes as they stand, those of the story
 -- file, and how many undo states its interpreter keeps
@@ -26,7 +26,7 @@ byte_at m a = if nat_lt a (readable_end m) then Ok (slice_index m.bytes a) else 
 unfoldable pub word_at : MemoryMap → ℕ → Result ℕ Fault
 word_at m a =
     if nat_lt (a + 1) (readable_end m)
-    then Ok (256 * slice_index m.bytes a + slice_index m.bytes (a + 1))
+    then Ok (word_in m.bytes a)
     else Err BadAddress
 
 -- the map with a byte changed
@@ -53,6 +53,10 @@ word_put m a v =
 unfoldable pub cell_at : MemoryMap → ℕ → Option ℕ
 cell_at m a = slice_get m.bytes a
 
+-- the word at any address of the story, high byte first, for code and text (section 2.1)
+unfoldable pub code_word_at : MemoryMap → ℕ → Option ℕ
+code_word_at m a = if nat_lt (a + 1) (length m.bytes) then Some (word_in m.bytes a) else None
+
 -- what stands at an address is a byte
 pub record HasBytes (m : MemoryMap) : Type 0 where
   pub below : (a v : ℕ) → cell_at m a ≡ Some v → v < 256
@@ -60,6 +64,14 @@ pub record HasBytes (m : MemoryMap) : Type 0 where
 -- from the static base on the bytes are those of the story file
 abbrev pub KeepsFile : MemoryMap → Type 0
 KeepsFile m = drop m.static_base m.bytes ≡ drop m.static_base m.file
+
+-- what memory has of its file
+pub record IsOfFile (m : MemoryMap) : Type 0 where
+  pub version : m.version ≡ (header_of m.file).version
+  pub static_base : m.static_base ≡ (header_of m.file).static_base
+  pub size : length m.bytes ≡ length m.file
+  pub keeps : KeepsFile m
+  pub bytes : HasBytes m
 
 -- what the parts of a memory keep to
 pub record IsWhole (header : Header) (readable : ℕ) (bytes file : List ℕ) : Type 0 where

@@ -29,18 +29,22 @@ pub struct Header {
 }
 
 /// The word at an address, high byte first.
-pub(crate) fn word_of(file: &[u8], a: usize) -> u16
-    requires { a + 1 < length file.now }
-    ensures { result ≡ word_in file.now a }
+pub(crate) fn word_of(file: &[u8], address: usize) -> u16
+    requires { address + 1 < length file.now }
+    ensures { result ≡ word_in file.now address }
 {
-    256 * file[a] as u16 + file[a + 1] as u16
+    256 * file[address] as u16 + file[address + 1] as u16
 }
 
-fn word_from_5_of(file: &[u8], a: usize) -> u16
-    requires { a + 1 < length file.now }
-    ensures { result ≡ word_from_5 file.now a }
+fn word_from_5_of(file: &[u8], address: usize) -> u16
+    requires { address + 1 < length file.now }
+    ensures { result ≡ word_from_5 file.now address }
 {
-    if file[0] < 5 { 0 } else { word_of(file, a) }
+    if file[0] < 5 {
+        0
+    } else {
+        word_of(file, address)
+    }
 }
 
 fn serial_of(file: &[u8]) -> [u8; 6]
@@ -82,15 +86,15 @@ pub(crate) fn header_at_front(file: &[u8]) -> Header
 /// The byte address of a packed address: its double in version 3, four times it in versions 4 and 5,
 /// eight times it in version 8 (Standard, section 1.2.3).
 #[tactic(auto, unfolding(crate::specs::Header::unit_length))]
-pub fn unpack(version: u8, p: u16) -> u32
-    ensures value { result ≡ unpacked version p }
+pub fn unpack(version: u8, packed: u16) -> u32
+    ensures value { result ≡ unpacked version packed }
     ensures bound { result ≤ 8 * 65535 }
 {
     if version < 4 {
-        2 * p as u32
+        2 * packed as u32
     } else if version < 6 {
-        4 * p as u32
+        4 * packed as u32
     } else {
-        8 * p as u32
+        8 * packed as u32
     }
 }

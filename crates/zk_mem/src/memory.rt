@@ -1,12 +1,13 @@
 // The memory of a story that runs.
 
-ghost use Rattle.std.specs.Prelude.{◌≡◌, ◌≤◌, ◌<◌, ℕ, Ok, Err, IfOk, IfErr, IsOk, OnOk, OnSome, MatchResult, length, take, get_or, nat_lt, if◌then◌else◌};
+ghost use Rattle.std.specs.Prelude.{◌≡◌, ◌≤◌, ◌<◌, ℕ, Ok, Err, IfOk, IfErr, IfSome, IsOk, OnOk, OnSome, MatchResult, length, take, get_or, nat_lt, if◌then◌else◌};
 ghost use Rattle.zk_mem.specs.Header.{header_of};
-ghost use Rattle.zk_mem.specs.Map.{byte_at, word_at, byte_put, word_put, cell_at, HasBytes, KeepsFile};
+ghost use Rattle.zk_mem.specs.Map.{readable_end, byte_at, word_at, byte_put, word_put, cell_at, code_word_at, HasBytes, KeepsFile, IsOfFile};
+ghost use Rattle.zk_mem.specs.Words.{text_end_at};
 ghost use Rattle.zk_mem.specs.Fresh.{with_fields, with_values, standard_fields, screen_fields_3, screen_fields_4, screen_fields_5, fresh};
 
 use crate::fault::Fault;
-use crate::header::{Header, header_at_front};
+use crate::header::{Header, header_at_front, word_of};
 use crate::story::Story;
 use std::alloc::{AllocError, Global};
 use std::marker::Model;
@@ -114,10 +115,10 @@ fn are_bytes(bytes: &[u8])
 
 /// Why a write outside dynamic memory is refused.
 #[cold]
-fn refused(a: u32, readable: u32) -> Fault
-    ensures { result ≡ (if nat_lt a readable then Fault.ReadOnly else Fault.BadAddress) }
+fn refused(address: u32, readable: u32) -> Fault
+    ensures { result ≡ (if nat_lt address readable then Fault.ReadOnly else Fault.BadAddress) }
 {
-    if a < readable {
+    if address < readable {
         Fault::ReadOnly
     } else {
         Fault::BadAddress
@@ -147,11 +148,11 @@ impl Memory {
 
     /// The byte at an address, or `BadAddress` outside readable data.
     #[tactic(auto, unfolding(crate::specs::Map::byte_at))]
-    pub fn byte(&self, a: u32) -> Result<u8, Fault>
-        ensures { result ≡ byte_at self.now a }
+    pub fn byte(&self, address: u32) -> Result<u8, Fault>
+        ensures { result ≡ byte_at self.now address }
     {
-        if a < self.readable {
-            Ok(self.bytes[a as usize])
+        if address < self.readable {
+            Ok(self.bytes[address as usize])
         } else {
             Err(Fault::BadAddress)
         }
@@ -160,12 +161,11 @@ impl Memory {
     /// The word at an address, high byte first, or `BadAddress` where one of its bytes lies outside
     /// readable data.
     #[tactic(auto, unfolding(crate::specs::Map::word_at))]
-    pub fn word(&self, a: u32) -> Result<u16, Fault>
-        ensures { result ≡ word_at self.now a }
+    pub fn word(&self, address: u32) -> Result<u16, Fault>
+        ensures { result ≡ word_at self.now address }
     {
-        if a < self.readable - 1 {
-            let at = a as usize;
-            Ok(256 * self.bytes[at] as u16 + self.bytes[at + 1] as u16)
+        if address < self.readable - 1 {
+            Ok(word_of(self.bytes.as_slice(), address as usize))
         } else {
             Err(Fault::BadAddress)
         }
@@ -174,26 +174,26 @@ impl Memory {
     /// Writes a byte of dynamic memory. Elsewhere nothing changes, and it is `BadAddress` outside
     /// readable data, `ReadOnly` inside.
     #[tactic(auto, unfolding(crate::specs::Map::byte_put))]
-    pub fn set_byte(&mut self, a: u32, value: u8) -> Result<(), Fault>
-        ensures { MatchResult result (λ _. byte_put self.old a value ≡ Ok self.new) (λ e. (byte_put self.old a value ≡ Err e) × (self.new ≡ self.old)) }
+    pub fn set_byte(&mut self, address: u32, value: u8) -> Result<(), Fault>
+        ensures { MatchResult result (λ _. byte_put self.old address value ≡ Ok self.new) (λ e. (byte_put self.old address value ≡ Err e) × (self.new ≡ self.old)) }
     {
-        if a >= self.header.static_base as u32 {
-            return Err(refused(a, self.readable));
+        if address >= self.header.static_base as u32 {
+            return Err(refused(address, self.readable));
         }
-        self.bytes[a as usize] = value;
+        self.bytes[address as usize] = value;
         Ok(())
     }
 
     /// Writes a word of dynamic memory, high byte first. Where one of its bytes lies elsewhere nothing
     /// changes, and it is `BadAddress` outside readable data, `ReadOnly` inside.
     #[tactic(auto, unfolding(crate::specs::Map::word_put))]
-    pub fn set_word(&mut self, a: u32, value: u16) -> Result<(), Fault>
-        ensures { MatchResult result (λ _. word_put self.old a value ≡ Ok self.new) (λ e. (word_put self.old a value ≡ Err e) × (self.new ≡ self.old)) }
+    pub fn set_word(&mut self, address: u32, value: u16) -> Result<(), Fault>
+        ensures { MatchResult result (λ _. word_put self.old address value ≡ Ok self.new) (λ e. (word_put self.old address value ≡ Err e) × (self.new ≡ self.old)) }
     {
-        if a >= self.header.static_base as u32 - 1 {
-            return Err(refused(a, self.readable - 1));
+        if address >= self.header.static_base as u32 - 1 {
+            return Err(refused(address, self.readable - 1));
         }
-        let at = a as usize;
+        let at = address as usize;
         self.bytes[at] = (value >> 8) as u8;
         self.bytes[at + 1] = (value & 0xff) as u8;
         Ok(())
@@ -201,14 +201,14 @@ impl Memory {
 
     /// Whether a word can be written at an address: the refusals are those of `set_word`.
     #[tactic(auto, unfolding(crate::specs::Map::word_put))]
-    pub fn check_word(&self, a: u32) -> Result<(), Fault>
-        ensures ok { OnOk result ((value : ℕ) → IsOk (word_put self.now a value)) }
-        ensures err { IfErr result (λ e. (value : ℕ) → word_put self.now a value ≡ Err e) }
+    pub fn check_word(&self, address: u32) -> Result<(), Fault>
+        ensures ok { OnOk result ((value : ℕ) → IsOk (word_put self.now address value)) }
+        ensures err { IfErr result (λ e. (value : ℕ) → word_put self.now address value ≡ Err e) }
     {
-        if a < self.header.static_base as u32 - 1 {
+        if address < self.header.static_base as u32 - 1 {
             Ok(())
         } else {
-            Err(refused(a, self.readable - 1))
+            Err(refused(address, self.readable - 1))
         }
     }
 
@@ -221,13 +221,57 @@ impl Memory {
         self.bytes.len() as u32
     }
 
+    /// The address where data ends: it is read below the story's length and below 65,536.
+    pub fn data_end(&self) -> u32
+        ensures value { result ≡ readable_end self.now }
+        ensures bound { result ≤ 65536 }
+    {
+        self.readable
+    }
+
     /// The byte at any address of the story, for code and text.
     #[tactic(auto, unfolding(crate::specs::Map::cell_at))]
-    pub fn cell(&self, a: u32) -> Option<u8>
-        ensures value { result ≡ cell_at self.now a }
-        ensures within { OnSome result (a < 524288) }
+    pub fn cell(&self, address: u32) -> Option<u8>
+        ensures value { result ≡ cell_at self.now address }
+        ensures within { OnSome result (address < 524288) }
     {
-        self.bytes.get(a as usize).copied()
+        self.bytes.get(address as usize).copied()
+    }
+
+    /// The word at any address of the story, high byte first, for code and text. Where one of its bytes
+    /// lies past the story's end there is none.
+    #[tactic(auto, unfolding(crate::specs::Map::code_word_at))]
+    pub fn code_word(&self, address: u32) -> Option<u16>
+        ensures value { result ≡ code_word_at self.now address }
+        ensures within { OnSome result (address < 524288) }
+    {
+        let at = address as usize;
+        if at + 1 < self.bytes.len() {
+            Some(word_of(self.bytes.as_slice(), at))
+        } else {
+            None
+        }
+    }
+
+    /// The address after the text at an address, anywhere in the story: after its first word whose top
+    /// bit is set (Standard, section 3.2). Where no such word lies inside the story there is none.
+    #[tactic(auto, using(crate::proofs::TextWords::end_on, crate::proofs::TextWords::end_last, crate::proofs::TextWords::end_gone, crate::proofs::TextWords::end_past, crate::proofs::TextWords::end_inside))]
+    pub fn text_end(&self, address: u32) -> Option<u32>
+        ensures value { result ≡ text_end_at self.now address }
+        ensures within { IfSome result (λ end. end ≤ length self.now.bytes) }
+    {
+        let mut at = address;
+        // there are fewer words than bytes
+        for _i in 0..self.len() {
+            let Some(word) = self.code_word(at) else {
+                return None;
+            };
+            at += 2;
+            if word >= 0x8000 {
+                return Some(at);
+            }
+        }
+        None
     }
 
     /// The story's version.
@@ -267,6 +311,15 @@ impl Memory {
         ensures { HasBytes self.now }
     {
         are_bytes(self.bytes.as_slice());
+    }
+
+    /// What memory has of its file.
+    #[tactic(auto, using(crate::proofs::Bounds::bytes_fit))]
+    pub fn is_of_file(&self)
+        ensures { IsOfFile self.now }
+    {
+        self.has_bytes();
+        let _ = &self.bytes;
     }
 
     /// From the static base on the bytes are those of the story file.

@@ -1,0 +1,49 @@
+-- What writes to memory, and setting the header's fields again, leave as it was.
+use Rattle.std.specs.Prelude.{◌≡◌, ℕ, ◌+◌, ◌*◌, ◌<◌, ◌≤◌, ◌⊎◌, List, length, Some, Ok}
+use Rattle.zk_mem.specs.Map.{MemoryMap, byte_at, word_at, byte_put, word_put, cell_at}
+use Rattle.zk_mem.specs.Fresh.{with_fields, fresh}
+use Rattle.zk_mem.specs.Words.{words_at}
+
+-- the map n is m but for the bytes from a on and below b
+pub record IsSameBut (m n : MemoryMap) (a b : ℕ) : Type 0 where
+  pub version : n.version ≡ m.version
+  pub static_base : n.static_base ≡ m.static_base
+  pub file : n.file ≡ m.file
+  pub undo_states : n.undo_states ≡ m.undo_states
+  pub size : length n.bytes ≡ length m.bytes
+  pub others : (c : ℕ) → (c < a) ⊎ (b ≤ c) → cell_at n c ≡ cell_at m c
+
+-- a byte was written: it lies in dynamic memory, and is read again (section 1.1.1)
+pub record WritesByte (m n : MemoryMap) (a v : ℕ) : Type 0 where
+  pub dynamic : a < m.static_base
+  pub written : byte_at n a ≡ Ok v
+  pub alone : IsSameBut m n a (a + 1)
+
+-- a word was written: both of its bytes lie in dynamic memory, and it is read again (section 1.1.1)
+pub record WritesWord (m n : MemoryMap) (a v : ℕ) : Type 0 where
+  pub dynamic : a + 1 < m.static_base
+  pub written : word_at n a ≡ Ok v
+  pub alone : IsSameBut m n a (a + 2)
+
+-- a write of a byte changes that byte alone
+abbrev pub ByteIsWritten : Type 0
+ByteIsWritten = (m n : MemoryMap) (a v : ℕ) → byte_put m a v ≡ Ok n → WritesByte m n a v
+
+-- a write of a word changes its two bytes alone
+abbrev pub WordIsWritten : Type 0
+WordIsWritten = (m n : MemoryMap) (a v : ℕ) → word_put m a v ≡ Ok n → WritesWord m n a v
+
+-- the header's fields, set again where they were set, stay (section 11.1)
+abbrev pub SetAgainStays : Type 0
+SetAgainStays = (version undo_states : ℕ) (bytes : List ℕ) →
+    with_fields version undo_states (with_fields version undo_states bytes) ≡ with_fields version undo_states bytes
+
+-- the memory at the start, made fresh again, is the same
+abbrev pub FreshAgainStays : Type 0
+FreshAgainStays = (file : List ℕ) (undo_states : ℕ) →
+    with_fields (fresh file undo_states).version undo_states (fresh file undo_states).bytes ≡ (fresh file undo_states).bytes
+
+-- a text lies whole inside the story, two bytes to a word (section 3.2)
+abbrev pub TextLiesInside : Type 0
+TextLiesInside = (m : MemoryMap) (a : ℕ) (ws : List ℕ) → words_at m a ≡ Some ws →
+    (1 ≤ length ws) × (a + 2 * length ws ≤ length m.bytes)

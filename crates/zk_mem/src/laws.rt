@@ -1,0 +1,22 @@
+// Laws of memory.
+
+ghost use Rattle.zk_mem.specs.Laws.{ByteIsWritten, WordIsWritten, SetAgainStays, FreshAgainStays, TextLiesInside};
+
+/// A write changes what it writes, and nothing else: no other byte, no length, and nothing of the file.
+pub fn writes_change_alone()
+    ensures byte { ByteIsWritten }
+    ensures word { WordIsWritten }
+{}
+
+/// The header's fields that an interpreter sets stay where they are set again, so memory that is made fresh
+/// twice is made fresh.
+pub fn fresh_stays_fresh()
+    ensures set_again { SetAgainStays }
+    ensures fresh_again { FreshAgainStays }
+{}
+
+/// A text lies whole inside the story, two bytes to a word, so a walk over it takes at most half as many
+/// words as the story has bytes.
+pub fn texts_lie_inside()
+    ensures { TextLiesInside }
+{}
