@@ -5,6 +5,7 @@ pub mod TextWords
 pub mod Spells
 pub mod Places
 pub mod SpellLaws
+pub mod KeyText
 pub mod Cases
 pub mod Tables
 pub mod Standard

@@ -1,5 +1,5 @@
 -- Unicode tables and the codes of characters.
-use Rattle.std.proofs.Common.{◌≡◌, ◌≤◌, ◌<◌, ◌⊎◌, inl, inr, ℕ, zero, suc, ◌+◌, ◌-◌, ◌*◌, List, [], ◌∷◌, length, take, drop, get_or, slice_get, Some, None, Bool, true, false, nat_lt, ◌==◌, if◌then◌else◌, refl, ◌∙◌, ap, arith, length-take, min}
+use Rattle.std.proofs.Common.{◌≡◌, ◌≤◌, ◌<◌, ◌⊎◌, inl, inr, ℕ, zero, suc, ◌+◌, ◌-◌, ◌*◌, List, [], ◌∷◌, length, take, drop, get_or, slice_get, Some, None, Bool, true, false, nat_lt, ◌==◌, if◌then◌else◌, refl, sym, subst, Option, ◌∙◌, ap, arith, length-take, min}
 use Rattle.std.proofs.lemmas.Bool.Decides.{nat_tests}
 use Rattle.std.proofs.lemmas.Grind.{common_steps}
 use Rattle.std.proofs.lemmas.List.{drop_all, get_or-take}
@@ -7,6 +7,9 @@ use Rattle.std.proofs.lemmas.Option.{slice_get-get_or, slice_get_past}
 use Rattle.std.specs.List.{list_all}
 use Rattle.zk_text.proofs.Lists.{drop_item, past}
 use Rattle.zk_mem.specs.Header.{word_in}
+use Rattle.zk_mem.specs.Map.{MemoryMap, code_word_at}
+use Rattle.zk_text.specs.declared.extra.Table.{Table}
+use Rattle.zk_text.specs.Reading.{words_of, IsInside}
 use Rattle.zk_text.specs.declared.extra.TheConstants.{DEFAULT_CHARACTERS}
 use Rattle.zk_text.specs.Standard.{standard_characters}
 use Rattle.zk_text.specs.Laws.{CodeIsLeast, CharacterHasCode}
@@ -43,8 +46,19 @@ pub standard_item : (t : ExtraTable) (i : ℕ) → t ≡ None → slice_get (cha
 unfolding standard_characters
 standard_item t i h = rw h refl
 
-pub own_item : (t : ExtraTable) (bytes : List ℕ) (a n i : ℕ) → t ≡ Some (words_from bytes a n) → i < min n 97 → slice_get (characters t) i ≡ Some (word_in bytes (a + 2 * i))
-own_item t bytes a n i h near = rw h (word_there bytes a n i near)
+-- a word of an own table is read where it lies
+word_read : (m : MemoryMap) (a : ℕ) → a + 1 < length m.bytes → code_word_at m a ≡ Some (word_in m.bytes a)
+unfolding code_word_at
+word_read m a h = let test : nat_lt (a + 1) (length m.bytes) ≡ true = grind (arith, nat_tests) in rw test refl
+
+item_by : (t : ExtraTable) (m : MemoryMap) (table : Table) (i : ℕ) → t ≡ Some (words_from m.bytes (table.at + 1) table.count) → table.at + 1 + 2 * table.count ≤ length m.bytes → i < min table.count 97 → code_word_at m (table.at + 1 + 2 * i) ≡ slice_get (characters t) i
+item_by t m table i h inside near =
+    let room : table.at + 1 + 2 * i + 1 < length m.bytes = omega (arith, inside, near) in
+    rw h (word_read m (table.at + 1 + 2 * i) room ∙ sym (word_there m.bytes (table.at + 1) table.count i near))
+
+pub own_item : (t : ExtraTable) (m : MemoryMap) (own : Option Table) (table : Table) (i : ℕ) → t ≡ words_of m.bytes own → own ≡ Some table → IsInside m.bytes own → i < min table.count 97 → code_word_at m (table.at + 1 + 2 * i) ≡ slice_get (characters t) i
+own_item t m own table i view some inside near =
+    item_by t m table i (view ∙ ap (words_of m.bytes) some) (subst (IsInside m.bytes) some inside) near
 
 pub no_item : (t : ExtraTable) (bytes : List ℕ) (a n i : ℕ) → t ≡ Some (words_from bytes a n) → min n 97 ≤ i → slice_get (characters t) i ≡ None
 no_item t bytes a n i h far = rw h (word_gone bytes a n i far)

@@ -5,7 +5,8 @@ use Rattle.zk_text.specs.declared.alphabet.Row.{Row}
 use Rattle.zk_text.specs.declared.alphabet.Row.TheVariants.{A0, A1, A2}
 use Rattle.zk_text.specs.declared.unit.Unit.TheVariants.{Code}
 use Rattle.zk_text.specs.Alphabets.{letter_of}
-use Rattle.zk_text.specs.Words.{words_in, z_characters}
+use Rattle.zk_mem.specs.Words.{words_in}
+use Rattle.zk_text.specs.Words.{z_characters}
 use Rattle.zk_text.specs.Meaning.{Units, meaning}
 use Rattle.zk_text.specs.Keys.{place, a2_place, spelling, spellings, key_characters, key_of}
 

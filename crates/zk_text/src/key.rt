@@ -10,13 +10,13 @@ use zk_mem::memory::Memory;
 
 /// The first Z-character, from one on, that is a letter of an alphabet.
 #[tactic(auto, using(crate::proofs::Spells::place_on, crate::proofs::Spells::place_here, crate::proofs::Spells::place_none))]
-fn find_from(m: &Memory, alphabet: Alphabet, row: Row, c: u8, from: u8) -> Option<u8>
-    requires alphabet { alphabet.table ≡ alphabet_table m.now }
+fn find_from(memory: &Memory, alphabet: Alphabet, row: Row, code: u8, from: u8) -> Option<u8>
+    requires alphabet { alphabet.table ≡ alphabet_table memory.now }
     requires from { from ≤ 32 }
-    ensures { result ≡ place_from m.now row c (32 - from) from }
+    ensures { result ≡ place_from memory.now row code (32 - from) from }
 {
     for z in from..32 {
-        if alphabet.letter(m, row, z) == c {
+        if alphabet.letter(memory, row, z) == code {
             return Some(z);
         }
     }
@@ -24,14 +24,14 @@ fn find_from(m: &Memory, alphabet: Alphabet, row: Row, c: u8, from: u8) -> Optio
 }
 
 #[tactic(auto, unfolding(crate::specs::Keys::a2_place))]
-fn find_in_a2(m: &Memory, alphabet: Alphabet, c: u8) -> Option<u8>
-    requires alphabet { alphabet.table ≡ alphabet_table m.now }
-    ensures { result ≡ a2_place m.now c }
+fn find_in_a2(memory: &Memory, alphabet: Alphabet, code: u8) -> Option<u8>
+    requires alphabet { alphabet.table ≡ alphabet_table memory.now }
+    ensures { result ≡ a2_place memory.now code }
 {
-    if c == 13 {
+    if code == 13 {
         Some(7)
     } else {
-        find_from(m, alphabet, Row::A2, c, 8)
+        find_from(memory, alphabet, Row::A2, code, 8)
     }
 }
 
@@ -50,43 +50,43 @@ fn put_character(zs: &mut ArrayVec<u8, 9>, most: usize, z: u8)
 }
 
 #[tactic(auto, unfolding(crate::specs::Keys::spelling))]
-fn put_letter(m: &Memory, alphabet: Alphabet, zs: &mut ArrayVec<u8, 9>, most: usize, c: u8)
-    requires alphabet { alphabet.table ≡ alphabet_table m.now }
+fn put_letter(memory: &Memory, alphabet: Alphabet, zs: &mut ArrayVec<u8, 9>, most: usize, code: u8)
+    requires alphabet { alphabet.table ≡ alphabet_table memory.now }
     requires room { length zs.old.items ≤ most }
     requires nine { most ≤ 9 }
     ensures room { length zs.new.items ≤ most }
     ensures next { (rest : List ℕ) →
-        take most (zs.new.items ++ rest) ≡ take most (zs.old.items ++ (spelling m.now c ++ rest)) }
+        take most (zs.new.items ++ rest) ≡ take most (zs.old.items ++ (spelling memory.now code ++ rest)) }
 {
-    if c == 32 {
+    if code == 32 {
         put_character(zs, most, 0);
-    } else if let Some(z) = find_from(m, alphabet, Row::A0, c, 6) {
+    } else if let Some(z) = find_from(memory, alphabet, Row::A0, code, 6) {
         put_character(zs, most, z);
-    } else if let Some(z) = find_from(m, alphabet, Row::A1, c, 6) {
+    } else if let Some(z) = find_from(memory, alphabet, Row::A1, code, 6) {
         put_character(zs, most, 4);
         put_character(zs, most, z);
-    } else if let Some(z) = find_in_a2(m, alphabet, c) {
+    } else if let Some(z) = find_in_a2(memory, alphabet, code) {
         put_character(zs, most, 5);
         put_character(zs, most, z);
     } else {
         put_character(zs, most, 5);
         put_character(zs, most, 6);
-        put_character(zs, most, c / 32);
-        put_character(zs, most, c % 32);
+        put_character(zs, most, code / 32);
+        put_character(zs, most, code % 32);
     }
 }
 
 /// The Z-characters of a key.
 #[tactic(auto, using(crate::proofs::Spells::spell_on, crate::proofs::Spells::spell_end, crate::proofs::Spells::five_on, crate::proofs::Spells::five_end, crate::proofs::Spells::key_length))]
-fn characters_of_key(m: &Memory, text: &[u8], most: usize) -> ArrayVec<u8, 9>
+fn characters_of_key(memory: &Memory, text: &[u8], most: usize) -> ArrayVec<u8, 9>
     requires { most ≤ 9 }
-    ensures value { result.items ≡ key_characters m.now most text.now }
+    ensures value { result.items ≡ key_characters memory.now most text.now }
     ensures length { length result.items ≡ most }
 {
-    let alphabet = Alphabet::of(m);
+    let alphabet = Alphabet::of(memory);
     let mut zs = ArrayVec::new();
-    for c in text {
-        put_letter(m, alphabet, &mut zs, most, *c);
+    for code in text {
+        put_letter(memory, alphabet, &mut zs, most, *code);
     }
     for _i in 0..most {
         put_character(&mut zs, most, 5);
@@ -94,37 +94,37 @@ fn characters_of_key(m: &Memory, text: &[u8], most: usize) -> ArrayVec<u8, 9>
     zs
 }
 
-fn word_from(zs: &[u8], i: usize) -> u16
-    requires { i + 2 < length zs.now }
-    ensures value { result ≡ packed_word zs.now i }
+fn word_from(zs: &[u8], index: usize) -> u16
+    requires { index + 2 < length zs.now }
+    ensures value { result ≡ packed_word zs.now index }
     ensures unmarked { result < 32768 }
 {
-    1024 * (zs[i] % 32) as u16 + 32 * (zs[i + 1] % 32) as u16 + (zs[i + 2] % 32) as u16
+    1024 * (zs[index] % 32) as u16 + 32 * (zs[index + 1] % 32) as u16 + (zs[index + 2] % 32) as u16
 }
 
-fn put_word(bytes: &mut ArrayVec<u8, 6>, w: u16)
+fn put_word(bytes: &mut ArrayVec<u8, 6>, word: u16)
     requires { length bytes.old.items ≤ 4 }
-    ensures { bytes.new.items ≡ bytes.old.items ++ two_bytes w }
+    ensures { bytes.new.items ≡ bytes.old.items ++ two_bytes word }
 {
-    bytes.push((w / 256) as u8);
-    bytes.push((w % 256) as u8);
+    bytes.push((word / 256) as u8);
+    bytes.push((word % 256) as u8);
 }
 
 /// The key of a word, whose letters are ZSCII codes: 4 bytes in version 3, 6 from version 4 on
 /// (Z-Machine Standards Document 1.1, sections 3.7, 13.3 and 13.4). Letters are spelled by the
 /// alphabets in force; what is over the 6 or 9 Z-characters of a key is cut off.
 #[tactic(auto, unfolding(crate::specs::Keys::key_of))]
-pub fn key(m: &Memory, text: &[u8]) -> ArrayVec<u8, 6>
-    ensures value { result.items ≡ key_of m.now text.now }
-    ensures length { length result.items ≡ (if nat_lt m.now.version 4 then 4 else 6) }
+pub fn key(memory: &Memory, text: &[u8]) -> ArrayVec<u8, 6>
+    ensures value { result.items ≡ key_of memory.now text.now }
+    ensures length { length result.items ≡ (if nat_lt memory.now.version 4 then 4 else 6) }
 {
     let mut bytes = ArrayVec::new();
-    if m.version() < 4 {
-        let zs = characters_of_key(m, text, 6);
+    if memory.version() < 4 {
+        let zs = characters_of_key(memory, text, 6);
         put_word(&mut bytes, word_from(zs.as_slice(), 0));
         put_word(&mut bytes, 0x8000 + word_from(zs.as_slice(), 3));
     } else {
-        let zs = characters_of_key(m, text, 9);
+        let zs = characters_of_key(memory, text, 9);
         put_word(&mut bytes, word_from(zs.as_slice(), 0));
         put_word(&mut bytes, word_from(zs.as_slice(), 3));
         put_word(&mut bytes, 0x8000 + word_from(zs.as_slice(), 6));

@@ -1,6 +1,6 @@
 // What holds of texts and of extra characters.
 
-ghost use Rattle.zk_text.specs.Laws.{SpaceIsPiece, LetterIsPiece, A1IsPiece, A2IsPiece, CodeIsPiece, AbbreviationIsPiece, ShiftShowsNothing, EndIsCut, NestedIsFault, OthersMean, TextFits, CodeIsLeast, CharacterHasCode, ShownInParts};
+ghost use Rattle.zk_text.specs.Laws.{SpaceIsPiece, LetterIsPiece, A1IsPiece, A2IsPiece, CodeIsPiece, AbbreviationIsPiece, ShiftShowsNothing, EndIsCut, NestedIsFault, OthersMean, CodeIsLeast, CharacterHasCode, ShownInParts};
 ghost use Rattle.zk_text.specs.KeyLaws.{PlaceIsFirst, A2PlaceIsFirst, SpaceIsZero, NewLineIsSeven, SpellingsMean, KeyMeans, KeyIsText};
 ghost use Rattle.zk_text.specs.TableLaws.{A0IsSmall, A1IsCapital, A2HasDigits, A2HasNewLine, ExtraIsBeyondAscii, CodesDiffer, SmallIsAbove, CapitalHasSmall, LowerIsSmall, OthersStay, OwnLowersAscii, LowerOfA1, LowerTwice};
 
@@ -24,13 +24,6 @@ pub fn pieces_by_cases()
 pub fn abbreviations_are_plain()
     ensures nested { NestedIsFault }
     ensures plain { OthersMean }
-{}
-
-/// A text lies whole inside the story, so a walk over it takes at most half as many words as the
-/// story has bytes.
-#[tactic(auto, using(crate::proofs::TextWords::text_fits))]
-pub fn texts_fit()
-    ensures { TextFits }
 {}
 
 /// The two ways through the table of extra characters: the code of a character is the least of
@@ -91,4 +84,10 @@ pub fn keys_mean_their_words()
     ensures key { KeyMeans }
     ensures space { SpaceIsZero }
     ensures new_line { NewLineIsSeven }
+{}
+
+/// A key is itself a text: its words are those of its Z-characters, the last one marked.
+#[tactic(auto, using(crate::proofs::KeyText::key_is_text))]
+pub fn keys_are_texts()
+    ensures { KeyIsText }
 {}
