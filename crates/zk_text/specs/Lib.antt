@@ -8,6 +8,7 @@ pub mod Walks
 pub mod Extra
 pub mod Shown
 pub mod Keys
+pub mod Buffers
 pub mod Laws
 pub mod TableLaws
 pub mod KeyLaws

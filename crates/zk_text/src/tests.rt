@@ -1,13 +1,12 @@
 // Texts, keys and tables against values of the Standard.
 
 use crate::alphabet::{Alphabet, Row};
+use crate::buffer::UnitBuffer;
 use crate::extra::Extra;
 use crate::key::key;
 use crate::shown::Shown;
-use crate::sink::{Sink, SinkFault};
 use crate::text::{check_text, print_text};
 use crate::unit::Unit;
-use arrayvec::ArrayVec;
 use std::alloc::Global;
 use std::test::Fail;
 use zk_mem::fault::Fault;
@@ -33,51 +32,21 @@ fn memory(alloc: Global, fields: &[(usize, u8)], rest: &[u8]) -> Result<Memory, 
     Ok(Memory::start(alloc, story, Setup { undo_states: 0 })?)
 }
 
-/// Takes so many units, and keeps their codes.
-#[derive(Drop)]
-struct Codes {
-    most: usize,
-    taken: ArrayVec<u16, 16>,
+/// Whether a text was printed whole into a buffer of so many units, and what the buffer has then.
+fn printed<const N: usize>(memory: &Memory, address: u32) -> Result<(bool, UnitBuffer<N>), Fault> {
+    let mut buffer = UnitBuffer::new();
+    check_text(memory, address)?;
+    let whole = print_text(memory, address, &mut buffer).is_ok();
+    Ok((whole, buffer))
 }
 
-impl Sink for Codes {
-    ghost use Rattle.std.specs.Prelude.{⊤};
-
-    ghost gave = { λ a b us. ⊤ };
-
-    ghost refused = { λ a b us. ⊤ };
-
-    fn put(&mut self, unit: Unit) -> Result<(), SinkFault> {
-        let code = match unit {
-            Unit::Code(code) => code,
-            Unit::Character(c) => c,
-        };
-        if self.taken.len() >= self.most || self.taken.try_push(code).is_err() {
-            return Err(SinkFault);
-        }
-        Ok(())
-    }
-
-    ghost nothing = { λ a. tt };
-
-    ghost twice = { λ a b c s t h k. tt };
-
-    ghost late = { λ a b c s t h k. tt };
-}
-
-/// Whether a text was printed whole, and its codes.
-fn printed(m: &Memory, a: u32, most: usize) -> Result<(bool, Codes), Fault> {
-    let mut codes = Codes {
-        most,
-        taken: ArrayVec::new(),
-    };
-    match check_text(m, a) {
-        Err(fault) => Err(fault),
-        Ok(_) => {
-            let whole = print_text(m, a, &mut codes).is_ok();
-            Ok((whole, codes))
-        }
-    }
+/// Whether units are those of these codes.
+fn has_codes(units: &[Unit], codes: &[u16]) -> bool {
+    units.len() == codes.len()
+        && units
+            .iter()
+            .zip(codes)
+            .all(|(unit, code)| *unit == Unit::Code(*code))
 }
 
 /// A word address of an abbreviation, the abbreviation, and a text at $44 that uses it.
@@ -93,12 +62,16 @@ fn prints_texts(rt: HostRuntime) -> Result<(), Fail> {
         (&[0x14, 0xc2, 0x80, 0xa5], 0x40, &[64]),
         (&EXPANDED, 0x44, &[104, 105, 104, 105]),
     ];
-    for (bytes, a, codes) in rows {
+    for (bytes, address, codes) in rows {
         let m = memory(rt.alloc(), &[(0, 3), (0x19, 0x40)], bytes)?;
-        assert_eq!(rt; check_text(&m, a), Ok(m.len()), "end of the text {codes:?}");
-        let (whole, sink) = printed(&m, a, 16)?;
+        assert_eq!(rt;
+            check_text(&m, address),
+            Ok(m.len()),
+            "end of the text {codes:?}"
+        );
+        let (whole, buffer) = printed::<4>(&m, address)?;
         assert!(rt; whole);
-        assert_eq!(rt; sink.taken.as_slice(), codes);
+        assert!(rt; has_codes(buffer.as_slice(), codes), "{codes:?}");
     }
     Ok(())
 }
@@ -111,9 +84,9 @@ fn refuses_texts(rt: HostRuntime) -> Result<(), Fail> {
         (&[0x35, 0xcd, 0x94], 0x40, Fault::TextPastEnd),
         (&[0x8d, 0x00, 0x30, 0xba], 0x60, Fault::TextPastEnd),
     ];
-    for (bytes, a, fault) in rows {
+    for (bytes, address, fault) in rows {
         let m = memory(rt.alloc(), &[(0, 3), (0x19, 0x40)], bytes)?;
-        assert_eq!(rt; check_text(&m, a), Err(fault));
+        assert_eq!(rt; check_text(&m, address), Err(fault));
     }
     Ok(())
 }
@@ -121,9 +94,12 @@ fn refuses_texts(rt: HostRuntime) -> Result<(), Fail> {
 #[test]
 fn stops_where_the_sink_refuses(rt: HostRuntime) -> Result<(), Fail> {
     let m = memory(rt.alloc(), &[(0, 3)], &[0x35, 0xcd, 0x94, 0xc3])?;
-    let (whole, sink) = printed(&m, 0x40, 2)?;
-    assert!(rt; !whole);
-    assert_eq!(rt; sink.taken.as_slice(), [104, 105].as_slice());
+    let (whole, buffer) = printed::<3>(&m, 0x40)?;
+    assert!(rt; whole && has_codes(buffer.as_slice(), &[104, 105, 104]));
+    let (whole, buffer) = printed::<2>(&m, 0x40)?;
+    assert!(rt; !whole && has_codes(buffer.as_slice(), &[104, 105]));
+    let (whole, buffer) = printed::<0>(&m, 0x40)?;
+    assert!(rt; !whole && buffer.as_slice().is_empty());
     Ok(())
 }
 
