@@ -1,13 +1,10 @@
 -- The laws of lower case.
-use Rattle.std.proofs.Common.{◌≡◌, ◌≤◌, ◌<◌, ◌⊎◌, inl, inr, ℕ, ◌+◌, ◌-◌, List, [], ◌∷◌, ◌++◌, Option, Some, None, Bool, true, false, not, ◌&&◌, ◌||◌, nat_le, ◌==◌, is_some, is_none, refl, sym, ◌∙◌, arith}
+use Rattle.std.proofs.Common.{◌≡◌, ◌≤◌, ◌<◌, ℕ, ◌+◌, ◌-◌, List, [], ◌∷◌, Option, Some, None, Bool, true, false, not, ◌&&◌, ◌||◌, nat_le, ◌==◌, is_some, is_none, refl, ◌∙◌, arith}
 use Rattle.std.specs.Option.{option_and_then}
 use Rattle.std.specs.List.{list_all}
 use Rattle.std.proofs.lemmas.Bool.Decides.{nat_tests}
 use Rattle.std.proofs.lemmas.Grind.{common_steps}
-use Rattle.zk_mem.specs.Map.{MemoryMap}
-use Rattle.zk_text.specs.declared.alphabet.Row.TheVariants.{A0, A1}
 use Rattle.zk_text.specs.Standard.{standard_characters, ascii_capitals, extra_capitals, capitals}
-use Rattle.zk_text.specs.Alphabets.{letter_by}
 use Rattle.zk_text.specs.Extra.{ExtraTable, character, code_from, code_of, small_letter, small_code, lower_code}
 use Rattle.zk_text.specs.TableLaws.{SmallIsAbove, CapitalHasSmall, LowerIsSmall, OthersStay, OwnLowersAscii, LowerOfA1, LowerTwice}
 use Rattle.zk_text.proofs.Below.{all_below, each_below}

@@ -1,13 +1,12 @@
 -- The place of a letter in an alphabet.
-use Rattle.std.proofs.Common.{◌≡◌, ◌≤◌, ◌<◌, ◌⊎◌, inl, inr, ℕ, zero, suc, ◌+◌, ◌-◌, Option, Some, None, Bool, true, false, ◌==◌, if◌then◌else◌, refl, sym, ◌∙◌, arith}
+use Rattle.std.proofs.Common.{◌≡◌, ◌≤◌, ◌<◌, ℕ, zero, suc, ◌+◌, Option, Some, None, Bool, true, false, ◌==◌, refl, ◌∙◌, arith}
 use Rattle.std.proofs.lemmas.Bool.Decides.{nat_tests}
-use Rattle.std.proofs.lemmas.Bool.{cases_eq}
 use Rattle.zk_mem.specs.Map.{MemoryMap}
 use Rattle.zk_text.specs.declared.alphabet.Row.{Row}
 use Rattle.zk_text.specs.declared.alphabet.Row.TheVariants.{A2}
 use Rattle.zk_text.specs.Alphabets.{letter_by, letter_of}
-use Rattle.zk_text.specs.Keys.{place_from, place, a2_place}
-use Rattle.zk_text.specs.KeyLaws.{IsFirst, IsAbsent, Finds, PlaceIsFirst, A2PlaceIsFirst}
+use Rattle.zk_text.specs.Keys.{place_from, a2_place}
+use Rattle.zk_text.specs.KeyLaws.{IsFirst, Finds, PlaceIsFirst, A2PlaceIsFirst}
 
 -- what a search of the Z-characters from z on finds, where those from z + 1 on are searched so
 found_here : (m : MemoryMap) (row : Row) (c z : ℕ) → z < 32 → letter_of m row z ≡ c → IsFirst m row c z z

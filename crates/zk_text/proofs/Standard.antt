@@ -1,9 +1,7 @@
 -- The tables of the Standard.
-use Rattle.std.proofs.Common.{◌≡◌, ◌≤◌, ◌<◌, ◌⊎◌, inl, inr, ℕ, ◌+◌, ◌-◌, List, get_or, slice_get, Option, Some, None, Bool, true, false, nat_le, nat_lt, ◌==◌, length, refl, sym, ◌∙◌, ap, arith}
+use Rattle.std.proofs.Common.{◌≡◌, ◌≤◌, ◌<◌, ◌⊎◌, inl, inr, ℕ, ◌+◌, ◌-◌, get_or, slice_get, Option, Some, None, true, nat_le, refl, arith}
 use Rattle.std.proofs.lemmas.Bool.Decides.{nat_tests}
-use Rattle.std.proofs.lemmas.Grind.{common_steps}
 use Rattle.std.proofs.lemmas.Option.{slice_get_within, get_or_from_slice_get}
-use Rattle.zk_mem.specs.Map.{MemoryMap}
 use Rattle.zk_text.specs.declared.alphabet.Row.TheVariants.{A0, A1, A2}
 use Rattle.zk_text.specs.Standard.{standard_letters, standard_characters}
 use Rattle.zk_text.specs.Alphabets.{letter_by}

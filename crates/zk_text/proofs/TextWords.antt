@@ -2,7 +2,7 @@
 use Rattle.std.proofs.Common.{◌≡◌, ◌≤◌, ◌<◌, ℕ, ◌+◌, List, [], ◌∷◌, ◌++◌, length, Option, Some, None, Ok, nat_le, Bool, true, false, refl, sym, ◌∙◌, arith}
 use Rattle.std.proofs.lemmas.Bool.Decides.{nat_tests}
 use Rattle.zk_mem.specs.Map.{MemoryMap, code_word_at}
-use Rattle.zk_mem.specs.Words.{word_before, word_and, words_at, text_end_at}
+use Rattle.zk_mem.specs.Words.{word_before, words_at, text_end_at}
 use Rattle.zk_mem.proofs.TextWords.{word_there, end_past}
 use Rattle.zk_text.specs.declared.pieces.Held.{Held}
 use Rattle.zk_text.specs.declared.pieces.Held.TheVariants as held

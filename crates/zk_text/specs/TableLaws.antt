@@ -2,7 +2,7 @@
 use Rattle.std.specs.Prelude.{◌≡◌, ◌≤◌, ◌<◌, ◌⊎◌, ℕ, ◌+◌, ◌-◌, List, Option, Some, None, slice_get}
 use Rattle.zk_mem.specs.Map.{MemoryMap}
 use Rattle.zk_text.specs.declared.alphabet.Row.TheVariants.{A0, A1, A2}
-use Rattle.zk_text.specs.Standard.{standard_characters, ascii_capitals, capitals}
+use Rattle.zk_text.specs.Standard.{standard_characters, capitals}
 use Rattle.zk_text.specs.Alphabets.{letter_by}
 use Rattle.zk_text.specs.Extra.{ExtraTable, character, small_letter, lower_code}
 

@@ -63,16 +63,16 @@ impl Alphabet {
     /// The ZSCII code of a Z-character from 6 to 31 in an alphabet. An own table is read as it
     /// stands in memory; 7 in A2 is a new line, code 13, in every table.
     #[tactic(auto, unfolding(crate::specs::Alphabets::letter_by))]
-    pub fn letter(self, memory: &Memory, row: Row, z: u8) -> u8
-        ensures { result ≡ letter_by memory.now self.table row z }
+    pub fn letter(self, memory: &Memory, row: Row, character: u8) -> u8
+        ensures { result ≡ letter_by memory.now self.table row character }
     {
-        if matches!(row, Row::A2) && z == 7 {
+        if matches!(row, Row::A2) && character == 7 {
             return 13;
         }
         code_at(
             memory,
             self.table,
-            start_of(row) as u16 + z.saturating_sub(6) as u16,
+            start_of(row) as u16 + character.saturating_sub(6) as u16,
         )
     }
 }

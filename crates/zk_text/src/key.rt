@@ -15,9 +15,9 @@ fn find_from(memory: &Memory, alphabet: Alphabet, row: Row, code: u8, from: u8) 
     requires from { from ≤ 32 }
     ensures { result ≡ place_from memory.now row code (32 - from) from }
 {
-    for z in from..32 {
-        if alphabet.letter(memory, row, z) == code {
-            return Some(z);
+    for character in from..32 {
+        if alphabet.letter(memory, row, character) == code {
+            return Some(character);
         }
     }
     None
@@ -37,42 +37,48 @@ fn find_in_a2(memory: &Memory, alphabet: Alphabet, code: u8) -> Option<u8>
 
 /// One more Z-character, where there is room.
 #[tactic(auto, using(crate::proofs::Spells::take_on, crate::proofs::Spells::take_full))]
-fn put_character(zs: &mut ArrayVec<u8, 9>, most: usize, z: u8)
-    requires room { length zs.old.items ≤ most }
+fn put_character(characters: &mut ArrayVec<u8, 9>, most: usize, character: u8)
+    requires room { length characters.old.items ≤ most }
     requires nine { most ≤ 9 }
-    ensures room { length zs.new.items ≤ most }
+    ensures room { length characters.new.items ≤ most }
     ensures next { (rest : List ℕ) →
-        take most (zs.new.items ++ rest) ≡ take most (zs.old.items ++ z ∷ rest) }
+        take most (characters.new.items ++ rest) ≡ take most (characters.old.items ++ character ∷ rest) }
 {
-    if zs.len() < most {
-        zs.push(z);
+    if characters.len() < most {
+        characters.push(character);
     }
 }
 
 #[tactic(auto, unfolding(crate::specs::Keys::spelling))]
-fn put_letter(memory: &Memory, alphabet: Alphabet, zs: &mut ArrayVec<u8, 9>, most: usize, code: u8)
+fn put_letter(
+    memory: &Memory,
+    alphabet: Alphabet,
+    characters: &mut ArrayVec<u8, 9>,
+    most: usize,
+    code: u8,
+)
     requires alphabet { alphabet.table ≡ alphabet_table memory.now }
-    requires room { length zs.old.items ≤ most }
+    requires room { length characters.old.items ≤ most }
     requires nine { most ≤ 9 }
-    ensures room { length zs.new.items ≤ most }
+    ensures room { length characters.new.items ≤ most }
     ensures next { (rest : List ℕ) →
-        take most (zs.new.items ++ rest) ≡ take most (zs.old.items ++ (spelling memory.now code ++ rest)) }
+        take most (characters.new.items ++ rest) ≡ take most (characters.old.items ++ (spelling memory.now code ++ rest)) }
 {
     if code == 32 {
-        put_character(zs, most, 0);
-    } else if let Some(z) = find_from(memory, alphabet, Row::A0, code, 6) {
-        put_character(zs, most, z);
-    } else if let Some(z) = find_from(memory, alphabet, Row::A1, code, 6) {
-        put_character(zs, most, 4);
-        put_character(zs, most, z);
-    } else if let Some(z) = find_in_a2(memory, alphabet, code) {
-        put_character(zs, most, 5);
-        put_character(zs, most, z);
+        put_character(characters, most, 0);
+    } else if let Some(character) = find_from(memory, alphabet, Row::A0, code, 6) {
+        put_character(characters, most, character);
+    } else if let Some(character) = find_from(memory, alphabet, Row::A1, code, 6) {
+        put_character(characters, most, 4);
+        put_character(characters, most, character);
+    } else if let Some(character) = find_in_a2(memory, alphabet, code) {
+        put_character(characters, most, 5);
+        put_character(characters, most, character);
     } else {
-        put_character(zs, most, 5);
-        put_character(zs, most, 6);
-        put_character(zs, most, code / 32);
-        put_character(zs, most, code % 32);
+        put_character(characters, most, 5);
+        put_character(characters, most, 6);
+        put_character(characters, most, code / 32);
+        put_character(characters, most, code % 32);
     }
 }
 
@@ -84,22 +90,24 @@ fn characters_of_key(memory: &Memory, text: &[u8], most: usize) -> ArrayVec<u8, 
     ensures length { length result.items ≡ most }
 {
     let alphabet = Alphabet::of(memory);
-    let mut zs = ArrayVec::new();
+    let mut characters = ArrayVec::new();
     for code in text {
-        put_letter(memory, alphabet, &mut zs, most, *code);
+        put_letter(memory, alphabet, &mut characters, most, *code);
     }
     for _i in 0..most {
-        put_character(&mut zs, most, 5);
+        put_character(&mut characters, most, 5);
     }
-    zs
+    characters
 }
 
-fn word_from(zs: &[u8], index: usize) -> u16
-    requires { index + 2 < length zs.now }
-    ensures value { result ≡ packed_word zs.now index }
+fn word_from(characters: &[u8], index: usize) -> u16
+    requires { index + 2 < length characters.now }
+    ensures value { result ≡ packed_word characters.now index }
     ensures unmarked { result < 32768 }
 {
-    1024 * (zs[index] % 32) as u16 + 32 * (zs[index + 1] % 32) as u16 + (zs[index + 2] % 32) as u16
+    1024 * (characters[index] % 32) as u16
+        + 32 * (characters[index + 1] % 32) as u16
+        + (characters[index + 2] % 32) as u16
 }
 
 fn put_word(bytes: &mut ArrayVec<u8, 6>, word: u16)
@@ -120,14 +128,14 @@ pub fn key(memory: &Memory, text: &[u8]) -> ArrayVec<u8, 6>
 {
     let mut bytes = ArrayVec::new();
     if memory.version() < 4 {
-        let zs = characters_of_key(memory, text, 6);
-        put_word(&mut bytes, word_from(zs.as_slice(), 0));
-        put_word(&mut bytes, 0x8000 + word_from(zs.as_slice(), 3));
+        let characters = characters_of_key(memory, text, 6);
+        put_word(&mut bytes, word_from(characters.as_slice(), 0));
+        put_word(&mut bytes, 0x8000 + word_from(characters.as_slice(), 3));
     } else {
-        let zs = characters_of_key(memory, text, 9);
-        put_word(&mut bytes, word_from(zs.as_slice(), 0));
-        put_word(&mut bytes, word_from(zs.as_slice(), 3));
-        put_word(&mut bytes, 0x8000 + word_from(zs.as_slice(), 6));
+        let characters = characters_of_key(memory, text, 9);
+        put_word(&mut bytes, word_from(characters.as_slice(), 0));
+        put_word(&mut bytes, word_from(characters.as_slice(), 3));
+        put_word(&mut bytes, 0x8000 + word_from(characters.as_slice(), 6));
     }
     bytes
 }

@@ -14,7 +14,7 @@ use zk_mem::memory::{Memory, Setup};
 use zk_mem::story::Story;
 
 /// A story whose header is followed by some bytes, with these values at these addresses.
-fn memory(alloc: Global, fields: &[(usize, u8)], rest: &[u8]) -> Result<Memory, Fail> {
+fn memory_of(alloc: Global, fields: &[(usize, u8)], rest: &[u8]) -> Result<Memory, Fail> {
     let mut file = Vec::new(alloc);
     file.extend_from_slice(&[0; 64])?;
     file.extend_from_slice(rest)?;
@@ -63,13 +63,13 @@ fn prints_texts(rt: HostRuntime) -> Result<(), Fail> {
         (&EXPANDED, 0x44, &[104, 105, 104, 105]),
     ];
     for (bytes, address, codes) in rows {
-        let m = memory(rt.alloc(), &[(0, 3), (0x19, 0x40)], bytes)?;
+        let memory = memory_of(rt.alloc(), &[(0, 3), (0x19, 0x40)], bytes)?;
         assert_eq!(rt;
-            check_text(&m, address),
-            Ok(m.len()),
+            check_text(&memory, address),
+            Ok(memory.len()),
             "end of the text {codes:?}"
         );
-        let (whole, buffer) = printed::<4>(&m, address)?;
+        let (whole, buffer) = printed::<4>(&memory, address)?;
         assert!(rt; whole);
         assert!(rt; has_codes(buffer.as_slice(), codes), "{codes:?}");
     }
@@ -85,20 +85,20 @@ fn refuses_texts(rt: HostRuntime) -> Result<(), Fail> {
         (&[0x8d, 0x00, 0x30, 0xba], 0x60, Fault::TextPastEnd),
     ];
     for (bytes, address, fault) in rows {
-        let m = memory(rt.alloc(), &[(0, 3), (0x19, 0x40)], bytes)?;
-        assert_eq!(rt; check_text(&m, address), Err(fault));
+        let memory = memory_of(rt.alloc(), &[(0, 3), (0x19, 0x40)], bytes)?;
+        assert_eq!(rt; check_text(&memory, address), Err(fault));
     }
     Ok(())
 }
 
 #[test]
 fn stops_where_the_sink_refuses(rt: HostRuntime) -> Result<(), Fail> {
-    let m = memory(rt.alloc(), &[(0, 3)], &[0x35, 0xcd, 0x94, 0xc3])?;
-    let (whole, buffer) = printed::<3>(&m, 0x40)?;
+    let memory = memory_of(rt.alloc(), &[(0, 3)], &[0x35, 0xcd, 0x94, 0xc3])?;
+    let (whole, buffer) = printed::<3>(&memory, 0x40)?;
     assert!(rt; whole && has_codes(buffer.as_slice(), &[104, 105, 104]));
-    let (whole, buffer) = printed::<2>(&m, 0x40)?;
+    let (whole, buffer) = printed::<2>(&memory, 0x40)?;
     assert!(rt; !whole && has_codes(buffer.as_slice(), &[104, 105]));
-    let (whole, buffer) = printed::<0>(&m, 0x40)?;
+    let (whole, buffer) = printed::<0>(&memory, 0x40)?;
     assert!(rt; !whole && buffer.as_slice().is_empty());
     Ok(())
 }
@@ -113,28 +113,28 @@ fn spells_keys(rt: HostRuntime) -> Result<(), Fail> {
         (5, b"i", &[0x38, 0xa5, 0x14, 0xa5, 0x94, 0xa5]),
     ];
     for (version, word, bytes) in rows {
-        let m = memory(rt.alloc(), &[(0, version)], &[0])?;
-        assert_eq!(rt; key(&m, word).as_slice(), bytes);
+        let memory = memory_of(rt.alloc(), &[(0, version)], &[0])?;
+        assert_eq!(rt; key(&memory, word).as_slice(), bytes);
     }
     Ok(())
 }
 
 #[test]
 fn has_the_alphabets_of_the_standard(rt: HostRuntime) -> Result<(), Fail> {
-    let m = memory(rt.alloc(), &[(0, 5)], &[0])?;
-    let alphabet = Alphabet::of(&m);
+    let memory = memory_of(rt.alloc(), &[(0, 5)], &[0])?;
+    let alphabet = Alphabet::of(&memory);
     let signs = b"0123456789.,!?_#'\"/\\-:()";
     for z in 6u8..32 {
-        assert_eq!(rt; alphabet.letter(&m, Row::A0, z), b'a' + (z - 6));
-        assert_eq!(rt; alphabet.letter(&m, Row::A1, z), b'A' + (z - 6));
+        assert_eq!(rt; alphabet.letter(&memory, Row::A0, z), b'a' + (z - 6));
+        assert_eq!(rt; alphabet.letter(&memory, Row::A1, z), b'A' + (z - 6));
         if z >= 8 {
             assert_eq!(rt;
                 signs.get((z - 8) as usize).copied(),
-                Some(alphabet.letter(&m, Row::A2, z))
+                Some(alphabet.letter(&memory, Row::A2, z))
             );
         }
     }
-    assert_eq!(rt; alphabet.letter(&m, Row::A2, 7), 13);
+    assert_eq!(rt; alphabet.letter(&memory, Row::A2, 7), 13);
     Ok(())
 }
 
@@ -146,16 +146,16 @@ fn takes_an_own_alphabet(rt: HostRuntime) -> Result<(), Fail> {
             *code = 33 + i;
         }
     }
-    let m = memory(rt.alloc(), &[(0, 5), (0x35, 0x40)], &table)?;
-    let alphabet = Alphabet::of(&m);
-    assert_eq!(rt; alphabet.letter(&m, Row::A0, 6), 33);
-    assert_eq!(rt; alphabet.letter(&m, Row::A1, 31), 84);
-    assert_eq!(rt; alphabet.letter(&m, Row::A2, 7), 13);
-    assert_eq!(rt; alphabet.letter(&m, Row::A2, 31), 110);
+    let memory = memory_of(rt.alloc(), &[(0, 5), (0x35, 0x40)], &table)?;
+    let alphabet = Alphabet::of(&memory);
+    assert_eq!(rt; alphabet.letter(&memory, Row::A0, 6), 33);
+    assert_eq!(rt; alphabet.letter(&memory, Row::A1, 31), 84);
+    assert_eq!(rt; alphabet.letter(&memory, Row::A2, 7), 13);
+    assert_eq!(rt; alphabet.letter(&memory, Row::A2, 31), 110);
     // A table that runs out of the story is none, and so is one before version 5.
     for (version, rest) in [(5, &table[1..]), (3, &table[..])] {
-        let m = memory(rt.alloc(), &[(0, version), (0x35, 0x40)], rest)?;
-        assert_eq!(rt; Alphabet::of(&m).letter(&m, Row::A0, 6), b'a');
+        let memory = memory_of(rt.alloc(), &[(0, version), (0x35, 0x40)], rest)?;
+        assert_eq!(rt; Alphabet::of(&memory).letter(&memory, Row::A0, 6), b'a');
     }
     Ok(())
 }
@@ -170,18 +170,18 @@ const EXTRA: [u16; 69] = [
 ];
 
 /// The lower case of a letter of Latin-1, or of the ligature.
-fn lower_letter(c: u16) -> u16 {
-    match c {
-        0xc0..=0xde => c + 0x20,
+fn lower_letter(character: u16) -> u16 {
+    match character {
+        0xc0..=0xde => character + 0x20,
         0x152 => 0x153,
-        _ => c,
+        _ => character,
     }
 }
 
 #[test]
 fn has_the_extra_characters_of_the_standard(rt: HostRuntime) -> Result<(), Fail> {
-    let m = memory(rt.alloc(), &[(0, 5)], &[0])?;
-    let extra = Extra::of(&m);
+    let memory = memory_of(rt.alloc(), &[(0, 5)], &[0])?;
+    let extra = Extra::of(&memory);
     let mut code = 155u8;
     for c in EXTRA {
         assert_eq!(rt; extra.to_char(code as u16), Some(c));
@@ -232,8 +232,8 @@ fn takes_an_own_unicode_table(rt: HostRuntime) -> Result<(), Fail> {
         (99, Some(0xe4), None, 155),
     ];
     for (count, first, last, lower) in rows {
-        let m = memory(rt.alloc(), &[(0, 5), (0x37, 0x40)], &own_table(count))?;
-        let extra = Extra::of(&m);
+        let memory = memory_of(rt.alloc(), &[(0, 5), (0x37, 0x40)], &own_table(count))?;
+        let extra = Extra::of(&memory);
         assert_eq!(rt; extra.to_char(155), first, "of {count}");
         assert_eq!(rt; extra.to_char(251), last, "of {count}");
         assert_eq!(rt; (extra.to_char(252), extra.from_char(0x461)), (None, None));
@@ -245,8 +245,8 @@ fn takes_an_own_unicode_table(rt: HostRuntime) -> Result<(), Fail> {
 
 #[test]
 fn shows_units(rt: HostRuntime) -> Result<(), Fail> {
-    let m = memory(rt.alloc(), &[(0, 5)], &[0])?;
-    let extra = Extra::of(&m);
+    let memory = memory_of(rt.alloc(), &[(0, 5)], &[0])?;
+    let extra = Extra::of(&memory);
     let rows = [
         (Unit::Code(0), Shown::Nothing),
         (Unit::Code(9), Shown::One(' ')),

@@ -105,7 +105,7 @@ fn walk_piece<A: Abbreviations, S: Sink>(
         (value (letter_of memory.now) (A.stands memory.now) piece) }
 {
     match piece {
-        Piece::Letter(row, z) => give(alphabet.letter(memory, row, z) as u16, sink),
+        Piece::Letter(row, character) => give(alphabet.letter(memory, row, character) as u16, sink),
         Piece::Code(code) => give(code, sink),
         Piece::Abbreviation(number) => A::expand(memory, alphabet, number, sink),
     }
@@ -118,18 +118,18 @@ fn walk_character<A: Abbreviations, S: Sink>(
     memory: &Memory,
     alphabet: Alphabet,
     held: Held,
-    z: u8,
+    character: u8,
     sink: &mut S,
 ) -> Result<Held, Trouble>
     requires { alphabet.table ≡ alphabet_table memory.now }
     ensures ok { IfOk result (λ next. (zs : List ℕ) → Passes S.gave S.refused sink.old sink.new
-        (meaning memory.now (A.stands memory.now) (held_back held ++ z ∷ zs))
+        (meaning memory.now (A.stands memory.now) (held_back held ++ character ∷ zs))
         (meaning memory.now (A.stands memory.now) (held_back next ++ zs))) }
     ensures err { IfErr result (λ t. (zs : List ℕ) →
         Walked (Some t) (S.gave sink.old sink.new) (S.refused sink.old sink.new)
-        (meaning memory.now (A.stands memory.now) (held_back held ++ z ∷ zs))) }
+        (meaning memory.now (A.stands memory.now) (held_back held ++ character ∷ zs))) }
 {
-    let (next, piece) = advance(held, z);
+    let (next, piece) = advance(held, character);
     if let Some(piece) = piece {
         walk_piece::<A, S>(memory, alphabet, piece, sink)?;
     }

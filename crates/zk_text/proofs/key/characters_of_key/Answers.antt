@@ -14,9 +14,9 @@ loop-code-preserved c =
     }
 
 pub returns-clause-value : goal.returns-clause-value
-returns-clause-value c = filled c.args.memory.now c.args.most c.loop-i._i c.loop-i.zs.items c.args.text.now (omega arith) c.loop-i.invariant.room c.loop-i.invariant.so_far
+returns-clause-value c = filled c.args.memory.now c.args.most c.loop-i._i c.loop-i.characters.items c.args.text.now (omega arith) c.loop-i.invariant.room c.loop-i.invariant.so_far
 
 pub returns-clause-length : goal.returns-clause-length
 returns-clause-length c =
-    let whole = filled c.args.memory.now c.args.most c.loop-i._i c.loop-i.zs.items c.args.text.now (omega arith) c.loop-i.invariant.room c.loop-i.invariant.so_far in
+    let whole = filled c.args.memory.now c.args.most c.loop-i._i c.loop-i.characters.items c.args.text.now (omega arith) c.loop-i.invariant.room c.loop-i.invariant.so_far in
     ap length whole ∙ key_length c.args.memory.now c.args.most c.args.text.now

@@ -4,12 +4,12 @@ use Rattle.zk_text.proofs.key.characters_of_key.Given as goal
 
 abbrev pub invariant-loop-code : goal.invariant-loop-code
 invariant-loop-code l = record {
-  so_far : take l.most (l.zs.items ++ (spellings l.memory (drop l.code-index l.text) ++ fives l.most)) ≡ key_characters l.memory l.most l.text;
-  room : length l.zs.items ≤ l.most;
+  so_far : take l.most (l.characters.items ++ (spellings l.memory (drop l.code-index l.text) ++ fives l.most)) ≡ key_characters l.memory l.most l.text;
+  room : length l.characters.items ≤ l.most;
 }
 
 abbrev pub invariant-loop-i : goal.invariant-loop-i
 invariant-loop-i l = record {
-  so_far : take l.most (l.zs.items ++ fives (l.most - l._i)) ≡ key_characters l.memory l.most l.text;
-  room : length l.zs.items ≤ l.most;
+  so_far : take l.most (l.characters.items ++ fives (l.most - l._i)) ≡ key_characters l.memory l.most l.text;
+  room : length l.characters.items ≤ l.most;
 }

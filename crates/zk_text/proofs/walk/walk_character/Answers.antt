@@ -6,4 +6,4 @@ use Rattle.zk_text.proofs.walk.walk_character.Goals as goal
 pub returns-in_ok-walk_piece-clause-ok : goal.returns-in_ok-walk_piece-clause-ok
 returns-in_ok-walk_piece-clause-ok g c = λ zs.
     let ends = rw c.in-Some.is at (c.advance-next.ensures zs) in
-    piece_ok g.S.Sink.gave g.S.Sink.refused g.met.S.Sink.twice g.met.S.Sink.late c.args.sink.now c.walk_piece.new.sink c.args.memory.now (g.A.Abbreviations.stands c.args.memory.now) c.in-Some.piece (held_back c.args.held ++ c.args.z ∷ zs) (held_back c.advance-next.result.0 ++ zs) ends c.in_ok-walk_piece.ensures
+    piece_ok g.S.Sink.gave g.S.Sink.refused g.met.S.Sink.twice g.met.S.Sink.late c.args.sink.now c.walk_piece.new.sink c.args.memory.now (g.A.Abbreviations.stands c.args.memory.now) c.in-Some.piece (held_back c.args.held ++ c.args.character ∷ zs) (held_back c.advance-next.result.0 ++ zs) ends c.in_ok-walk_piece.ensures
