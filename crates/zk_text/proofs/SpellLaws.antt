@@ -13,7 +13,7 @@ use Rattle.zk_text.specs.Alphabets.{letter_of}
 use Rattle.zk_text.specs.Pieces.{pieces, pieces_past}
 use Rattle.zk_text.specs.Meaning.{Units, joined, value, values, meaning}
 use Rattle.zk_text.specs.Keys.{place, a2_place, spelled, spelling, spellings, fives, key_characters}
-use Rattle.zk_text.specs.KeyLaws.{IsAbsent, Finds, SpaceIsZero, NewLineIsSeven, SpellingsMean, KeyMeans}
+use Rattle.zk_text.specs.KeyLaws.{IsFirst, IsAbsent, Finds, SpellingByCases, SpaceIsZero, NewLineIsSeven, SpellingsMean, KeyMeans}
 use Rattle.zk_text.proofs.Joins.{values_cons}
 use Rattle.zk_text.proofs.Places.{place_is_first, a2_place_is_first}
 
@@ -140,13 +140,39 @@ pub space_is_zero : SpaceIsZero
 unfolding spelling
 space_is_zero m = refl
 
-not_there : (m : MemoryMap) (row : Row) (c : ℕ) (o : Option ℕ) → IsAbsent m row c 6 → Finds m row c 6 o → o ≡ None
-not_there m row c None absent h = refl
-not_there m row c (Some z) absent h = absurd (absent z h.from h.within h.letter)
+not_there : (m : MemoryMap) (row : Row) (c first : ℕ) (o : Option ℕ) → Finds m row c first o → IsAbsent m row c first → o ≡ None
+not_there m row c first None h absent = refl
+not_there m row c first (Some z) h absent = absurd (absent z h.from h.within h.letter)
+
+there : (m : MemoryMap) (row : Row) (c first z : ℕ) (o : Option ℕ) → Finds m row c first o → IsFirst m row c first z → o ≡ Some z
+there m row c first z None h found = absurd (h z found.from found.within found.letter)
+there m row c first z (Some y) h found =
+    let low = h.least z found.from found.letter in
+    let high = found.least y h.from h.letter in
+    let same : y ≡ z = omega (arith, low, high) in
+    rw same refl
 
 pub new_line_is_seven : NewLineIsSeven
 unfolding spelling a2_place
 new_line_is_seven m h k =
-    let lower = not_there m A0 13 (place m A0 13) h (place_is_first m A0 13) in
-    let upper = not_there m A1 13 (place m A1 13) k (place_is_first m A1 13) in
+    let lower = not_there m A0 13 6 (place m A0 13) (place_is_first m A0 13) h in
+    let upper = not_there m A1 13 6 (place m A1 13) (place_is_first m A1 13) k in
     rw (lower, upper) refl
+
+spelled_as : (m : MemoryMap) (c : ℕ) (lower upper sign : Option ℕ) → (c ≡ 32 → ⊥) → place m A0 c ≡ lower → place m A1 c ≡ upper → a2_place m c ≡ sign → spelling m c ≡ spelled lower upper sign c
+unfolding spelling
+spelled_as m c lower upper sign other h k l =
+    let test : (c == 32) ≡ false = grind (arith, nat_tests) in
+    rw (test, h, k, l) refl
+
+pub spelling_by_cases : SpellingByCases
+spelling_by_cases m c other = (
+  λ z found. spelled_as m c (Some z) (place m A1 c) (a2_place m c) other (there m A0 c 6 z (place m A0 c) (place_is_first m A0 c) found) refl refl,
+  λ no_lower. let lower = not_there m A0 c 6 (place m A0 c) (place_is_first m A0 c) no_lower in (
+    λ z found. spelled_as m c None (Some z) (a2_place m c) other lower (there m A1 c 6 z (place m A1 c) (place_is_first m A1 c) found) refl,
+    λ no_upper. let upper = not_there m A1 c 6 (place m A1 c) (place_is_first m A1 c) no_upper in (
+      λ z found. spelled_as m c None None (Some z) other lower upper (there m A2 c 7 z (a2_place m c) (a2_place_is_first m c) found),
+      λ no_sign. spelled_as m c None None None other lower upper (not_there m A2 c 7 (a2_place m c) (a2_place_is_first m c) no_sign),
+    ),
+  ),
+)

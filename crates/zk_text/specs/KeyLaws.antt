@@ -1,5 +1,5 @@
 -- What holds of the keys of words.
-use Rattle.std.specs.Prelude.{◌≡◌, ◌≤◌, ◌<◌, ℕ, List, [], ◌∷◌, Option, Some, None, Ok, All, length, map, nat_lt, if◌then◌else◌}
+use Rattle.std.specs.Prelude.{◌≡◌, ◌≤◌, ◌<◌, ℕ, ◌/◌, ◌%◌, List, [], ◌∷◌, Option, Some, None, Ok, All, length, map, nat_lt, if◌then◌else◌}
 use Rattle.zk_mem.specs.Map.{MemoryMap}
 use Rattle.zk_text.specs.declared.alphabet.Row.{Row}
 use Rattle.zk_text.specs.declared.alphabet.Row.TheVariants.{A0, A1, A2}
@@ -42,6 +42,17 @@ SpaceIsZero = (m : MemoryMap) → spelling m 32 ≡ 0 ∷ []
 abbrev pub NewLineIsSeven : Type 0
 NewLineIsSeven = (m : MemoryMap) → IsAbsent m A0 13 6 → IsAbsent m A1 13 6 →
     spelling m 13 ≡ 5 ∷ 7 ∷ []
+
+-- other codes: a letter of A0 is alone, one of A1 alone comes after 4, one of A2 alone after 5, and
+-- what no alphabet has is a code of ten bits
+abbrev pub SpellingByCases : Type 0
+SpellingByCases = (m : MemoryMap) (c : ℕ) → (c ≡ 32 → ⊥) →
+    ((z : ℕ) → IsFirst m A0 c 6 z → spelling m c ≡ z ∷ [])
+    × (IsAbsent m A0 c 6 →
+    ((z : ℕ) → IsFirst m A1 c 6 z → spelling m c ≡ 4 ∷ z ∷ [])
+    × (IsAbsent m A1 c 6 →
+    ((z : ℕ) → IsFirst m A2 c 7 z → spelling m c ≡ 5 ∷ z ∷ [])
+    × (IsAbsent m A2 c 7 → spelling m c ≡ 5 ∷ 6 ∷ c / 32 ∷ c % 32 ∷ [])))
 
 -- what is spelled means its letters, whatever abbreviations stand for
 abbrev pub SpellingsMean : Type 0

@@ -1,7 +1,7 @@
 // What holds of texts and of extra characters.
 
 ghost use Rattle.zk_text.specs.Laws.{SpaceIsPiece, LetterIsPiece, A1IsPiece, A2IsPiece, CodeIsPiece, AbbreviationIsPiece, ShiftShowsNothing, EndIsCut, NestedIsFault, OthersMean, CodeIsLeast, CharacterHasCode, ShownInParts};
-ghost use Rattle.zk_text.specs.KeyLaws.{PlaceIsFirst, A2PlaceIsFirst, SpaceIsZero, NewLineIsSeven, SpellingsMean, KeyMeans, KeyIsText};
+ghost use Rattle.zk_text.specs.KeyLaws.{PlaceIsFirst, A2PlaceIsFirst, SpaceIsZero, NewLineIsSeven, SpellingByCases, SpellingsMean, KeyMeans, KeyIsText};
 ghost use Rattle.zk_text.specs.TableLaws.{A0IsSmall, A1IsCapital, A2HasDigits, A2HasNewLine, ExtraIsBeyondAscii, CodesDiffer, SmallIsAbove, CapitalHasSmall, LowerIsSmall, OthersStay, OwnLowersAscii, LowerOfA1, LowerTwice};
 
 /// A list of Z-characters is cut into these pieces (Z-Machine Standards Document 1.1, sections 3.2
@@ -78,12 +78,13 @@ pub fn places_are_first()
 {}
 
 /// What is spelled for a key, read as a text, means the letters of the word.
-#[tactic(auto, using(crate::proofs::SpellLaws::spellings_mean, crate::proofs::SpellLaws::key_means, crate::proofs::SpellLaws::space_is_zero, crate::proofs::SpellLaws::new_line_is_seven))]
+#[tactic(auto, using(crate::proofs::SpellLaws::spellings_mean, crate::proofs::SpellLaws::key_means, crate::proofs::SpellLaws::space_is_zero, crate::proofs::SpellLaws::new_line_is_seven, crate::proofs::SpellLaws::spelling_by_cases))]
 pub fn keys_mean_their_words()
     ensures spelled { SpellingsMean }
     ensures key { KeyMeans }
     ensures space { SpaceIsZero }
     ensures new_line { NewLineIsSeven }
+    ensures others { SpellingByCases }
 {}
 
 /// A key is itself a text: its words are those of its Z-characters, the last one marked.
