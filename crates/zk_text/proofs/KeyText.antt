@@ -8,9 +8,10 @@ use Rattle.zk_mem.specs.Words.{word_and, words_in}
 use Rattle.zk_text.specs.declared.alphabet.Row.TheVariants.{A0, A1, A2}
 use Rattle.zk_text.specs.Words.{z_characters}
 use Rattle.zk_text.specs.Keys.{place, a2_place, spelled, spelling, spellings, fives, key_characters, packed_word, two_bytes, two_words, three_words, key_of}
-use Rattle.zk_text.specs.KeyLaws.{Finds, KeyIsText, characters_in_key}
+use Rattle.zk_text.specs.KeyLaws.{Finds, KeyIsText, KeyReads, characters_in_key}
 use Rattle.zk_text.proofs.Places.{place_is_first, a2_place_is_first}
 use Rattle.zk_text.proofs.Spells.{key_length}
+use Rattle.zk_text.proofs.SpellLaws.{key_means}
 
 -- what is spelled are Z-characters
 abbrev IsZ : ℕ → Type 0
@@ -156,3 +157,8 @@ text_by m text false test h = rw test (_, words_of_three (key_characters m 9 tex
 
 pub key_is_text : KeyIsText
 key_is_text m text h = text_by m text (nat_lt m.version 4) refl h
+
+pub key_reads : KeyReads
+key_reads m expand text h short =
+    let t = key_is_text m text h in
+    (t.0, t.1, rw t.2 (key_means m expand (characters_in_key m) text short))

@@ -59,7 +59,7 @@ abbrev pub SpellingsMean : Type 0
 SpellingsMean = (m : MemoryMap) (expand : ℕ → Units) (text : List ℕ) →
     meaning m expand (spellings m text) ≡ Ok (map (λ c. Code c) text)
 
--- so does a key that nothing is cut off from: what it is filled up with means nothing
+-- so do the Z-characters of a key that nothing is cut off from: what fills it up means nothing
 abbrev pub KeyMeans : Type 0
 KeyMeans = (m : MemoryMap) (expand : ℕ → Units) (most : ℕ) (text : List ℕ) →
     length (spellings m text) ≤ most →
@@ -74,3 +74,10 @@ abbrev pub KeyIsText : Type 0
 KeyIsText = (m : MemoryMap) (text : List ℕ) → All (λ c. c < 1024) text →
     (ws : List ℕ) × (words_in (key_of m text) ≡ Some ws)
     × (z_characters ws ≡ key_characters m (characters_in_key m) text)
+
+-- so the bytes of a key that nothing is cut off from, read as a text, mean the letters of its word
+abbrev pub KeyReads : Type 0
+KeyReads = (m : MemoryMap) (expand : ℕ → Units) (text : List ℕ) → All (λ c. c < 1024) text →
+    length (spellings m text) ≤ characters_in_key m →
+    (ws : List ℕ) × (words_in (key_of m text) ≡ Some ws)
+    × (meaning m expand (z_characters ws) ≡ Ok (map (λ c. Code c) text))

@@ -1,7 +1,7 @@
 // What holds of texts and of extra characters.
 
 ghost use Rattle.zk_text.specs.Laws.{SpaceIsPiece, LetterIsPiece, A1IsPiece, A2IsPiece, CodeIsPiece, AbbreviationIsPiece, ShiftShowsNothing, EndIsCut, NestedIsFault, OthersMean, CodeIsLeast, CharacterHasCode, ShownInParts};
-ghost use Rattle.zk_text.specs.KeyLaws.{PlaceIsFirst, A2PlaceIsFirst, SpaceIsZero, NewLineIsSeven, SpellingByCases, SpellingsMean, KeyMeans, KeyIsText};
+ghost use Rattle.zk_text.specs.KeyLaws.{PlaceIsFirst, A2PlaceIsFirst, SpaceIsZero, NewLineIsSeven, SpellingByCases, SpellingsMean, KeyMeans, KeyIsText, KeyReads};
 ghost use Rattle.zk_text.specs.TableLaws.{A0IsSmall, A1IsCapital, A2HasDigits, A2HasNewLine, ExtraIsBeyondAscii, CodesDiffer, SmallIsAbove, CapitalHasSmall, LowerIsSmall, OthersStay, OwnLowersAscii, LowerOfA1, LowerTwice};
 
 /// A list of Z-characters is cut into these pieces (Z-Machine Standards Document 1.1, sections 3.2
@@ -87,8 +87,9 @@ pub fn keys_mean_their_words()
     ensures others { SpellingByCases }
 {}
 
-/// A key is itself a text: its words are those of its Z-characters, the last one marked.
-#[tactic(auto, using(crate::proofs::KeyText::key_is_text))]
+/// A key is itself a text, of its Z-characters: where nothing is cut off it means the word.
+#[tactic(auto, using(crate::proofs::KeyText::key_is_text, crate::proofs::KeyText::key_reads))]
 pub fn keys_are_texts()
-    ensures { KeyIsText }
+    ensures text { KeyIsText }
+    ensures reads { KeyReads }
 {}
