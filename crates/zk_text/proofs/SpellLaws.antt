@@ -49,7 +49,7 @@ a2_first z rest h =
 
 code_first : (c : ℕ) (rest : List ℕ) → pieces (5 ∷ 6 ∷ c / 32 ∷ c % 32 ∷ rest) ≡ piece.Code c ∷ pieces rest
 unfolding pieces_past
-code_first c rest = let whole : 32 * (c / 32) + c % 32 ≡ c = omega arith in rw whole refl
+code_first c rest = let whole : 32 * (c / 32) + c % 32 ≡ c = omega arith in ap (λ (n : ℕ). piece.Code n ∷ pieces rest) whole
 
 letter_means : (m : MemoryMap) (expand : ℕ → Units) (c z : ℕ) (row : Row) (zs : List ℕ) → letter_of m row z ≡ c → ((rest : List ℕ) → pieces (zs ++ rest) ≡ piece.Letter row z ∷ pieces rest) → Means m expand c zs
 letter_means m expand c z row zs e h = record {

@@ -8,7 +8,8 @@ pub returns-in_default : goal.returns-in_default
 returns-in_default g c = λ ws h.
     let rest = c.loop-i.invariant.rest ws h in
     let gone = word_gone c.args.memory.now c.loop-i.at (sym c.in_default.ensures.value) in
-    absurd cc
+    let none : ⊥ = cc in
+    elim none [ ]
 
 pub returns-in_err-held : goal.returns-in_err-held
 returns-in_err-held g c =
