@@ -1,10 +1,10 @@
 -- The bounds of frames stay, whatever becomes of the frames.
-use Rattle.std.proofs.Common.{◌≡◌, ◌∙◌, ℕ, ◌-◌, Bool, true, false, List, [], ◌∷◌, length, take, drop, Option, Result, Ok, Err, ap, sym, refl, nat_lt, nat_le, arith}
-use Rattle.std.specs.Prelude.{if◌then◌else◌, slice_index}
+use Rattle.std.proofs.Common.{◌≡◌, ◌∙◌, ℕ, ◌-◌, Bool, true, false, List, [], ◌∷◌, length, drop, Option, Ok, Err, ap, sym, refl, nat_lt, nat_le, arith}
+use Rattle.std.specs.Prelude.{if◌then◌else◌}
 use Rattle.std.proofs.lemmas.Grind.{common_steps}
 use Rattle.zk_mem.specs.declared.fault.Fault.{Fault}
 use Rattle.zk_state.specs.declared.frames.Return.{Return}
-use Rattle.zk_state.specs.Frames.{Frame, FrameList, bounds_of, within_bounds, has_local, frames_of, with_word, with_words, with_routine, with_frames, pushed, popped, with_top, with_local, called, left, unwound}
+use Rattle.zk_state.specs.Frames.{Frame, FrameList, bounds_of, within_bounds, has_local, frames_of, with_word, with_routine, with_frames, pushed, popped, with_top, with_local, called, left, unwound}
 
 -- a test that was passed
 passed : {A : Type 0} (b : Bool) (x y : A) (e : Fault) → (if b then Ok x else Err e) ≡ Ok y → x ≡ y

@@ -1,8 +1,7 @@
 -- What a return makes of the frames: the caller takes the value, or can't.
-use Rattle.std.proofs.Common.{◌≡◌, ◌∙◌, ℕ, ◌+◌, ◌-◌, ◌<◌, ◌≤◌, Bool, true, false, List, [], ◌∷◌, ◌++◌, length, take, drop, get_or, Option, Some, None, Ok, Err, refl, ap, sym, arith, length-append}
-use Rattle.std.specs.Prelude.{reverse, nat_lt, ◌==◌, nat_eq}
+use Rattle.std.proofs.Common.{◌≡◌, ◌∙◌, ℕ, ◌+◌, ◌-◌, ◌<◌, ◌≤◌, true, false, List, [], ◌∷◌, ◌++◌, length, take, get_or, Option, Some, None, Ok, Err, refl, ap, sym, arith, length-append}
+use Rattle.std.specs.Prelude.{reverse, nat_lt, ◌==◌}
 use Rattle.std.proofs.lemmas.List.{length-take-le, take_more, take_all, nil_from_length}
-use Rattle.std.proofs.lemmas.Bool.{lt-ltb, le-ltb}
 use Rattle.std.proofs.lemmas.Bool.Decides.{nat_tests}
 use Rattle.std.proofs.Math.ListN.{set, length-set}
 use Rattle.zk_mem.specs.declared.fault.Fault.{Fault}
@@ -11,10 +10,10 @@ use Rattle.zk_state.specs.declared.frames.FrameRecord.{FrameRecord}
 use Rattle.zk_state.specs.declared.refusal.Limit.TheVariants.{Words}
 use Rattle.zk_state.specs.declared.refusal.Refusal.TheVariants.{Limit}
 use Rattle.zk_state.specs.declared.refusal.Refusal.TheVariants as refusal
-use Rattle.zk_state.specs.Frames.{FrameList, frames_of, total_of, within_bounds, with_word, with_words, pushed, taken, given_back, GivesBack, RefusesBack}
+use Rattle.zk_state.specs.Frames.{FrameList, within_bounds, with_word, pushed, taken, given_back, GivesBack, RefusesBack}
 use Rattle.zk_state.specs.declared.frames.Frames.TheInside.{Inside}
 use Rattle.zk_state.specs.Flat.{list_of, seen, Chain, IsKept}
-use Rattle.zk_state.proofs.Calls.{within_bounds_ok, depth_is, total_is, push_ok, push_full, push_list, set_local_ok, set_local_past, leave_ok, leave_first, chain_pop}
+use Rattle.zk_state.proofs.Calls.{within_bounds_ok, depth_is, total_is, push_full, push_list, set_local_ok, set_local_past, leave_ok, leave_first, chain_pop}
 
 -- a list up to its last item
 pub last_cut : (rs : List FrameRecord) (n : ℕ) (r : FrameRecord) → n ≡ length rs → 0 < n → r ≡ get_or rs (n - 1) r → rs ≡ take (n - 1) rs ++ r ∷ []

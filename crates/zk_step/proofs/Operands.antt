@@ -7,7 +7,6 @@ use Rattle.zk_code.specs.declared.operands.Operand.{Operand}
 use Rattle.zk_code.specs.declared.operands.Operand.TheVariants.{Large, Small, Variable}
 use Rattle.zk_step.specs.declared.workspace.Workspace.{Workspace}
 use Rattle.zk_mem.specs.Results.{◌>>=◌}
-use Rattle.zk_mem.specs.Map.{MemoryMap}
 use Rattle.zk_state.specs.Frames.{FrameList, popped}
 use Rattle.zk_step.specs.Variables.{operand_read, operands_read, values_before, variable_read, named_read, with_frames}
 

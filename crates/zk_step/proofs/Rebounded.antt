@@ -1,9 +1,9 @@
 -- No definition of what an instruction does looks at the bounds on frames and words.
-use Rattle.std.proofs.Common.{◌≡◌, ℕ, ◌+◌, ◌-◌, ◌%◌, Bool, true, false, List, [], ◌∷◌, ◌++◌, length, take, drop, Option, Some, None, Result, Ok, Err, refl, nat_lt, nat_le}
-use Rattle.std.specs.Prelude.{◌==◌, ◌&&◌, if◌then◌else◌, int_lt}
+use Rattle.std.proofs.Common.{◌≡◌, ℕ, ◌+◌, ◌-◌, ◌%◌, Bool, true, false, List, [], ◌∷◌, length, take, drop, Option, Some, None, Result, Ok, Err, refl, nat_lt, nat_le}
+use Rattle.std.specs.Prelude.{◌==◌, if◌then◌else◌}
 use Rattle.zk_mem.specs.declared.fault.Fault.{Fault}
 use Rattle.zk_mem.specs.Results.{◌>>=◌}
-use Rattle.zk_mem.specs.Map.{MemoryMap, word_put, byte_put, word_at, byte_at}
+use Rattle.zk_mem.specs.Map.{word_put, byte_put, word_at, byte_at}
 use Rattle.zk_mem.specs.Header.{unpacked}
 use Rattle.zk_state.specs.declared.frames.Return.{Return}
 use Rattle.zk_state.specs.Frames.{Frame, FrameList, with_bounds, has_local, frames_of, popped, top_of, with_top, local_of, with_local, left, unwound}
@@ -28,18 +28,17 @@ use Rattle.zk_step.specs.declared.finish.Way.TheVariants.{To, Back, Out}
 use Rattle.zk_step.specs.declared.workspace.Workspace.{Workspace}
 use Rattle.zk_step.specs.Arithmetic.{arithmetic}
 use Rattle.zk_step.specs.Arrays.{array_effect, byte_of, word_of}
-use Rattle.zk_step.specs.Assignment.{assignment, moved, pushing}
+use Rattle.zk_step.specs.Assignment.{assignment, moved}
 use Rattle.zk_step.specs.Effects.{effect_by, effect_of, beside}
-use Rattle.zk_step.specs.Endings.{goes_on, gives, tests}
-use Rattle.zk_step.specs.Finish.{led, gone, gone_on, finished, way_on, way_of}
+use Rattle.zk_step.specs.Finish.{led, gone, gone_on, finished, way_on}
 use Rattle.zk_step.specs.Instructions.{carried_out}
 use Rattle.zk_step.specs.Laws.{rebounded, moved_in, BoundsAreNotSeen}
-use Rattle.zk_step.specs.Objects.{object_changed, object_answer, changed}
+use Rattle.zk_step.specs.Objects.{object_changed, object_answer}
 use Rattle.zk_step.specs.Printing.{printing}
 use Rattle.zk_step.specs.Routines.{called, stored, returned, thrown, routine_at, routine_effect}
 use Rattle.zk_step.specs.Routing.{Texts, routed}
 use Rattle.zk_step.specs.Values.{first, second, third}
-use Rattle.zk_step.specs.Variables.{with_frames, with_memory, global_address, named_read, named_written, variable_read, variable_written, indirect_read, indirect_written, operand_read, operands_read, values_before}
+use Rattle.zk_step.specs.Variables.{with_frames, global_address, named_read, named_written, variable_read, variable_written, indirect_read, indirect_written, operand_read, operands_read}
 
 -- the second result is the first with its value changed
 data Mapped {A B : Type 0} (g : A → B) : Result A Fault → Result B Fault → Type 0 where

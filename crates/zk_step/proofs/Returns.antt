@@ -1,6 +1,6 @@
 -- Returns that can be made, and those that can't.
-use Rattle.std.proofs.Common.{◌≡◌, ◌∙◌, ℕ, ◌<◌, ◌≤◌, Bool, true, false, Option, Some, None, Result, Ok, Err, IsOk, refl, ap, sym, subst, arith, nat_lt, rules}
-use Rattle.std.specs.Prelude.{◌==◌, nat_eq, if◌then◌else◌}
+use Rattle.std.proofs.Common.{◌≡◌, ◌∙◌, ℕ, ◌<◌, ◌≤◌, Bool, true, false, Option, Some, None, Result, Ok, Err, IsOk, refl, ap, subst, arith, nat_lt, rules}
+use Rattle.std.specs.Prelude.{◌==◌}
 use Rattle.std.proofs.lemmas.Bool.Decides.{nat_tests}
 use Rattle.zk_mem.specs.declared.fault.Fault.{Fault}
 use Rattle.zk_mem.specs.Results.{◌>>=◌}
@@ -8,7 +8,7 @@ use Rattle.zk_mem.specs.Map.{MemoryMap, word_put}
 use Rattle.zk_state.specs.declared.frames.Return.{Return}
 use Rattle.zk_state.specs.declared.refusal.Refusal.{Refusal}
 use Rattle.zk_state.specs.declared.refusal.Refusal.TheVariants as refusal
-use Rattle.zk_state.specs.Frames.{FrameList, left, with_word, with_local, within_bounds, taken, given_back, GivesBack, RefusesBack}
+use Rattle.zk_state.specs.Frames.{FrameList, left, within_bounds, taken, given_back, GivesBack, RefusesBack}
 use Rattle.zk_step.specs.declared.ending.Next.{Next}
 use Rattle.zk_step.specs.declared.ending.Next.TheVariants.{At}
 use Rattle.zk_step.specs.declared.workspace.Workspace.{Workspace}

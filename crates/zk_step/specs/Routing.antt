@@ -1,5 +1,5 @@
 -- Where an instruction's text goes (Standard, section 7.1).
-use Rattle.std.specs.Prelude.{ℕ, List, [], ◌++◌, Result, Ok, Err}
+use Rattle.std.specs.Prelude.{ℕ, List, [], ◌++◌, Result, Ok}
 use Rattle.zk_mem.specs.declared.fault.Fault.{Fault}
 use Rattle.zk_mem.specs.Map.{MemoryMap}
 use Rattle.zk_step.specs.declared.ending.Output.{Output}

@@ -87,8 +87,6 @@ pub fn push_effect(workspace: &mut Workspace, values: &Values) -> Result<Effect,
     ensures silent { IfOk result (λ e. e.output ≡ Output.Nothing) }
     ensures bounds { bounds_of workspace.new.frames ≡ bounds_of workspace.old.frames }
 {
-    match workspace.frames.push(values.first()) {
-        Ok(()) => Ok(Effect::goes_on()),
-        Err(refusal) => Err(refusal),
-    }
+    workspace.frames.push(values.first())?;
+    Ok(Effect::goes_on())
 }

@@ -100,11 +100,8 @@ pub fn call_routine(
     let locals = locals_of(&workspace.memory, header + 1, count, arguments);
     let start = header + 1 + length_of_values(&workspace.memory, count);
     let supplied = arguments.len() as u8;
-    match workspace
+    workspace
         .frames
-        .call(locals.as_slice(), i.next, i.store, supplied)
-    {
-        Ok(()) => Ok(Next::At(start)),
-        Err(refusal) => Err(refusal),
-    }
+        .call(locals.as_slice(), i.next, i.store, supplied)?;
+    Ok(Next::At(start))
 }

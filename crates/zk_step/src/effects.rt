@@ -68,9 +68,6 @@ pub fn effect(workspace: &mut Workspace, i: &Instr, values: &Values) -> Result<E
 {
     match i.opcode {
         Opcode::Push => push_effect(workspace, values),
-        opcode => match effect_by(opcode, workspace, i.text, values) {
-            Ok(effect) => Ok(effect),
-            Err(fault) => Err(Refusal::Fault(fault)),
-        },
+        opcode => Ok(effect_by(opcode, workspace, i.text, values)?),
     }
 }

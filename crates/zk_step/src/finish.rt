@@ -101,13 +101,9 @@ fn go_to(
         (λ e. limited_next (gone workspace.old variable value (Way.To place)) ≡ Err e) }
     ensures bounds { bounds_of workspace.new.frames ≡ bounds_of workspace.old.frames }
 {
-    match store(workspace, variable, value) {
-        Ok(()) => {
-            workspace.is_bounded();
-            Ok(Next::At(place))
-        }
-        Err(refusal) => Err(refusal),
-    }
+    store(workspace, variable, value)?;
+    workspace.is_bounded();
+    Ok(Next::At(place))
 }
 
 /// Stores a result, and leaves the routine or the story.
@@ -168,10 +164,7 @@ pub fn finish(
         Ending::GoOn(value, truth) => go_on(workspace, i, value, truth),
         Ending::Jump(offset) => {
             let way = way_to(jump_target(workspace.memory.len(), i.next, offset));
-            match lead(workspace, way) {
-                Ok(next) => Ok(next),
-                Err(refusal) => Err(refusal),
-            }
+            lead(workspace, way)
         }
         Ending::Call(routine, most) => {
             call_routine(workspace, i, routine, values.arguments(most))

@@ -39,15 +39,13 @@ pub fn return_value(workspace: &mut Workspace, value: u16) -> Result<Next, Refus
         (λ e. limited_next (returned workspace.old value) ≡ Err e) }
     ensures bounds { bounds_of workspace.new.frames ≡ bounds_of workspace.old.frames }
 {
-    match workspace.frames.leave() {
-        Err(fault) => Err(Refusal::Fault(fault)),
-        Ok(back) => match store(workspace, back.result, Some(value)) {
-            Err(refusal) => Err(refusal),
-            Ok(()) => {
-                workspace.is_bounded();
-                Ok(Next::At(back.place))
-            }
-        },
+    let back = workspace.frames.leave()?;
+    match store(workspace, back.result, Some(value)) {
+        Ok(()) => {
+            workspace.is_bounded();
+            Ok(Next::At(back.place))
+        }
+        Err(refusal) => Err(refusal),
     }
 }
 
@@ -59,10 +57,8 @@ pub fn throw_value(workspace: &mut Workspace, value: u16, frame: u16) -> Result<
         (λ e. limited_next (thrown workspace.old value frame) ≡ Err e) }
     ensures bounds { bounds_of workspace.new.frames ≡ bounds_of workspace.old.frames }
 {
-    match workspace.frames.unwind(frame) {
-        Err(fault) => Err(Refusal::Fault(fault)),
-        Ok(()) => return_value(workspace, value),
-    }
+    workspace.frames.unwind(frame)?;
+    return_value(workspace, value)
 }
 
 /// Whether a value can be returned from the current routine to its caller; the refusals are those of

@@ -72,10 +72,8 @@ fn push(workspace: &mut Workspace, value: u16) -> Result<(), Refusal>
         (λ e. limited (variable_written workspace.old 0 value) ≡ Err e) }
     ensures bounds { bounds_of workspace.new.frames ≡ bounds_of workspace.old.frames }
 {
-    match workspace.frames.push(value) {
-        Ok(()) => Ok(()),
-        Err(refusal) => Err(refusal),
-    }
+    workspace.frames.push(value)?;
+    Ok(())
 }
 
 /// Gives a variable a value. Variable 0 pushes it on the evaluation stack.
@@ -89,13 +87,9 @@ pub fn write_variable(workspace: &mut Workspace, variable: u8, value: u16) -> Re
     if variable == 0 {
         return push(workspace, value);
     }
-    match write_named(workspace, variable, value) {
-        Ok(()) => {
-            workspace.is_bounded();
-            Ok(())
-        }
-        Err(fault) => Err(Refusal::Fault(fault)),
-    }
+    write_named(workspace, variable, value)?;
+    workspace.is_bounded();
+    Ok(())
 }
 
 /// The value of a variable that an operand names. Of the evaluation stack it is the newest word, which

@@ -1,8 +1,7 @@
 -- Limits on frames and words, step by step.
-use Rattle.std.proofs.Common.{◌≡◌, ◌∙◌, ℕ, zero, suc, ◌+◌, ◌<◌, ◌≤◌, ◌⊎◌, inl, inr, Bool, true, false, List, length, Result, Ok, Err, refl, ap, sym, subst, arith, nat_lt}
+use Rattle.std.proofs.Common.{◌≡◌, ◌∙◌, ℕ, zero, suc, ◌+◌, ◌≤◌, ◌⊎◌, inl, inr, Bool, true, false, length, Result, Ok, Err, refl, ap, sym, subst, arith, nat_lt}
 use Rattle.std.specs.Prelude.{if◌then◌else◌}
 use Rattle.std.proofs.lemmas.Bool.Decides.{nat_tests}
-use Rattle.std.proofs.lemmas.Grind.{common_steps}
 use Rattle.zk_mem.specs.declared.fault.Fault.{Fault}
 use Rattle.zk_mem.specs.Results.{◌>>=◌}
 use Rattle.zk_state.specs.declared.refusal.Limit.{Limit}
@@ -18,15 +17,13 @@ use Rattle.zk_step.specs.declared.ending.Next.TheVariants.{At, End}
 use Rattle.zk_step.specs.declared.workspace.Workspace.{Workspace}
 use Rattle.zk_step.specs.Instructions.{carried_out}
 use Rattle.zk_step.specs.Laws.{rebounded, moved_in}
-use Rattle.zk_step.specs.Routing.{Texts, no_text, text_joined}
+use Rattle.zk_step.specs.Routing.{Texts}
 use Rattle.zk_step.proofs.Rebounded.{bounds_are_not_seen}
 use Rattle.zk_vm.specs.declared.limits.Limits.{Limits}
-use Rattle.zk_vm.specs.declared.stop.Stop.{Stop}
 use Rattle.zk_vm.specs.declared.stop.Stop.TheVariants.{Limit as LimitAt}
-use Rattle.zk_vm.specs.Bounds.{AreInRange}
 use Rattle.zk_vm.specs.Step.{State, Step, step, settled, led_to, result_of, text_of, state_after, stop_over, text_within}
 use Rattle.zk_vm.specs.Step.Step.{Goes, Quits, Faults}
-use Rattle.zk_vm.specs.Outcome.{Outcome, outcome, followed, begun, Leads}
+use Rattle.zk_vm.specs.Outcome.{outcome, followed, begun, Leads}
 use Rattle.zk_vm.specs.Laws.{IsWithin, RunsStayWithin, state_in, IsNoFrameLimit, FrameLimitsOnlyCut, FrameLimitsCutThere}
 
 -- a step from a state with other bounds

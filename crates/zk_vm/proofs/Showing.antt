@@ -1,5 +1,5 @@
 -- What is shown of an instruction.
-use Rattle.std.proofs.Common.{◌≡◌, ◌∙◌, ℕ, List, [], Result, Ok, Err, refl, ap}
+use Rattle.std.proofs.Common.{◌≡◌, Result, Ok, Err, refl, ap}
 use Rattle.zk_mem.specs.Map.{MemoryMap}
 use Rattle.zk_text.specs.Shown.{shown_all}
 use Rattle.zk_state.specs.declared.refusal.Refusal.{Refusal}

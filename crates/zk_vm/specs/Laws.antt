@@ -1,9 +1,9 @@
 -- What the limits of a run hold, and that they change nothing else.
-use Rattle.std.specs.Prelude.{◌≡◌, ℕ, suc, ◌+◌, ◌≤◌, List, length, Ok, Err}
+use Rattle.std.specs.Prelude.{◌≡◌, ℕ, suc, ◌+◌, ◌≤◌, List, length, Err}
 use Rattle.zk_state.specs.declared.refusal.Limit.{Limit}
 use Rattle.zk_state.specs.declared.refusal.Limit.TheVariants.{Frames, Words, Steps}
 use Rattle.zk_state.specs.declared.refusal.Refusal.TheVariants as refusal
-use Rattle.zk_state.specs.Frames.{FrameList, frames_of, total_of, within_bounds}
+use Rattle.zk_state.specs.Frames.{frames_of, total_of, within_bounds}
 use Rattle.zk_step.specs.Laws.{rebounded}
 use Rattle.zk_step.specs.Routing.{Texts}
 use Rattle.zk_vm.specs.declared.limits.Limits.{Limits}
@@ -12,7 +12,7 @@ use Rattle.zk_vm.specs.declared.stop.Stop.TheVariants.{Limit as LimitAt}
 use Rattle.zk_vm.specs.Bounds.{AreInRange}
 use Rattle.zk_vm.specs.Step.{State, step}
 use Rattle.zk_vm.specs.Step.Step.{Goes}
-use Rattle.zk_vm.specs.Outcome.{Outcome, outcome, begun, Leads}
+use Rattle.zk_vm.specs.Outcome.{outcome, begun, Leads}
 
 -- no more frames and words than the limits say, and no more steps since the last answered read
 pub record IsWithin (l : Limits) (s : State) : Type 0 where

@@ -1,4 +1,4 @@
-use Rattle.std.proofs.Common.{sym, subst}
+use Rattle.std.proofs.Common.{subst}
 use Rattle.zk_mem.specs.Map.{MemoryMap}
 use Rattle.zk_step.specs.Printing.{IsPrintable}
 use Rattle.zk_step.proofs.Operands.{operands_memory}

@@ -1,4 +1,4 @@
-use Rattle.std.proofs.Common.{◌≡◌, ◌<◌, ℕ, arith, rules}
+use Rattle.std.proofs.Common.{◌≡◌, arith}
 use Rattle.zk_step.proofs.Returns.{own_returns, global_returns, global_refused, refused_returns}
 use Rattle.zk_step.proofs.returning.check_return.Goals as goal
 

@@ -1,6 +1,4 @@
-use Rattle.std.proofs.Common.{◌≡◌, ◌∙◌}
-use Rattle.zk_step.specs.Limited.{limited_move}
-use Rattle.zk_step.specs.Instructions.{carried_out}
+use Rattle.std.proofs.Common.{◌∙◌}
 use Rattle.zk_step.proofs.Plain.{printable_parts}
 use Rattle.zk_step.proofs.Steps.{carried_ok, finish_refused}
 use Rattle.zk_vm.proofs.Showing.{told, shown_text, refused_text, silent}

@@ -1,4 +1,4 @@
-use Rattle.std.proofs.Common.{◌≡◌, ◌∙◌, arith}
+use Rattle.std.proofs.Common.{◌∙◌, arith}
 use Rattle.zk_state.proofs.Returning.{first_back, kept_base, kept_none, kept_global, kept_word, kept_full, kept_local, kept_past}
 use Rattle.zk_state.proofs.frames.Frames.check_return.Goals as goal
 
