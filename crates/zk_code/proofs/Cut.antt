@@ -9,7 +9,8 @@ use Rattle.zk_mem.specs.declared.fault.Fault.TheVariants.{CodePastEnd, BadOpcode
 use Rattle.zk_mem.specs.Map.{MemoryMap, cell_at, HasBytes}
 use Rattle.zk_code.specs.declared.instr.Instr.{Instr}
 use Rattle.zk_code.specs.declared.table.Entry.{Entry}
-use Rattle.zk_code.specs.declared.opcode.Opcode.TheVariants.{Jz, Jl}
+use Rattle.zk_code.specs.declared.opcode.Opcode.TheVariants.{Comparison}
+use Rattle.zk_code.specs.declared.opcode.Comparison.TheVariants.{Jz, Jl}
 use Rattle.zk_code.specs.declared.table.Follows.TheVariants.{Branches}
 use Rattle.zk_code.specs.declared.operands.OperandType.{OperandType}
 use Rattle.zk_code.specs.declared.operands.OperandType.TheVariants.{LargeConstant, SmallConstant, Omitted}
@@ -86,7 +87,7 @@ padded_marked m a = record {
 
 -- 2 and 128 begin an instruction in every version, and 190 2 from 5 on
 abbrev jl : Entry
-jl = record { opcode = Jl; least = 2; follows = Branches }
+jl = record { opcode = Comparison Jl; least = 2; follows = Branches }
 
 -- 2 is the number of `jl` in each version
 jl_listed : (v : ℕ) → two_operand v 2 ≡ Some jl
@@ -105,7 +106,7 @@ bad_short op j k b o e h = let q = rw e at h in absurd cc
 
 -- the entry of `jz`
 abbrev jz : Entry
-jz = record { opcode = Jz; least = 1; follows = Branches }
+jz = record { opcode = Comparison Jz; least = 1; follows = Branches }
 
 -- 0 is the number of `jz` in each version
 jz_listed : (v : ℕ) → one_operand v 0 ≡ Some jz
@@ -205,11 +206,19 @@ excluded_from m a BadOpcode h = h
 excluded_from m a MissingOperand h = h
 excluded_from m a d h = absurd h
 
+-- a refusal has its reason
+pub refused_for : (m : MemoryMap) (a : ℕ) (d : Fault) → HasBytes m → instr_at m a ≡ Err d → IsRefusal m a d
+refused_for m a d fits e = refusal_from m a d fits (refused_at m a d fits e)
+
+-- a reason that is there refuses
+pub refusing_for : (m : MemoryMap) (a : ℕ) (d : Fault) → HasBytes m → IsRefusal m a d → instr_at m a ≡ Err d
+refusing_for m a d fits h = refusing_at m a d fits (excluded_from m a d h)
+
 -- as clauses of a result
 pub is_refused : (m : MemoryMap) (a : ℕ) (r : Result Instr Fault) → HasBytes m → r ≡ instr_at m a → IfErr r (IsRefusal m a)
 is_refused m a (Ok i) fits e = tt
-is_refused m a (Err d) fits e = refusal_from m a d fits (refused_at m a d fits (sym e))
+is_refused m a (Err d) fits e = refused_for m a d fits (sym e)
 
 -- a refusal whose reason is there is the result
 pub is_refusing : (m : MemoryMap) (a : ℕ) (r : Result Instr Fault) → HasBytes m → r ≡ instr_at m a → (d : Fault) → IsRefusal m a d → r ≡ Err d
-is_refusing m a r fits e d h = e ∙ refusing_at m a d fits (excluded_from m a d h)
+is_refusing m a r fits e d h = e ∙ refusing_for m a d fits h

@@ -1,20 +1,20 @@
 -- What stands before the operands.
-use Rattle.std.proofs.Common.{◌≡◌, ℕ, zero, suc, ◌+◌, ◌*◌, ◌/◌, ◌%◌, ◌<◌, ◌≤◌, Bool, true, false, cond, List, [], ◌∷◌, ◌++◌, length, Option, Some, None, Result, Ok, Err, refl, sym, ap, subst, ◌∙◌, arith, ◌⊎◌, inl, inr}
+use Rattle.std.proofs.Common.{◌≡◌, ℕ, zero, suc, ◌+◌, ◌*◌, ◌/◌, ◌%◌, ◌<◌, ◌≤◌, Bool, true, false, cond, List, [], ◌∷◌, ◌++◌, length, Option, Some, None, Result, Ok, Err, refl, sym, ap, ◌∙◌, arith, ◌⊎◌, inl, inr}
 use Rattle.std.specs.Prelude.{nat_le, nat_lt, ◌==◌, ◌&&◌}
 use Rattle.std.proofs.lemmas.Bool.{cases_lt, cases_eq}
 use Rattle.std.proofs.lemmas.Bool.Decides.{nat_tests}
 use Rattle.zk_mem.specs.declared.fault.Fault.{Fault}
 use Rattle.zk_mem.specs.declared.fault.Fault.TheVariants.{CodePastEnd, BadOpcode}
-use Rattle.zk_mem.specs.Results.{◌>>=◌}
 use Rattle.zk_mem.specs.Map.{MemoryMap, cell_at, HasBytes}
 use Rattle.zk_code.specs.declared.table.Entry.{Entry}
 use Rattle.zk_code.specs.declared.head.Head.{Head}
 use Rattle.zk_code.specs.declared.operands.OperandType.{OperandType}
 use Rattle.zk_code.specs.declared.operands.OperandType.TheVariants.{LargeConstant, SmallConstant, VariableNumber, Omitted}
 use Rattle.zk_code.specs.Table.{two_operand, one_operand, zero_operand, variable_operand, extended, has_two_type_bytes}
-use Rattle.zk_code.specs.Reading.{or_fault, code_byte, operands_at, type_by_bits, types_by_byte, type_by_bit, four_omitted, types_at, with_type_bytes, extended_at, with_types, head_by, head_at}
+use Rattle.zk_code.specs.Reading.{code_byte, operands_at, type_by_bits, types_by_byte, type_by_bit, four_omitted, types_at, with_type_bytes, extended_at, with_types, head_by, head_at}
 use Rattle.zk_code.specs.Grammar.{Stands, type_bits, type_bit, FourTypes, type_byte, four_types, Form, Long2OP, Short1OP, Short0OP, Extended, Variable2OP, VariableVAR, DoubleVariable, opcode_bytes, type_bytes, types_of, entry_of, IsLongType, IsGiven, IsForm, NamesNone}
-use Rattle.zk_code.proofs.Standing.{bind_ok, bind_err, ok_is, stands_join, byte_takes, byte_again, byte_err, byte_inside}
+use Rattle.zk_code.proofs.Standing.{stands_join, stands_long, byte_takes, byte_again, byte_err, byte_inside}
+use Rattle.zk_code.proofs.Steps.{Reads, read_ok, read_err, read_then, read_more, read_as, read_or, read_byte}
 
 -- ---- type bytes
 
@@ -71,24 +71,22 @@ types_again t =
     cc
 
 -- a type byte that is read is one
-one_takes : (m : MemoryMap) (a : ℕ) (x : List OperandType × ℕ) → HasBytes m → types_at m false a ≡ Ok x → (t : FourTypes) × (x.0 ≡ four_types t ++ four_omitted) × Stands m a (type_byte t ∷ []) x.1
+abbrev OneByte : MemoryMap → ℕ → List OperandType × ℕ → Type 0
+OneByte m a x = (t : FourTypes) × (x.0 ≡ four_types t ++ four_omitted) × Stands m a (type_byte t ∷ []) x.1
+
+one_read : {F : Fault → Type 0} (m : MemoryMap) (a : ℕ) → HasBytes m → (length m.bytes ≤ a → F CodePastEnd) → Reads (OneByte m a) F (types_at m false a)
 unfolding types_at
-one_takes m a x fits e =
-    let t = bind_ok (code_byte m a) (λ t. Ok (types_by_byte t ++ four_omitted, a + 1)) x e in
-    let c = byte_takes m a t.0 t.1 in
-    subst (λ (y : List OperandType × ℕ). (u : FourTypes) × (y.0 ≡ four_types u ++ four_omitted) × Stands m a (type_byte u ∷ []) y.1) (ok_is (types_by_byte t.0 ++ four_omitted, a + 1) x t.2)
-    (types_by t.0, refl, (c ∙ ap Some (sym (type_byte_by t.0 (fits.below a t.0 c))), refl))
+one_read m a fits lack = read_then _ _ (read_byte m a lack) (λ t c. read_ok (types_by t, refl, (c ∙ ap Some (sym (type_byte_by t (fits.below a t c))), refl)))
 
 -- two type bytes that are read are two
-two_take : (m : MemoryMap) (a : ℕ) (x : List OperandType × ℕ) → HasBytes m → types_at m true a ≡ Ok x → (t : FourTypes) × (u : FourTypes) × (x.0 ≡ four_types t ++ four_types u) × Stands m a (type_byte t ∷ type_byte u ∷ []) x.1
+abbrev TwoBytes : MemoryMap → ℕ → List OperandType × ℕ → Type 0
+TwoBytes m a x = (t : FourTypes) × (u : FourTypes) × (x.0 ≡ four_types t ++ four_types u) × Stands m a (type_byte t ∷ type_byte u ∷ []) x.1
+
+two_read : {F : Fault → Type 0} (m : MemoryMap) (a : ℕ) → HasBytes m → (length m.bytes ≤ a + 1 → F CodePastEnd) → Reads (TwoBytes m a) F (types_at m true a)
 unfolding types_at
-two_take m a x fits e =
-    let t = bind_ok (code_byte m a) (λ t. code_byte m (a + 1) >>= λ u. Ok (types_by_byte t ++ types_by_byte u, a + 2)) x e in
-    let u = bind_ok (code_byte m (a + 1)) (λ u. Ok (types_by_byte t.0 ++ types_by_byte u, a + 2)) x t.2 in
-    let c = byte_takes m a t.0 t.1 in
-    let d = byte_takes m (a + 1) u.0 u.1 in
-    subst (λ (y : List OperandType × ℕ). (v : FourTypes) × (w : FourTypes) × (y.0 ≡ four_types v ++ four_types w) × Stands m a (type_byte v ∷ type_byte w ∷ []) y.1) (ok_is (types_by_byte t.0 ++ types_by_byte u.0, a + 2) x u.2)
-    (types_by t.0, types_by u.0, refl, (c ∙ ap Some (sym (type_byte_by t.0 (fits.below a t.0 c))), (d ∙ ap Some (sym (type_byte_by u.0 (fits.below (a + 1) u.0 d))), omega arith)))
+two_read m a fits lack =
+    read_then _ _ (read_byte m a (λ le. lack (omega arith))) (λ t c. read_then _ _ (read_byte m (a + 1) lack) (λ u d.
+    read_ok (types_by t, types_by u, refl, (c ∙ ap Some (sym (type_byte_by t (fits.below a t c))), (d ∙ ap Some (sym (type_byte_by u (fits.below (a + 1) u d))), omega arith)))))
 
 -- a type byte that stands there is read
 one_again : (m : MemoryMap) (a : ℕ) (t : FourTypes) (b : ℕ) → Stands m a (type_byte t ∷ []) b → types_at m false a ≡ Ok (four_types t ++ four_omitted, b)
@@ -102,17 +100,7 @@ two_again m a t u b h =
     let e : a + 2 ≡ b = omega (arith, h.1.1) in
     rw (byte_again m a (type_byte t) h.0, byte_again m (a + 1) (type_byte u) h.1.0, e) (ap (λ (ks : List OperandType). Ok (ks ++ types_by_byte (type_byte u), b)) (types_again t) ∙ ap (λ (ks : List OperandType). Ok (four_types t ++ ks, b)) (types_again u))
 
--- types fail for want of bytes alone
-types_err : (m : MemoryMap) (two : Bool) (a : ℕ) (d : Fault) → types_at m two a ≡ Err d → d ≡ CodePastEnd
-unfolding types_at
-types_err m false a d e = elim (bind_err (code_byte m a) (λ t. Ok (types_by_byte t ++ four_omitted, a + 1)) d e) [ inl h ↦ byte_err m a d h | inr h ↦ absurd cc ]
-types_err m true a d e =
-    elim (bind_err (code_byte m a) (λ t. code_byte m (a + 1) >>= λ u. Ok (types_by_byte t ++ types_by_byte u, a + 2)) d e) [
-      | inl h ↦ byte_err m a d h
-      | inr h ↦ elim (bind_err (code_byte m (a + 1)) (λ u. Ok (types_by_byte h.0 ++ types_by_byte u, a + 2)) d h.2) [ inl p ↦ byte_err m (a + 1) d p | inr p ↦ absurd cc ]
-    ]
-
--- types no_bad_behind an omitted one don't matter
+-- types behind an omitted one don't matter
 operands_pad : (m : MemoryMap) (ks more : List OperandType) (a : ℕ) → operands_at m (ks ++ Omitted ∷ more) a ≡ operands_at m ks a
 unfolding operands_at
 operands_pad m [] more a = refl
@@ -120,7 +108,7 @@ operands_pad m (k ∷ ks) more a = simp (operands_pad m ks more)
 
 -- ---- the forms
 
--- what is read no_bad_behind the bytes of an opcode
+-- what is read behind the bytes of an opcode
 abbrev pub rest_of : MemoryMap → Form → ℕ → Result Head Fault
 rest_of m (Long2OP n j k) b = with_types (two_operand m.version n) j k b
 rest_of m (Short1OP n k) b = with_types (one_operand m.version n) k Omitted b
@@ -322,7 +310,7 @@ begins_read m a (Err d) fits e = inl (rw (e, byte_err m a d e) refl, (let le = b
 pub begins : (m : MemoryMap) (a : ℕ) → HasBytes m → ((head_at m a ≡ Err CodePastEnd) × (length m.bytes ≤ a + 1)) ⊎ Begins m a
 begins m a fits = begins_read m a (code_byte m a) fits refl
 
--- ---- no_bad_behind the opcode's bytes
+-- ---- behind the opcode's bytes
 
 -- operands are read alike by two lists of types
 abbrev Same : MemoryMap → List OperandType → List OperandType → Type 0
@@ -336,64 +324,50 @@ pub record SpelledHead (m : MemoryMap) (a : ℕ) (h : Head) : Type 0 where
   pub bytes : Stands m a (opcode_bytes form ++ type_bytes form) h.next
   pub same : (c : ℕ) → operands_at m h.types c ≡ operands_at m (types_of form) c
 
--- an entry that is there
-or_ok : (op : Option Entry) (o : Entry) → or_fault BadOpcode op ≡ Ok o → op ≡ Some o
-or_ok None o e = absurd cc
-or_ok (Some p) o e = cc
-
--- an entry that is not there
-or_err : (op : Option Entry) (d : Fault) → or_fault BadOpcode op ≡ Err d → (op ≡ None) × (d ≡ BadOpcode)
-or_err None d e = (refl, cc)
-or_err (Some p) d e = absurd cc
-
 -- what is read of a head with types
-with_types_takes : (op : Option Entry) (j k : OperandType) (b : ℕ) (h : Head) → with_types op j k b ≡ Ok h → (op ≡ Some h.entry) × (h.types ≡ j ∷ k ∷ Omitted ∷ Omitted ∷ four_omitted) × (b ≡ h.next)
+with_types_read : {F : Fault → Type 0} (op : Option Entry) (j k : OperandType) (b : ℕ) → (op ≡ None → F BadOpcode) →
+    Reads (λ (h : Head). (op ≡ Some h.entry) × (h.types ≡ j ∷ k ∷ Omitted ∷ Omitted ∷ four_omitted) × (b ≡ h.next)) F (with_types op j k b)
 unfolding with_types
-with_types_takes op j k b h e =
-    let o = bind_ok (or_fault BadOpcode op) (λ o. Ok (record { entry = o; types = j ∷ k ∷ Omitted ∷ Omitted ∷ four_omitted; next = b })) h e in
-    let made : Head = record { entry = o.0; types = j ∷ k ∷ Omitted ∷ Omitted ∷ four_omitted; next = b } in
-    subst (λ (x : Head). (op ≡ Some x.entry) × (x.types ≡ j ∷ k ∷ Omitted ∷ Omitted ∷ four_omitted) × (b ≡ x.next)) (ok_is made h o.2) (or_ok op o.0 o.1, refl, refl)
+with_types_read op j k b none = read_then _ _ (read_or BadOpcode op (λ o e. e) none) (λ o e. read_ok (e, refl, refl))
 
 -- what is read of a head with type bytes
-with_type_bytes_takes : (m : MemoryMap) (op : Option Entry) (two : Bool) (b : ℕ) (h : Head) → with_type_bytes m op two b ≡ Ok h → (op ≡ Some h.entry) × (types_at m two b ≡ Ok (h.types, h.next))
+with_type_bytes_read : {Q : List OperandType × ℕ → Type 0} {F : Fault → Type 0} (m : MemoryMap) (op : Option Entry) (two : Bool) (b : ℕ) → (op ≡ None → F BadOpcode) → Reads Q F (types_at m two b) →
+    Reads (λ (h : Head). (op ≡ Some h.entry) × Q (h.types, h.next)) F (with_type_bytes m op two b)
 unfolding with_type_bytes
-with_type_bytes_takes m op two b h e =
-    let o = bind_ok (or_fault BadOpcode op) (λ o. types_at m two b >>= λ t. Ok (record { entry = o; types = t.0; next = t.1 })) h e in
-    let t = bind_ok (types_at m two b) (λ t. Ok (record { entry = o.0; types = t.0; next = t.1 })) h o.2 in
-    let made : Head = record { entry = o.0; types = t.0.0; next = t.0.1 } in
-    subst (λ (x : Head). (op ≡ Some x.entry) × (types_at m two b ≡ Ok (x.types, x.next))) (ok_is made h t.2) (or_ok op o.0 o.1, t.1)
+with_type_bytes_read m op two b none types = read_then _ _ (read_or BadOpcode op (λ o e. e) none) (λ o e. read_then _ _ types (λ t q. read_ok (e, q)))
 
 -- four types, padded to eight
 pad_four : (m : MemoryMap) (ks : List OperandType) (t : FourTypes) → ks ≡ four_types t ++ four_omitted → Same m ks (four_types t)
 pad_four m ks t e c = rw e (operands_pad m (four_types t) (Omitted ∷ Omitted ∷ Omitted ∷ []) c)
 
+-- a head of two types at most, that is read, is spelled so
+types_spelled : (m : MemoryMap) (f : Form) (a b : ℕ) (h : Head) → IsForm m.version f → entry_of m.version f ≡ Some h.entry → Stands m a (opcode_bytes f) b → Stands m b (type_bytes f) h.next → ((c : ℕ) → operands_at m h.types c ≡ operands_at m (types_of f) c) → SpelledHead m a h
+types_spelled m f a b h is_form listed s t same = record { form = f; is_form = is_form; listed = listed; bytes = stands_join m (opcode_bytes f) (type_bytes f) a b h.next s t; same = same }
+
 -- what is read of a form is spelled so
-pub form_takes : (m : MemoryMap) (f : Form) (a b : ℕ) (h : Head) → HasBytes m → IsForm m.version f → Stands m a (opcode_bytes f) b → rest_of m f b ≡ Ok h → SpelledHead m a h
-form_takes m (Long2OP n j k) a b h fits f s e =
-    let r = with_types_takes (two_operand m.version n) j k b h e in
-    record { form = Long2OP n j k; is_form = f; listed = r.0; bytes = (s.0, s.1 ∙ r.2); same = λ c. rw r.1 (operands_pad m (j ∷ k ∷ []) (Omitted ∷ four_omitted) c) }
-form_takes m (Short1OP n k) a b h fits f s e =
-    let r = with_types_takes (one_operand m.version n) k Omitted b h e in
-    record { form = Short1OP n k; is_form = f; listed = r.0; bytes = (s.0, s.1 ∙ r.2); same = λ c. rw r.1 (operands_pad m (k ∷ []) (Omitted ∷ Omitted ∷ four_omitted) c) }
-form_takes m (Short0OP n) a b h fits f s e =
-    let r = with_types_takes (zero_operand m.version n) Omitted Omitted b h e in
-    record { form = Short0OP n; is_form = f; listed = r.0; bytes = (s.0, s.1 ∙ r.2); same = λ c. rw r.1 (operands_pad m [] (Omitted ∷ Omitted ∷ Omitted ∷ four_omitted) c) }
-form_takes m (Extended n t) a b h fits f s e =
-    let r = with_type_bytes_takes m (extended m.version n) false b h e in
-    let u = one_takes m b (h.types, h.next) fits r.1 in
-    record { form = Extended n u.0; is_form = f; listed = r.0; bytes = stands_join m (190 ∷ n ∷ []) (type_byte u.0 ∷ []) a b h.next s u.2; same = pad_four m h.types u.0 u.1 }
-form_takes m (Variable2OP n t) a b h fits f s e =
-    let r = with_type_bytes_takes m (two_operand m.version n) false b h e in
-    let u = one_takes m b (h.types, h.next) fits r.1 in
-    record { form = Variable2OP n u.0; is_form = f; listed = r.0; bytes = stands_join m ((192 + n) ∷ []) (type_byte u.0 ∷ []) a b h.next s u.2; same = pad_four m h.types u.0 u.1 }
-form_takes m (VariableVAR n t) a b h fits f s e =
-    let r = with_type_bytes_takes m (variable_operand m.version n) false b h e in
-    let u = one_takes m b (h.types, h.next) fits r.1 in
-    record { form = VariableVAR n u.0; is_form = f; listed = r.0; bytes = stands_join m ((224 + n) ∷ []) (type_byte u.0 ∷ []) a b h.next s u.2; same = pad_four m h.types u.0 u.1 }
-form_takes m (DoubleVariable n t w) a b h fits f s e =
-    let r = with_type_bytes_takes m (variable_operand m.version n) true b h e in
-    let u = two_take m b (h.types, h.next) fits r.1 in
-    record { form = DoubleVariable n u.0 u.1; is_form = f; listed = r.0; bytes = stands_join m ((224 + n) ∷ []) (type_byte u.0 ∷ type_byte u.1 ∷ []) a b h.next s u.3; same = λ c. ap (λ (ks : List OperandType). operands_at m ks c) u.2 }
+form_read : {F : Fault → Type 0} (m : MemoryMap) (f : Form) (a b : ℕ) → HasBytes m → IsForm m.version f → Stands m a (opcode_bytes f) b → (entry_of m.version f ≡ None → F BadOpcode) → (length m.bytes ≤ b + 1 → F CodePastEnd) →
+    Reads (SpelledHead m a) F (rest_of m f b)
+form_read m (Long2OP n j k) a b fits f s none lack =
+    read_more (with_types_read (two_operand m.version n) j k b none)
+    (λ h r. types_spelled m (Long2OP n j k) a b h f r.0 s r.2 (λ c. rw r.1 (operands_pad m (j ∷ k ∷ []) (Omitted ∷ four_omitted) c)))
+form_read m (Short1OP n k) a b fits f s none lack =
+    read_more (with_types_read (one_operand m.version n) k Omitted b none)
+    (λ h r. types_spelled m (Short1OP n k) a b h f r.0 s r.2 (λ c. rw r.1 (operands_pad m (k ∷ []) (Omitted ∷ Omitted ∷ four_omitted) c)))
+form_read m (Short0OP n) a b fits f s none lack =
+    read_more (with_types_read (zero_operand m.version n) Omitted Omitted b none)
+    (λ h r. types_spelled m (Short0OP n) a b h f r.0 s r.2 (λ c. rw r.1 (operands_pad m [] (Omitted ∷ Omitted ∷ Omitted ∷ four_omitted) c)))
+form_read m (Extended n t) a b fits f s none lack =
+    read_more (with_type_bytes_read m (extended m.version n) false b none (one_read m b fits (λ le. lack (omega arith))))
+    (λ h r. types_spelled m (Extended n r.1.0) a b h f r.0 s r.1.2 (pad_four m h.types r.1.0 r.1.1))
+form_read m (Variable2OP n t) a b fits f s none lack =
+    read_more (with_type_bytes_read m (two_operand m.version n) false b none (one_read m b fits (λ le. lack (omega arith))))
+    (λ h r. types_spelled m (Variable2OP n r.1.0) a b h f r.0 s r.1.2 (pad_four m h.types r.1.0 r.1.1))
+form_read m (VariableVAR n t) a b fits f s none lack =
+    read_more (with_type_bytes_read m (variable_operand m.version n) false b none (one_read m b fits (λ le. lack (omega arith))))
+    (λ h r. types_spelled m (VariableVAR n r.1.0) a b h f r.0 s r.1.2 (pad_four m h.types r.1.0 r.1.1))
+form_read m (DoubleVariable n t w) a b fits f s none lack =
+    read_more (with_type_bytes_read m (variable_operand m.version n) true b none (two_read m b fits lack))
+    (λ h r. types_spelled m (DoubleVariable n r.1.0 r.1.1) a b h f r.0 s r.1.3 (λ c. ap (λ (ks : List OperandType). operands_at m ks c) r.1.2))
 
 -- what is spelled so is read
 pub record ReadHead (m : MemoryMap) (a : ℕ) (o : Entry) (ks : List OperandType) (b : ℕ) : Type 0 where
@@ -412,31 +386,6 @@ form_again m (Variable2OP n t) a p b o e q s = record { types = _; read = e ∙ 
 form_again m (VariableVAR n t) a p b o e q s = record { types = _; read = e ∙ rw (q, one_again m p t b s) refl; same = pad_four m (four_types t ++ four_omitted) t refl }
 form_again m (DoubleVariable n t u) a p b o e q s = record { types = four_types t ++ four_types u; read = e ∙ rw (q, two_again m p t u b s) refl; same = λ c. refl }
 
--- an opcode that isn't there
-with_types_err : (op : Option Entry) (j k : OperandType) (b : ℕ) (d : Fault) → with_types op j k b ≡ Err d → (d ≡ CodePastEnd) ⊎ ((op ≡ None) × (d ≡ BadOpcode))
-unfolding with_types
-with_types_err op j k b d e =
-    elim (bind_err (or_fault BadOpcode op) (λ o. Ok (record { entry = o; types = j ∷ k ∷ Omitted ∷ Omitted ∷ four_omitted; next = b })) d e) [ inl h ↦ inr (or_err op d h) | inr h ↦ absurd cc ]
-
--- why a head with type bytes fails
-with_type_bytes_err : (m : MemoryMap) (op : Option Entry) (two : Bool) (b : ℕ) (d : Fault) → with_type_bytes m op two b ≡ Err d → (d ≡ CodePastEnd) ⊎ ((op ≡ None) × (d ≡ BadOpcode))
-unfolding with_type_bytes
-with_type_bytes_err m op two b d e =
-    elim (bind_err (or_fault BadOpcode op) (λ o. types_at m two b >>= λ t. Ok (record { entry = o; types = t.0; next = t.1 })) d e) [
-      | inl h ↦ inr (or_err op d h)
-      | inr h ↦ elim (bind_err (types_at m two b) (λ t. Ok (record { entry = h.0; types = t.0; next = t.1 })) d h.2) [ inl p ↦ inl (types_err m two b d p) | inr p ↦ absurd cc ]
-    ]
-
--- why a form fails
-form_err : (m : MemoryMap) (f : Form) (b : ℕ) (d : Fault) → rest_of m f b ≡ Err d → (d ≡ CodePastEnd) ⊎ ((entry_of m.version f ≡ None) × (d ≡ BadOpcode))
-form_err m (Long2OP n j k) b d e = with_types_err (two_operand m.version n) j k b d e
-form_err m (Short1OP n k) b d e = with_types_err (one_operand m.version n) k Omitted b d e
-form_err m (Short0OP n) b d e = with_types_err (zero_operand m.version n) Omitted Omitted b d e
-form_err m (Extended n t) b d e = with_type_bytes_err m (extended m.version n) false b d e
-form_err m (Variable2OP n t) b d e = with_type_bytes_err m (two_operand m.version n) false b d e
-form_err m (VariableVAR n t) b d e = with_type_bytes_err m (variable_operand m.version n) false b d e
-form_err m (DoubleVariable n t u) b d e = with_type_bytes_err m (variable_operand m.version n) true b d e
-
 -- a form without an entry
 form_none : (m : MemoryMap) (f : Form) (b : ℕ) → entry_of m.version f ≡ None → rest_of m f b ≡ Err BadOpcode
 unfolding with_types with_type_bytes
@@ -448,14 +397,37 @@ form_none m (Variable2OP n t) b e = rw e refl
 form_none m (VariableVAR n t) b e = rw e refl
 form_none m (DoubleVariable n t u) b e = rw e refl
 
--- ---- the four laws of the form
+-- ---- the whole head
+
+-- an opcode has two bytes at most
+opcode_short : (f : Form) → length (opcode_bytes f) ≤ 2
+opcode_short (Long2OP n j k) = omega arith
+opcode_short (Short1OP n k) = omega arith
+opcode_short (Short0OP n) = omega arith
+opcode_short (Extended n t) = omega arith
+opcode_short (Variable2OP n t) = omega arith
+opcode_short (VariableVAR n t) = omega arith
+opcode_short (DoubleVariable n t u) = omega arith
+
+-- a head has four bytes and eight types at most
+pub head_short : (f : Form) → (length (opcode_bytes f ++ type_bytes f) ≤ 4) × (length (types_of f) ≤ 8)
+head_short (Long2OP n j k) = omega arith
+head_short (Short1OP n k) = omega arith
+head_short (Short0OP n) = omega arith
+head_short (Extended n t) = omega arith
+head_short (Variable2OP n t) = omega arith
+head_short (VariableVAR n t) = omega arith
+head_short (DoubleVariable n t u) = omega arith
 
 -- a head that is read is spelled so
-pub head_takes : (m : MemoryMap) (a : ℕ) (h : Head) → HasBytes m → head_at m a ≡ Ok h → SpelledHead m a h
-head_takes m a h fits e =
+pub head_read : {F : Fault → Type 0} (m : MemoryMap) (a : ℕ) → HasBytes m → (NamesNone m a → F BadOpcode) → (length m.bytes ≤ a + 3 → F CodePastEnd) → Reads (SpelledHead m a) F (head_at m a)
+head_read m a fits bad lack =
     elim (begins m a fits) [
-      | inl p ↦ absurd cc
-      | inr p ↦ form_takes m p.form a p.at h fits p.is_form p.bytes (sym (opcode_again m p.form a p.at p.is_form p.bytes) ∙ e)
+      | inl p ↦ read_as p.0 (read_err (lack (omega (arith, p.1))))
+      | inr p ↦
+          let long = stands_long m (opcode_bytes p.form) a p.at p.bytes in
+          let short = opcode_short p.form in
+          read_as (opcode_again m p.form a p.at p.is_form p.bytes) (form_read m p.form a p.at fits p.is_form p.bytes (λ none. bad (p.form, p.at, p.is_form, p.bytes, none)) (λ le. lack (omega arith)))
     ]
 
 -- a head that is spelled is read
@@ -465,14 +437,3 @@ head_again m f a p b o i n s t = form_again m f a p b o (opcode_again m f a p i 
 -- an opcode that is not there is bad
 pub head_none : (m : MemoryMap) (a : ℕ) → NamesNone m a → head_at m a ≡ Err BadOpcode
 head_none m a n = opcode_again m n.0 a n.1 n.2 n.3 ∙ form_none m n.0 n.1 n.4
-
--- why a head fails
-pub head_err : (m : MemoryMap) (a : ℕ) (d : Fault) → HasBytes m → head_at m a ≡ Err d → (d ≡ CodePastEnd) ⊎ (NamesNone m a × (d ≡ BadOpcode))
-head_err m a d fits e =
-    elim (begins m a fits) [
-      | inl p ↦ inl (cc)
-      | inr p ↦ elim (form_err m p.form p.at d (sym (opcode_again m p.form a p.at p.is_form p.bytes) ∙ e)) [
-        | inl q ↦ inl q
-        | inr q ↦ inr ((p.form, p.at, p.is_form, p.bytes, q.0), q.1)
-      ]
-    ]

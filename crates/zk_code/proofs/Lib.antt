@@ -1,6 +1,7 @@
 pub mod OperandSteps
-pub mod TextSteps
 pub mod Standing
+pub mod Steps
+pub mod Texts
 pub mod Tails
 pub mod Heads
 pub mod Whole

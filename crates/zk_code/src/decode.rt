@@ -4,7 +4,7 @@ ghost use Rattle.std.specs.Prelude.{ℕ, Ok, Err, IfErr, ◌≡◌, ◌≤◌, �
 ghost use Rattle.zk_mem.specs.declared.fault.Fault.{Fault};
 ghost use Rattle.zk_code.specs.declared.instr.Instr.{Instr};
 ghost use Rattle.zk_code.specs.Grammar.{IsInstruction, IsRefusal};
-ghost use Rattle.zk_code.specs.Reading.{operand_at, operands_at, store_at, branch_by, branch_at, text_end, text_at, instr_at};
+ghost use Rattle.zk_code.specs.Reading.{operand_at, operands_at, store_at, branch_by, branch_at, text_at, instr_at};
 
 use crate::branch::{Branch, target_of_branch};
 use crate::bytes::{read_byte, read_word};
@@ -16,28 +16,45 @@ use zk_mem::fault::Fault;
 use zk_mem::memory::Memory;
 
 #[tactic(auto, unfolding(crate::specs::Reading::operand_at))]
-fn read_operand(memory: &Memory, operand_type: OperandType, a: u32) -> Result<(Operand, u32), Fault>
-    requires { a ≤ 2 ^ 20 }
-    ensures value { result ≡ operand_at memory.now operand_type a }
+fn read_operand(
+    memory: &Memory,
+    operand_type: OperandType,
+    address: u32,
+) -> Result<(Operand, u32), Fault>
+    requires { address ≤ 2 ^ 20 }
+    ensures value { result ≡ operand_at memory.now operand_type address }
     ensures near { IfOk result (λ x. x.1 ≤ 2 ^ 20) }
 {
     match operand_type {
-        OperandType::LargeConstant => Ok((Operand::Large(read_word(memory, a)?), a + 2)),
-        OperandType::SmallConstant => Ok((Operand::Small(read_byte(memory, a)?), a + 1)),
-        OperandType::VariableNumber => Ok((Operand::Variable(read_byte(memory, a)?), a + 1)),
-        OperandType::Omitted => Ok((Operand::Small(0), a)),
+        OperandType::LargeConstant => Ok((
+            Operand::Large(read_word(memory, address)?),
+            address + 2,
+        )),
+        OperandType::SmallConstant => Ok((
+            Operand::Small(read_byte(memory, address)?),
+            address + 1,
+        )),
+        OperandType::VariableNumber => Ok((
+            Operand::Variable(read_byte(memory, address)?),
+            address + 1,
+        )),
+        OperandType::Omitted => Ok((Operand::Small(0), address)),
     }
 }
 
 #[tactic(auto, using(crate::proofs::OperandSteps::loop_step, crate::proofs::OperandSteps::loop_stop, crate::proofs::OperandSteps::loop_fault, crate::proofs::OperandSteps::loop_end))]
-fn read_operands(memory: &Memory, types: &[OperandType], a: u32) -> Result<(Operands, u32), Fault>
-    requires near { a ≤ 2 ^ 20 }
+fn read_operands(
+    memory: &Memory,
+    types: &[OperandType],
+    address: u32,
+) -> Result<(Operands, u32), Fault>
+    requires near { address ≤ 2 ^ 20 }
     requires few { length types.now ≤ 8 }
-    ensures value { result ≡ operands_at memory.now types.now a }
+    ensures value { result ≡ operands_at memory.now types.now address }
     ensures near { IfOk result (λ x. x.1 ≤ 2 ^ 20) }
 {
     let mut operands = Operands::new();
-    let mut at = a;
+    let mut at = address;
     for operand_type in types {
         if operand_type.is_omitted() {
             return Ok((operands, at));
@@ -50,90 +67,78 @@ fn read_operands(memory: &Memory, types: &[OperandType], a: u32) -> Result<(Oper
 }
 
 #[tactic(auto, unfolding(crate::specs::Reading::store_at))]
-fn read_store(memory: &Memory, follows: Follows, a: u32) -> Result<(Option<u8>, u32), Fault>
-    requires { a ≤ 2 ^ 20 }
-    ensures value { result ≡ store_at memory.now follows a }
+fn read_store(memory: &Memory, follows: Follows, address: u32) -> Result<(Option<u8>, u32), Fault>
+    requires { address ≤ 2 ^ 20 }
+    ensures value { result ≡ store_at memory.now follows address }
     ensures near { IfOk result (λ x. x.1 ≤ 2 ^ 20) }
 {
     if follows.stores() {
-        Ok((Some(read_byte(memory, a)?), a + 1))
+        Ok((Some(read_byte(memory, address)?), address + 1))
     } else {
-        Ok((None, a))
+        Ok((None, address))
     }
 }
 
 #[tactic(auto, unfolding(crate::specs::Reading::branch_by))]
-fn read_branch_by(memory: &Memory, a: u32, first: u8) -> Result<(Branch, u32), Fault>
-    requires { a < 524288 }
-    ensures value { result ≡ branch_by memory.now a first }
+fn read_branch_by(memory: &Memory, address: u32, first: u8) -> Result<(Branch, u32), Fault>
+    requires { address < 524288 }
+    ensures value { result ≡ branch_by memory.now address first }
     ensures near { IfOk result (λ x. x.1 ≤ 2 ^ 20) }
 {
     let on = first >= 0x80;
     let length = memory.len();
     if first % 128 < 64 {
-        let low = read_byte(memory, a + 1)?;
+        let low = read_byte(memory, address + 1)?;
         let offset = 256 * (first % 64) as u16 + low as u16;
-        let target = target_of_branch(length, a + 2, offset);
-        Ok((Branch { on, target }, a + 2))
+        let target = target_of_branch(length, address + 2, offset);
+        Ok((Branch { on, target }, address + 2))
     } else {
-        let target = target_of_branch(length, a + 1, (first % 64) as u16);
-        Ok((Branch { on, target }, a + 1))
+        let target = target_of_branch(length, address + 1, (first % 64) as u16);
+        Ok((Branch { on, target }, address + 1))
     }
 }
 
 #[tactic(auto, unfolding(crate::specs::Reading::branch_at))]
-fn read_branch(memory: &Memory, follows: Follows, a: u32) -> Result<(Option<Branch>, u32), Fault>
-    requires { a ≤ 2 ^ 20 }
-    ensures value { result ≡ branch_at memory.now follows a }
+fn read_branch(
+    memory: &Memory,
+    follows: Follows,
+    address: u32,
+) -> Result<(Option<Branch>, u32), Fault>
+    requires { address ≤ 2 ^ 20 }
+    ensures value { result ≡ branch_at memory.now follows address }
     ensures near { IfOk result (λ x. x.1 ≤ 2 ^ 20) }
 {
     if follows.branches() {
-        let first = read_byte(memory, a)?;
-        let (branch, next) = read_branch_by(memory, a, first)?;
+        let first = read_byte(memory, address)?;
+        let (branch, next) = read_branch_by(memory, address, first)?;
         Ok((Some(branch), next))
     } else {
-        Ok((None, a))
+        Ok((None, address))
     }
-}
-
-#[tactic(auto, using(crate::proofs::TextSteps::text_step, crate::proofs::TextSteps::text_last, crate::proofs::TextSteps::text_fault, crate::proofs::TextSteps::text_none))]
-fn end_of_text(memory: &Memory, a: u32) -> Result<u32, Fault>
-    requires { a ≤ 2 ^ 20 }
-    ensures value { result ≡ text_end memory.now (length memory.now.bytes) a }
-    ensures near { IfOk result (λ e. e ≤ 2 ^ 20) }
-{
-    let mut at = a;
-    // there are fewer words than bytes
-    for _i in 0..memory.len() {
-        let word = read_word(memory, at)?;
-        at += 2;
-        if word >= 0x8000 {
-            return Ok(at);
-        }
-    }
-    Err(Fault::CodePastEnd)
 }
 
 #[tactic(auto, unfolding(crate::specs::Reading::text_at))]
-fn read_text(memory: &Memory, follows: Follows, a: u32) -> Result<(Option<u32>, u32), Fault>
-    requires { a ≤ 2 ^ 20 }
-    ensures value { result ≡ text_at memory.now follows a }
+fn read_text(memory: &Memory, follows: Follows, address: u32) -> Result<(Option<u32>, u32), Fault>
+    requires { address ≤ 2 ^ 20 }
+    ensures value { result ≡ text_at memory.now follows address }
     ensures near { IfOk result (λ x. x.1 ≤ 2 ^ 20) }
 {
     if follows.has_text() {
-        let end = end_of_text(memory, a)?;
-        Ok((Some(a), end))
+        // the end lies inside the story
+        memory.len();
+        let end = memory.text_end(address).ok_or(Fault::CodePastEnd)?;
+        Ok((Some(address), end))
     } else {
-        Ok((None, a))
+        Ok((None, address))
     }
 }
 
 #[tactic(auto, unfolding(crate::specs::Reading::instr_at))]
-fn read_instr(memory: &Memory, a: u32) -> Result<Instr, Fault>
-    ensures value { result ≡ instr_at memory.now a }
+fn read_instr(memory: &Memory, address: u32) -> Result<Instr, Fault>
+    ensures value { result ≡ instr_at memory.now address }
     ensures near { IfOk result (λ i. i.next ≤ 2 ^ 20) }
 {
-    let head = read_head(memory, a)?;
+    let head = read_head(memory, address)?;
     let follows = head.entry.follows;
     let (operands, at) = read_operands(memory, &head.types, head.next)?;
     let (store, at) = read_store(memory, follows, at)?;
@@ -158,19 +163,19 @@ fn read_instr(memory: &Memory, a: u32) -> Result<Instr, Fault>
 /// Else `CodePastEnd` where a byte of the instruction, its text included, lies past the story's end.
 /// `MissingOperand`, looked for last, where it has fewer operands than its opcode takes.
 #[tactic(auto, using(crate::proofs::Whole::is_found, crate::proofs::Whole::is_only, crate::proofs::Cut::is_refused))]
-pub fn decode(memory: &Memory, a: u32) -> Result<Instr, Fault>
+pub fn decode(memory: &Memory, address: u32) -> Result<Instr, Fault>
     // What is answered is spelled there.
-    ensures found { IfOk result (λ i. IsInstruction memory.now a i i.next) }
+    ensures found { IfOk result (λ i. IsInstruction memory.now address i i.next) }
     // What is spelled there is answered, so it is the only one.
-    ensures only { (i : Instr) (b : ℕ) → IsInstruction memory.now a i b → (result ≡ Ok i) × (i.next ≡ b) }
+    ensures only { (i : Instr) (b : ℕ) → IsInstruction memory.now address i b → (result ≡ Ok i) × (i.next ≡ b) }
     // A refusal has its reason.
-    ensures refused { IfErr result (IsRefusal memory.now a) }
+    ensures refused { IfErr result (IsRefusal memory.now address) }
     // Where a refusal's reason is there, it is the answer.
-    ensures refuses { (d : Fault) → IsRefusal memory.now a d → result ≡ Err d }
+    ensures refuses { (d : Fault) → IsRefusal memory.now address d → result ≡ Err d }
 
-    ensures value { result ≡ instr_at memory.now a }
+    ensures value { result ≡ instr_at memory.now address }
     ensures near { IfOk result (λ i. i.next ≤ 2 ^ 20) }
 {
     memory.has_bytes();
-    read_instr(memory, a)
+    read_instr(memory, address)
 }

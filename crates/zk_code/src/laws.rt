@@ -1,6 +1,19 @@
 // Laws of the instructions of a story.
 
-ghost use Rattle.zk_code.specs.Laws.{AtMostOne, EndsInside, SameBytes};
+ghost use Rattle.zk_code.specs.Laws.{AtMostOne, EndsInside, FoundIsSpelled, ReasonRefuses, RefusedWithReason, SameBytes, SpelledIsFound, TextIsWords, WordsAreText};
+
+/// Reading from an address on finds the instruction that the grammar spells there, and that alone; and
+/// it refuses for the reasons that the grammar gives, and for those alone.
+pub fn reads_the_grammar()
+    // What is read is spelled there.
+    ensures found { FoundIsSpelled }
+    // What is spelled there is read, so it is the only one.
+    ensures only { SpelledIsFound }
+    // A refusal has its reason.
+    ensures refused { RefusedWithReason }
+    // Where a refusal's reason is there, it is the answer.
+    ensures refuses { ReasonRefuses }
+{}
 
 /// An address has at most one instruction.
 pub fn at_most_one()
@@ -16,4 +29,11 @@ pub fn ends_inside()
 /// length.
 pub fn same_bytes()
     ensures { SameBytes }
+{}
+
+/// A text that the grammar spells at an address is what memory has as the words of the text there, and
+/// the other way round.
+pub fn texts_are_words()
+    ensures read { WordsAreText }
+    ensures spelled { TextIsWords }
 {}

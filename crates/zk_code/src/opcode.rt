@@ -1,125 +1,501 @@
-// The opcodes.
+// The opcodes, by their groups.
 
-ghost use Rattle.std.specs.Prelude.{◌≡◌, nat_le, if◌then◌else◌, codes};
+ghost use Rattle.std.specs.Prelude.{ℕ, ◌≡◌, nat_le, if◌then◌else◌, codes};
 ghost use Rattle.zk_code.specs.Table.{name_of};
+ghost use Rattle.zk_code.specs.declared.opcode.Opcode.TheVariants.{Arithmetic as arithmetic, Comparison as comparison, Assignment as assignment, Array as array, ObjectChange as object_change, ObjectQuestion as object_question, Call as call, Routine as routine, Control as control, Printing as printing, Idle as idle, Reading as reading, Words as words, Window as window, Stream as stream, Table as table, Saving as saving};
 
-/// An opcode (Z-Machine Standards Document 1.1, sections 14 and 15). Where what follows the operands
-/// differs by version, each kind has a variant of its own: `save` branches in version 3
-/// (`SaveBranch`), stores in version 4 (`SaveStore`), and is an extended opcode from version 5 on
-/// (`Save`).
+/// Arithmetic on words, and logic on their bits.
 #[derive(Clone, Copy, Debug, PartialEq, Eq, Drop)]
-pub enum Opcode {
-    Je,
-    Jl,
-    Jg,
-    DecChk,
-    IncChk,
-    Jin,
-    Test,
+pub enum Arithmetic {
     Or,
     And,
-    TestAttr,
-    SetAttr,
-    ClearAttr,
-    Store,
-    InsertObj,
-    Loadw,
-    Loadb,
-    GetProp,
-    GetPropAddr,
-    GetNextProp,
+    Not,
     Add,
     Sub,
     Mul,
     Div,
     Mod,
-    Call2s,
-    Call2n,
-    SetColour,
-    Throw,
+    LogShift,
+    ArtShift,
+}
+
+/// Branches on the values of the operands.
+#[derive(Clone, Copy, Debug, PartialEq, Eq, Drop)]
+pub enum Comparison {
+    Je,
+    Jl,
+    Jg,
     Jz,
-    GetSibling,
-    GetChild,
-    GetParent,
-    GetPropLen,
+    Test,
+}
+
+/// Reads and writes of variables.
+#[derive(Clone, Copy, Debug, PartialEq, Eq, Drop)]
+pub enum Assignment {
+    Store,
+    Load,
     Inc,
     Dec,
-    PrintAddr,
-    Call1s,
-    RemoveObj,
-    PrintObj,
-    Ret,
-    Jump,
-    PrintPaddr,
-    Load,
-    Not,
-    Call1n,
-    Rtrue,
-    Rfalse,
-    Print,
-    PrintRet,
-    Nop,
-    SaveBranch,
-    SaveStore,
-    RestoreBranch,
-    RestoreStore,
-    Restart,
-    RetPopped,
+    IncChk,
+    DecChk,
+    Pull,
     Pop,
-    Catch,
-    Quit,
-    NewLine,
-    ShowStatus,
-    Verify,
-    Piracy,
-    CallVs,
+}
+
+/// Reads and writes of memory, of a byte or a word.
+#[derive(Clone, Copy, Debug, PartialEq, Eq, Drop)]
+pub enum Array {
+    Loadw,
+    Loadb,
     Storew,
     Storeb,
+}
+
+/// Changes to objects: their attributes, places and properties.
+#[derive(Clone, Copy, Debug, PartialEq, Eq, Drop)]
+pub enum ObjectChange {
+    SetAttr,
+    ClearAttr,
+    InsertObj,
+    RemoveObj,
     PutProp,
+}
+
+/// Questions about objects: their attributes, places and properties.
+#[derive(Clone, Copy, Debug, PartialEq, Eq, Drop)]
+pub enum ObjectQuestion {
+    Jin,
+    TestAttr,
+    GetProp,
+    GetPropAddr,
+    GetNextProp,
+    GetPropLen,
+    GetParent,
+    GetSibling,
+    GetChild,
+}
+
+/// Calls of routines: those that store the result (`s`), and those that drop it (`n`).
+#[derive(Clone, Copy, Debug, PartialEq, Eq, Drop)]
+pub enum Call {
+    CallVs,
+    Call1s,
+    Call2s,
+    CallVs2,
+    CallVn,
+    Call1n,
+    Call2n,
+    CallVn2,
+}
+
+/// Returns from routines, and what a routine asks of its own call.
+#[derive(Clone, Copy, Debug, PartialEq, Eq, Drop)]
+pub enum Routine {
+    Rtrue,
+    Rfalse,
+    Ret,
+    RetPopped,
+    Catch,
+    Throw,
+    CheckArgCount,
+}
+
+/// A jump, and the end of the run.
+#[derive(Clone, Copy, Debug, PartialEq, Eq, Drop)]
+pub enum Control {
+    Jump,
+    Quit,
+}
+
+/// Output of text.
+#[derive(Clone, Copy, Debug, PartialEq, Eq, Drop)]
+pub enum Printing {
+    Print,
+    PrintRet,
+    NewLine,
+    PrintNum,
+    PrintChar,
+    PrintUnicode,
+    PrintAddr,
+    PrintPaddr,
+    PrintObj,
+}
+
+/// What changes nothing here: some only store or branch on an answer.
+#[derive(Clone, Copy, Debug, PartialEq, Eq, Drop)]
+pub enum Idle {
+    Nop,
+    SetColour,
+    SetTrueColour,
+    SetTextStyle,
+    BufferMode,
+    SoundEffect,
+    SetFont,
+    Piracy,
+    CheckUnicode,
+}
+
+/// Input from the player.
+#[derive(Clone, Copy, Debug, PartialEq, Eq, Drop)]
+pub enum Reading {
     Sread,
     Aread,
-    PrintChar,
-    PrintNum,
-    Random,
-    Push,
-    Pull,
+    ReadChar,
+}
+
+/// Lines split into words, and words into Z-characters.
+#[derive(Clone, Copy, Debug, PartialEq, Eq, Drop)]
+pub enum Words {
+    Tokenise,
+    EncodeText,
+}
+
+/// The screen's windows, the cursor and the status line.
+#[derive(Clone, Copy, Debug, PartialEq, Eq, Drop)]
+pub enum Window {
     SplitWindow,
     SetWindow,
-    CallVs2,
     EraseWindow,
     EraseLine,
     SetCursor,
     GetCursor,
-    SetTextStyle,
-    BufferMode,
+    ShowStatus,
+}
+
+/// The choice of output and input streams.
+#[derive(Clone, Copy, Debug, PartialEq, Eq, Drop)]
+pub enum Stream {
     OutputStream,
     InputStream,
-    SoundEffect,
-    ReadChar,
+}
+
+/// Searches, copies and output of tables.
+#[derive(Clone, Copy, Debug, PartialEq, Eq, Drop)]
+pub enum Table {
     ScanTable,
-    CallVn,
-    CallVn2,
-    Tokenise,
-    EncodeText,
     CopyTable,
     PrintTable,
-    CheckArgCount,
+}
+
+/// Saved games, restarts, and the check of the story file.
+#[derive(Clone, Copy, Debug, PartialEq, Eq, Drop)]
+pub enum Saving {
+    SaveBranch,
+    SaveStore,
+    RestoreBranch,
+    RestoreStore,
     Save,
     Restore,
-    LogShift,
-    ArtShift,
-    SetFont,
+    Restart,
+    Verify,
     SaveUndo,
     RestoreUndo,
-    PrintUnicode,
-    CheckUnicode,
-    SetTrueColour,
+}
+
+/// An opcode (Z-Machine Standards Document 1.1, sections 14 and 15), by the group whose rules it
+/// follows. Where what follows the operands differs by version, each kind has a variant of its own:
+/// `save` branches in version 3 (`SaveBranch`), stores in version 4 (`SaveStore`), and is an extended
+/// opcode from version 5 on (`Save`).
+#[derive(Clone, Copy, Debug, PartialEq, Eq, Drop)]
+pub enum Opcode {
+    Arithmetic(Arithmetic),
+    Comparison(Comparison),
+    Assignment(Assignment),
+    Push,
+    Array(Array),
+    ObjectChange(ObjectChange),
+    ObjectQuestion(ObjectQuestion),
+    Call(Call),
+    Routine(Routine),
+    Control(Control),
+    Printing(Printing),
+    Idle(Idle),
+    Reading(Reading),
+    Words(Words),
+    Window(Window),
+    Stream(Stream),
+    Table(Table),
+    Random,
+    Saving(Saving),
 }
 
 fn call_name(version: u8) -> &'static str
     ensures { result.now ≡ (if nat_le version 3 then codes "call" else codes "call_vs") }
 {
     if version <= 3 { "call" } else { "call_vs" }
+}
+
+impl Arithmetic {
+    #[tactic(auto, unfolding(crate::specs::Table::name_of))]
+    fn name(self) -> &'static str
+        ensures { (version : ℕ) → result.now ≡ name_of version (arithmetic self) }
+    {
+        match self {
+            Arithmetic::Or => "or",
+            Arithmetic::And => "and",
+            Arithmetic::Not => "not",
+            Arithmetic::Add => "add",
+            Arithmetic::Sub => "sub",
+            Arithmetic::Mul => "mul",
+            Arithmetic::Div => "div",
+            Arithmetic::Mod => "mod",
+            Arithmetic::LogShift => "log_shift",
+            Arithmetic::ArtShift => "art_shift",
+        }
+    }
+}
+
+impl Comparison {
+    #[tactic(auto, unfolding(crate::specs::Table::name_of))]
+    fn name(self) -> &'static str
+        ensures { (version : ℕ) → result.now ≡ name_of version (comparison self) }
+    {
+        match self {
+            Comparison::Je => "je",
+            Comparison::Jl => "jl",
+            Comparison::Jg => "jg",
+            Comparison::Jz => "jz",
+            Comparison::Test => "test",
+        }
+    }
+}
+
+impl Assignment {
+    #[tactic(auto, unfolding(crate::specs::Table::name_of))]
+    fn name(self) -> &'static str
+        ensures { (version : ℕ) → result.now ≡ name_of version (assignment self) }
+    {
+        match self {
+            Assignment::Store => "store",
+            Assignment::Load => "load",
+            Assignment::Inc => "inc",
+            Assignment::Dec => "dec",
+            Assignment::IncChk => "inc_chk",
+            Assignment::DecChk => "dec_chk",
+            Assignment::Pull => "pull",
+            Assignment::Pop => "pop",
+        }
+    }
+}
+
+impl Array {
+    #[tactic(auto, unfolding(crate::specs::Table::name_of))]
+    fn name(self) -> &'static str
+        ensures { (version : ℕ) → result.now ≡ name_of version (array self) }
+    {
+        match self {
+            Array::Loadw => "loadw",
+            Array::Loadb => "loadb",
+            Array::Storew => "storew",
+            Array::Storeb => "storeb",
+        }
+    }
+}
+
+impl ObjectChange {
+    #[tactic(auto, unfolding(crate::specs::Table::name_of))]
+    fn name(self) -> &'static str
+        ensures { (version : ℕ) → result.now ≡ name_of version (object_change self) }
+    {
+        match self {
+            ObjectChange::SetAttr => "set_attr",
+            ObjectChange::ClearAttr => "clear_attr",
+            ObjectChange::InsertObj => "insert_obj",
+            ObjectChange::RemoveObj => "remove_obj",
+            ObjectChange::PutProp => "put_prop",
+        }
+    }
+}
+
+impl ObjectQuestion {
+    #[tactic(auto, unfolding(crate::specs::Table::name_of))]
+    fn name(self) -> &'static str
+        ensures { (version : ℕ) → result.now ≡ name_of version (object_question self) }
+    {
+        match self {
+            ObjectQuestion::Jin => "jin",
+            ObjectQuestion::TestAttr => "test_attr",
+            ObjectQuestion::GetProp => "get_prop",
+            ObjectQuestion::GetPropAddr => "get_prop_addr",
+            ObjectQuestion::GetNextProp => "get_next_prop",
+            ObjectQuestion::GetPropLen => "get_prop_len",
+            ObjectQuestion::GetParent => "get_parent",
+            ObjectQuestion::GetSibling => "get_sibling",
+            ObjectQuestion::GetChild => "get_child",
+        }
+    }
+}
+
+impl Call {
+    #[tactic(auto, unfolding(crate::specs::Table::name_of))]
+    fn name(self, version: u8) -> &'static str
+        ensures { result.now ≡ name_of version (call self) }
+    {
+        match self {
+            Call::CallVs => call_name(version),
+            Call::Call1s => "call_1s",
+            Call::Call2s => "call_2s",
+            Call::CallVs2 => "call_vs2",
+            Call::CallVn => "call_vn",
+            Call::Call1n => "call_1n",
+            Call::Call2n => "call_2n",
+            Call::CallVn2 => "call_vn2",
+        }
+    }
+}
+
+impl Routine {
+    #[tactic(auto, unfolding(crate::specs::Table::name_of))]
+    fn name(self) -> &'static str
+        ensures { (version : ℕ) → result.now ≡ name_of version (routine self) }
+    {
+        match self {
+            Routine::Rtrue => "rtrue",
+            Routine::Rfalse => "rfalse",
+            Routine::Ret => "ret",
+            Routine::RetPopped => "ret_popped",
+            Routine::Catch => "catch",
+            Routine::Throw => "throw",
+            Routine::CheckArgCount => "check_arg_count",
+        }
+    }
+}
+
+impl Control {
+    #[tactic(auto, unfolding(crate::specs::Table::name_of))]
+    fn name(self) -> &'static str
+        ensures { (version : ℕ) → result.now ≡ name_of version (control self) }
+    {
+        match self {
+            Control::Jump => "jump",
+            Control::Quit => "quit",
+        }
+    }
+}
+
+impl Printing {
+    #[tactic(auto, unfolding(crate::specs::Table::name_of))]
+    fn name(self) -> &'static str
+        ensures { (version : ℕ) → result.now ≡ name_of version (printing self) }
+    {
+        match self {
+            Printing::Print => "print",
+            Printing::PrintRet => "print_ret",
+            Printing::NewLine => "new_line",
+            Printing::PrintNum => "print_num",
+            Printing::PrintChar => "print_char",
+            Printing::PrintUnicode => "print_unicode",
+            Printing::PrintAddr => "print_addr",
+            Printing::PrintPaddr => "print_paddr",
+            Printing::PrintObj => "print_obj",
+        }
+    }
+}
+
+impl Idle {
+    #[tactic(auto, unfolding(crate::specs::Table::name_of))]
+    fn name(self) -> &'static str
+        ensures { (version : ℕ) → result.now ≡ name_of version (idle self) }
+    {
+        match self {
+            Idle::Nop => "nop",
+            Idle::SetColour => "set_colour",
+            Idle::SetTrueColour => "set_true_colour",
+            Idle::SetTextStyle => "set_text_style",
+            Idle::BufferMode => "buffer_mode",
+            Idle::SoundEffect => "sound_effect",
+            Idle::SetFont => "set_font",
+            Idle::Piracy => "piracy",
+            Idle::CheckUnicode => "check_unicode",
+        }
+    }
+}
+
+impl Reading {
+    #[tactic(auto, unfolding(crate::specs::Table::name_of))]
+    fn name(self) -> &'static str
+        ensures { (version : ℕ) → result.now ≡ name_of version (reading self) }
+    {
+        match self {
+            Reading::Sread => "sread",
+            Reading::Aread => "aread",
+            Reading::ReadChar => "read_char",
+        }
+    }
+}
+
+impl Words {
+    #[tactic(auto, unfolding(crate::specs::Table::name_of))]
+    fn name(self) -> &'static str
+        ensures { (version : ℕ) → result.now ≡ name_of version (words self) }
+    {
+        match self {
+            Words::Tokenise => "tokenise",
+            Words::EncodeText => "encode_text",
+        }
+    }
+}
+
+impl Window {
+    #[tactic(auto, unfolding(crate::specs::Table::name_of))]
+    fn name(self) -> &'static str
+        ensures { (version : ℕ) → result.now ≡ name_of version (window self) }
+    {
+        match self {
+            Window::SplitWindow => "split_window",
+            Window::SetWindow => "set_window",
+            Window::EraseWindow => "erase_window",
+            Window::EraseLine => "erase_line",
+            Window::SetCursor => "set_cursor",
+            Window::GetCursor => "get_cursor",
+            Window::ShowStatus => "show_status",
+        }
+    }
+}
+
+impl Stream {
+    #[tactic(auto, unfolding(crate::specs::Table::name_of))]
+    fn name(self) -> &'static str
+        ensures { (version : ℕ) → result.now ≡ name_of version (stream self) }
+    {
+        match self {
+            Stream::OutputStream => "output_stream",
+            Stream::InputStream => "input_stream",
+        }
+    }
+}
+
+impl Table {
+    #[tactic(auto, unfolding(crate::specs::Table::name_of))]
+    fn name(self) -> &'static str
+        ensures { (version : ℕ) → result.now ≡ name_of version (table self) }
+    {
+        match self {
+            Table::ScanTable => "scan_table",
+            Table::CopyTable => "copy_table",
+            Table::PrintTable => "print_table",
+        }
+    }
+}
+
+impl Saving {
+    #[tactic(auto, unfolding(crate::specs::Table::name_of))]
+    fn name(self) -> &'static str
+        ensures { (version : ℕ) → result.now ≡ name_of version (saving self) }
+    {
+        match self {
+            Saving::SaveBranch => "save",
+            Saving::SaveStore => "save",
+            Saving::RestoreBranch => "restore",
+            Saving::RestoreStore => "restore",
+            Saving::Save => "save",
+            Saving::Restore => "restore",
+            Saving::Restart => "restart",
+            Saving::Verify => "verify",
+            Saving::SaveUndo => "save_undo",
+            Saving::RestoreUndo => "restore_undo",
+        }
+    }
 }
 
 /// The Standard's name of an opcode in a version (section 14). Of an opcode that the version has not,
@@ -129,110 +505,24 @@ pub fn name(opcode: Opcode, version: u8) -> &'static str
     ensures { result.now ≡ name_of version opcode }
 {
     match opcode {
-        Opcode::Je => "je",
-        Opcode::Jl => "jl",
-        Opcode::Jg => "jg",
-        Opcode::DecChk => "dec_chk",
-        Opcode::IncChk => "inc_chk",
-        Opcode::Jin => "jin",
-        Opcode::Test => "test",
-        Opcode::Or => "or",
-        Opcode::And => "and",
-        Opcode::TestAttr => "test_attr",
-        Opcode::SetAttr => "set_attr",
-        Opcode::ClearAttr => "clear_attr",
-        Opcode::Store => "store",
-        Opcode::InsertObj => "insert_obj",
-        Opcode::Loadw => "loadw",
-        Opcode::Loadb => "loadb",
-        Opcode::GetProp => "get_prop",
-        Opcode::GetPropAddr => "get_prop_addr",
-        Opcode::GetNextProp => "get_next_prop",
-        Opcode::Add => "add",
-        Opcode::Sub => "sub",
-        Opcode::Mul => "mul",
-        Opcode::Div => "div",
-        Opcode::Mod => "mod",
-        Opcode::Call2s => "call_2s",
-        Opcode::Call2n => "call_2n",
-        Opcode::SetColour => "set_colour",
-        Opcode::Throw => "throw",
-        Opcode::Jz => "jz",
-        Opcode::GetSibling => "get_sibling",
-        Opcode::GetChild => "get_child",
-        Opcode::GetParent => "get_parent",
-        Opcode::GetPropLen => "get_prop_len",
-        Opcode::Inc => "inc",
-        Opcode::Dec => "dec",
-        Opcode::PrintAddr => "print_addr",
-        Opcode::Call1s => "call_1s",
-        Opcode::RemoveObj => "remove_obj",
-        Opcode::PrintObj => "print_obj",
-        Opcode::Ret => "ret",
-        Opcode::Jump => "jump",
-        Opcode::PrintPaddr => "print_paddr",
-        Opcode::Load => "load",
-        Opcode::Not => "not",
-        Opcode::Call1n => "call_1n",
-        Opcode::Rtrue => "rtrue",
-        Opcode::Rfalse => "rfalse",
-        Opcode::Print => "print",
-        Opcode::PrintRet => "print_ret",
-        Opcode::Nop => "nop",
-        Opcode::SaveBranch => "save",
-        Opcode::SaveStore => "save",
-        Opcode::RestoreBranch => "restore",
-        Opcode::RestoreStore => "restore",
-        Opcode::Restart => "restart",
-        Opcode::RetPopped => "ret_popped",
-        Opcode::Pop => "pop",
-        Opcode::Catch => "catch",
-        Opcode::Quit => "quit",
-        Opcode::NewLine => "new_line",
-        Opcode::ShowStatus => "show_status",
-        Opcode::Verify => "verify",
-        Opcode::Piracy => "piracy",
-        Opcode::CallVs => call_name(version),
-        Opcode::Storew => "storew",
-        Opcode::Storeb => "storeb",
-        Opcode::PutProp => "put_prop",
-        Opcode::Sread => "sread",
-        Opcode::Aread => "aread",
-        Opcode::PrintChar => "print_char",
-        Opcode::PrintNum => "print_num",
-        Opcode::Random => "random",
+        Opcode::Arithmetic(operation) => operation.name(),
+        Opcode::Comparison(operation) => operation.name(),
+        Opcode::Assignment(operation) => operation.name(),
         Opcode::Push => "push",
-        Opcode::Pull => "pull",
-        Opcode::SplitWindow => "split_window",
-        Opcode::SetWindow => "set_window",
-        Opcode::CallVs2 => "call_vs2",
-        Opcode::EraseWindow => "erase_window",
-        Opcode::EraseLine => "erase_line",
-        Opcode::SetCursor => "set_cursor",
-        Opcode::GetCursor => "get_cursor",
-        Opcode::SetTextStyle => "set_text_style",
-        Opcode::BufferMode => "buffer_mode",
-        Opcode::OutputStream => "output_stream",
-        Opcode::InputStream => "input_stream",
-        Opcode::SoundEffect => "sound_effect",
-        Opcode::ReadChar => "read_char",
-        Opcode::ScanTable => "scan_table",
-        Opcode::CallVn => "call_vn",
-        Opcode::CallVn2 => "call_vn2",
-        Opcode::Tokenise => "tokenise",
-        Opcode::EncodeText => "encode_text",
-        Opcode::CopyTable => "copy_table",
-        Opcode::PrintTable => "print_table",
-        Opcode::CheckArgCount => "check_arg_count",
-        Opcode::Save => "save",
-        Opcode::Restore => "restore",
-        Opcode::LogShift => "log_shift",
-        Opcode::ArtShift => "art_shift",
-        Opcode::SetFont => "set_font",
-        Opcode::SaveUndo => "save_undo",
-        Opcode::RestoreUndo => "restore_undo",
-        Opcode::PrintUnicode => "print_unicode",
-        Opcode::CheckUnicode => "check_unicode",
-        Opcode::SetTrueColour => "set_true_colour",
+        Opcode::Array(operation) => operation.name(),
+        Opcode::ObjectChange(operation) => operation.name(),
+        Opcode::ObjectQuestion(operation) => operation.name(),
+        Opcode::Call(operation) => operation.name(version),
+        Opcode::Routine(operation) => operation.name(),
+        Opcode::Control(operation) => operation.name(),
+        Opcode::Printing(operation) => operation.name(),
+        Opcode::Idle(operation) => operation.name(),
+        Opcode::Reading(operation) => operation.name(),
+        Opcode::Words(operation) => operation.name(),
+        Opcode::Window(operation) => operation.name(),
+        Opcode::Stream(operation) => operation.name(),
+        Opcode::Table(operation) => operation.name(),
+        Opcode::Random => "random",
+        Opcode::Saving(operation) => operation.name(),
     }
 }

@@ -1,3 +1,4 @@
-pub mod Numbers
 pub mod Calls
 pub mod Unwinding
+pub mod Kept
+pub mod Returning

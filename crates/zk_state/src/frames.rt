@@ -1,16 +1,12 @@
-// Frames: a record for each, and one list of numbered words for their evaluation stacks.
+// Frames: one list of all words, and a record for each frame that says which of them are its own.
 
-ghost use Rattle.std.specs.Prelude.{◌≡◌, ◌+◌, ◌<◌, ◌≤◌, ◌^◌, length, nat_lt, MatchResult, IfOk};
-ghost use Rattle.zk_state.specs.Frames.{first_frames, total_of, pushed, popped, top_of, with_top, local_of, with_local, called, left, unwound, IsBounded};
+ghost use Rattle.std.specs.Prelude.{ℕ, ◌≡◌, ◌+◌, ◌<◌, ◌≤◌, ◌^◌, ◌++◌, length, take, MatchResult, IfOk};
+ghost use Rattle.zk_state.specs.Frames.{first_frames, total_of, pushed, popped, top_of, with_top, local_of, with_local, called, left, unwound, IsBounded, GivesBack, RefusesBack};
 
 use crate::refusal::{Limit, Refusal};
-use arrayvec::ArrayVec;
 use std::alloc::{AllocError, Global};
 use std::marker::Model;
 use zk_mem::fault::Fault;
-
-/// The most local variables that a routine has (Standard, section 5.2).
-const LOCALS: usize = 15;
 
 /// Where a routine returns to: the byte address, and the variable that takes its result, if any.
 #[derive(Clone, Copy, Debug, PartialEq, Eq, Drop)]
@@ -19,17 +15,12 @@ pub struct Return {
     pub result: Option<u8>,
 }
 
-/// A word of the evaluation stack of a frame, which is named by how many lie below it.
+/// A frame: its local variables are the words from `base` to `floor`, and its evaluation stack is all that
+/// lies between them and the next frame.
 #[derive(Clone, Copy, Debug, PartialEq, Eq, Drop)]
-struct NumberedWord {
-    frame: u16,
-    value: u16,
-}
-
-/// A frame without its evaluation stack.
-#[derive(Drop)]
 struct FrameRecord {
-    locals: ArrayVec<u16, LOCALS>,
+    base: usize,
+    floor: usize,
     place: u32,
     result: Option<u8>,
     supplied: u8,
@@ -42,8 +33,8 @@ struct FrameRecord {
 pub struct Frames {
     current: FrameRecord,
     callers: Vec<FrameRecord>,
-    words: Vec<NumberedWord>,
-    local_count: usize,
+    words: Vec<u16>,
+    top: usize,
     most_frames: usize,
     most_words: usize,
 }
@@ -53,11 +44,23 @@ impl Model for Frames {
 
     ghost Value = { FrameList };
 
-    ghost use Rattle.zk_state.specs.Numbered.{seen, IsKept};
+    ghost use Rattle.zk_state.specs.Flat.{seen, IsKept};
 
     ghost view = { seen };
 
     ghost invariant = { IsKept };
+}
+
+/// Copies words over others, from an index on.
+#[inline(always)]
+fn copy_words(words: &mut Vec<u16>, at: usize, from: &[u16])
+    requires { at + length from.now ≤ length words.old.items }
+    ensures front { take (at + length from.now) words.new.items ≡ take at words.old.items ++ from.now }
+    ensures len { length words.new.items ≡ length words.old.items }
+{
+    for k in 0..from.len() {
+        words[at + k] = from[k];
+    }
 }
 
 impl Frames {
@@ -68,17 +71,18 @@ impl Frames {
         ensures { IfOk result (λ s. s ≡ first_frames most_frames most_words) }
     {
         let callers = Vec::with_capacity(alloc, most_frames as usize)?;
-        let words = Vec::with_capacity(alloc, most_words as usize)?;
+        let words = vec![in alloc; 0; most_words as usize]?;
         Ok(Frames {
             current: FrameRecord {
-                locals: ArrayVec::new(),
+                base: 0,
+                floor: 0,
                 place: 0,
                 result: None,
                 supplied: 0,
             },
             callers,
             words,
-            local_count: 0,
+            top: 0,
             most_frames: most_frames as usize,
             most_words: most_words as usize,
         })
@@ -93,11 +97,19 @@ impl Frames {
         self.callers.len() as u16
     }
 
+    /// There are no more frames and words than there may be.
+    #[inline(always)]
+    pub fn is_bounded(&self)
+        ensures { IsBounded self.now }
+    {
+        let _ = self.depth();
+    }
+
     /// How many words all frames hold together, local variables included.
     pub fn words(&self) -> u32
         ensures { result ≡ total_of self.now }
     {
-        (self.local_count + self.words.len()) as u32
+        self.top as u32
     }
 
     /// How many arguments the current routine was given (Standard, section 15, check_arg_count).
@@ -115,22 +127,12 @@ impl Frames {
             (λ _. pushed self.old value ≡ Ok self.new)
             (λ e. (pushed self.old value ≡ Err e) × (self.new ≡ self.old)) }
     {
-        if self.local_count + self.words.len() >= self.most_words {
+        if self.top >= self.most_words {
             return Err(Refusal::Limit(Limit::Words));
         }
-        let frame = self.depth();
-        self.words.push(NumberedWord { frame, value }).unwrap();
+        self.words[self.top] = value;
+        self.top += 1;
         Ok(())
-    }
-
-    /// Whether the current routine has a word on the evaluation stack.
-    fn has_word(&self) -> bool
-        ensures { result ≡ nat_lt 0 (length self.now.current.words) }
-    {
-        match self.words.last() {
-            Some(word) => word.frame as usize == self.callers.len(),
-            None => false,
-        }
     }
 
     /// Pulls the newest word off the evaluation stack (Standard, section 6.3). Where the current
@@ -141,11 +143,11 @@ impl Frames {
             (λ value. popped self.old ≡ Ok (self.new, value))
             (λ e. (popped self.old ≡ Err e) × (self.new ≡ self.old)) }
     {
-        if !self.has_word() {
+        if self.top <= self.current.floor {
             return Err(Fault::StackEmpty);
         }
-        let word = self.words.pop().unwrap();
-        Ok(word.value)
+        self.top -= 1;
+        Ok(self.words[self.top])
     }
 
     /// The newest word of the evaluation stack, which stays there (Standard, section 6.3.4). Where
@@ -154,10 +156,10 @@ impl Frames {
     pub fn top(&self) -> Result<u16, Fault>
         ensures { result ≡ top_of self.now }
     {
-        if !self.has_word() {
+        if self.top <= self.current.floor {
             return Err(Fault::StackEmpty);
         }
-        Ok(self.words[self.words.len() - 1].value)
+        Ok(self.words[self.top - 1])
     }
 
     /// Puts a word in the place of the newest one of the evaluation stack (Standard, section
@@ -168,11 +170,10 @@ impl Frames {
             (λ _. with_top self.old value ≡ Ok self.new)
             (λ e. (with_top self.old value ≡ Err e) × (self.new ≡ self.old)) }
     {
-        if !self.has_word() {
+        if self.top <= self.current.floor {
             return Err(Fault::StackEmpty);
         }
-        let last = self.words.len() - 1;
-        self.words[last].value = value;
+        self.words[self.top - 1] = value;
         Ok(())
     }
 
@@ -182,11 +183,11 @@ impl Frames {
     pub fn local(&self, number: u8) -> Result<u16, Fault>
         ensures { result ≡ local_of self.now number }
     {
-        let number = number as usize;
-        if number == 0 || number > self.current.locals.len() {
+        let end = self.current.base + number as usize;
+        if number == 0 || end > self.current.floor {
             return Err(Fault::NoSuchLocal);
         }
-        Ok(self.current.locals[number - 1])
+        Ok(self.words[end - 1])
     }
 
     /// Writes a local variable of the current routine, by its number from 1 on (Standard, section
@@ -197,14 +198,12 @@ impl Frames {
             (λ _. with_local self.old number value ≡ Ok self.new)
             (λ e. (with_local self.old number value ≡ Err e) × (self.new ≡ self.old)) }
     {
-        if number == 0 {
+        let end = self.current.base + number as usize;
+        if number == 0 || end > self.current.floor {
             return Err(Fault::NoSuchLocal);
         }
-        if let Some(local) = self.current.locals.get_mut(number as usize - 1) {
-            *local = value;
-            return Ok(());
-        }
-        Err(Fault::NoSuchLocal)
+        self.words[end - 1] = value;
+        Ok(())
     }
 
     /// Begins a routine with these local variables. It will return to the byte address `place`,
@@ -230,20 +229,20 @@ impl Frames {
         if self.callers.len() + 1 >= self.most_frames {
             return Err(Refusal::Limit(Limit::Frames));
         }
-        if self.local_count + self.words.len() + locals.len() > self.most_words {
+        let floor = self.top + locals.len();
+        if floor > self.most_words {
             return Err(Refusal::Limit(Limit::Words));
         }
-        let mut own = ArrayVec::new();
-        own.try_extend_from_slice(locals).unwrap();
-        let called = FrameRecord {
-            locals: own,
+        copy_words(&mut self.words, self.top, locals);
+        self.callers.push(self.current).unwrap();
+        self.current = FrameRecord {
+            base: self.top,
+            floor,
             place,
             result: store,
             supplied,
         };
-        let caller = std::mem::replace(&mut self.current, called);
-        self.callers.push(caller).unwrap();
-        self.local_count += locals.len();
+        self.top = floor;
         Ok(())
     }
 
@@ -255,20 +254,50 @@ impl Frames {
             (λ back. left self.old ≡ Ok (self.new, back))
             (λ e. (left self.old ≡ Err e) × (self.new ≡ self.old)) }
     {
-        let number = self.callers.len();
         match self.callers.pop() {
             Some(caller) => {
                 let back = Return {
                     place: self.current.place,
                     result: self.current.result,
                 };
-                self.words.retain(|word| word.frame as usize != number);
-                self.local_count -= self.current.locals.len();
+                self.top = self.current.base;
                 self.current = caller;
                 Ok(back)
             }
             None => Err(Fault::ReturnFromMain),
         }
+    }
+
+    /// Whether the current routine can return a value to its caller, and the variable that takes it, if
+    /// any. In the first frame this is `Fault::ReturnFromMain`. Where the variable is a local one that the
+    /// caller has not, it is `Fault::NoSuchLocal`; where it is the evaluation stack and has no room,
+    /// `Limit::Words`. Of a global variable nothing is asked.
+    pub fn check_return(&self) -> Result<Option<u8>, Refusal>
+        ensures { MatchResult result
+            (λ v. (value : ℕ) → GivesBack self.now value v)
+            (λ e. (value : ℕ) → RefusesBack self.now value e) }
+    {
+        let depth = self.callers.len();
+        if depth == 0 {
+            return Err(Refusal::Fault(Fault::ReturnFromMain));
+        }
+        let caller = self.callers[depth - 1];
+        let Some(variable) = self.current.result else {
+            return Ok(None);
+        };
+        if variable >= 16 {
+            return Ok(Some(variable));
+        }
+        if variable == 0 {
+            if self.current.base >= self.most_words {
+                return Err(Refusal::Limit(Limit::Words));
+            }
+            return Ok(Some(variable));
+        }
+        if caller.base + variable as usize > caller.floor {
+            return Err(Refusal::Fault(Fault::NoSuchLocal));
+        }
+        Ok(Some(variable))
     }
 
     /// Drops the frames above the one of a number, where the first has number 0 (Standard, section

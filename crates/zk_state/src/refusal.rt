@@ -41,3 +41,14 @@ pub enum Refusal {
     #[error(transparent)]
     Limit(Limit),
 }
+
+impl From<Fault> for Refusal {
+    ghost use Rattle.std.specs.Prelude.{◌≡◌};
+    ghost use Rattle.zk_state.specs.declared.refusal.Refusal.TheVariants as refusal;
+
+    ghost from_gives = { λ fault made. made ≡ refusal.Fault fault };
+
+    fn from(fault: Fault) -> Refusal {
+        Refusal::Fault(fault)
+    }
+}

@@ -24,7 +24,7 @@ entry_counted l (inl e) table end o h = let few = rw e at h.few in let room = rw
 entry_counted l (inr e) table end o h = let few = rw e at h.few in let room = rw e at h.within in rw e (omega arith)
 
 -- an object with a sibling link is one of those that fit
-linked_counted : (m : MemoryMap) (o v : ℕ) → o ≢ 0 → link_at m (sibling_of o) ≡ Ok v → o ≤ entries m
+pub linked_counted : (m : MemoryMap) (o v : ℕ) → o ≢ 0 → link_at m (sibling_of o) ≡ Ok v → o ≤ entries m
 unfolding entries
 linked_counted m o v ne h =
     let e = link_entry m (sibling_of o) v ne h in
@@ -205,7 +205,7 @@ front_of m x (o ∷ os) y q p h =
     record { zs = o ∷ f.zs; path = (p.0, p.1, (p.2.0, p.2.1, f.path)) })
     (or_cases (eqb q o) (list_any (eqb q) os) h)
 
-apart_each : (o : ℕ) (os : List ℕ) → list_any (eqb o) os ≡ false → AllByRecursion (λ y. eqb o y ≡ false) os
+pub apart_each : (o : ℕ) (os : List ℕ) → list_any (eqb o) os ≡ false → AllByRecursion (λ y. eqb o y ≡ false) os
 apart_each o [] h = tt
 apart_each o (y ∷ ys) h = let p = or_parts (eqb o y) (list_any (eqb o) ys) h in (p.0, apart_each o ys p.1)
 

@@ -6,5 +6,10 @@ pub mod TreeSteps
 pub mod ChainLaw
 pub mod ListLaw
 pub mod LinkLaw
+pub mod Changes
+pub mod Paths
 pub mod DecidedLaw
 pub mod RemovalLaw
+pub mod TakenLaw
+pub mod PutInLaw
+pub mod MadeLaw

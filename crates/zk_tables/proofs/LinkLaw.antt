@@ -1,10 +1,10 @@
 -- Links, read after one of them was written.
-use Rattle.std.proofs.Common.{◌≡◌, ◌≢◌, ℕ, ◌+◌, ◌*◌, ◌-◌, ◌/◌, ◌%◌, ◌<◌, ◌≤◌, true, false, length, Result, Ok, Err, refl, sym, ap, ◌∙◌, arith, eqb, ◌⊎◌, inl, inr, min, nat_lt}
-use Rattle.std.specs.Prelude.{get_or, slice_set}
-use Rattle.std.proofs.lemmas.List.{get_or-set_same, get_or-set_other, length-set}
-use Rattle.std.proofs.lemmas.Bool.{ne_eqb, ltb-true}
+use Rattle.std.proofs.Common.{◌≡◌, ◌≢◌, ℕ, ◌+◌, ◌*◌, ◌-◌, ◌/◌, ◌%◌, ◌<◌, ◌≤◌, true, false, Result, Ok, Err, refl, sym, ap, ◌∙◌, arith, eqb, ◌⊎◌, inl, inr, min, nat_lt}
+use Rattle.std.proofs.lemmas.List.{get_or-set_other, length-set}
+use Rattle.std.proofs.lemmas.Bool.{ne_eqb}
 use Rattle.zk_mem.specs.declared.fault.Fault.{Fault}
 use Rattle.zk_mem.specs.Results.{◌>>=◌}
+use Rattle.zk_mem.proofs.Writes.{byte_is_written, word_is_written}
 use Rattle.zk_mem.specs.Map.{MemoryMap, readable_end, byte_at, word_at, byte_put, word_put, with_byte}
 use Rattle.zk_tables.specs.declared.layout.Layout.{Layout}
 use Rattle.zk_tables.specs.declared.links.Link.{Link}
@@ -18,14 +18,14 @@ use Rattle.zk_tables.proofs.Writes.{IsSameShape, layouts, entry_there, entry_tak
 -- ---- bytes
 
 -- a byte that is written
-byte_writes : (m n : MemoryMap) (a v : ℕ) → byte_put m a v ≡ Ok n → (with_byte m a v ≡ n) × (nat_lt a (readable_end m) ≡ true)
+pub byte_writes : (m n : MemoryMap) (a v : ℕ) → byte_put m a v ≡ Ok n → (with_byte m a v ≡ n) × (nat_lt a (readable_end m) ≡ true)
 unfolding byte_put
 byte_writes m n a v h = elim (chosen (nat_lt a (readable_end m)) _ _ _ h) [
   | inl t ↦ elim (chosen (nat_lt a m.static_base) _ _ _ t.1) [ inl u ↦ (same_map _ n u.1, t.0) | inr u ↦ absurd cc ]
   | inr t ↦ absurd cc
 ]
 
-word_writes : (m n : MemoryMap) (a v : ℕ) → word_put m a v ≡ Ok n → (with_byte (with_byte m a (v / 256)) (a + 1) (v % 256) ≡ n) × (nat_lt (a + 1) (readable_end m) ≡ true)
+pub word_writes : (m n : MemoryMap) (a v : ℕ) → word_put m a v ≡ Ok n → (with_byte (with_byte m a (v / 256)) (a + 1) (v % 256) ≡ n) × (nat_lt (a + 1) (readable_end m) ≡ true)
 unfolding word_put
 word_writes m n a v h = elim (chosen (nat_lt (a + 1) (readable_end m)) _ _ _ h) [
   | inl t ↦ elim (chosen (nat_lt (a + 1) m.static_base) _ _ _ t.1) [ inl u ↦ (same_map _ n u.1, t.0) | inr u ↦ absurd cc ]
@@ -35,28 +35,9 @@ word_writes m n a v h = elim (chosen (nat_lt (a + 1) (readable_end m)) _ _ _ h) 
 same_end : (m : MemoryMap) (a v : ℕ) → readable_end (with_byte m a v) ≡ readable_end m
 same_end m a v = ap (λ (k : ℕ). min k 65536) (length-set m.bytes a v)
 
-byte_read : (m : MemoryMap) (a v : ℕ) → nat_lt a (readable_end m) ≡ true → byte_at (with_byte m a v) a ≡ Ok v
-unfolding byte_at
-byte_read m a v t =
-    let low : a < readable_end m = ltb-true a (readable_end m) t in
-    let inside : a < length m.bytes = omega arith in
-    rw (same_end m a v, t, get_or-set_same m.bytes a v 0 inside) refl
-
 byte_other : (m : MemoryMap) (a b v : ℕ) → b ≢ a → byte_at (with_byte m a v) b ≡ byte_at m b
 unfolding byte_at
 byte_other m a b v ne = rw (same_end m a v, get_or-set_other m.bytes a b v 0 ne) refl
-
-word_read : (m : MemoryMap) (a v : ℕ) → nat_lt (a + 1) (readable_end m) ≡ true → word_at (with_byte (with_byte m a (v / 256)) (a + 1) (v % 256)) a ≡ Ok v
-unfolding word_at
-word_read m a v t =
-    let low : a + 1 < readable_end m = ltb-true (a + 1) (readable_end m) t in
-    let inside : a < length m.bytes = omega arith in
-    let first = with_byte m a (v / 256) in
-    let room : a + 1 < length first.bytes = omega (arith, length-set m.bytes a (v / 256)) in
-    let one : get_or (slice_set first.bytes (a + 1) (v % 256)) a 0 ≡ v / 256 = get_or-set_other first.bytes (a + 1) a (v % 256) 0 (λ e. omega arith) ∙ get_or-set_same m.bytes a (v / 256) 0 inside in
-    let two : get_or (slice_set first.bytes (a + 1) (v % 256)) (a + 1) 0 ≡ v % 256 = get_or-set_same first.bytes (a + 1) (v % 256) 0 room in
-    let whole : 256 * (v / 256) + v % 256 ≡ v = omega arith in
-    rw (same_end first (a + 1) (v % 256), same_end m a (v / 256), t, one, two, whole) refl
 
 word_other : (m : MemoryMap) (a b v : ℕ) → b ≢ a → b + 1 ≢ a → word_at (with_byte m a v) b ≡ word_at m b
 unfolding word_at
@@ -125,21 +106,18 @@ late_apart m place q a b e h k =
 real_place : (m : MemoryMap) (place : Place) (a : ℕ) → address_of m place ≡ Ok a → eqb place.object 0 ≡ false
 real_place m place a h = let s = standing m place a h in let counted = s.counted in ne_eqb place.object 0 (λ e. omega arith)
 
-address_same : (m n : MemoryMap) (place : Place) → IsSameShape m n → address_of n place ≡ address_of m place
+pub address_same : (m n : MemoryMap) (place : Place) → IsSameShape m n → address_of n place ≡ address_of m place
 unfolding address_of
 address_same m n place s = rw (entry_same m n place.object s, s.version) refl
 
-number_read : (m n : MemoryMap) (a o : ℕ) → o < 65536 → ((layout_of m.version).link_bytes ≡ 1 → o < 256) → n.version ≡ m.version → number_put m a o ≡ Ok n → number_at n a ≡ Ok o
+number_read : (m n : MemoryMap) (a o : ℕ) → ((layout_of m.version).link_bytes ≡ 1 → o < 256) → n.version ≡ m.version → number_put m a o ≡ Ok n → number_at n a ≡ Ok o
 unfolding number_put number_at byte_at word_at
-number_read m n a o small fits v h = elim (layouts m.version) [
-  | inl e ↦ (let w = byte_writes m n a (o % 256) (rw e at h) in
+number_read m n a o fits v h = elim (layouts m.version) [
+  | inl e ↦ (let w = byte_is_written m n a (o % 256) (rw e at h) in
       let low : o < 256 = fits (ap (λ (l : Layout). l.link_bytes) e) in
       let same : o % 256 ≡ o = omega arith in
-      let back : byte_at n a ≡ Ok (o % 256) = rw (← w.0) (byte_read m a (o % 256) w.1) in
-      rw (v, e) (back ∙ ap (λ (x : ℕ). Ok x) same))
-  | inr e ↦ (let w = word_writes m n a o (rw e at h) in
-      let back : word_at n a ≡ Ok o = rw (← w.0) (word_read m a o w.1) in
-      rw (v, e) back)
+      rw (v, e) (w.written ∙ ap (λ (x : ℕ). Ok x) same))
+  | inr e ↦ (let w = word_is_written m n a o (rw e at h) in rw (v, e) w.written)
 ]
 
 number_other : (m n : MemoryMap) (a b o : ℕ) → b ≢ a → (layout_of m.version ≡ late_layout → (b + 1 ≢ a) × (a + 1 ≢ b)) → n.version ≡ m.version → number_put m a o ≡ Ok n → number_at n b ≡ number_at m b
@@ -155,17 +133,17 @@ number_other m n a b o ne apart v h = elim (layouts m.version) [
       rw (v, e) back)
 ]
 
-written : (m n : MemoryMap) (place : Place) (o : ℕ) → link_put m place o ≡ Ok n → (a : ℕ) × (address_of m place ≡ Ok a) × (number_put m a o ≡ Ok n)
+pub written : (m n : MemoryMap) (place : Place) (o : ℕ) → link_put m place o ≡ Ok n → (a : ℕ) × (address_of m place ≡ Ok a) × (number_put m a o ≡ Ok n)
 unfolding link_put
 written m n place o h = bind_ok (address_of m place) (λ a. number_put m a o) n h
 
-link_read : (m n : MemoryMap) (place : Place) (o : ℕ) → o < 65536 → ((layout_of m.version).link_bytes ≡ 1 → o < 256) → link_put m place o ≡ Ok n → link_at n place ≡ Ok o
+pub link_read : (m n : MemoryMap) (place : Place) (o : ℕ) → ((layout_of m.version).link_bytes ≡ 1 → o < 256) → link_put m place o ≡ Ok n → link_at n place ≡ Ok o
 unfolding link_at
-link_read m n place o small fits h =
+link_read m n place o fits h =
     let shape = put_shape m n place o h in
     let w = written m n place o h in
     let there : address_of n place ≡ Ok w.0 = address_same m n place shape ∙ w.1 in
-    rw (real_place m place w.0 w.1, there) (number_read m n w.0 o small fits shape.version w.2)
+    rw (real_place m place w.0 w.1, there) (number_read m n w.0 o fits shape.version w.2)
 
 other_at : (m n : MemoryMap) (place q : Place) (o : ℕ) (r : Result ℕ Fault) → q ≢ place → IsSameShape m n → (a : ℕ) → address_of m place ≡ Ok a → number_put m a o ≡ Ok n → address_of m q ≡ r → (r >>= number_at n) ≡ (r >>= number_at m)
 other_at m n place q o (Err e) ne shape a h k s = refl
@@ -173,7 +151,7 @@ other_at m n place q o (Ok b) ne shape a h k s =
     let differ : b ≢ a = λ z. ne (sym (one_link m place q a h (s ∙ ap (λ (x : ℕ). Ok x) z))) in
     number_other m n a b o differ (λ e. (late_apart m place q a b e h s, late_apart m q place b a e s h)) shape.version k
 
-link_other : (m n : MemoryMap) (place q : Place) (o : ℕ) → q ≢ place → link_put m place o ≡ Ok n → link_at n q ≡ link_at m q
+pub link_other : (m n : MemoryMap) (place q : Place) (o : ℕ) → q ≢ place → link_put m place o ≡ Ok n → link_at n q ≡ link_at m q
 unfolding link_at
 link_other m n place q o ne h =
     let shape = put_shape m n place o h in
@@ -182,7 +160,7 @@ link_other m n place q o ne h =
     rw (address_same m n q shape, same) refl
 
 pub links_are_written : LinksAreWritten
-links_are_written m n place o small fits h = record {
-  names = link_read m n place o small fits h;
+links_are_written m n place o fits h = record {
+  names = link_read m n place o fits h;
   others = λ q ne. link_other m n place q o ne h;
 }

@@ -23,7 +23,7 @@ byte_found m a x h = elim (chosen (nat_lt a (readable_end m)) _ _ _ h) [ inl t �
 byte_below : (m : MemoryMap) (a x : ℕ) → byte_at m a ≡ Ok x → a < readable_end m
 byte_below m a x h = ltb-true a (readable_end m) (byte_found m a x h).0
 
-byte_small : (m : MemoryMap) (a x : ℕ) → HasBytes m → byte_at m a ≡ Ok x → x < 256
+pub byte_small : (m : MemoryMap) (a x : ℕ) → HasBytes m → byte_at m a ≡ Ok x → x < 256
 unfolding cell_at
 byte_small m a x fits h =
     let f = byte_found m a x h in

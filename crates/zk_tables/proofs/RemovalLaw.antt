@@ -16,11 +16,11 @@ unfolding unlinked_where
 where_named m o (Ok place) = refl
 where_named m o (Err e) = refl
 
-by_parent : (m : MemoryMap) (o parent : ℕ) → parent ≢ 0 → link_at m (parent_of o) ≡ Ok parent → removed m o ≡ (naming_among m parent o >>= λ place. unlinked m place o)
+pub by_parent : (m : MemoryMap) (o parent : ℕ) → parent ≢ 0 → link_at m (parent_of o) ≡ Ok parent → removed m o ≡ (naming_among m parent o >>= λ place. unlinked m place o)
 unfolding removed naming_of
 by_parent m o parent some at = rw (at, zero_test parent some) (where_named m o (naming_among m parent o))
 
-with_children : (m : MemoryMap) (o parent : ℕ) (xs : List ℕ) → children_of m parent ≡ Ok xs → naming_among m parent o ≡ naming_in (child_of parent) xs o
+pub with_children : (m : MemoryMap) (o parent : ℕ) (xs : List ℕ) → children_of m parent ≡ Ok xs → naming_among m parent o ≡ naming_in (child_of parent) xs o
 unfolding naming_among
 with_children m o parent xs h = rw h refl
 

@@ -1,5 +1,5 @@
 -- What a removal and an insertion come to.
-use Rattle.std.proofs.Common.{◌≡◌, ◌≢◌, ℕ, Bool, true, false, Option, Some, None, Result, Ok, Err, refl, ◌∙◌, eqb, inl, inr, ◌||◌}
+use Rattle.std.proofs.Common.{◌≡◌, ◌≢◌, ℕ, Bool, true, false, [], ◌∷◌, Option, Some, None, Result, Ok, Err, refl, ◌∙◌, eqb, inl, inr, ◌||◌}
 use Rattle.std.specs.Prelude.{IsOk, MatchResult}
 use Rattle.std.proofs.lemmas.Bool.{ne_eqb, eq-eqb, eqb-true, cases_Bool}
 use Rattle.zk_mem.specs.declared.fault.Fault.{Fault}
@@ -7,10 +7,10 @@ use Rattle.zk_mem.specs.Results.{◌>>=◌}
 use Rattle.zk_mem.specs.Map.{MemoryMap}
 use Rattle.zk_tables.specs.declared.links.Place.{Place}
 use Rattle.zk_tables.specs.Layout.{entry_of}
-use Rattle.zk_tables.specs.Links.{parent_of, sibling_of, child_of, link_at, link_put, write_test}
+use Rattle.zk_tables.specs.Links.{parent_of, sibling_of, child_of, link_at, link_put, write_tests}
 use Rattle.zk_tables.specs.Tree.{naming_of, unlinked, unlinked_where, removed, linked, inserted}
 use Rattle.zk_tables.proofs.Steps.{bind_ok, value_of, is_ok_of, not_err}
-use Rattle.zk_tables.proofs.Writes.{IsSameShape, same_shape, shape_join, has_link, link_entry, link_written, link_refused, writable_same, entry_same, put_shape}
+use Rattle.zk_tables.proofs.Writes.{IsSameShape, same_shape, shape_join, has_link, link_entry, put_all, all_written, all_refused, entry_same, put_shape}
 
 pub no_removal : (m : MemoryMap) (o : ℕ) → naming_of m o ≡ Ok None → removed m o ≡ Ok m
 unfolding removed unlinked_where
@@ -45,40 +45,20 @@ named_sibling m o place h = let e = named_entry m o place h in has_link m (sibli
 
 -- ---- the three links that a removal writes
 
-pub removal_refused_named : (m : MemoryMap) (o : ℕ) (place : Place) (d : Fault) → naming_of m o ≡ Ok (Some place) → write_test m place ≡ Err d → removed m o ≡ Err d
+removal_writes : (m : MemoryMap) (o : ℕ) (place : Place) → naming_of m o ≡ Ok (Some place) → (next : ℕ) × (removed m o ≡ put_all m (place, next) ((parent_of o, 0) ∷ (sibling_of o, 0) ∷ []))
 unfolding unlinked
-removal_refused_named m o place d h w =
-    let next = named_sibling m o place h in
-    rw (removal_of m o place h, next.1, link_refused m place next.0 d w) refl
+removal_writes m o place h = let next = named_sibling m o place h in (next.0, rw (removal_of m o place h, next.1) refl)
 
-pub removal_refused_parent : (m : MemoryMap) (o : ℕ) (place : Place) (d : Fault) → naming_of m o ≡ Ok (Some place) → write_test m place ≡ Ok tt → write_test m (parent_of o) ≡ Err d → removed m o ≡ Err d
-unfolding unlinked
-removal_refused_parent m o place d h w x =
-    let next = named_sibling m o place h in
-    let one = link_written m place next.0 w in
-    let two = link_refused one.0 (parent_of o) 0 d (writable_same m one.0 (parent_of o) one.2 ∙ x) in
-    rw (removal_of m o place h, next.1, one.1, two) refl
+pub removal_refused : (m : MemoryMap) (o : ℕ) (place : Place) (d : Fault) → naming_of m o ≡ Ok (Some place) → write_tests m place (parent_of o ∷ sibling_of o ∷ []) ≡ Err d → removed m o ≡ Err d
+removal_refused m o place d h w =
+    let r = removal_writes m o place h in
+    r.1 ∙ all_refused m m (place, r.0) ((parent_of o, 0) ∷ (sibling_of o, 0) ∷ []) d (same_shape m) w
 
-pub removal_refused_sibling : (m : MemoryMap) (o : ℕ) (place : Place) (d : Fault) → naming_of m o ≡ Ok (Some place) → write_test m place ≡ Ok tt → write_test m (parent_of o) ≡ Ok tt → write_test m (sibling_of o) ≡ Err d → removed m o ≡ Err d
-unfolding unlinked
-removal_refused_sibling m o place d h w x y =
-    let next = named_sibling m o place h in
-    let one = link_written m place next.0 w in
-    let two = link_written one.0 (parent_of o) 0 (writable_same m one.0 (parent_of o) one.2 ∙ x) in
-    let shape = shape_join m one.0 two.0 one.2 two.2 in
-    let three = link_refused two.0 (sibling_of o) 0 d (writable_same m two.0 (sibling_of o) shape ∙ y) in
-    rw (removal_of m o place h, next.1, one.1, two.1, three) refl
-
-pub removal_done : (m : MemoryMap) (o : ℕ) (place : Place) → naming_of m o ≡ Ok (Some place) → write_test m place ≡ Ok tt → write_test m (parent_of o) ≡ Ok tt → write_test m (sibling_of o) ≡ Ok tt → IsOk (removed m o)
-unfolding unlinked
-removal_done m o place h w x y =
-    let next = named_sibling m o place h in
-    let one = link_written m place next.0 w in
-    let two = link_written one.0 (parent_of o) 0 (writable_same m one.0 (parent_of o) one.2 ∙ x) in
-    let shape = shape_join m one.0 two.0 one.2 two.2 in
-    let three = link_written two.0 (sibling_of o) 0 (writable_same m two.0 (sibling_of o) shape ∙ y) in
-    let whole : removed m o ≡ Ok three.0 = rw (removal_of m o place h, next.1, one.1, two.1, three.1) refl in
-    is_ok_of (removed m o) three.0 whole
+pub removal_done : (m : MemoryMap) (o : ℕ) (place : Place) → naming_of m o ≡ Ok (Some place) → write_tests m place (parent_of o ∷ sibling_of o ∷ []) ≡ Ok tt → IsOk (removed m o)
+removal_done m o place h w =
+    let r = removal_writes m o place h in
+    let n = all_written m m (place, r.0) ((parent_of o, 0) ∷ (sibling_of o, 0) ∷ []) (same_shape m) w in
+    is_ok_of (removed m o) n.0 (r.1 ∙ n.1)
 
 unlinked_shape : (m n : MemoryMap) (o : ℕ) (place : Place) → unlinked m place o ≡ Ok n → IsSameShape m n
 unfolding unlinked
@@ -136,14 +116,14 @@ pub record AreThere (m : MemoryMap) (o d : ℕ) : Type 0 where
   pub entry : entry_of m o ≡ Ok at
   pub into_entry : entry_of m d ≡ Ok into_at
 
-insertion_of : (m : MemoryMap) (o d : ℕ) → AreThere m o d → inserted m o d ≡ (removed m o >>= λ without. linked without o d)
+pub insertion_of : (m : MemoryMap) (o d : ℕ) → AreThere m o d → inserted m o d ≡ (removed m o >>= λ without. linked without o d)
 unfolding inserted
 insertion_of m o d t = let e = t.entry in let f = t.into_entry in rw (ne_eqb o 0 t.real, ne_eqb d 0 t.real_into, e, f) refl
 
 pub insertion_fails : (m : MemoryMap) (o d : ℕ) (e : Fault) → AreThere m o d → removed m o ≡ Err e → inserted m o d ≡ Err e
 insertion_fails m o d e t h = insertion_of m o d t ∙ (rw h refl)
 
-removed_shape : (m n : MemoryMap) (o : ℕ) → removed m o ≡ Ok n → IsSameShape m n
+pub removed_shape : (m n : MemoryMap) (o : ℕ) → removed m o ≡ Ok n → IsSameShape m n
 unfolding removed
 removed_shape m n o h = let e = bind_ok (naming_of m o) (unlinked_where m o) n h in where_shape m n o e.0 e.2
 
@@ -152,50 +132,23 @@ child_there m n o d t s = has_link n (child_of d) t.into_at (entry_same m n d s 
 
 -- ---- the three links that it writes
 
-pub insertion_refused_sibling : (m : MemoryMap) (o d : ℕ) (e : Fault) → AreThere m o d → IsOk (removed m o) → write_test m (sibling_of o) ≡ Err e → inserted m o d ≡ Err e
+linked_writes : (m n : MemoryMap) (o d : ℕ) → AreThere m o d → IsSameShape m n → (next : ℕ) × (linked n o d ≡ put_all n (sibling_of o, next) ((parent_of o, d) ∷ (child_of d, o) ∷ []))
 unfolding linked
-insertion_refused_sibling m o d e t ok w =
+linked_writes m n o d t s = let next = child_there m n o d t s in (next.0, rw next.1 refl)
+
+pub insertion_refused : (m : MemoryMap) (o d : ℕ) (e : Fault) → AreThere m o d → IsOk (removed m o) → write_tests m (sibling_of o) (parent_of o ∷ child_of d ∷ []) ≡ Err e → inserted m o d ≡ Err e
+insertion_refused m o d e t ok w =
     let n = value_of (removed m o) ok in
     let shape = removed_shape m n.0 o n.1 in
-    let next = child_there m n.0 o d t shape in
-    let one = link_refused n.0 (sibling_of o) next.0 e (writable_same m n.0 (sibling_of o) shape ∙ w) in
-    rw (insertion_of m o d t, n.1, next.1, one) refl
+    let l = linked_writes m n.0 o d t shape in
+    let bad = all_refused m n.0 (sibling_of o, l.0) ((parent_of o, d) ∷ (child_of d, o) ∷ []) e shape w in
+    insertion_of m o d t ∙ (rw n.1 (l.1 ∙ bad))
 
-pub insertion_refused_parent : (m : MemoryMap) (o d : ℕ) (e : Fault) → AreThere m o d → IsOk (removed m o) → write_test m (sibling_of o) ≡ Ok tt → write_test m (parent_of o) ≡ Err e → inserted m o d ≡ Err e
-unfolding linked
-insertion_refused_parent m o d e t ok w x =
-    let n = value_of (removed m o) ok in
-    let shape = removed_shape m n.0 o n.1 in
-    let next = child_there m n.0 o d t shape in
-    let one = link_written n.0 (sibling_of o) next.0 (writable_same m n.0 (sibling_of o) shape ∙ w) in
-    let shape_one = shape_join m n.0 one.0 shape one.2 in
-    let two = link_refused one.0 (parent_of o) d e (writable_same m one.0 (parent_of o) shape_one ∙ x) in
-    rw (insertion_of m o d t, n.1, next.1, one.1, two) refl
-
-pub insertion_refused_child : (m : MemoryMap) (o d : ℕ) (e : Fault) → AreThere m o d → IsOk (removed m o) → write_test m (sibling_of o) ≡ Ok tt → write_test m (parent_of o) ≡ Ok tt → write_test m (child_of d) ≡ Err e → inserted m o d ≡ Err e
-unfolding linked
-insertion_refused_child m o d e t ok w x y =
-    let n = value_of (removed m o) ok in
-    let shape = removed_shape m n.0 o n.1 in
-    let next = child_there m n.0 o d t shape in
-    let one = link_written n.0 (sibling_of o) next.0 (writable_same m n.0 (sibling_of o) shape ∙ w) in
-    let shape_one = shape_join m n.0 one.0 shape one.2 in
-    let two = link_written one.0 (parent_of o) d (writable_same m one.0 (parent_of o) shape_one ∙ x) in
-    let shape_two = shape_join m one.0 two.0 shape_one two.2 in
-    let three = link_refused two.0 (child_of d) o e (writable_same m two.0 (child_of d) shape_two ∙ y) in
-    rw (insertion_of m o d t, n.1, next.1, one.1, two.1, three) refl
-
-linked_done : (m n : MemoryMap) (o d : ℕ) → AreThere m o d → IsSameShape m n → write_test m (sibling_of o) ≡ Ok tt → write_test m (parent_of o) ≡ Ok tt → write_test m (child_of d) ≡ Ok tt → IsOk (linked n o d)
-unfolding linked
-linked_done m n o d t shape w x y =
-    let next = child_there m n o d t shape in
-    let one = link_written n (sibling_of o) next.0 (writable_same m n (sibling_of o) shape ∙ w) in
-    let shape_one = shape_join m n one.0 shape one.2 in
-    let two = link_written one.0 (parent_of o) d (writable_same m one.0 (parent_of o) shape_one ∙ x) in
-    let shape_two = shape_join m one.0 two.0 shape_one two.2 in
-    let three = link_written two.0 (child_of d) o (writable_same m two.0 (child_of d) shape_two ∙ y) in
-    let whole : linked n o d ≡ Ok three.0 = rw (next.1, one.1, two.1, three.1) refl in
-    is_ok_of (linked n o d) three.0 whole
+pub linked_done : (m n : MemoryMap) (o d : ℕ) → AreThere m o d → IsSameShape m n → write_tests m (sibling_of o) (parent_of o ∷ child_of d ∷ []) ≡ Ok tt → IsOk (linked n o d)
+linked_done m n o d t shape w =
+    let l = linked_writes m n o d t shape in
+    let done = all_written m n (sibling_of o, l.0) ((parent_of o, d) ∷ (child_of d, o) ∷ []) shape w in
+    is_ok_of (linked n o d) done.0 (l.1 ∙ done.1)
 
 pub removed_by : (m n : MemoryMap) (o : ℕ) (place : Option Place) → naming_of m o ≡ Ok place → unlinked_where m o place ≡ Ok n → removed m o ≡ Ok n
 unfolding removed
@@ -206,9 +159,9 @@ unfolding removed
 removal_stands m o place d h ok bad = not_err (removed m o) d ok (rw h bad)
 
 pub insert_ends : (m without n : MemoryMap) (o d : ℕ) (r : Result (Unit {0}) Fault) → AreThere m o d → removed m o ≡ Ok without
-    → write_test m (sibling_of o) ≡ Ok tt → write_test m (parent_of o) ≡ Ok tt → write_test m (child_of d) ≡ Ok tt
+    → write_tests m (sibling_of o) (parent_of o ∷ child_of d ∷ []) ≡ Ok tt
     → MatchResult r (λ _. linked without o d ≡ Ok n) (λ f. linked without o d ≡ Err f)
     → MatchResult r (λ _. inserted m o d ≡ Ok n) (λ f. (inserted m o d ≡ Err f) × (n ≡ m))
-insert_ends m without n o d (Ok u) t h w x y done = insertion_of m o d t ∙ (rw h done)
-insert_ends m without n o d (Err f) t h w x y bad =
-    absurd (not_err (linked without o d) f (linked_done m without o d t (removed_shape m without o h) w x y) bad)
+insert_ends m without n o d (Ok u) t h w done = insertion_of m o d t ∙ (rw h done)
+insert_ends m without n o d (Err f) t h w bad =
+    absurd (not_err (linked without o d) f (linked_done m without o d t (removed_shape m without o h) w) bad)

@@ -1,17 +1,18 @@
 -- Which links can be written.
-use Rattle.std.proofs.Common.{◌≡◌, ◌≢◌, ℕ, ◌+◌, ◌*◌, ◌-◌, ◌/◌, ◌%◌, ◌<◌, ◌≤◌, Bool, true, false, cond, length, Result, Ok, Err, refl, sym, ◌∙◌, arith, eqb, ◌⊎◌, inl, inr, nat_lt, nat_le}
+use Rattle.std.proofs.Common.{◌≡◌, ◌≢◌, ℕ, ◌+◌, ◌*◌, ◌-◌, ◌/◌, ◌%◌, ◌<◌, ◌≤◌, Bool, true, false, cond, List, [], ◌∷◌, length, Result, Ok, Err, refl, sym, ◌∙◌, arith, eqb, ◌⊎◌, inl, inr, nat_lt, nat_le}
 use Rattle.std.proofs.lemmas.Bool.{ne_eqb, and_parts, leb-true, leb-false, ltb-true, cases_Bool}
 use Rattle.std.proofs.lemmas.Bool.Decides.{nat_tests}
 use Rattle.std.proofs.lemmas.Grind.{common_steps}
 use Rattle.zk_mem.specs.declared.fault.Fault.{Fault}
 use Rattle.zk_mem.specs.declared.fault.Fault.TheVariants.{BadObject, ReadOnly}
+use Rattle.zk_mem.specs.Results.{◌>>=◌}
 use Rattle.zk_mem.specs.Map.{MemoryMap, readable_end, byte_at, word_at, byte_put, word_put, with_byte}
 use Rattle.zk_tables.specs.declared.layout.Layout.{Layout}
 use Rattle.zk_tables.specs.declared.links.Link.{Link}
 use Rattle.zk_tables.specs.declared.links.Link.TheVariants.{Parent, Sibling, Child}
 use Rattle.zk_tables.specs.declared.links.Place.{Place}
 use Rattle.zk_tables.specs.Layout.{early_layout, late_layout, layout_of, default_words_start, first_entry, is_entry, is_entry_in, entry_of}
-use Rattle.zk_tables.specs.Links.{order_of, address_of, number_at, number_put, link_at, link_put, write_test}
+use Rattle.zk_tables.specs.Links.{order_of, address_of, number_at, number_put, link_at, link_put, write_test, write_tests}
 use Rattle.zk_tables.proofs.Steps.{bind_ok, bind_err, chosen, same_value, same_fault, same_map}
 
 -- ---- where entries and links lie
@@ -200,6 +201,35 @@ put_shape m n place v h = by_test (write_test m place) refl
     by_test : (r : Result (Unit {0}) Fault) → write_test m place ≡ r → IsSameShape m n
     by_test (Ok a) e = (let w = link_written m place v e in let same : w.0 ≡ n = same_map w.0 n (sym w.1 ∙ h) in rw same at w.2)
     by_test (Err d) e = (let bad = link_refused m place v d e in absurd cc)
+
+-- ---- several links, one after another
+
+-- links that get numbers
+abbrev pub put_all : MemoryMap → Place × ℕ → List (Place × ℕ) → Result MemoryMap Fault
+put_all m w [] = link_put m w.0 w.1
+put_all m w (v ∷ vs) = link_put m w.0 w.1 >>= λ n. put_all n v vs
+
+abbrev pub places : List (Place × ℕ) → List Place
+places [] = []
+places (w ∷ ws) = w.0 ∷ places ws
+
+-- where they may all be written, they are
+pub all_written : (l m : MemoryMap) (w : Place × ℕ) (ws : List (Place × ℕ)) → IsSameShape l m → write_tests l w.0 (places ws) ≡ Ok tt → (n : MemoryMap) × (put_all m w ws ≡ Ok n)
+all_written l m w [] s h = let one = link_written m w.0 w.1 (writable_same l m w.0 s ∙ h) in (one.0, one.1)
+all_written l m w (v ∷ vs) s h =
+    let e = bind_ok (write_test l w.0) (λ _. write_tests l v.0 (places vs)) tt h in
+    let one = link_written m w.0 w.1 (writable_same l m w.0 s ∙ e.1) in
+    rw one.1 (all_written l one.0 v vs (shape_join l m one.0 s one.2) e.2)
+
+-- and else they are refused, for the same reason
+pub all_refused : (l m : MemoryMap) (w : Place × ℕ) (ws : List (Place × ℕ)) (d : Fault) → IsSameShape l m → write_tests l w.0 (places ws) ≡ Err d → put_all m w ws ≡ Err d
+all_refused l m w [] d s h = link_refused m w.0 w.1 d (writable_same l m w.0 s ∙ h)
+all_refused l m w (v ∷ vs) d s h =
+    elim (bind_err (write_test l w.0) (λ _. write_tests l v.0 (places vs)) d h) [
+      | inl e ↦ rw (link_refused m w.0 w.1 d (writable_same l m w.0 s ∙ e)) refl
+      | inr e ↦ (let one = link_written m w.0 w.1 (writable_same l m w.0 s ∙ e.1) in
+          rw one.1 (all_refused l one.0 v vs d (shape_join l m one.0 s one.2) e.2))
+    ]
 
 -- ---- objects
 

@@ -1,5 +1,5 @@
 -- The three links of an object, to its parent, its sibling and its child (Standard, section 12.3).
-use Rattle.std.specs.Prelude.{◌≡◌, ◌≢◌, ℕ, ◌+◌, ◌*◌, ◌%◌, ◌<◌, Result, Ok, Err, nat_le, ◌==◌, if◌then◌else◌}
+use Rattle.std.specs.Prelude.{◌≡◌, ◌≢◌, ℕ, List, [], ◌∷◌, ◌+◌, ◌*◌, ◌%◌, ◌<◌, Result, Ok, Err, nat_le, ◌==◌, if◌then◌else◌}
 use Rattle.zk_mem.specs.declared.fault.Fault.{Fault}
 use Rattle.zk_mem.specs.declared.fault.Fault.TheVariants.{ReadOnly}
 use Rattle.zk_mem.specs.Results.{◌>>=◌}
@@ -53,6 +53,11 @@ link_put m place o = address_of m place >>= λ a. number_put m a o
 unfoldable pub write_test : MemoryMap → Place → Result (Unit {0}) Fault
 write_test m place = address_of m place >>= λ a. if nat_le (a + (layout_of m.version).link_bytes) m.static_base then Ok tt else Err ReadOnly
 
+-- whether links may be written: the first that may not decides
+abbrev pub write_tests : MemoryMap → Place → List Place → Result (Unit {0}) Fault
+write_tests m place [] = write_test m place
+write_tests m place (p ∷ ps) = write_test m place >>= λ _. write_tests m p ps
+
 -- the link names the object, and all others name what they named
 pub record WritesLink (m n : MemoryMap) (place : Place) (o : ℕ) : Type 0 where
   pub names : link_at n place ≡ Ok o
@@ -60,4 +65,4 @@ pub record WritesLink (m n : MemoryMap) (place : Place) (o : ℕ) : Type 0 where
 
 -- a link that is written, where it has room for the object's number
 abbrev pub LinksAreWritten : Type 0
-LinksAreWritten = (m n : MemoryMap) (place : Place) (o : ℕ) → o < 65536 → ((layout_of m.version).link_bytes ≡ 1 → o < 256) → link_put m place o ≡ Ok n → WritesLink m n place o
+LinksAreWritten = (m n : MemoryMap) (place : Place) (o : ℕ) → ((layout_of m.version).link_bytes ≡ 1 → o < 256) → link_put m place o ≡ Ok n → WritesLink m n place o

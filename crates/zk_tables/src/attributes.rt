@@ -8,10 +8,10 @@ use zk_mem::fault::Fault;
 use zk_mem::memory::Memory;
 
 /// The bit of an attribute in its byte.
-fn bit(n: u16) -> u8
-    ensures { result ≡ attribute_bit n }
+fn bit(number: u16) -> u8
+    ensures { result ≡ attribute_bit number }
 {
-    1 << (7 - n % 8)
+    1 << (7 - number % 8)
 }
 
 /// Whether an object has an attribute (Standard, section 12.3). Object 0 has none, and an attribute that
@@ -19,18 +19,18 @@ fn bit(n: u16) -> u8
 ///
 /// `BadObject` where the object has no entry in data.
 #[tactic(auto, unfolding(crate::specs::Attributes::attribute_at))]
-pub fn attribute(m: &Memory, o: u16, n: u16) -> Result<bool, Fault>
-    ensures { result ≡ attribute_at m.now o n }
+pub fn attribute(memory: &Memory, object: u16, number: u16) -> Result<bool, Fault>
+    ensures { result ≡ attribute_at memory.now object number }
 {
-    if o == 0 {
+    if object == 0 {
         return Ok(false);
     }
-    let entry = entry(m, o)?;
-    if n >= 8 * layout_for(m).attribute_bytes as u16 {
+    let entry = entry(memory, object)?;
+    if number >= 8 * layout_for(memory).attribute_bytes as u16 {
         return Ok(false);
     }
-    let byte = m.byte(entry + (n / 8) as u32)?;
-    Ok(byte & bit(n) != 0)
+    let byte = memory.byte(entry + (number / 8) as u32)?;
+    Ok(byte & bit(number) != 0)
 }
 
 /// Gives an attribute to an object, or takes it (Standard, section 12.3). For object 0, and for an
@@ -39,19 +39,19 @@ pub fn attribute(m: &Memory, o: u16, n: u16) -> Result<bool, Fault>
 /// `BadObject` where the object has no entry in data, then `ReadOnly` where the attribute's byte lies
 /// outside dynamic memory, also if the attribute is as wanted. A refusal changes nothing.
 #[tactic(auto, unfolding(crate::specs::Attributes::attribute_put))]
-pub fn set_attribute(m: &mut Memory, o: u16, n: u16, on: bool) -> Result<(), Fault>
-    ensures { MatchResult result (λ _. attribute_put m.old o n on ≡ Ok m.new) (λ e. (attribute_put m.old o n on ≡ Err e) × (m.new ≡ m.old)) }
+pub fn set_attribute(memory: &mut Memory, object: u16, number: u16, on: bool) -> Result<(), Fault>
+    ensures { MatchResult result (λ _. attribute_put memory.old object number on ≡ Ok memory.new) (λ e. (attribute_put memory.old object number on ≡ Err e) × (memory.new ≡ memory.old)) }
 {
-    if o == 0 {
+    if object == 0 {
         return Ok(());
     }
-    let entry = entry(m, o)?;
-    if n >= 8 * layout_for(m).attribute_bytes as u16 {
+    let entry = entry(memory, object)?;
+    if number >= 8 * layout_for(memory).attribute_bytes as u16 {
         return Ok(());
     }
-    let a = entry + (n / 8) as u32;
-    let byte = m.byte(a)?;
-    m.set_byte(a, changed(byte, bit(n), on))
+    let address = entry + (number / 8) as u32;
+    let byte = memory.byte(address)?;
+    memory.set_byte(address, changed(byte, bit(number), on))
 }
 
 /// A byte with bits of it on or off.

@@ -4,6 +4,7 @@ ghost use Rattle.zk_tables.specs.Chain.{ChildrenAreChains};
 ghost use Rattle.zk_tables.specs.Links.{LinksAreWritten};
 ghost use Rattle.zk_tables.specs.Properties.{ListsDecide};
 ghost use Rattle.zk_tables.specs.Tree.{ChainsDecide};
+ghost use Rattle.zk_tables.specs.TreeLaws.{RemovalsTakeOut, RemovalsAreMade, InsertionsPutFirst, InsertionsAreMade};
 ghost use Rattle.zk_tables.specs.PropertyList.{ListsAreRead, AtMostOneList};
 
 /// A link that was written names the object, and all other links name what they named.
@@ -20,6 +21,30 @@ pub fn children_are_chains()
 /// The chain of a parent's children decides what `remove` does with one of them.
 pub fn chains_decide()
     ensures { ChainsDecide }
+{}
+
+/// An object that was removed has no parent and no sibling, the link that named it names the sibling that
+/// it had, nothing else changes, and its parent's children are those that were, without it.
+pub fn removals_take_out()
+    ensures { RemovalsTakeOut }
+{}
+
+/// An object that is among its parent's children is removed, where the links that this writes lie in
+/// dynamic memory; one that is not among them is refused.
+pub fn removals_are_made()
+    ensures { RemovalsAreMade }
+{}
+
+/// An object that was inserted is the destination's first child, before those that the destination had
+/// once the object was taken out of its parent, and nothing else changes.
+pub fn insertions_put_first()
+    ensures { InsertionsPutFirst }
+{}
+
+/// An object that may be removed is inserted, where both objects have an entry and the links that this
+/// writes lie in dynamic memory; else it is refused.
+pub fn insertions_are_made()
+    ensures { InsertionsAreMade }
 {}
 
 /// What is read at an address is the property list that the bytes spell there, or they leave data before a

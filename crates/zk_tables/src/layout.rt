@@ -1,7 +1,6 @@
 // How the object table is laid out.
 
 ghost use Rattle.std.specs.Prelude.{◌≡◌, ◌≤◌, ◌<◌, IfOk};
-ghost use Rattle.zk_mem.specs.Map.{readable_end};
 ghost use Rattle.zk_tables.specs.Layout.{layout_of, default_words_start, first_entry, entry_of, entries};
 
 use zk_mem::fault::Fault;
@@ -38,52 +37,46 @@ const LATE: Layout = Layout {
 
 /// The layout of a story's version.
 #[tactic(auto, unfolding(crate::specs::Layout::layout_of))]
-pub(crate) fn layout_for(m: &Memory) -> Layout
-    ensures value { result ≡ layout_of m.now.version }
+pub(crate) fn layout_for(memory: &Memory) -> Layout
+    ensures value { result ≡ layout_of memory.now.version }
     ensures entry { 9 ≤ result.entry_bytes }
 {
-    if m.version() < 4 { EARLY } else { LATE }
+    if memory.version() < 4 { EARLY } else { LATE }
 }
 
-/// Where data ends.
-pub(crate) fn data_end(m: &Memory) -> u32
-    ensures value { result ≡ readable_end m.now }
-    ensures bound { result ≤ 65536 }
-{
-    m.len().min(65_536)
-}
-
-fn entries_start(m: &Memory, layout: Layout) -> u32
-    ensures value { result ≡ first_entry layout (default_words_start m.now) }
+fn entries_start(memory: &Memory, layout: Layout) -> u32
+    ensures value { result ≡ first_entry layout (default_words_start memory.now) }
     ensures bound { result ≤ 66045 }
 {
-    m.header().objects as u32 + 2 * layout.default_words as u32
+    memory.header().objects as u32 + 2 * layout.default_words as u32
 }
 
 /// Where the entry of an object begins, or `BadObject` where it has none in data.
 #[tactic(auto, unfolding(crate::specs::Layout::entry_of, crate::specs::Layout::is_entry, crate::specs::Layout::is_entry_in))]
-pub(crate) fn entry(m: &Memory, o: u16) -> Result<u32, Fault>
-    ensures value { result ≡ entry_of m.now o }
-    ensures bound { IfOk result (λ a. a < 65536) }
+pub(crate) fn entry(memory: &Memory, object: u16) -> Result<u32, Fault>
+    ensures value { result ≡ entry_of memory.now object }
+    ensures bound { IfOk result (λ address. address < 65536) }
 {
-    let layout = layout_for(m);
-    if o == 0 || o > layout.most_objects {
+    let layout = layout_for(memory);
+    if object == 0 || object > layout.most_objects {
         return Err(Fault::BadObject);
     }
-    let first = entries_start(m, layout);
+    let first = entries_start(memory, layout);
     let size = layout.entry_bytes as u32;
-    if first + size * o as u32 > data_end(m) {
+    if first + size * object as u32 > memory.data_end() {
         return Err(Fault::BadObject);
     }
-    Ok(first + size * (o - 1) as u32)
+    Ok(first + size * (object - 1) as u32)
 }
 
 /// How many entries fit into data.
 #[tactic(auto, unfolding(crate::specs::Layout::entries, crate::specs::Layout::entries_in))]
-pub(crate) fn count_entries(m: &Memory) -> u16
-    ensures { result ≡ entries m.now }
+pub(crate) fn count_entries(memory: &Memory) -> u16
+    ensures { result ≡ entries memory.now }
 {
-    let layout = layout_for(m);
-    let room = data_end(m).saturating_sub(entries_start(m, layout));
+    let layout = layout_for(memory);
+    let room = memory
+        .data_end()
+        .saturating_sub(entries_start(memory, layout));
     (room / layout.entry_bytes as u32).min(layout.most_objects as u32) as u16
 }

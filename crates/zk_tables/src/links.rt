@@ -1,7 +1,7 @@
 // The links of objects.
 
-ghost use Rattle.std.specs.Prelude.{◌≡◌, ◌≤◌, ◌<◌, Ok, Err, IfOk, MatchResult};
-ghost use Rattle.zk_tables.specs.Links.{address_of, number_at, number_put, link_at, link_put, write_test, order_of, parent_of, sibling_of, child_of};
+ghost use Rattle.std.specs.Prelude.{◌≡◌, ◌≤◌, ◌<◌, [], ◌∷◌, Ok, Err, IfOk, MatchResult};
+ghost use Rattle.zk_tables.specs.Links.{address_of, number_at, number_put, link_at, link_put, write_test, write_tests, order_of, parent_of, sibling_of, child_of};
 
 use crate::layout::{entry, layout_for};
 use zk_mem::fault::Fault;
@@ -36,97 +36,111 @@ pub struct Place {
     pub object: u16,
 }
 
-pub(crate) fn parent_link(o: u16) -> Place
-    ensures { result ≡ parent_of o }
+pub(crate) fn parent_link(object: u16) -> Place
+    ensures { result ≡ parent_of object }
 {
     Place {
         link: Link::Parent,
-        object: o,
+        object,
     }
 }
 
-pub(crate) fn sibling_link(o: u16) -> Place
-    ensures { result ≡ sibling_of o }
+pub(crate) fn sibling_link(object: u16) -> Place
+    ensures { result ≡ sibling_of object }
 {
     Place {
         link: Link::Sibling,
-        object: o,
+        object,
     }
 }
 
-pub(crate) fn child_link(o: u16) -> Place
-    ensures { result ≡ child_of o }
+pub(crate) fn child_link(object: u16) -> Place
+    ensures { result ≡ child_of object }
 {
     Place {
         link: Link::Child,
-        object: o,
+        object,
     }
 }
 
 /// Where a link stands.
 #[tactic(auto, unfolding(crate::specs::Links::address_of))]
-pub(crate) fn address(m: &Memory, place: Place) -> Result<u32, Fault>
-    ensures value { result ≡ address_of m.now place }
-    ensures bound { IfOk result (λ a. a < 131072) }
+pub(crate) fn address(memory: &Memory, place: Place) -> Result<u32, Fault>
+    ensures value { result ≡ address_of memory.now place }
+    ensures bound { IfOk result (λ address. address < 131072) }
 {
-    let entry = entry(m, place.object)?;
-    let layout = layout_for(m);
+    let entry = entry(memory, place.object)?;
+    let layout = layout_for(memory);
     Ok(entry + layout.attribute_bytes as u32 + layout.link_bytes as u32 * place.link.order() as u32)
 }
 
 #[tactic(auto, unfolding(crate::specs::Links::number_at))]
-fn number(m: &Memory, a: u32) -> Result<u16, Fault>
-    ensures { result ≡ number_at m.now a }
+fn read_number(memory: &Memory, address: u32) -> Result<u16, Fault>
+    ensures { result ≡ number_at memory.now address }
 {
-    if layout_for(m).link_bytes == 1 {
-        Ok(m.byte(a)? as u16)
+    if layout_for(memory).link_bytes == 1 {
+        Ok(memory.byte(address)? as u16)
     } else {
-        m.word(a)
+        memory.word(address)
     }
 }
 
 #[tactic(auto, unfolding(crate::specs::Links::number_put))]
-fn set_number(m: &mut Memory, a: u32, o: u16) -> Result<(), Fault>
-    ensures { MatchResult result (λ _. number_put m.old a o ≡ Ok m.new) (λ e. (number_put m.old a o ≡ Err e) × (m.new ≡ m.old)) }
+fn write_number(memory: &mut Memory, address: u32, object: u16) -> Result<(), Fault>
+    ensures { MatchResult result (λ _. number_put memory.old address object ≡ Ok memory.new) (λ e. (number_put memory.old address object ≡ Err e) × (memory.new ≡ memory.old)) }
 {
-    if layout_for(m).link_bytes == 1 {
-        m.set_byte(a, (o % 256) as u8)
+    if layout_for(memory).link_bytes == 1 {
+        memory.set_byte(address, (object % 256) as u8)
     } else {
-        m.set_word(a, o)
+        memory.set_word(address, object)
     }
 }
 
 /// The object that a link names, or 0.
 #[tactic(auto, unfolding(crate::specs::Links::link_at))]
-pub(crate) fn read_link(m: &Memory, place: Place) -> Result<u16, Fault>
-    ensures { result ≡ link_at m.now place }
+pub(crate) fn read_link(memory: &Memory, place: Place) -> Result<u16, Fault>
+    ensures { result ≡ link_at memory.now place }
 {
     if place.object == 0 {
         return Ok(0);
     }
-    let a = address(m, place)?;
-    number(m, a)
+    let address = address(memory, place)?;
+    read_number(memory, address)
 }
 
 /// Makes a link name an object.
 #[tactic(auto, unfolding(crate::specs::Links::link_put))]
-pub(crate) fn write_link(m: &mut Memory, place: Place, o: u16) -> Result<(), Fault>
-    ensures { MatchResult result (λ _. link_put m.old place o ≡ Ok m.new) (λ e. (link_put m.old place o ≡ Err e) × (m.new ≡ m.old)) }
+pub(crate) fn write_link(memory: &mut Memory, place: Place, object: u16) -> Result<(), Fault>
+    ensures { MatchResult result (λ _. link_put memory.old place object ≡ Ok memory.new) (λ e. (link_put memory.old place object ≡ Err e) × (memory.new ≡ memory.old)) }
 {
-    let a = address(m, place)?;
-    set_number(m, a, o)
+    let address = address(memory, place)?;
+    write_number(memory, address, object)
 }
 
 /// Whether a link may be written: `ReadOnly` where it lies outside dynamic memory.
 #[tactic(auto, unfolding(crate::specs::Links::write_test))]
-pub(crate) fn check_write(m: &Memory, place: Place) -> Result<(), Fault>
-    ensures { result ≡ write_test m.now place }
+fn check_write(memory: &Memory, place: Place) -> Result<(), Fault>
+    ensures { result ≡ write_test memory.now place }
 {
-    let a = address(m, place)?;
-    let end = a + layout_for(m).link_bytes as u32;
-    if end as usize <= m.dynamic().len() {
+    let address = address(memory, place)?;
+    let end = address + layout_for(memory).link_bytes as u32;
+    if end as usize <= memory.dynamic().len() {
         Ok(())
     } else {
         Err(Fault::ReadOnly)
     }
+}
+
+/// Whether three links may be written: the first that may not decides.
+pub(crate) fn check_writes(
+    memory: &Memory,
+    first: Place,
+    second: Place,
+    third: Place,
+) -> Result<(), Fault>
+    ensures { result ≡ write_tests memory.now first (second ∷ third ∷ []) }
+{
+    check_write(memory, first)?;
+    check_write(memory, second)?;
+    check_write(memory, third)
 }

@@ -3,7 +3,6 @@
 ghost use Rattle.std.specs.Prelude.{◌≡◌, ◌≤◌, ◌<◌, Err, IfOk, IfSome, IsOk, MatchResult, ◌+◌};
 ghost use Rattle.zk_tables.specs.PropertyList.{list_byte, long_length, property_by, property_at, properties_from, found_at, first_number_from, first_number_at, number_after_at};
 
-use crate::layout::data_end;
 use zk_mem::fault::Fault;
 use zk_mem::memory::Memory;
 
@@ -29,14 +28,14 @@ impl Property {
 
 /// A byte of a property list.
 #[tactic(auto, unfolding(crate::specs::PropertyList::list_byte))]
-pub(crate) fn read_list_byte(m: &Memory, a: u32) -> Result<u8, Fault>
-    ensures value { result ≡ list_byte m.now a }
-    ensures bound { IfOk result (λ _. a < 65536) }
+pub(crate) fn read_list_byte(memory: &Memory, address: u32) -> Result<u8, Fault>
+    ensures value { result ≡ list_byte memory.now address }
+    ensures bound { IfOk result (λ _. address < 65536) }
 {
-    if a >= data_end(m) {
+    if address >= memory.data_end() {
         return Err(Fault::BadProperty);
     }
-    m.byte(a)
+    memory.byte(address)
 }
 
 /// The length in the second of two size bytes (Standard, section 12.4.2.1).
@@ -48,54 +47,54 @@ pub(crate) fn length_in(second: u8) -> u8
 }
 
 #[tactic(auto, unfolding(crate::specs::PropertyList::property_by))]
-fn read_property_by(m: &Memory, a: u32, first: u8) -> Result<Option<Property>, Fault>
-    requires { a < 65536 }
-    ensures value { result ≡ property_by m.now a first }
+fn read_property_by(memory: &Memory, address: u32, first: u8) -> Result<Option<Property>, Fault>
+    requires { address < 65536 }
+    ensures value { result ≡ property_by memory.now address first }
     ensures bound { IfOk result (λ r. IfSome r (λ p. p.address ≤ 65537)) }
 {
     if first == 0 {
         return Ok(None);
     }
-    if m.version() < 4 {
+    if memory.version() < 4 {
         return Ok(Some(Property {
             number: first % 32,
-            address: a + 1,
+            address: address + 1,
             length: first / 32 + 1,
         }));
     }
     if first < 128 {
         return Ok(Some(Property {
             number: first % 64,
-            address: a + 1,
+            address: address + 1,
             length: first / 64 + 1,
         }));
     }
-    let second = read_list_byte(m, a + 1)?;
+    let second = read_list_byte(memory, address + 1)?;
     Ok(Some(Property {
         number: first % 64,
-        address: a + 2,
+        address: address + 2,
         length: length_in(second),
     }))
 }
 
 /// The property whose size bytes begin at an address, or none at the end of a list.
 #[tactic(auto, unfolding(crate::specs::PropertyList::property_at))]
-fn read_property(m: &Memory, a: u32) -> Result<Option<Property>, Fault>
-    ensures value { result ≡ property_at m.now a }
+fn read_property(memory: &Memory, address: u32) -> Result<Option<Property>, Fault>
+    ensures value { result ≡ property_at memory.now address }
     ensures bound { IfOk result (λ r. IfSome r (λ p. p.address ≤ 65537)) }
-    ensures within { IfOk result (λ _. a < 65536) }
+    ensures within { IfOk result (λ _. address < 65536) }
 {
-    let first = read_list_byte(m, a)?;
-    read_property_by(m, a, first)
+    let first = read_list_byte(memory, address)?;
+    read_property_by(memory, address, first)
 }
 
 /// Whether a list goes on from an address to its end, with so many properties at most.
-fn check_list(m: &Memory, a: u32, most: u32) -> Result<(), Fault>
-    ensures { MatchResult result (λ _. IsOk (properties_from m.now most a)) (λ e. properties_from m.now most a ≡ Err e) }
+fn check_list(memory: &Memory, address: u32, most: u32) -> Result<(), Fault>
+    ensures { MatchResult result (λ _. IsOk (properties_from memory.now most address)) (λ e. properties_from memory.now most address ≡ Err e) }
 {
-    let mut at = a;
+    let mut at = address;
     for _i in 0..most {
-        match read_property(m, at)? {
+        match read_property(memory, at)? {
             Some(property) => at = property.end(),
             None => return Ok(()),
         }
@@ -104,19 +103,19 @@ fn check_list(m: &Memory, a: u32, most: u32) -> Result<(), Fault>
 }
 
 /// The first property of a number in the list at an address.
-pub(crate) fn find(m: &Memory, a: u32, n: u16) -> Result<Option<Property>, Fault>
-    ensures value { result ≡ found_at m.now a n }
+pub(crate) fn find(memory: &Memory, address: u32, number: u16) -> Result<Option<Property>, Fault>
+    ensures value { result ≡ found_at memory.now address number }
     ensures bound { IfOk result (λ r. IfSome r (λ p. p.address < 65536)) }
 {
-    let most = data_end(m);
-    let mut at = a;
+    let most = memory.data_end();
+    let mut at = address;
     for i in 0..most {
-        let Some(property) = read_property(m, at)? else {
+        let Some(property) = read_property(memory, at)? else {
             return Ok(None);
         };
         at = property.end();
-        if property.number as u16 == n {
-            check_list(m, at, most - i - 1)?;
+        if property.number as u16 == number {
+            check_list(memory, at, most - i - 1)?;
             return Ok(Some(property));
         }
     }
@@ -124,11 +123,11 @@ pub(crate) fn find(m: &Memory, a: u32, n: u16) -> Result<Option<Property>, Fault
 }
 
 /// The number of the first property of a list, or 0.
-fn read_first_number(m: &Memory, a: u32, most: u32) -> Result<u16, Fault>
-    ensures { result ≡ first_number_from m.now most a }
+fn read_first_number(memory: &Memory, address: u32, most: u32) -> Result<u16, Fault>
+    ensures { result ≡ first_number_from memory.now most address }
 {
-    check_list(m, a, most)?;
-    match read_property(m, a)? {
+    check_list(memory, address, most)?;
+    match read_property(memory, address)? {
         Some(property) => Ok(property.number as u16),
         None => Ok(0),
     }
@@ -136,25 +135,25 @@ fn read_first_number(m: &Memory, a: u32, most: u32) -> Result<u16, Fault>
 
 /// The number of the first property of the list at an address, or 0.
 #[tactic(auto, unfolding(crate::specs::PropertyList::first_number_at))]
-pub(crate) fn find_first_number(m: &Memory, a: u32) -> Result<u16, Fault>
-    ensures { result ≡ first_number_at m.now a }
+pub(crate) fn find_first_number(memory: &Memory, address: u32) -> Result<u16, Fault>
+    ensures { result ≡ first_number_at memory.now address }
 {
-    read_first_number(m, a, data_end(m))
+    read_first_number(memory, address, memory.data_end())
 }
 
 /// The number of the property after the first one of a number, or 0.
-pub(crate) fn find_number_after(m: &Memory, a: u32, n: u16) -> Result<u16, Fault>
-    ensures { result ≡ number_after_at m.now a n }
+pub(crate) fn find_number_after(memory: &Memory, address: u32, number: u16) -> Result<u16, Fault>
+    ensures { result ≡ number_after_at memory.now address number }
 {
-    let most = data_end(m);
-    let mut at = a;
+    let most = memory.data_end();
+    let mut at = address;
     for i in 0..most {
-        let Some(property) = read_property(m, at)? else {
+        let Some(property) = read_property(memory, at)? else {
             return Err(Fault::BadProperty);
         };
         at = property.end();
-        if property.number as u16 == n {
-            return read_first_number(m, at, most - i - 1);
+        if property.number as u16 == number {
+            return read_first_number(memory, at, most - i - 1);
         }
     }
     Err(Fault::BadProperty)

@@ -12,69 +12,69 @@ use zk_mem::memory::Memory;
 
 /// Where the property table of an object begins.
 #[tactic(auto, unfolding(crate::specs::Properties::table_of))]
-fn read_table(m: &Memory, o: u16) -> Result<u16, Fault>
-    ensures { result ≡ table_of m.now o }
+fn read_table(memory: &Memory, object: u16) -> Result<u16, Fault>
+    ensures { result ≡ table_of memory.now object }
 {
-    let entry = entry(m, o)?;
-    let layout = layout_for(m);
-    m.word(entry + layout.attribute_bytes as u32 + 3 * layout.link_bytes as u32)
+    let entry = entry(memory, object)?;
+    let layout = layout_for(memory);
+    memory.word(entry + layout.attribute_bytes as u32 + 3 * layout.link_bytes as u32)
 }
 
 /// Where the property list of an object begins.
 #[tactic(auto, unfolding(crate::specs::Properties::list_of))]
-fn read_list(m: &Memory, o: u16) -> Result<u32, Fault>
-    ensures { result ≡ list_of m.now o }
+fn read_list(memory: &Memory, object: u16) -> Result<u32, Fault>
+    ensures { result ≡ list_of memory.now object }
 {
-    let table = read_table(m, o)? as u32;
-    let words = read_list_byte(m, table)?;
+    let table = read_table(memory, object)? as u32;
+    let words = read_list_byte(memory, table)?;
     Ok(table + 1 + 2 * words as u32)
 }
 
 /// The first property of a number that an object has.
 #[tactic(auto, unfolding(crate::specs::Properties::property_of))]
-fn find_property(m: &Memory, o: u16, n: u16) -> Result<Option<Property>, Fault>
-    ensures value { result ≡ property_of m.now o n }
+fn find_property(memory: &Memory, object: u16, number: u16) -> Result<Option<Property>, Fault>
+    ensures value { result ≡ property_of memory.now object number }
     ensures bound { IfOk result (λ r. IfSome r (λ p. p.address < 65536)) }
 {
-    let list = read_list(m, o)?;
-    find(m, list, n)
+    let list = read_list(memory, object)?;
+    find(memory, list, number)
 }
 
 #[tactic(auto, unfolding(crate::specs::Properties::default_of))]
-fn default_value(m: &Memory, n: u16) -> Result<u16, Fault>
-    ensures { result ≡ default_of m.now n }
+fn default_value(memory: &Memory, number: u16) -> Result<u16, Fault>
+    ensures { result ≡ default_of memory.now number }
 {
-    if n == 0 || n > layout_for(m).default_words as u16 {
+    if number == 0 || number > layout_for(memory).default_words as u16 {
         return Err(Fault::BadProperty);
     }
-    m.word(m.header().objects as u32 + 2 * (n - 1) as u32)
+    memory.word(memory.header().objects as u32 + 2 * (number - 1) as u32)
 }
 
-fn value(m: &Memory, n: u16, property: Option<Property>) -> Result<u16, Fault>
-    ensures { result ≡ value_in m.now n property }
+fn value(memory: &Memory, number: u16, property: Option<Property>) -> Result<u16, Fault>
+    ensures { result ≡ value_in memory.now number property }
 {
     match property {
-        None => default_value(m, n),
+        None => default_value(memory, number),
         Some(property) => {
             if property.length == 1 {
-                Ok(m.byte(property.address)? as u16)
+                Ok(memory.byte(property.address)? as u16)
             } else {
-                m.word(property.address)
+                memory.word(property.address)
             }
         }
     }
 }
 
-fn set_value(m: &mut Memory, v: u16, property: Option<Property>) -> Result<(), Fault>
-    ensures { MatchResult result (λ _. value_put_in m.old v property ≡ Ok m.new) (λ e. (value_put_in m.old v property ≡ Err e) × (m.new ≡ m.old)) }
+fn set_value(memory: &mut Memory, value: u16, property: Option<Property>) -> Result<(), Fault>
+    ensures { MatchResult result (λ _. value_put_in memory.old value property ≡ Ok memory.new) (λ e. (value_put_in memory.old value property ≡ Err e) × (memory.new ≡ memory.old)) }
 {
     match property {
         None => Err(Fault::BadProperty),
         Some(property) => {
             if property.length == 1 {
-                m.set_byte(property.address, (v % 256) as u8)
+                memory.set_byte(property.address, (value % 256) as u8)
             } else {
-                m.set_word(property.address, v)
+                memory.set_word(property.address, value)
             }
         }
     }
@@ -87,14 +87,14 @@ fn set_value(m: &mut Memory, v: u16, property: Option<Property>) -> Result<(), F
 /// first byte of its property table, does not lie in data, and where a default of that number is wanted
 /// and there is none. `BadAddress` where the default lies outside data.
 #[tactic(auto, unfolding(crate::specs::Properties::property_value))]
-pub fn property(m: &Memory, o: u16, n: u16) -> Result<u16, Fault>
-    ensures { result ≡ property_value m.now o n }
+pub fn property(memory: &Memory, object: u16, number: u16) -> Result<u16, Fault>
+    ensures { result ≡ property_value memory.now object number }
 {
-    if o == 0 {
-        return default_value(m, n);
+    if object == 0 {
+        return default_value(memory, number);
     }
-    let property = find_property(m, o, n)?;
-    value(m, n, property)
+    let property = find_property(memory, object, number)?;
+    value(memory, number, property)
 }
 
 /// The byte address of the data of a property of an object, or 0 where the object does not have it.
@@ -102,13 +102,13 @@ pub fn property(m: &Memory, o: u16, n: u16) -> Result<u16, Fault>
 /// `BadObject` where the object has no entry in data, `BadProperty` where its property list, or the
 /// first byte of its property table, does not lie in data.
 #[tactic(auto, unfolding(crate::specs::Properties::property_address_of))]
-pub fn property_address(m: &Memory, o: u16, n: u16) -> Result<u16, Fault>
-    ensures { result ≡ property_address_of m.now o n }
+pub fn property_address(memory: &Memory, object: u16, number: u16) -> Result<u16, Fault>
+    ensures { result ≡ property_address_of memory.now object number }
 {
-    if o == 0 {
+    if object == 0 {
         return Ok(0);
     }
-    match find_property(m, o, n)? {
+    match find_property(memory, object, number)? {
         Some(property) => Ok(property.address as u16),
         None => Ok(0),
     }
@@ -120,21 +120,21 @@ pub fn property_address(m: &Memory, o: u16, n: u16) -> Result<u16, Fault>
 /// `BadObject` where the object has no entry in data. `BadProperty` where its property list, or the
 /// first byte of its property table, does not lie in data, and where it does not have the property.
 #[tactic(auto, unfolding(crate::specs::Properties::next_property_of))]
-pub fn next_property(m: &Memory, o: u16, n: u16) -> Result<u16, Fault>
-    ensures { result ≡ next_property_of m.now o n }
+pub fn next_property(memory: &Memory, object: u16, number: u16) -> Result<u16, Fault>
+    ensures { result ≡ next_property_of memory.now object number }
 {
-    if o == 0 {
-        return if n == 0 {
+    if object == 0 {
+        return if number == 0 {
             Ok(0)
         } else {
             Err(Fault::BadProperty)
         };
     }
-    let list = read_list(m, o)?;
-    if n == 0 {
-        find_first_number(m, list)
+    let list = read_list(memory, object)?;
+    if number == 0 {
+        find_first_number(memory, list)
     } else {
-        find_number_after(m, list, n)
+        find_number_after(memory, list, number)
     }
 }
 
@@ -145,14 +145,14 @@ pub fn next_property(m: &Memory, o: u16, n: u16) -> Result<u16, Fault>
 /// first byte of its property table, does not lie in data, and where it does not have the property.
 /// `ReadOnly` where the value lies outside dynamic memory. A refusal changes nothing.
 #[tactic(auto, unfolding(crate::specs::Properties::property_put))]
-pub fn put_property(m: &mut Memory, o: u16, n: u16, v: u16) -> Result<(), Fault>
-    ensures { MatchResult result (λ _. property_put m.old o n v ≡ Ok m.new) (λ e. (property_put m.old o n v ≡ Err e) × (m.new ≡ m.old)) }
+pub fn put_property(memory: &mut Memory, object: u16, number: u16, value: u16) -> Result<(), Fault>
+    ensures { MatchResult result (λ _. property_put memory.old object number value ≡ Ok memory.new) (λ e. (property_put memory.old object number value ≡ Err e) × (memory.new ≡ memory.old)) }
 {
-    if o == 0 {
+    if object == 0 {
         return Ok(());
     }
-    let property = find_property(m, o, n)?;
-    set_value(m, v, property)
+    let property = find_property(memory, object, number)?;
+    set_value(memory, value, property)
 }
 
 fn length_told(version: u8, size: u8) -> u8
@@ -172,14 +172,14 @@ fn length_told(version: u8, size: u8) -> u8
 ///
 /// `BadAddress` where that size byte lies outside data.
 #[tactic(auto, unfolding(crate::specs::Properties::property_length_of))]
-pub fn property_length(m: &Memory, a: u16) -> Result<u16, Fault>
-    ensures { result ≡ property_length_of m.now a }
+pub fn property_length(memory: &Memory, address: u16) -> Result<u16, Fault>
+    ensures { result ≡ property_length_of memory.now address }
 {
-    if a == 0 {
+    if address == 0 {
         return Ok(0);
     }
-    let size = m.byte((a - 1) as u32)?;
-    Ok(length_told(m.version(), size) as u16)
+    let size = memory.byte((address - 1) as u32)?;
+    Ok(length_told(memory.version(), size) as u16)
 }
 
 /// The byte address of the text of an object's short name, if it has one (Standard, section 12.4). Object
@@ -188,13 +188,13 @@ pub fn property_length(m: &Memory, a: u16) -> Result<u16, Fault>
 /// `BadObject` where the object has no entry in data, `BadAddress` where the first byte of its property
 /// table lies outside data.
 #[tactic(auto, unfolding(crate::specs::Properties::name_of))]
-pub fn name(m: &Memory, o: u16) -> Result<Option<u32>, Fault>
-    ensures { result ≡ name_of m.now o }
+pub fn name(memory: &Memory, object: u16) -> Result<Option<u32>, Fault>
+    ensures { result ≡ name_of memory.now object }
 {
-    if o == 0 {
+    if object == 0 {
         return Ok(None);
     }
-    let table = read_table(m, o)? as u32;
-    let words = m.byte(table)?;
+    let table = read_table(memory, object)? as u32;
+    let words = memory.byte(table)?;
     Ok(if words == 0 { None } else { Some(table + 1) })
 }

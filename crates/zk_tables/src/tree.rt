@@ -7,7 +7,7 @@ ghost use Rattle.zk_tables.specs.Tree.{naming_of, unlinked_where, removed, linke
 use crate::chain::find_naming;
 use crate::layout::entry;
 use crate::links::{
-    Place, check_write, child_link, parent_link, read_link, sibling_link, write_link,
+    Place, check_writes, child_link, parent_link, read_link, sibling_link, write_link,
 };
 use zk_mem::fault::Fault;
 use zk_mem::memory::Memory;
@@ -15,78 +15,76 @@ use zk_mem::memory::Memory;
 /// The parent of an object, or 0 (Standard, section 12.3). Object 0 has none.
 ///
 /// `BadObject` where the object has no entry in data.
-pub fn parent(m: &Memory, o: u16) -> Result<u16, Fault>
-    ensures { result ≡ link_at m.now (parent_of o) }
+pub fn parent(memory: &Memory, object: u16) -> Result<u16, Fault>
+    ensures { result ≡ link_at memory.now (parent_of object) }
 {
-    read_link(m, parent_link(o))
+    read_link(memory, parent_link(object))
 }
 
 /// The sibling of an object, or 0 (Standard, section 12.3). Object 0 has none.
 ///
 /// `BadObject` where the object has no entry in data.
-pub fn sibling(m: &Memory, o: u16) -> Result<u16, Fault>
-    ensures { result ≡ link_at m.now (sibling_of o) }
+pub fn sibling(memory: &Memory, object: u16) -> Result<u16, Fault>
+    ensures { result ≡ link_at memory.now (sibling_of object) }
 {
-    read_link(m, sibling_link(o))
+    read_link(memory, sibling_link(object))
 }
 
 /// The first child of an object, or 0 (Standard, section 12.3). Object 0 has none.
 ///
 /// `BadObject` where the object has no entry in data.
-pub fn child(m: &Memory, o: u16) -> Result<u16, Fault>
-    ensures { result ≡ link_at m.now (child_of o) }
+pub fn child(memory: &Memory, object: u16) -> Result<u16, Fault>
+    ensures { result ≡ link_at memory.now (child_of object) }
 {
-    read_link(m, child_link(o))
+    read_link(memory, child_link(object))
 }
 
 /// The link that names an object among its parent's children, if it has a parent.
 #[tactic(auto, unfolding(crate::specs::Tree::naming_of))]
-fn naming_link(m: &Memory, o: u16) -> Result<Option<Place>, Fault>
-    ensures { result ≡ naming_of m.now o }
+fn naming_link(memory: &Memory, object: u16) -> Result<Option<Place>, Fault>
+    ensures { result ≡ naming_of memory.now object }
 {
-    let parent = parent(m, o)?;
+    let parent = parent(memory, object)?;
     if parent == 0 {
         return Ok(None);
     }
-    Ok(Some(find_naming(m, parent, o)?))
+    Ok(Some(find_naming(memory, parent, object)?))
 }
 
 /// Whether an object may be removed, and the link that names it then.
-fn check_removal(m: &Memory, o: u16) -> Result<Option<Place>, Fault>
-    ensures { MatchResult result (λ place. (naming_of m.now o ≡ Ok place) × IsOk (removed m.now o)) (λ e. removed m.now o ≡ Err e) }
+fn check_removal(memory: &Memory, object: u16) -> Result<Option<Place>, Fault>
+    ensures { MatchResult result (λ place. (naming_of memory.now object ≡ Ok place) × IsOk (removed memory.now object)) (λ e. removed memory.now object ≡ Err e) }
 {
-    let Some(place) = naming_link(m, o)? else {
+    let Some(place) = naming_link(memory, object)? else {
         return Ok(None);
     };
-    check_write(m, place)?;
-    check_write(m, parent_link(o))?;
-    check_write(m, sibling_link(o))?;
+    check_writes(memory, place, parent_link(object), sibling_link(object))?;
     Ok(Some(place))
 }
 
 /// Takes an object out of the chain where a link names it, if one does. The links were tested before.
 #[tactic(auto, unfolding(crate::specs::Tree::unlinked, crate::specs::Tree::unlinked_where))]
-fn unlink(m: &mut Memory, o: u16, place: Option<Place>) -> Result<(), Fault>
-    ensures { MatchResult result (λ _. unlinked_where m.old o place ≡ Ok m.new) (λ e. unlinked_where m.old o place ≡ Err e) }
+fn unlink(memory: &mut Memory, object: u16, place: Option<Place>) -> Result<(), Fault>
+    ensures { MatchResult result (λ _. unlinked_where memory.old object place ≡ Ok memory.new) (λ e. unlinked_where memory.old object place ≡ Err e) }
 {
     let Some(place) = place else {
         return Ok(());
     };
-    let next = sibling(m, o)?;
-    write_link(m, place, next)?;
-    write_link(m, parent_link(o), 0)?;
-    write_link(m, sibling_link(o), 0)
+    let next = sibling(memory, object)?;
+    write_link(memory, place, next)?;
+    write_link(memory, parent_link(object), 0)?;
+    write_link(memory, sibling_link(object), 0)
 }
 
 /// Makes an object the first child of another. The links were tested before.
 #[tactic(auto, unfolding(crate::specs::Tree::linked))]
-fn link_first(m: &mut Memory, o: u16, d: u16) -> Result<(), Fault>
-    ensures { MatchResult result (λ _. linked m.old o d ≡ Ok m.new) (λ e. linked m.old o d ≡ Err e) }
+fn link_first(memory: &mut Memory, object: u16, destination: u16) -> Result<(), Fault>
+    ensures { MatchResult result (λ _. linked memory.old object destination ≡ Ok memory.new) (λ e. linked memory.old object destination ≡ Err e) }
 {
-    let next = child(m, d)?;
-    write_link(m, sibling_link(o), next)?;
-    write_link(m, parent_link(o), d)?;
-    write_link(m, child_link(d), o)
+    let next = child(memory, destination)?;
+    write_link(memory, sibling_link(object), next)?;
+    write_link(memory, parent_link(object), destination)?;
+    write_link(memory, child_link(destination), object)
 }
 
 /// Takes an object out of its parent's children (Standard, section 15, `remove_obj`): the link that names
@@ -95,11 +93,11 @@ fn link_first(m: &mut Memory, o: u16, d: u16) -> Result<(), Fault>
 /// `BadObject` where the object or its parent has no entry in data, or the parent's whole chain of
 /// children meets such an object. `BadTree` where that chain repeats an object or lacks this one. Then
 /// `ReadOnly` where one of the links lies outside dynamic memory. A refusal changes nothing.
-pub fn remove(m: &mut Memory, o: u16) -> Result<(), Fault>
-    ensures { MatchResult result (λ _. removed m.old o ≡ Ok m.new) (λ e. (removed m.old o ≡ Err e) × (m.new ≡ m.old)) }
+pub fn remove(memory: &mut Memory, object: u16) -> Result<(), Fault>
+    ensures { MatchResult result (λ _. removed memory.old object ≡ Ok memory.new) (λ e. (removed memory.old object ≡ Err e) × (memory.new ≡ memory.old)) }
 {
-    let place = check_removal(m, o)?;
-    unlink(m, o, place)
+    let place = check_removal(memory, object)?;
+    unlink(memory, object, place)
 }
 
 /// Puts an object into another, as its first child (Standard, section 15, `insert_obj`), after it was
@@ -107,18 +105,21 @@ pub fn remove(m: &mut Memory, o: u16) -> Result<(), Fault>
 ///
 /// `BadObject` where one of the two has no entry in data, then the refusals of `remove`, then `ReadOnly`
 /// where one of the links lies outside dynamic memory. A refusal changes nothing.
-pub fn insert(m: &mut Memory, o: u16, d: u16) -> Result<(), Fault>
-    ensures { MatchResult result (λ _. inserted m.old o d ≡ Ok m.new) (λ e. (inserted m.old o d ≡ Err e) × (m.new ≡ m.old)) }
+pub fn insert(memory: &mut Memory, object: u16, destination: u16) -> Result<(), Fault>
+    ensures { MatchResult result (λ _. inserted memory.old object destination ≡ Ok memory.new) (λ e. (inserted memory.old object destination ≡ Err e) × (memory.new ≡ memory.old)) }
 {
-    if o == 0 || d == 0 {
+    if object == 0 || destination == 0 {
         return Ok(());
     }
-    entry(m, o)?;
-    entry(m, d)?;
-    let place = check_removal(m, o)?;
-    check_write(m, sibling_link(o))?;
-    check_write(m, parent_link(o))?;
-    check_write(m, child_link(d))?;
-    unlink(m, o, place)?;
-    link_first(m, o, d)
+    entry(memory, object)?;
+    entry(memory, destination)?;
+    let place = check_removal(memory, object)?;
+    check_writes(
+        memory,
+        sibling_link(object),
+        parent_link(object),
+        child_link(destination),
+    )?;
+    unlink(memory, object, place)?;
+    link_first(memory, object, destination)
 }

@@ -31,7 +31,7 @@ join_err gave refused trouble.Refused (Err f) rest h = h
 join_err gave refused trouble.Refused (Ok us) (Err f) h = (us ++ [], h [])
 join_err gave refused trouble.Refused (Ok us) (Ok vs) h = λ more. rw append_assoc (h (vs ++ more))
 
-values_cons : (letter : Row → ℕ → ℕ) (expand : ℕ → Units) (p : Piece) (ps : List Piece) → values letter expand (p ∷ ps) ≡ joined (value letter expand p) (values letter expand ps)
+pub values_cons : (letter : Row → ℕ → ℕ) (expand : ℕ → Units) (p : Piece) (ps : List Piece) → values letter expand (p ∷ ps) ≡ joined (value letter expand p) (values letter expand ps)
 unfolding values
 values_cons letter expand p ps = refl
 

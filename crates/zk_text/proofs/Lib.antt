@@ -1,7 +1,14 @@
 pub mod Lists
+pub mod Below
 pub mod Joins
 pub mod TextWords
 pub mod Spells
+pub mod Places
+pub mod SpellLaws
+pub mod KeyText
 pub mod Cases
 pub mod Tables
+pub mod Standard
+pub mod Lower
+pub mod LowerLaws
 pub mod ShownLemmas

@@ -1,5 +1,5 @@
 -- Unicode tables and the codes of characters.
-use Rattle.std.proofs.Common.{◌≡◌, ◌≤◌, ◌<◌, ◌⊎◌, inl, inr, ℕ, zero, suc, ◌+◌, ◌-◌, ◌*◌, List, [], ◌∷◌, length, take, drop, get_or, slice_get, Some, None, Bool, true, false, nat_lt, ◌==◌, if◌then◌else◌, refl, ◌∙◌, ap, arith, length-take, min}
+use Rattle.std.proofs.Common.{◌≡◌, ◌≤◌, ◌<◌, ◌⊎◌, inl, inr, ℕ, zero, suc, ◌+◌, ◌-◌, ◌*◌, List, [], ◌∷◌, length, take, drop, get_or, slice_get, Some, None, Bool, true, false, nat_lt, ◌==◌, if◌then◌else◌, refl, sym, subst, Option, ◌∙◌, ap, arith, length-take, min}
 use Rattle.std.proofs.lemmas.Bool.Decides.{nat_tests}
 use Rattle.std.proofs.lemmas.Grind.{common_steps}
 use Rattle.std.proofs.lemmas.List.{drop_all, get_or-take}
@@ -7,7 +7,11 @@ use Rattle.std.proofs.lemmas.Option.{slice_get-get_or, slice_get_past}
 use Rattle.std.specs.List.{list_all}
 use Rattle.zk_text.proofs.Lists.{drop_item, past}
 use Rattle.zk_mem.specs.Header.{word_in}
+use Rattle.zk_mem.specs.Map.{MemoryMap, code_word_at}
+use Rattle.zk_text.specs.declared.extra.Table.{Table}
+use Rattle.zk_text.specs.Reading.{words_of, IsInside}
 use Rattle.zk_text.specs.declared.extra.TheConstants.{DEFAULT_CHARACTERS}
+use Rattle.zk_text.specs.Standard.{standard_characters}
 use Rattle.zk_text.specs.Laws.{CodeIsLeast, CharacterHasCode}
 use Rattle.zk_text.specs.Extra.{ExtraTable, words_from, characters, character, is_ascii, code_from, code_of}
 
@@ -39,10 +43,22 @@ word_gone : (bytes : List ℕ) (a n i : ℕ) → min n 97 ≤ i → slice_get (t
 word_gone bytes a n i h = slice_get_past _ i (omega (arith, h, length-take 97 (words_from bytes a n), length-words_from bytes a n))
 
 pub standard_item : (t : ExtraTable) (i : ℕ) → t ≡ None → slice_get (characters t) i ≡ slice_get DEFAULT_CHARACTERS i
+unfolding standard_characters
 standard_item t i h = rw h refl
 
-pub own_item : (t : ExtraTable) (bytes : List ℕ) (a n i : ℕ) → t ≡ Some (words_from bytes a n) → i < min n 97 → slice_get (characters t) i ≡ Some (word_in bytes (a + 2 * i))
-own_item t bytes a n i h near = rw h (word_there bytes a n i near)
+-- a word of an own table is read where it lies
+word_read : (m : MemoryMap) (a : ℕ) → a + 1 < length m.bytes → code_word_at m a ≡ Some (word_in m.bytes a)
+unfolding code_word_at
+word_read m a h = let test : nat_lt (a + 1) (length m.bytes) ≡ true = grind (arith, nat_tests) in rw test refl
+
+item_by : (t : ExtraTable) (m : MemoryMap) (table : Table) (i : ℕ) → t ≡ Some (words_from m.bytes (table.at + 1) table.count) → table.at + 1 + 2 * table.count ≤ length m.bytes → i < min table.count 97 → code_word_at m (table.at + 1 + 2 * i) ≡ slice_get (characters t) i
+item_by t m table i h inside near =
+    let room : table.at + 1 + 2 * i + 1 < length m.bytes = omega (arith, inside, near) in
+    rw h (word_read m (table.at + 1 + 2 * i) room ∙ sym (word_there m.bytes (table.at + 1) table.count i near))
+
+pub own_item : (t : ExtraTable) (m : MemoryMap) (own : Option Table) (table : Table) (i : ℕ) → t ≡ words_of m.bytes own → own ≡ Some table → IsInside m.bytes own → i < min table.count 97 → code_word_at m (table.at + 1 + 2 * i) ≡ slice_get (characters t) i
+own_item t m own table i view some inside near =
+    item_by t m table i (view ∙ ap (words_of m.bytes) some) (subst (IsInside m.bytes) some inside) near
 
 pub no_item : (t : ExtraTable) (bytes : List ℕ) (a n i : ℕ) → t ≡ Some (words_from bytes a n) → min n 97 ≤ i → slice_get (characters t) i ≡ None
 no_item t bytes a n i h far = rw h (word_gone bytes a n i far)
@@ -72,6 +88,7 @@ unfolding code_from
 code_end xs i code c h = let gone : length xs ≤ i = past xs i h in rw (drop_all i xs gone) refl
 
 few : (t : ExtraTable) → length (characters t) ≤ 97
+unfolding standard_characters
 few None = omega arith
 few (Some ws) = omega (arith, length-take 97 ws)
 
@@ -137,7 +154,7 @@ unfolding character
 character_of t code c true test h = let e = rw test at h in inl (test, cc)
 character_of t code c false test h = inr (beyond_ascii t code c (nat_lt code 155) refl (rw test at h))
 
-character_cases : (t : ExtraTable) (code c : ℕ) → character t code ≡ Some c → ((is_ascii code ≡ true) × (code ≡ c)) ⊎ ((155 ≤ code) × (slice_get (characters t) (code - 155) ≡ Some c))
+pub character_cases : (t : ExtraTable) (code c : ℕ) → character t code ≡ Some c → ((is_ascii code ≡ true) × (code ≡ c)) ⊎ ((155 ≤ code) × (slice_get (characters t) (code - 155) ≡ Some c))
 character_cases t code c h = character_of t code c (is_ascii code) refl h
 
 extra_character : (t : ExtraTable) (code : ℕ) → 155 ≤ code → character t code ≡ slice_get (characters t) (code - 155)

@@ -4,7 +4,7 @@ use Rattle.zk_mem.specs.Header.{header_of}
 use Rattle.zk_mem.specs.Map.{MemoryMap, readable_end}
 use Rattle.zk_text.specs.declared.alphabet.Row.{Row}
 use Rattle.zk_text.specs.declared.alphabet.Row.TheVariants.{A0, A1, A2}
-use Rattle.zk_text.specs.declared.alphabet.TheConstants.{DEFAULT_LETTERS}
+use Rattle.zk_text.specs.Standard.{standard_letters}
 
 -- where an alphabet begins among the 78 letters
 abbrev pub row_start : Row → ℕ
@@ -22,7 +22,7 @@ alphabet_table m =
 
 -- a code of the 78: of the story's own, as its memory stands, or of the Standard's (section 3.5.3)
 abbrev pub letter_code : MemoryMap → Option ℕ → ℕ → ℕ
-letter_code m None i = slice_index DEFAULT_LETTERS i
+letter_code m None i = slice_index standard_letters i
 letter_code m (Some table) i = slice_index m.bytes (table + i)
 
 -- the letter of a Z-character from 6 to 31; 7 in A2 is a new line in every table (section 3.5.5.1)

@@ -1,9 +1,9 @@
 -- The extra characters of ZSCII (Standard, section 3.8.5).
-use Rattle.std.specs.Prelude.{Bool, ◌&&◌, ◌||◌, ℕ, zero, suc, ◌+◌, ◌-◌, ◌*◌, List, [], ◌∷◌, Option, Some, None, Result, Ok, Err, if◌then◌else◌, ◌==◌, nat_le, nat_lt, slice_get, get_or, take}
+use Rattle.std.specs.Prelude.{Bool, ◌&&◌, ◌||◌, ℕ, zero, suc, ◌+◌, ◌-◌, ◌*◌, List, [], ◌∷◌, Option, Some, None, Result, Ok, Err, if◌then◌else◌, ◌==◌, nat_le, nat_lt, slice_get, take, option_and_then, unwrap_or}
 use Rattle.zk_mem.specs.Header.{header_of, word_in}
 use Rattle.zk_mem.specs.Map.{MemoryMap, readable_end, byte_at, word_at}
 use Rattle.zk_mem.specs.declared.fault.Fault.{Fault}
-use Rattle.zk_text.specs.declared.extra.TheConstants.{DEFAULT_CHARACTERS, DEFAULT_LOWER}
+use Rattle.zk_text.specs.Standard.{standard_characters, ascii_capitals, capitals}
 
 -- the words of a story's own Unicode table, where it has one
 abbrev pub ExtraTable : Type 0
@@ -53,7 +53,7 @@ own_characters m = words_of_table m (unicode_table m)
 -- the extra characters in force, from code 155 on: an own table replaces the whole of the
 -- Standard's, and its words past the 97th are not used (sections 3.8.5.2 and 3.8.5.3)
 abbrev pub characters : ExtraTable → List ℕ
-characters None = DEFAULT_CHARACTERS
+characters None = standard_characters
 characters (Some words) = take 97 words
 
 -- 32 to 126, which ZSCII has from ASCII (section 3.8.3)
@@ -80,14 +80,18 @@ code_from (x ∷ xs) code c = if x == c then Some code else code_from xs (code +
 unfoldable pub code_of : ExtraTable → ℕ → Option ℕ
 code_of t c = if is_ascii c then Some c else code_from (characters t) 155 c
 
--- an extra letter in lower case: under the Standard's table alone
-abbrev pub lower_extra : ExtraTable → ℕ → ℕ
-lower_extra None code = if nat_lt code 155 then code else get_or DEFAULT_LOWER (code - 155) code
-lower_extra (Some words) code = code
+-- the small letter of a capital, by pairs of both
+unfoldable pub small_letter : List (ℕ × ℕ) → ℕ → Option ℕ
+small_letter [] c = None
+small_letter (p ∷ ps) c = if p.0 == c then Some p.1 else small_letter ps c
 
--- a code in lower case: A to Z become a to z
+-- the code of the small letter of a code's character, where that is a capital; under an own table
+-- A to Z alone are capitals, and their codes are their characters
+abbrev pub small_code : ExtraTable → ℕ → Option ℕ
+small_code None code =
+    option_and_then (code_of None) (option_and_then (small_letter capitals) (character None code))
+small_code (Some words) code = small_letter ascii_capitals code
+
+-- a code in lower case: one whose character is no capital stays
 unfoldable pub lower_code : ExtraTable → ℕ → ℕ
-lower_code t code =
-    if nat_lt code 65 then code
-    else if nat_lt code 91 then code + 32
-    else lower_extra t code
+lower_code t code = unwrap_or (small_code t code) code

@@ -1,12 +1,11 @@
 -- What holds of pieces, of texts and of extra characters.
-use Rattle.std.specs.Prelude.{◌≡◌, ◌≤◌, ◌<◌, ◌⊎◌, ℕ, ◌+◌, ◌*◌, ◌-◌, Bool, true, false, List, [], ◌∷◌, ◌++◌, length, Some, Ok, Err}
+use Rattle.std.specs.Prelude.{◌≡◌, ◌≤◌, ◌<◌, ◌⊎◌, ℕ, ◌+◌, ◌*◌, ◌-◌, Bool, true, false, List, [], ◌∷◌, ◌++◌, Some, Ok, Err}
 use Rattle.zk_mem.specs.Map.{MemoryMap}
 use Rattle.zk_mem.specs.declared.fault.Fault.TheVariants.{NestedAbbreviation}
 use Rattle.zk_text.specs.declared.alphabet.Row.TheVariants.{A0, A1, A2}
 use Rattle.zk_text.specs.declared.unit.Unit.{Unit}
 use Rattle.zk_text.specs.declared.pieces.Piece.{Piece}
 use Rattle.zk_text.specs.declared.pieces.Piece.TheVariants.{Letter, Code, Abbreviation}
-use Rattle.zk_text.specs.Words.{words_at}
 use Rattle.zk_text.specs.Pieces.{pieces}
 use Rattle.zk_text.specs.Meaning.{meaning, no_abbreviation}
 use Rattle.zk_text.specs.Extra.{ExtraTable, character, code_of}
@@ -65,11 +64,6 @@ NestedIsFault = (m : MemoryMap) (zs : List ℕ) → has_abbreviation (pieces zs)
 abbrev pub OthersMean : Type 0
 OthersMean = (m : MemoryMap) (zs : List ℕ) → has_abbreviation (pieces zs) ≡ false →
     (us : List Unit) × (meaning m no_abbreviation zs ≡ Ok us)
-
--- a text ends inside the story (section 3.2)
-abbrev pub TextFits : Type 0
-TextFits = (m : MemoryMap) (a : ℕ) (ws : List ℕ) → words_at m a ≡ Some ws →
-    a + 2 * length ws ≤ length m.bytes
 
 -- the code of a character is the least that has it
 abbrev pub CodeIsLeast : Type 0

@@ -1,3 +1,4 @@
+pub mod Standard
 pub mod Alphabets
 pub mod Words
 pub mod Pieces
@@ -7,4 +8,7 @@ pub mod Walks
 pub mod Extra
 pub mod Shown
 pub mod Keys
+pub mod Buffers
 pub mod Laws
+pub mod TableLaws
+pub mod KeyLaws

@@ -1,8 +1,9 @@
 -- What a text means: the units that it prints (Standard, sections 3.2 to 3.6).
-use Rattle.std.specs.Prelude.{ℕ, ◌+◌, ◌*◌, List, [], ◌∷◌, ◌++◌, length, Option, Some, None, Result, Ok, Err}
+use Rattle.std.specs.Prelude.{ℕ, ◌+◌, ◌*◌, List, [], ◌∷◌, ◌++◌, Option, Some, None, Result, Ok, Err}
 use Rattle.zk_mem.specs.Header.{header_of}
 use Rattle.zk_mem.specs.Map.{MemoryMap, word_at}
 use Rattle.zk_mem.specs.Results.{◌>>=◌}
+use Rattle.zk_mem.specs.Words.{words_at, text_end_at}
 use Rattle.zk_mem.specs.declared.fault.Fault.{Fault}
 use Rattle.zk_mem.specs.declared.fault.Fault.TheVariants.{TextPastEnd, NestedAbbreviation}
 use Rattle.zk_text.specs.declared.alphabet.Row.{Row}
@@ -11,7 +12,7 @@ use Rattle.zk_text.specs.declared.pieces.Piece.TheVariants as piece
 use Rattle.zk_text.specs.declared.unit.Unit.{Unit}
 use Rattle.zk_text.specs.declared.unit.Unit.TheVariants as unit
 use Rattle.zk_text.specs.Alphabets.{letter_of}
-use Rattle.zk_text.specs.Words.{words_at, z_characters}
+use Rattle.zk_text.specs.Words.{z_characters}
 use Rattle.zk_text.specs.Pieces.{pieces}
 
 -- the units that a text prints, or why it has no meaning
@@ -69,10 +70,6 @@ abbreviation m n =
 unfoldable pub text_units : MemoryMap → ℕ → Units
 text_units m a = meaning_at (abbreviation m) m a
 
--- the address after the last word of the text at an address
-unfoldable pub end_at : MemoryMap → ℕ → Result ℕ Fault
-end_at m a = past_end (words_at m a) >>= λ ws. Ok (a + 2 * length ws)
-
--- the same for a text that has a meaning
+-- the address after the text at an address, where the text has a meaning
 unfoldable pub checked_end : MemoryMap → ℕ → Result ℕ Fault
-checked_end m a = end_at m a >>= λ end. text_units m a >>= λ us. Ok end
+checked_end m a = past_end (text_end_at m a) >>= λ end. text_units m a >>= λ us. Ok end

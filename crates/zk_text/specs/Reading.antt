@@ -1,5 +1,5 @@
 -- What the code holds of a text and of a table.
-use Rattle.std.specs.Prelude.{ℕ, ◌+◌, List, [], ◌∷◌, Option, Some, None}
+use Rattle.std.specs.Prelude.{◌≤◌, ℕ, ◌+◌, ◌*◌, length, List, [], ◌∷◌, Option, Some, None}
 use Rattle.zk_text.specs.declared.extra.Table.{Table}
 use Rattle.zk_text.specs.Extra.{ExtraTable, words_from}
 use Rattle.zk_text.specs.declared.pieces.Held.{Held}
@@ -20,3 +20,8 @@ held_back (held.UpperHalf high) = 5 ∷ 6 ∷ high ∷ []
 abbrev pub words_of : List ℕ → Option Table → ExtraTable
 words_of bytes None = None
 words_of bytes (Some t) = Some (words_from bytes (t.at + 1) t.count)
+
+-- a table that lies whole in memory
+abbrev pub IsInside : List ℕ → Option Table → Type 0
+IsInside bytes None = Unit {0}
+IsInside bytes (Some t) = t.at + 1 + 2 * t.count ≤ length bytes

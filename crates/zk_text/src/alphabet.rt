@@ -36,13 +36,13 @@ fn start_of(row: Row) -> u8
 }
 
 /// A code of the 78 that the alphabets have, A0 first.
-#[tactic(auto, unfolding(zk_mem::specs::Map::cell_at), using(crate::proofs::Lists::read_or))]
-fn code_at(m: &Memory, table: Option<u16>, i: u16) -> u8
-    ensures { result ≡ letter_code m.now table i }
+#[tactic(auto, unfolding(zk_mem::specs::Map::cell_at, crate::specs::Standard::standard_letters), using(crate::proofs::Lists::read_or))]
+fn code_at(memory: &Memory, table: Option<u16>, index: u16) -> u8
+    ensures { result ≡ letter_code memory.now table index }
 {
     match table {
-        None => DEFAULT_LETTERS.get(i as usize).copied().unwrap_or(0),
-        Some(a) => m.cell(a as u32 + i as u32).unwrap_or(0),
+        None => DEFAULT_LETTERS.get(index as usize).copied().unwrap_or(0),
+        Some(start) => memory.cell(start as u32 + index as u32).unwrap_or(0),
     }
 }
 
@@ -50,12 +50,11 @@ impl Alphabet {
     /// The alphabets of a story: its own from version 5 on, where its file's header names a table
     /// that lies in readable data, else those of the Standard.
     #[tactic(auto, unfolding(crate::specs::Alphabets::alphabet_table))]
-    pub fn of(m: &Memory) -> Alphabet
-        ensures { result.table ≡ alphabet_table m.now }
+    pub fn of(memory: &Memory) -> Alphabet
+        ensures { result.table ≡ alphabet_table memory.now }
     {
-        let table = m.header().alphabet;
-        let end = table as u32 + 78;
-        if table == 0 || end > m.len() || end > 65_536 {
+        let table = memory.header().alphabet;
+        if table == 0 || table as u32 + 78 > memory.data_end() {
             return Alphabet { table: None };
         }
         Alphabet { table: Some(table) }
@@ -64,16 +63,16 @@ impl Alphabet {
     /// The ZSCII code of a Z-character from 6 to 31 in an alphabet. An own table is read as it
     /// stands in memory; 7 in A2 is a new line, code 13, in every table.
     #[tactic(auto, unfolding(crate::specs::Alphabets::letter_by))]
-    pub fn letter(self, m: &Memory, row: Row, z: u8) -> u8
-        ensures { result ≡ letter_by m.now self.table row z }
+    pub fn letter(self, memory: &Memory, row: Row, character: u8) -> u8
+        ensures { result ≡ letter_by memory.now self.table row character }
     {
-        if matches!(row, Row::A2) && z == 7 {
+        if matches!(row, Row::A2) && character == 7 {
             return 13;
         }
         code_at(
-            m,
+            memory,
             self.table,
-            start_of(row) as u16 + z.saturating_sub(6) as u16,
+            start_of(row) as u16 + character.saturating_sub(6) as u16,
         )
     }
 }

@@ -1,9 +1,8 @@
 // The extra characters of ZSCII.
 
-ghost use Rattle.std.specs.Prelude.{◌≡◌, ◌<◌, ◌^◌, IsTrue, IfSome, nat_lt, slice_get};
+ghost use Rattle.std.specs.Prelude.{◌≡◌, ◌≤◌, None, IsTrue, IfSome, nat_lt, slice_get};
 ghost use Rattle.std.specs.List.{list_all};
-ghost use Rattle.zk_mem.specs.Header.{word_in};
-ghost use Rattle.zk_text.specs.Reading.{words_of};
+ghost use Rattle.zk_text.specs.Reading.{words_of, IsInside};
 ghost use Rattle.zk_text.specs.Extra.{unicode_table, words_at_table, own_characters, characters, character, is_input_code, code_of, lower_code};
 
 use std::marker::Model;
@@ -45,71 +44,67 @@ pub struct Extra<'a> {
 
 impl<'a> Model for Extra<'a> {
     ghost use Rattle.zk_text.specs.Extra.{ExtraTable};
-    ghost use Rattle.zk_text.specs.Reading.{words_of};
+    ghost use Rattle.zk_text.specs.Reading.{words_of, IsInside};
 
     ghost Value = { ExtraTable };
 
     ghost view = { λ e. words_of e.memory.now.bytes e.own };
+
+    ghost invariant = { λ e. IsInside e.memory.now.bytes e.own };
 }
 
 /// The address of the Unicode table that the header extension names.
 #[tactic(auto, unfolding(crate::specs::Extra::unicode_table))]
-fn table_address(m: &Memory) -> Option<u16>
-    ensures { result ≡ unicode_table m.now }
+fn table_address(memory: &Memory) -> Option<u16>
+    ensures { result ≡ unicode_table memory.now }
 {
-    let extension = m.header().extension as u32;
+    let extension = memory.header().extension as u32;
     if extension == 0 {
         return None;
     }
-    match (m.word(extension), m.word(extension + 6)) {
-        (Ok(words), Ok(table)) => {
-            if words < 3 || table == 0 {
-                None
-            } else {
-                Some(table)
-            }
-        }
+    match (memory.word(extension), memory.word(extension + 6)) {
+        (Ok(words), Ok(table)) if words >= 3 && table != 0 => Some(table),
         _ => None,
     }
 }
 
 /// The table at an address, where all that it states lies in readable data.
 #[tactic(auto, unfolding(crate::specs::Extra::words_at_table))]
-fn table_at(m: &Memory, at: u16) -> Option<Table>
-    ensures { words_of m.now.bytes result ≡ words_at_table m.now at }
+fn table_at(memory: &Memory, at: u16) -> Option<Table>
+    ensures words { words_of memory.now.bytes result ≡ words_at_table memory.now at }
+    ensures inside { IsInside memory.now.bytes result }
 {
-    match m.byte(at as u32) {
-        Err(_) => None,
-        Ok(count) => {
-            let end = at as u32 + 1 + 2 * count as u32;
-            if end > m.len() || end > 65_536 {
-                None
-            } else {
-                Some(Table { at, count })
-            }
-        }
+    let Ok(count) = memory.byte(at as u32) else {
+        return None;
+    };
+    if at as u32 + 1 + 2 * count as u32 > memory.data_end() {
+        return None;
     }
+    Some(Table { at, count })
 }
 
 /// The item of a table, by its index.
 #[tactic(auto, using(crate::proofs::Tables::narrow_of))]
-fn item(table: &[char], i: usize) -> Option<u16>
+fn item(table: &[char], index: usize) -> Option<u16>
     requires { IsTrue (list_all (λ c. nat_lt c 65536) table.now) }
-    ensures { result ≡ slice_get table.now i }
+    ensures { result ≡ slice_get table.now index }
 {
-    match table.get(i) {
+    match table.get(index) {
         None => None,
-        Some(c) => Some(*c as u16),
+        Some(character) => Some(*character as u16),
     }
 }
 
-/// The word at an address of memory, or 0 past its end.
-#[tactic(auto, unfolding(zk_mem::specs::Map::cell_at), using(crate::proofs::Lists::read_or))]
-fn word_or_zero(m: &Memory, a: u32) -> u16
-    requires { a < 2 ^ 20 }
-    ensures { result ≡ word_in m.now.bytes a }
+/// An extra character's code in lower case, by the Standard's table.
+#[tactic(auto, using(crate::proofs::Lower::lower_extra, crate::proofs::Lists::read_or))]
+fn standard_lower(code: u8) -> u8
+    requires { 155 ≤ code }
+    ensures { result ≡ lower_code None code }
 {
-    256 * m.cell(a).unwrap_or(0) as u16 + m.cell(a + 1).unwrap_or(0) as u16
+    DEFAULT_LOWER
+        .get((code - 155) as usize)
+        .copied()
+        .unwrap_or(code)
 }
 
 impl<'a> Extra<'a> {
@@ -128,16 +123,17 @@ impl<'a> Extra<'a> {
         }
     }
 
-    /// The extra character of the code 155 + i.
-    #[tactic(auto, using(crate::proofs::Tables::standard_item, crate::proofs::Tables::own_item, crate::proofs::Tables::no_item))]
-    fn extra_at(&self, i: usize) -> Option<u16>
-        ensures { result ≡ slice_get (characters self.now) i }
+    /// The extra character of the code 155 + index.
+    #[tactic(auto, using(crate::proofs::Tables::standard_item, crate::proofs::Tables::no_item))]
+    fn extra_at(&self, index: usize) -> Option<u16>
+        ensures { result ≡ slice_get (characters self.now) index }
     {
         match self.own {
-            None => item(&DEFAULT_CHARACTERS, i),
+            None => item(&DEFAULT_CHARACTERS, index),
             Some(table) => {
-                if i < table.count.min(97) as usize {
-                    Some(word_or_zero(self.memory, table.at as u32 + 1 + 2 * i as u32))
+                if index < table.count.min(97) as usize {
+                    self.memory
+                        .code_word(table.at as u32 + 1 + 2 * index as u32)
                 } else {
                     None
                 }
@@ -160,18 +156,18 @@ impl<'a> Extra<'a> {
 
     /// The least ZSCII code of a character, from 32 to 126 or from 155 to 251, where it has one.
     #[tactic(auto, unfolding(crate::specs::Extra::code_of), using(crate::proofs::Tables::code_here, crate::proofs::Tables::code_on, crate::proofs::Tables::code_end, crate::proofs::Tables::code_limit))]
-    pub fn from_char(&self, c: u32) -> Option<u8>
-        ensures value { result ≡ code_of self.now c }
+    pub fn from_char(&self, character: u32) -> Option<u8>
+        ensures value { result ≡ code_of self.now character }
         ensures input { IfSome result (λ code. IsTrue (is_input_code code)) }
     {
-        if matches!(c, 32..=126) {
-            return Some(c as u8);
+        if matches!(character, 32..=126) {
+            return Some(character as u8);
         }
         for i in 0..97 {
             match self.extra_at(i) {
                 None => return None,
-                Some(x) => {
-                    if x as u32 == c {
+                Some(own) => {
+                    if own as u32 == character {
                         return Some(155 + i as u8);
                     }
                 }
@@ -182,16 +178,13 @@ impl<'a> Extra<'a> {
 
     /// The code of a letter in lower case, where the code is that of a capital: A to Z, and the
     /// extra letters of the Standard where those are in force. Other codes stay.
-    #[tactic(auto, unfolding(crate::specs::Extra::lower_code))]
+    #[tactic(auto, using(crate::proofs::Lower::lower_capital, crate::proofs::Lower::below_capitals, crate::proofs::Lower::above_capitals, crate::proofs::Lower::lower_own))]
     pub fn lower(&self, code: u8) -> u8
         ensures { result ≡ lower_code self.now code }
     {
         match code {
             b'A'..=b'Z' => code + 32,
-            155.. if self.own.is_none() => DEFAULT_LOWER
-                .get((code - 155) as usize)
-                .copied()
-                .unwrap_or(code),
+            155.. if self.own.is_none() => standard_lower(code),
             _ => code,
         }
     }

@@ -10,124 +10,132 @@ use zk_mem::memory::Memory;
 
 /// The first Z-character, from one on, that is a letter of an alphabet.
 #[tactic(auto, using(crate::proofs::Spells::place_on, crate::proofs::Spells::place_here, crate::proofs::Spells::place_none))]
-fn find_from(m: &Memory, alphabet: Alphabet, row: Row, c: u8, from: u8) -> Option<u8>
-    requires alphabet { alphabet.table ≡ alphabet_table m.now }
+fn find_from(memory: &Memory, alphabet: Alphabet, row: Row, code: u8, from: u8) -> Option<u8>
+    requires alphabet { alphabet.table ≡ alphabet_table memory.now }
     requires from { from ≤ 32 }
-    ensures { result ≡ place_from m.now row c (32 - from) from }
+    ensures { result ≡ place_from memory.now row code (32 - from) from }
 {
-    for z in from..32 {
-        if alphabet.letter(m, row, z) == c {
-            return Some(z);
+    for character in from..32 {
+        if alphabet.letter(memory, row, character) == code {
+            return Some(character);
         }
     }
     None
 }
 
 #[tactic(auto, unfolding(crate::specs::Keys::a2_place))]
-fn find_in_a2(m: &Memory, alphabet: Alphabet, c: u8) -> Option<u8>
-    requires alphabet { alphabet.table ≡ alphabet_table m.now }
-    ensures { result ≡ a2_place m.now c }
+fn find_in_a2(memory: &Memory, alphabet: Alphabet, code: u8) -> Option<u8>
+    requires alphabet { alphabet.table ≡ alphabet_table memory.now }
+    ensures { result ≡ a2_place memory.now code }
 {
-    if c == 13 {
+    if code == 13 {
         Some(7)
     } else {
-        find_from(m, alphabet, Row::A2, c, 8)
+        find_from(memory, alphabet, Row::A2, code, 8)
     }
 }
 
 /// One more Z-character, where there is room.
 #[tactic(auto, using(crate::proofs::Spells::take_on, crate::proofs::Spells::take_full))]
-fn put_character(zs: &mut ArrayVec<u8, 9>, most: usize, z: u8)
-    requires room { length zs.old.items ≤ most }
+fn put_character(characters: &mut ArrayVec<u8, 9>, most: usize, character: u8)
+    requires room { length characters.old.items ≤ most }
     requires nine { most ≤ 9 }
-    ensures room { length zs.new.items ≤ most }
+    ensures room { length characters.new.items ≤ most }
     ensures next { (rest : List ℕ) →
-        take most (zs.new.items ++ rest) ≡ take most (zs.old.items ++ z ∷ rest) }
+        take most (characters.new.items ++ rest) ≡ take most (characters.old.items ++ character ∷ rest) }
 {
-    if zs.len() < most {
-        zs.push(z);
+    if characters.len() < most {
+        characters.push(character);
     }
 }
 
 #[tactic(auto, unfolding(crate::specs::Keys::spelling))]
-fn put_letter(m: &Memory, alphabet: Alphabet, zs: &mut ArrayVec<u8, 9>, most: usize, c: u8)
-    requires alphabet { alphabet.table ≡ alphabet_table m.now }
-    requires room { length zs.old.items ≤ most }
+fn put_letter(
+    memory: &Memory,
+    alphabet: Alphabet,
+    characters: &mut ArrayVec<u8, 9>,
+    most: usize,
+    code: u8,
+)
+    requires alphabet { alphabet.table ≡ alphabet_table memory.now }
+    requires room { length characters.old.items ≤ most }
     requires nine { most ≤ 9 }
-    ensures room { length zs.new.items ≤ most }
+    ensures room { length characters.new.items ≤ most }
     ensures next { (rest : List ℕ) →
-        take most (zs.new.items ++ rest) ≡ take most (zs.old.items ++ (spelling m.now c ++ rest)) }
+        take most (characters.new.items ++ rest) ≡ take most (characters.old.items ++ (spelling memory.now code ++ rest)) }
 {
-    if c == 32 {
-        put_character(zs, most, 0);
-    } else if let Some(z) = find_from(m, alphabet, Row::A0, c, 6) {
-        put_character(zs, most, z);
-    } else if let Some(z) = find_from(m, alphabet, Row::A1, c, 6) {
-        put_character(zs, most, 4);
-        put_character(zs, most, z);
-    } else if let Some(z) = find_in_a2(m, alphabet, c) {
-        put_character(zs, most, 5);
-        put_character(zs, most, z);
+    if code == 32 {
+        put_character(characters, most, 0);
+    } else if let Some(character) = find_from(memory, alphabet, Row::A0, code, 6) {
+        put_character(characters, most, character);
+    } else if let Some(character) = find_from(memory, alphabet, Row::A1, code, 6) {
+        put_character(characters, most, 4);
+        put_character(characters, most, character);
+    } else if let Some(character) = find_in_a2(memory, alphabet, code) {
+        put_character(characters, most, 5);
+        put_character(characters, most, character);
     } else {
-        put_character(zs, most, 5);
-        put_character(zs, most, 6);
-        put_character(zs, most, c / 32);
-        put_character(zs, most, c % 32);
+        put_character(characters, most, 5);
+        put_character(characters, most, 6);
+        put_character(characters, most, code / 32);
+        put_character(characters, most, code % 32);
     }
 }
 
 /// The Z-characters of a key.
 #[tactic(auto, using(crate::proofs::Spells::spell_on, crate::proofs::Spells::spell_end, crate::proofs::Spells::five_on, crate::proofs::Spells::five_end, crate::proofs::Spells::key_length))]
-fn characters_of_key(m: &Memory, text: &[u8], most: usize) -> ArrayVec<u8, 9>
+fn characters_of_key(memory: &Memory, text: &[u8], most: usize) -> ArrayVec<u8, 9>
     requires { most ≤ 9 }
-    ensures value { result.items ≡ key_characters m.now most text.now }
+    ensures value { result.items ≡ key_characters memory.now most text.now }
     ensures length { length result.items ≡ most }
 {
-    let alphabet = Alphabet::of(m);
-    let mut zs = ArrayVec::new();
-    for c in text {
-        put_letter(m, alphabet, &mut zs, most, *c);
+    let alphabet = Alphabet::of(memory);
+    let mut characters = ArrayVec::new();
+    for code in text {
+        put_letter(memory, alphabet, &mut characters, most, *code);
     }
     for _i in 0..most {
-        put_character(&mut zs, most, 5);
+        put_character(&mut characters, most, 5);
     }
-    zs
+    characters
 }
 
-fn word_from(zs: &[u8], i: usize) -> u16
-    requires { i + 2 < length zs.now }
-    ensures value { result ≡ packed_word zs.now i }
+fn word_from(characters: &[u8], index: usize) -> u16
+    requires { index + 2 < length characters.now }
+    ensures value { result ≡ packed_word characters.now index }
     ensures unmarked { result < 32768 }
 {
-    1024 * (zs[i] % 32) as u16 + 32 * (zs[i + 1] % 32) as u16 + (zs[i + 2] % 32) as u16
+    1024 * (characters[index] % 32) as u16
+        + 32 * (characters[index + 1] % 32) as u16
+        + (characters[index + 2] % 32) as u16
 }
 
-fn put_word(bytes: &mut ArrayVec<u8, 6>, w: u16)
+fn put_word(bytes: &mut ArrayVec<u8, 6>, word: u16)
     requires { length bytes.old.items ≤ 4 }
-    ensures { bytes.new.items ≡ bytes.old.items ++ two_bytes w }
+    ensures { bytes.new.items ≡ bytes.old.items ++ two_bytes word }
 {
-    bytes.push((w / 256) as u8);
-    bytes.push((w % 256) as u8);
+    bytes.push((word / 256) as u8);
+    bytes.push((word % 256) as u8);
 }
 
 /// The key of a word, whose letters are ZSCII codes: 4 bytes in version 3, 6 from version 4 on
 /// (Z-Machine Standards Document 1.1, sections 3.7, 13.3 and 13.4). Letters are spelled by the
 /// alphabets in force; what is over the 6 or 9 Z-characters of a key is cut off.
 #[tactic(auto, unfolding(crate::specs::Keys::key_of))]
-pub fn key(m: &Memory, text: &[u8]) -> ArrayVec<u8, 6>
-    ensures value { result.items ≡ key_of m.now text.now }
-    ensures length { length result.items ≡ (if nat_lt m.now.version 4 then 4 else 6) }
+pub fn key(memory: &Memory, text: &[u8]) -> ArrayVec<u8, 6>
+    ensures value { result.items ≡ key_of memory.now text.now }
+    ensures length { length result.items ≡ (if nat_lt memory.now.version 4 then 4 else 6) }
 {
     let mut bytes = ArrayVec::new();
-    if m.version() < 4 {
-        let zs = characters_of_key(m, text, 6);
-        put_word(&mut bytes, word_from(zs.as_slice(), 0));
-        put_word(&mut bytes, 0x8000 + word_from(zs.as_slice(), 3));
+    if memory.version() < 4 {
+        let characters = characters_of_key(memory, text, 6);
+        put_word(&mut bytes, word_from(characters.as_slice(), 0));
+        put_word(&mut bytes, 0x8000 + word_from(characters.as_slice(), 3));
     } else {
-        let zs = characters_of_key(m, text, 9);
-        put_word(&mut bytes, word_from(zs.as_slice(), 0));
-        put_word(&mut bytes, word_from(zs.as_slice(), 3));
-        put_word(&mut bytes, 0x8000 + word_from(zs.as_slice(), 6));
+        let characters = characters_of_key(memory, text, 9);
+        put_word(&mut bytes, word_from(characters.as_slice(), 0));
+        put_word(&mut bytes, word_from(characters.as_slice(), 3));
+        put_word(&mut bytes, 0x8000 + word_from(characters.as_slice(), 6));
     }
     bytes
 }

@@ -1,6 +1,8 @@
 // What holds of texts and of extra characters.
 
-ghost use Rattle.zk_text.specs.Laws.{SpaceIsPiece, LetterIsPiece, A1IsPiece, A2IsPiece, CodeIsPiece, AbbreviationIsPiece, ShiftShowsNothing, EndIsCut, NestedIsFault, OthersMean, TextFits, CodeIsLeast, CharacterHasCode, ShownInParts};
+ghost use Rattle.zk_text.specs.Laws.{SpaceIsPiece, LetterIsPiece, A1IsPiece, A2IsPiece, CodeIsPiece, AbbreviationIsPiece, ShiftShowsNothing, EndIsCut, NestedIsFault, OthersMean, CodeIsLeast, CharacterHasCode, ShownInParts};
+ghost use Rattle.zk_text.specs.KeyLaws.{PlaceIsFirst, A2PlaceIsFirst, SpaceIsZero, NewLineIsSeven, SpellingByCases, SpellingsMean, KeyMeans, KeyIsText, KeyReads};
+ghost use Rattle.zk_text.specs.TableLaws.{A0IsSmall, A1IsCapital, A2HasDigits, A2HasNewLine, ExtraIsBeyondAscii, CodesDiffer, SmallIsAbove, CapitalHasSmall, LowerIsSmall, OthersStay, OwnLowersAscii, LowerOfA1, LowerTwice};
 
 /// A list of Z-characters is cut into these pieces (Z-Machine Standards Document 1.1, sections 3.2
 /// to 3.6). The cases cover each list.
@@ -24,13 +26,6 @@ pub fn abbreviations_are_plain()
     ensures plain { OthersMean }
 {}
 
-/// A text lies whole inside the story, so a walk over it takes at most half as many words as the
-/// story has bytes.
-#[tactic(auto, using(crate::proofs::TextWords::text_fits))]
-pub fn texts_fit()
-    ensures { TextFits }
-{}
-
 /// The two ways through the table of extra characters: the code of a character is the least of
 /// those that have it, and a character that has a code is found.
 #[tactic(auto, using(crate::proofs::Tables::code_is_least, crate::proofs::Tables::character_has_code))]
@@ -43,4 +38,58 @@ pub fn codes_are_least()
 #[tactic(auto, using(crate::proofs::ShownLemmas::shown_in_parts))]
 pub fn shown_in_parts()
     ensures { ShownInParts }
+{}
+
+/// The alphabets of the Standard (sections 3.5.3 and 3.5.5.1).
+#[tactic(auto, using(crate::proofs::Standard::a0_is_small, crate::proofs::Standard::a1_is_capital, crate::proofs::Standard::a2_has_digits, crate::proofs::Standard::a2_has_new_line))]
+pub fn alphabets_are_standard()
+    ensures small { A0IsSmall }
+    ensures capital { A1IsCapital }
+    ensures digits { A2HasDigits }
+    ensures new_line { A2HasNewLine }
+{}
+
+/// Under the table of the Standard each character has one code.
+#[tactic(auto, using(crate::proofs::Standard::extra_is_beyond_ascii, crate::proofs::Standard::codes_differ))]
+pub fn standard_codes_differ()
+    ensures ascii { ExtraIsBeyondAscii }
+    ensures differ { CodesDiffer }
+{}
+
+/// Codes in lower case: each capital, and only a capital, becomes its small letter, by Unicode's
+/// numbers. Under a story's own table A to Z alone change.
+#[tactic(auto, using(crate::proofs::LowerLaws::small_is_above, crate::proofs::LowerLaws::capital_has_small, crate::proofs::LowerLaws::lower_is_small, crate::proofs::LowerLaws::others_stay, crate::proofs::LowerLaws::own_lowers_ascii, crate::proofs::LowerLaws::lower_of_a1, crate::proofs::LowerLaws::lower_twice))]
+pub fn lower_is_of_capitals()
+    ensures above { SmallIsAbove }
+    ensures all { CapitalHasSmall }
+    ensures small { LowerIsSmall }
+    ensures others { OthersStay }
+    ensures own { OwnLowersAscii }
+    ensures a1 { LowerOfA1 }
+    ensures twice { LowerTwice }
+{}
+
+/// The place of a letter is the first Z-character that stands for it: of 6 to 31 in A0 and A1, of 7
+/// to 31 in A2.
+#[tactic(auto, using(crate::proofs::Places::place_is_first, crate::proofs::Places::a2_place_is_first))]
+pub fn places_are_first()
+    ensures place { PlaceIsFirst }
+    ensures a2 { A2PlaceIsFirst }
+{}
+
+/// What is spelled for a key, read as a text, means the letters of the word.
+#[tactic(auto, using(crate::proofs::SpellLaws::spellings_mean, crate::proofs::SpellLaws::key_means, crate::proofs::SpellLaws::space_is_zero, crate::proofs::SpellLaws::new_line_is_seven, crate::proofs::SpellLaws::spelling_by_cases))]
+pub fn keys_mean_their_words()
+    ensures spelled { SpellingsMean }
+    ensures key { KeyMeans }
+    ensures space { SpaceIsZero }
+    ensures new_line { NewLineIsSeven }
+    ensures others { SpellingByCases }
+{}
+
+/// A key is itself a text, of its Z-characters: where nothing is cut off it means the word.
+#[tactic(auto, using(crate::proofs::KeyText::key_is_text, crate::proofs::KeyText::key_reads))]
+pub fn keys_are_texts()
+    ensures text { KeyIsText }
+    ensures reads { KeyReads }
 {}

@@ -2,6 +2,7 @@
 #![tactic(auto)]
 
 pub mod alphabet;
+pub mod buffer;
 pub mod extra;
 pub mod key;
 pub mod laws;

@@ -38,53 +38,59 @@ pub(crate) enum Held {
 /// The next Z-character, where nothing is held back.
 #[tactic(auto, unfolding(crate::specs::Pieces::pieces_past))]
 #[inline(always)]
-fn begin(z: u8) -> (Held, Option<Piece>)
+fn begin(character: u8) -> (Held, Option<Piece>)
     ensures { (zs : List ℕ) →
-        pieces (z ∷ zs) ≡ piece_before result.1 (pieces (held_back result.0 ++ zs)) }
+        pieces (character ∷ zs) ≡ piece_before result.1 (pieces (held_back result.0 ++ zs)) }
 {
-    match z {
+    match character {
         0 => (Held::Nothing, Some(Piece::Code(32))),
         1 => (Held::First, None),
         2 => (Held::Second, None),
         3 => (Held::Third, None),
         4 => (Held::ShiftToA1, None),
         5 => (Held::ShiftToA2, None),
-        _ => (Held::Nothing, Some(Piece::Letter(Row::A0, z))),
+        _ => (Held::Nothing, Some(Piece::Letter(Row::A0, character))),
     }
 }
 
 /// The next Z-character: what is held back then, and the piece that it ends.
 #[tactic(auto, unfolding(crate::specs::Pieces::pieces_past))]
 #[inline(always)]
-pub(crate) fn advance(held: Held, z: u8) -> (Held, Option<Piece>)
+pub(crate) fn advance(held: Held, character: u8) -> (Held, Option<Piece>)
     ensures { (zs : List ℕ) →
-        pieces (held_back held ++ z ∷ zs) ≡ piece_before result.1 (pieces (held_back result.0 ++ zs)) }
+        pieces (held_back held ++ character ∷ zs) ≡ piece_before result.1 (pieces (held_back result.0 ++ zs)) }
 {
     match held {
-        Held::Nothing => begin(z),
-        Held::First => (Held::Nothing, Some(Piece::Abbreviation(z as u16))),
-        Held::Second => (Held::Nothing, Some(Piece::Abbreviation(32 + z as u16))),
-        Held::Third => (Held::Nothing, Some(Piece::Abbreviation(64 + z as u16))),
+        Held::Nothing => begin(character),
+        Held::First => (Held::Nothing, Some(Piece::Abbreviation(character as u16))),
+        Held::Second => (
+            Held::Nothing,
+            Some(Piece::Abbreviation(32 + character as u16)),
+        ),
+        Held::Third => (
+            Held::Nothing,
+            Some(Piece::Abbreviation(64 + character as u16)),
+        ),
         Held::ShiftToA1 => {
-            if z < 6 {
-                begin(z)
+            if character < 6 {
+                begin(character)
             } else {
-                (Held::Nothing, Some(Piece::Letter(Row::A1, z)))
+                (Held::Nothing, Some(Piece::Letter(Row::A1, character)))
             }
         }
         Held::ShiftToA2 => {
-            if z < 6 {
-                begin(z)
-            } else if z == 6 {
+            if character < 6 {
+                begin(character)
+            } else if character == 6 {
                 (Held::Escape, None)
             } else {
-                (Held::Nothing, Some(Piece::Letter(Row::A2, z)))
+                (Held::Nothing, Some(Piece::Letter(Row::A2, character)))
             }
         }
-        Held::Escape => (Held::UpperHalf(z), None),
+        Held::Escape => (Held::UpperHalf(character), None),
         Held::UpperHalf(high) => (
             Held::Nothing,
-            Some(Piece::Code(32 * high as u16 + z as u16)),
+            Some(Piece::Code(32 * high as u16 + character as u16)),
         ),
     }
 }

@@ -18,12 +18,12 @@ pub enum Shown {
 }
 
 /// A character, or `?` for a control character and for half of a surrogate pair.
-fn visible_char(c: u16) -> char
-    ensures { result ≡ visible c }
+fn visible_char(character: u16) -> char
+    ensures { result ≡ visible character }
 {
-    match c {
+    match character {
         0..=31 | 127..=159 => '?',
-        _ => char::from_u32(c as u32).unwrap_or('?'),
+        _ => char::from_u32(character as u32).unwrap_or('?'),
     }
 }
 

@@ -1,13 +1,12 @@
 // Texts, keys and tables against values of the Standard.
 
 use crate::alphabet::{Alphabet, Row};
+use crate::buffer::UnitBuffer;
 use crate::extra::Extra;
 use crate::key::key;
 use crate::shown::Shown;
-use crate::sink::{Sink, SinkFault};
 use crate::text::{check_text, print_text};
 use crate::unit::Unit;
-use arrayvec::ArrayVec;
 use std::alloc::Global;
 use std::test::Fail;
 use zk_mem::fault::Fault;
@@ -15,7 +14,7 @@ use zk_mem::memory::{Memory, Setup};
 use zk_mem::story::Story;
 
 /// A story whose header is followed by some bytes, with these values at these addresses.
-fn memory(alloc: Global, fields: &[(usize, u8)], rest: &[u8]) -> Result<Memory, Fail> {
+fn memory_of(alloc: Global, fields: &[(usize, u8)], rest: &[u8]) -> Result<Memory, Fail> {
     let mut file = Vec::new(alloc);
     file.extend_from_slice(&[0; 64])?;
     file.extend_from_slice(rest)?;
@@ -33,51 +32,21 @@ fn memory(alloc: Global, fields: &[(usize, u8)], rest: &[u8]) -> Result<Memory, 
     Ok(Memory::start(alloc, story, Setup { undo_states: 0 })?)
 }
 
-/// Takes so many units, and keeps their codes.
-#[derive(Drop)]
-struct Codes {
-    most: usize,
-    taken: ArrayVec<u16, 16>,
+/// Whether a text was printed whole into a buffer of so many units, and what the buffer has then.
+fn printed<const N: usize>(memory: &Memory, address: u32) -> Result<(bool, UnitBuffer<N>), Fault> {
+    let mut buffer = UnitBuffer::new();
+    check_text(memory, address)?;
+    let whole = print_text(memory, address, &mut buffer).is_ok();
+    Ok((whole, buffer))
 }
 
-impl Sink for Codes {
-    ghost use Rattle.std.specs.Prelude.{⊤};
-
-    ghost gave = { λ a b us. ⊤ };
-
-    ghost refused = { λ a b us. ⊤ };
-
-    fn put(&mut self, unit: Unit) -> Result<(), SinkFault> {
-        let code = match unit {
-            Unit::Code(code) => code,
-            Unit::Character(c) => c,
-        };
-        if self.taken.len() >= self.most || self.taken.try_push(code).is_err() {
-            return Err(SinkFault);
-        }
-        Ok(())
-    }
-
-    ghost nothing = { λ a. tt };
-
-    ghost twice = { λ a b c s t h k. tt };
-
-    ghost late = { λ a b c s t h k. tt };
-}
-
-/// Whether a text was printed whole, and its codes.
-fn printed(m: &Memory, a: u32, most: usize) -> Result<(bool, Codes), Fault> {
-    let mut codes = Codes {
-        most,
-        taken: ArrayVec::new(),
-    };
-    match check_text(m, a) {
-        Err(fault) => Err(fault),
-        Ok(_) => {
-            let whole = print_text(m, a, &mut codes).is_ok();
-            Ok((whole, codes))
-        }
-    }
+/// Whether units are those of these codes.
+fn has_codes(units: &[Unit], codes: &[u16]) -> bool {
+    units.len() == codes.len()
+        && units
+            .iter()
+            .zip(codes)
+            .all(|(unit, code)| *unit == Unit::Code(*code))
 }
 
 /// A word address of an abbreviation, the abbreviation, and a text at $44 that uses it.
@@ -93,12 +62,16 @@ fn prints_texts(rt: HostRuntime) -> Result<(), Fail> {
         (&[0x14, 0xc2, 0x80, 0xa5], 0x40, &[64]),
         (&EXPANDED, 0x44, &[104, 105, 104, 105]),
     ];
-    for (bytes, a, codes) in rows {
-        let m = memory(rt.alloc(), &[(0, 3), (0x19, 0x40)], bytes)?;
-        assert_eq!(rt; check_text(&m, a), Ok(m.len()), "end of the text {codes:?}");
-        let (whole, sink) = printed(&m, a, 16)?;
+    for (bytes, address, codes) in rows {
+        let memory = memory_of(rt.alloc(), &[(0, 3), (0x19, 0x40)], bytes)?;
+        assert_eq!(rt;
+            check_text(&memory, address),
+            Ok(memory.len()),
+            "end of the text {codes:?}"
+        );
+        let (whole, buffer) = printed::<4>(&memory, address)?;
         assert!(rt; whole);
-        assert_eq!(rt; sink.taken.as_slice(), codes);
+        assert!(rt; has_codes(buffer.as_slice(), codes), "{codes:?}");
     }
     Ok(())
 }
@@ -111,19 +84,22 @@ fn refuses_texts(rt: HostRuntime) -> Result<(), Fail> {
         (&[0x35, 0xcd, 0x94], 0x40, Fault::TextPastEnd),
         (&[0x8d, 0x00, 0x30, 0xba], 0x60, Fault::TextPastEnd),
     ];
-    for (bytes, a, fault) in rows {
-        let m = memory(rt.alloc(), &[(0, 3), (0x19, 0x40)], bytes)?;
-        assert_eq!(rt; check_text(&m, a), Err(fault));
+    for (bytes, address, fault) in rows {
+        let memory = memory_of(rt.alloc(), &[(0, 3), (0x19, 0x40)], bytes)?;
+        assert_eq!(rt; check_text(&memory, address), Err(fault));
     }
     Ok(())
 }
 
 #[test]
 fn stops_where_the_sink_refuses(rt: HostRuntime) -> Result<(), Fail> {
-    let m = memory(rt.alloc(), &[(0, 3)], &[0x35, 0xcd, 0x94, 0xc3])?;
-    let (whole, sink) = printed(&m, 0x40, 2)?;
-    assert!(rt; !whole);
-    assert_eq!(rt; sink.taken.as_slice(), [104, 105].as_slice());
+    let memory = memory_of(rt.alloc(), &[(0, 3)], &[0x35, 0xcd, 0x94, 0xc3])?;
+    let (whole, buffer) = printed::<3>(&memory, 0x40)?;
+    assert!(rt; whole && has_codes(buffer.as_slice(), &[104, 105, 104]));
+    let (whole, buffer) = printed::<2>(&memory, 0x40)?;
+    assert!(rt; !whole && has_codes(buffer.as_slice(), &[104, 105]));
+    let (whole, buffer) = printed::<0>(&memory, 0x40)?;
+    assert!(rt; !whole && buffer.as_slice().is_empty());
     Ok(())
 }
 
@@ -137,28 +113,28 @@ fn spells_keys(rt: HostRuntime) -> Result<(), Fail> {
         (5, b"i", &[0x38, 0xa5, 0x14, 0xa5, 0x94, 0xa5]),
     ];
     for (version, word, bytes) in rows {
-        let m = memory(rt.alloc(), &[(0, version)], &[0])?;
-        assert_eq!(rt; key(&m, word).as_slice(), bytes);
+        let memory = memory_of(rt.alloc(), &[(0, version)], &[0])?;
+        assert_eq!(rt; key(&memory, word).as_slice(), bytes);
     }
     Ok(())
 }
 
 #[test]
 fn has_the_alphabets_of_the_standard(rt: HostRuntime) -> Result<(), Fail> {
-    let m = memory(rt.alloc(), &[(0, 5)], &[0])?;
-    let alphabet = Alphabet::of(&m);
+    let memory = memory_of(rt.alloc(), &[(0, 5)], &[0])?;
+    let alphabet = Alphabet::of(&memory);
     let signs = b"0123456789.,!?_#'\"/\\-:()";
     for z in 6u8..32 {
-        assert_eq!(rt; alphabet.letter(&m, Row::A0, z), b'a' + (z - 6));
-        assert_eq!(rt; alphabet.letter(&m, Row::A1, z), b'A' + (z - 6));
+        assert_eq!(rt; alphabet.letter(&memory, Row::A0, z), b'a' + (z - 6));
+        assert_eq!(rt; alphabet.letter(&memory, Row::A1, z), b'A' + (z - 6));
         if z >= 8 {
             assert_eq!(rt;
                 signs.get((z - 8) as usize).copied(),
-                Some(alphabet.letter(&m, Row::A2, z))
+                Some(alphabet.letter(&memory, Row::A2, z))
             );
         }
     }
-    assert_eq!(rt; alphabet.letter(&m, Row::A2, 7), 13);
+    assert_eq!(rt; alphabet.letter(&memory, Row::A2, 7), 13);
     Ok(())
 }
 
@@ -170,16 +146,16 @@ fn takes_an_own_alphabet(rt: HostRuntime) -> Result<(), Fail> {
             *code = 33 + i;
         }
     }
-    let m = memory(rt.alloc(), &[(0, 5), (0x35, 0x40)], &table)?;
-    let alphabet = Alphabet::of(&m);
-    assert_eq!(rt; alphabet.letter(&m, Row::A0, 6), 33);
-    assert_eq!(rt; alphabet.letter(&m, Row::A1, 31), 84);
-    assert_eq!(rt; alphabet.letter(&m, Row::A2, 7), 13);
-    assert_eq!(rt; alphabet.letter(&m, Row::A2, 31), 110);
+    let memory = memory_of(rt.alloc(), &[(0, 5), (0x35, 0x40)], &table)?;
+    let alphabet = Alphabet::of(&memory);
+    assert_eq!(rt; alphabet.letter(&memory, Row::A0, 6), 33);
+    assert_eq!(rt; alphabet.letter(&memory, Row::A1, 31), 84);
+    assert_eq!(rt; alphabet.letter(&memory, Row::A2, 7), 13);
+    assert_eq!(rt; alphabet.letter(&memory, Row::A2, 31), 110);
     // A table that runs out of the story is none, and so is one before version 5.
     for (version, rest) in [(5, &table[1..]), (3, &table[..])] {
-        let m = memory(rt.alloc(), &[(0, version), (0x35, 0x40)], rest)?;
-        assert_eq!(rt; Alphabet::of(&m).letter(&m, Row::A0, 6), b'a');
+        let memory = memory_of(rt.alloc(), &[(0, version), (0x35, 0x40)], rest)?;
+        assert_eq!(rt; Alphabet::of(&memory).letter(&memory, Row::A0, 6), b'a');
     }
     Ok(())
 }
@@ -194,18 +170,18 @@ const EXTRA: [u16; 69] = [
 ];
 
 /// The lower case of a letter of Latin-1, or of the ligature.
-fn lower_letter(c: u16) -> u16 {
-    match c {
-        0xc0..=0xde => c + 0x20,
+fn lower_letter(character: u16) -> u16 {
+    match character {
+        0xc0..=0xde => character + 0x20,
         0x152 => 0x153,
-        _ => c,
+        _ => character,
     }
 }
 
 #[test]
 fn has_the_extra_characters_of_the_standard(rt: HostRuntime) -> Result<(), Fail> {
-    let m = memory(rt.alloc(), &[(0, 5)], &[0])?;
-    let extra = Extra::of(&m);
+    let memory = memory_of(rt.alloc(), &[(0, 5)], &[0])?;
+    let extra = Extra::of(&memory);
     let mut code = 155u8;
     for c in EXTRA {
         assert_eq!(rt; extra.to_char(code as u16), Some(c));
@@ -256,8 +232,8 @@ fn takes_an_own_unicode_table(rt: HostRuntime) -> Result<(), Fail> {
         (99, Some(0xe4), None, 155),
     ];
     for (count, first, last, lower) in rows {
-        let m = memory(rt.alloc(), &[(0, 5), (0x37, 0x40)], &own_table(count))?;
-        let extra = Extra::of(&m);
+        let memory = memory_of(rt.alloc(), &[(0, 5), (0x37, 0x40)], &own_table(count))?;
+        let extra = Extra::of(&memory);
         assert_eq!(rt; extra.to_char(155), first, "of {count}");
         assert_eq!(rt; extra.to_char(251), last, "of {count}");
         assert_eq!(rt; (extra.to_char(252), extra.from_char(0x461)), (None, None));
@@ -269,8 +245,8 @@ fn takes_an_own_unicode_table(rt: HostRuntime) -> Result<(), Fail> {
 
 #[test]
 fn shows_units(rt: HostRuntime) -> Result<(), Fail> {
-    let m = memory(rt.alloc(), &[(0, 5)], &[0])?;
-    let extra = Extra::of(&m);
+    let memory = memory_of(rt.alloc(), &[(0, 5)], &[0])?;
+    let extra = Extra::of(&memory);
     let rows = [
         (Unit::Code(0), Shown::Nothing),
         (Unit::Code(9), Shown::One(' ')),

@@ -7,7 +7,7 @@ ghost use Rattle.zk_text.specs.declared.unit.Unit.{Unit};
 use crate::alphabet::Alphabet;
 use crate::sink::{Sink, SinkFault};
 use crate::unit::Unit;
-use crate::walk::{Outside, Trouble, end_of, walk_text};
+use crate::walk::{Outside, Trouble, walk_text};
 use zk_mem::fault::Fault;
 use zk_mem::memory::Memory;
 
@@ -38,37 +38,32 @@ impl Sink for Silent {
 /// the story. Else its first abbreviation without a meaning decides: `TextPastEnd` where the
 /// abbreviation's address can't be read or its text has no last word, `NestedAbbreviation` where
 /// its text uses an abbreviation.
-#[tactic(auto, unfolding(crate::specs::Meaning::checked_end, crate::specs::Meaning::end_at, crate::specs::Meaning::text_units), using(crate::proofs::TextWords::end_inside))]
-pub fn check_text(m: &Memory, a: u32) -> Result<u32, Fault>
-    ensures value { result ≡ checked_end m.now a }
-    ensures meaning { OnOk result (IsOk (text_units m.now a)) }
-    ensures inside { IfOk result (λ end. end ≤ length m.now.bytes) }
+#[tactic(auto, unfolding(crate::specs::Meaning::checked_end, crate::specs::Meaning::text_units, zk_mem::specs::Words::text_end_at))]
+pub fn check_text(memory: &Memory, address: u32) -> Result<u32, Fault>
+    ensures value { result ≡ checked_end memory.now address }
+    ensures meaning { OnOk result (IsOk (text_units memory.now address)) }
+    ensures inside { IfOk result (λ end. end ≤ length memory.now.bytes) }
 {
-    match end_of(m, a) {
-        Err(fault) => Err(fault),
-        Ok(end) => {
-            let mut silent = Silent;
-            match walk_text::<Outside, Silent>(m, Alphabet::of(m), a, &mut silent) {
-                Ok(()) => Ok(end),
-                Err(Trouble::Text(fault)) => Err(fault),
-                // This sink refuses nothing.
-                Err(Trouble::Refused) => Ok(end),
-            }
-        }
+    let end = memory.text_end(address).ok_or(Fault::TextPastEnd)?;
+    match walk_text::<Outside, Silent>(memory, Alphabet::of(memory), address, &mut Silent) {
+        Ok(()) => Ok(end),
+        Err(Trouble::Text(fault)) => Err(fault),
+        // This sink refuses nothing.
+        Err(Trouble::Refused) => Ok(end),
     }
 }
 
 /// Gives a sink the units of the text at a byte address, which has a meaning (see `check_text`), in
 /// one pass. Where the sink refuses, it was given a first part of them.
 #[tactic(auto, unfolding(crate::specs::Meaning::text_units), using(crate::proofs::Joins::refused_alone))]
-pub fn print_text<S: Sink>(m: &Memory, a: u32, sink: &mut S) -> Result<(), SinkFault>
-    requires { IsOk (text_units m.now a) }
-    ensures ok { OnOk result ((us : List Unit) → text_units m.now a ≡ Ok us →
+pub fn print_text<S: Sink>(memory: &Memory, address: u32, sink: &mut S) -> Result<(), SinkFault>
+    requires { IsOk (text_units memory.now address) }
+    ensures ok { OnOk result ((us : List Unit) → text_units memory.now address ≡ Ok us →
         S.gave sink.old sink.new us) }
-    ensures err { OnErr result ((us : List Unit) → text_units m.now a ≡ Ok us →
+    ensures err { OnErr result ((us : List Unit) → text_units memory.now address ≡ Ok us →
         S.refused sink.old sink.new us) }
 {
-    match walk_text::<Outside, S>(m, Alphabet::of(m), a, sink) {
+    match walk_text::<Outside, S>(memory, Alphabet::of(memory), address, sink) {
         Ok(()) => Ok(()),
         // A text with a meaning has no fault.
         Err(Trouble::Text(_)) => Ok(()),

@@ -10,3 +10,15 @@ pub enum Unit {
     /// pair, which is no character.
     Character(u16),
 }
+
+impl Default for Unit {
+    ghost use Rattle.std.specs.Prelude.{◌≡◌};
+    ghost use Rattle.zk_text.specs.declared.unit.Unit.TheVariants.{Code};
+
+    ghost is_default = { λ u. u ≡ Code 0 };
+
+    /// The null code, which shows nothing.
+    fn default() -> Unit {
+        Unit::Code(0)
+    }
+}

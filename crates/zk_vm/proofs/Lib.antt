@@ -1,11 +1,5 @@
-pub mod Arguments
-pub mod Cells
-pub mod Operands
-pub mod Plain
-pub mod Pushes
+pub mod FrameLimits
 pub mod Runs
-pub mod Steps
+pub mod Showing
 pub mod Texts
-pub mod Ways
-pub mod WithinBounds
 pub mod Writes

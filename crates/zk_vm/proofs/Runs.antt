@@ -3,8 +3,10 @@ use Rattle.std.proofs.Common.{◌≡◌, ℕ, ◌+◌, ◌-◌, ◌<◌, ◌≤�
 use Rattle.zk_state.specs.declared.refusal.Limit.TheVariants.{Steps}
 use Rattle.zk_vm.specs.declared.stop.Stop.{Stop}
 use Rattle.zk_vm.specs.declared.stop.Stop.TheVariants.{Limit}
-use Rattle.zk_vm.specs.Step.{State, Texts, text_joined, step, state_after, text_of, result_of}
-use Rattle.zk_vm.specs.Outcome.{Outcome, stopped_by, followed, outcome, IsNoStepLimit, StepLimitOnlyCuts, StepLimitCutsThere}
+use Rattle.zk_step.specs.Routing.{Texts, text_joined}
+use Rattle.zk_vm.specs.Step.{State, step, state_after, text_of, result_of}
+use Rattle.zk_vm.specs.Outcome.{Outcome, stopped_by, followed, outcome}
+use Rattle.zk_vm.specs.Laws.{IsNoStepLimit, StepLimitOnlyCuts, StepLimitCutsThere}
 
 pub run_goes : (n i : ℕ) (s : State) → i < n → result_of s.place (step s) ≡ Ok tt
     → outcome (n - i) s ≡ record { stop = (outcome (n - (i + 1)) (state_after s (step s))).stop; text = text_joined (text_of (step s)) (outcome (n - (i + 1)) (state_after s (step s))).text }

@@ -1,21 +1,18 @@
 -- A step of the Standard's machine (Standard, sections 4 to 6 and 15).
-use Rattle.std.specs.Prelude.{ℕ, ◌+◌, List, [], ◌++◌, Result, Ok, Err}
+use Rattle.std.specs.Prelude.{ℕ, ◌+◌, Result, Ok, Err}
 use Rattle.zk_mem.specs.declared.fault.Fault.{Fault}
 use Rattle.zk_mem.specs.Results.{◌>>=◌}
-use Rattle.zk_code.specs.declared.instr.Instr.{Instr}
 use Rattle.zk_code.specs.Reading.{instr_at}
-use Rattle.zk_vm.specs.declared.ending.Next.{Next}
-use Rattle.zk_vm.specs.declared.ending.Next.TheVariants.{At, End}
+use Rattle.zk_step.specs.declared.ending.Next.{Next}
+use Rattle.zk_step.specs.declared.ending.Next.TheVariants.{At, End}
 use Rattle.zk_state.specs.declared.refusal.Refusal.{Refusal}
 use Rattle.zk_state.specs.declared.refusal.Refusal.TheVariants as refusal
 use Rattle.zk_state.specs.Frames.{FrameList, within_bounds}
 use Rattle.zk_vm.specs.declared.stop.Stop.{Stop}
 use Rattle.zk_vm.specs.declared.stop.Stop.TheVariants as stop
-use Rattle.zk_vm.specs.declared.workspace.Workspace.{Workspace}
-use Rattle.zk_vm.specs.Variables.{operands_read}
-use Rattle.zk_vm.specs.Effects.{effect_of}
-use Rattle.zk_vm.specs.Finish.{finished}
-use Rattle.zk_vm.specs.Printing.{characters_of}
+use Rattle.zk_step.specs.declared.workspace.Workspace.{Workspace}
+use Rattle.zk_step.specs.Instructions.{carried_out}
+use Rattle.zk_step.specs.Routing.{Texts, no_text}
 
 -- the state of play: the workspace, the byte address of the next instruction, and how many steps were
 -- made since the last read was answered
@@ -24,45 +21,19 @@ pub record State : Type 0 where
   pub place : ℕ
   pub steps : ℕ
 
--- characters for the screen, and for the transcript
-pub record Texts : Type 0 where
-  pub screen : List ℕ
-  pub script : List ℕ
-
--- nothing is shown
-abbrev pub no_text : Texts
-no_text = record { screen = []; script = [] }
-
--- a text after another
-abbrev pub text_joined : Texts → Texts → Texts
-text_joined s t = record { screen = s.screen ++ t.screen; script = s.script ++ t.script }
-
--- an instruction is carried out: its operands, its effect, its finish. What it prints is the text that stands
--- there once its effect is made.
-unfoldable pub carried_out : Workspace → Instr → Result (Workspace × (Next × List ℕ)) Fault
-carried_out w i = do
-  vs ← operands_read w i.operands
-  e ← effect_of vs.0 i vs.1
-  n ← finished e.0 i vs.1 e.1.ending
-  Ok (n.0, (n.1, characters_of e.0.memory e.1.output))
-
 -- A step goes on in a state, or ends the story, and shows some text; or it is a fault, and shows none.
 pub data Step : Type 0 where
   Goes : (state : State) (text : Texts) → Step
   Quits : (text : Texts) → Step
   Faults : (fault : Fault) → Step
 
--- characters on the screen alone
-abbrev pub on_screen : List ℕ → Texts
-on_screen characters = record { screen = characters; script = [] }
-
 -- what an instruction that was carried out leads to
-abbrev pub led_to : State → Workspace → List ℕ → Next → Step
-led_to s w text (At place) = Goes (record { workspace = w; place = place; steps = s.steps + 1 }) (on_screen text)
-led_to s w text End = Quits (on_screen text)
+abbrev pub led_to : State → Workspace → Texts → Next → Step
+led_to s w text (At place) = Goes (record { workspace = w; place = place; steps = s.steps + 1 }) text
+led_to s w text End = Quits text
 
 -- the step that an instruction makes
-abbrev pub settled : State → Result (Workspace × (Next × List ℕ)) Fault → Step
+abbrev pub settled : State → Result (Workspace × (Next × Texts)) Fault → Step
 settled s (Ok r) = led_to s r.0 r.1.1 r.1.0
 settled s (Err f) = Faults f
 

@@ -6,16 +6,15 @@ ghost use Rattle.zk_state.specs.Frames.{IsBounded};
 ghost use Rattle.zk_vm.specs.Bounds.{AreInRange};
 ghost use Rattle.zk_code.specs.Reading.{instr_at};
 ghost use Rattle.zk_vm.specs.Step.{step, result_of, state_after, text_of};
-ghost use Rattle.zk_vm.specs.Outcome.{begun, outcome, outcome_of, with_stop, StepLimitOnlyCuts, StepLimitCutsThere};
+ghost use Rattle.zk_vm.specs.Outcome.{begun, outcome, outcome_of, with_stop};
+ghost use Rattle.zk_vm.specs.Laws.{IsWithin};
 
 use crate::console::Console;
-use crate::ending::Next;
 use crate::limits::Limits;
 use crate::screen::Screen;
 use crate::slot::SaveSlot;
 use crate::step::carry_out;
 use crate::stop::{Event, Stop, View};
-use crate::workspace::Workspace;
 use std::alloc::{AllocError, Global};
 use std::marker::Model;
 use zk_code::decode::decode;
@@ -24,6 +23,8 @@ use zk_mem::memory::{Memory, Setup};
 use zk_mem::story::Story;
 use zk_state::frames::Frames;
 use zk_state::refusal::{Limit, Refusal};
+use zk_step::ending::Next;
+use zk_step::workspace::Workspace;
 use zk_term::source::Source;
 use zk_term::target::Target;
 
@@ -39,14 +40,15 @@ pub struct Machine {
 }
 
 impl Model for Machine {
-    ghost use Rattle.std.specs.Prelude.{◌≤◌};
+    ghost use Rattle.std.specs.Prelude.{◌≤◌, ◌≡◌};
+    ghost use Rattle.zk_state.specs.Frames.{bounds_of};
     ghost use Rattle.zk_vm.specs.Outcome.{Session};
 
     ghost Value = { Session };
 
     ghost view = { λ m. record { state = record { workspace = m.workspace; place = m.place; steps = m.steps }; limits = m.limits; stopped = m.stopped } };
 
-    ghost invariant = { λ m. m.steps ≤ m.limits.steps };
+    ghost invariant = { λ m. (m.steps ≤ m.limits.steps) × (bounds_of m.workspace.frames ≡ (m.limits.frames, m.limits.words)) };
 }
 
 impl Machine {
@@ -76,6 +78,16 @@ impl Machine {
             limits,
             stopped: None,
         })
+    }
+
+    /// There are no more frames, words and steps than the limits say.
+    #[inline(always)]
+    fn is_within(&self)
+        ensures bounded { IsBounded self.now.state.workspace.frames }
+        ensures within { IsWithin self.now.limits self.now.state }
+    {
+        let _ = &self.limits;
+        self.workspace.frames.is_bounded();
     }
 
     /// Carries out an instruction that was fetched from the machine's place.
@@ -143,14 +155,15 @@ impl Machine {
         ensures limits { self.new.limits ≡ self.old.limits }
         ensures steps { self.new.state.steps ≤ self.new.limits.steps }
         ensures frames { IsBounded self.new.state.workspace.frames }
+        ensures within { IsWithin self.new.limits self.new.state }
     {
         if let Some(stop) = self.stopped {
-            let _depth = self.workspace.frames.depth();
+            self.is_within();
             return Err(stop);
         }
         let stop = self.steps_to_stop(screen);
         self.stopped = Some(stop);
-        let _depth = self.workspace.frames.depth();
+        self.is_within();
         Err(stop)
     }
 
@@ -180,6 +193,7 @@ pub fn play<R: Source, S: Target, T: Target, K: SaveSlot>(
     ensures script { Shows (record { taken = T.taken script.old; failed = false }) (record { taken = T.taken script.new; failed = S.failed screen.new || T.failed script.new }) (outcome_of machine.old).text.script }
     ensures stopped { machine.new.stopped ≡ Some result }
     ensures limits { machine.new.limits ≡ machine.old.limits }
+    ensures within { IsWithin machine.new.limits machine.new.state }
     ensures reader { _reader.new ≡ _reader.old }
     ensures slot { _slot.new ≡ _slot.old }
 {
@@ -194,15 +208,3 @@ pub fn play<R: Source, S: Target, T: Target, K: SaveSlot>(
     }
     stop
 }
-
-/// A run that stops for another reason is the same under any greater limit on steps.
-#[tactic(auto, using(crate::proofs::Runs::step_limit_only_cuts))]
-pub fn step_limit_only_cuts()
-    ensures { StepLimitOnlyCuts }
-{}
-
-/// Where as many steps lead on as the limit says, the run stops there, by the limit on steps.
-#[tactic(auto, using(crate::proofs::Runs::step_limit_cuts_there))]
-pub fn step_limit_cuts_there()
-    ensures { StepLimitCutsThere }
-{}

@@ -7,12 +7,12 @@ ghost use Rattle.zk_text.specs.declared.unit.Unit.TheVariants as unit;
 ghost use Rattle.std.specs.Int.{cast_signed, w16};
 ghost use Rattle.std.specs.Fmt.{signed_decimal};
 ghost use Rattle.zk_text.specs.Shown.{characters_shown};
-ghost use Rattle.zk_vm.specs.Printing.{units_of, units_or_none, characters_of, IsReady};
+ghost use Rattle.zk_step.specs.Printing.{units_of, units_or_none, characters_of, IsReady};
 
-use crate::ending::Output;
 use crate::screen::Screen;
 use itoa::Buffer;
 use zk_mem::memory::Memory;
+use zk_step::ending::Output;
 use zk_text::extra::Extra;
 use zk_text::shown::Shown;
 use zk_text::sink::{Sink, SinkFault};
@@ -105,7 +105,7 @@ fn give_number<K: Sink>(sink: &mut K, word: u16)
 }
 
 /// Gives what an instruction prints to a sink that refuses no unit.
-#[tactic(auto, unfolding(crate::specs::Printing::units_of))]
+#[tactic(auto, unfolding(zk_step::specs::Printing::units_of))]
 fn give_output<K: Sink>(memory: &Memory, output: Output, sink: &mut K)
     requires sure { (a b : K) (us : List Unit) → K.refused a b us → ⊥ }
     requires ready { IsReady memory.now output }
@@ -125,7 +125,7 @@ fn give_output<K: Sink>(memory: &Memory, output: Output, sink: &mut K)
 }
 
 /// Shows what an instruction prints.
-#[tactic(auto, unfolding(crate::specs::Printing::characters_of))]
+#[tactic(auto, unfolding(zk_step::specs::Printing::characters_of))]
 pub fn show<S: Screen>(screen: &mut S, memory: &Memory, output: Output)
     requires { IsReady memory.now output }
     ensures { S.shows screen.old screen.new (characters_of memory.now output) [] }

@@ -5,4 +5,4 @@ use Rattle.zk_tables.proofs.chain.check_chain.Given as goal
 
 -- the fault of the whole chain is that of what is left
 abbrev pub invariant-loop-i : goal.invariant-loop-i
-invariant-loop-i l = fault_in (chain_from l.m (l.most - l._i) l.at) ≡ fault_in (chain_from l.m l.fn.most l.fn.first)
+invariant-loop-i l = fault_in (chain_from l.memory (l.most - l._i) l.at) ≡ fault_in (chain_from l.memory l.fn.most l.fn.first)

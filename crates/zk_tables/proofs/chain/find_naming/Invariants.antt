@@ -4,4 +4,4 @@ use Rattle.zk_tables.proofs.ChainSteps.{naming_from}
 use Rattle.zk_tables.proofs.chain.find_naming.Given as goal
 
 abbrev pub invariant-loop-i : goal.invariant-loop-i
-invariant-loop-i l = naming_from l.m (l.most - l.i) l.named l.place l.fn.o ≡ naming_among l.m l.fn.parent l.fn.o
+invariant-loop-i l = naming_from l.memory (l.most - l.i) l.named l.place l.fn.object ≡ naming_among l.memory l.fn.parent l.fn.object

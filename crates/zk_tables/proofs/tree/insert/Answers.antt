@@ -1,62 +1,41 @@
-use Rattle.std.proofs.Common.{◌≡◌, Ok, Err, refl, sym, ap, ◌∙◌}
+use Rattle.std.proofs.Common.{refl, sym}
 use Rattle.std.proofs.lemmas.Result.{err_from_is_err_and}
-use Rattle.zk_tables.specs.declared.links.Place.{Place}
-use Rattle.zk_tables.specs.Links.{parent_of, sibling_of, child_of, write_test}
-use Rattle.zk_tables.proofs.TreeSteps.{AreThere, nothing_of, nothing_into, insertion_bad, insertion_into_bad, insertion_fails, insertion_refused_sibling, insertion_refused_parent, insertion_refused_child, removed_by, removal_stands, insert_ends}
-use Rattle.zk_tables.proofs.tree.insert.Goals.{then-o-eq0-via-then-o-eq0, then-o-eq0-via-else-o-eq0+then-d-eq0}
+use Rattle.zk_tables.proofs.TreeSteps.{AreThere, nothing_of, nothing_into, insertion_bad, insertion_into_bad, insertion_fails, insertion_refused, removed_by, removal_stands, insert_ends}
+use Rattle.zk_tables.proofs.tree.insert.Goals.{then-object-eq0-via-then-object-eq0, then-object-eq0-via-else-object-eq0+then-destination-eq0}
 use Rattle.zk_tables.proofs.tree.insert.Goals as goal
 
-pub returns-then-o-eq0 : goal.returns-then-o-eq0
-returns-then-o-eq0 c = elim c.then-o-eq0.branch [ then-o-eq0-via-then-o-eq0 w ↦ nothing_of c.args.m.now c.args.o c.args.d w.if-o-eq0.true | then-o-eq0-via-else-o-eq0+then-d-eq0 w ↦ nothing_into c.args.m.now c.args.o c.args.d w.if-d-eq0.true ]
+pub returns-then-object-eq0 : goal.returns-then-object-eq0
+returns-then-object-eq0 c = elim c.then-object-eq0.branch [ then-object-eq0-via-then-object-eq0 w ↦ nothing_of c.args.memory.now c.args.object c.args.destination w.if-object-eq0.true | then-object-eq0-via-else-object-eq0+then-destination-eq0 w ↦ nothing_into c.args.memory.now c.args.object c.args.destination w.if-destination-eq0.true ]
 
 pub returns-in_err-entry : goal.returns-in_err-entry
 returns-in_err-entry c =
     let p = err_from_is_err_and c.from_residual.result c.from_residual.ensures.1 in
-    rw (p.1, p.2) (insertion_bad c.args.m.now c.args.o c.args.d _ c.if-o-eq0.false c.if-d-eq0.false (sym c.in_err-entry.ensures.value), refl)
+    rw (p.1, p.2) (insertion_bad c.args.memory.now c.args.object c.args.destination _ c.if-object-eq0.false c.if-destination-eq0.false (sym c.in_err-entry.ensures.value), refl)
 
 pub returns-in_err-entry-2 : goal.returns-in_err-entry-2
 returns-in_err-entry-2 c =
     let p = err_from_is_err_and c.from_residual-in_err-entry-2.result c.from_residual-in_err-entry-2.ensures.1 in
-    rw (p.1, p.2) (insertion_into_bad c.args.m.now c.args.o c.args.d _ _ c.if-o-eq0.false c.if-d-eq0.false (sym c.in_ok-entry.ensures.value) (sym c.in_err-entry-2.ensures.value), refl)
+    rw (p.1, p.2) (insertion_into_bad c.args.memory.now c.args.object c.args.destination _ _ c.if-object-eq0.false c.if-destination-eq0.false (sym c.in_ok-entry.ensures.value) (sym c.in_err-entry-2.ensures.value), refl)
 
 pub returns-in_err-place : goal.returns-in_err-place
 returns-in_err-place c =
     let p = err_from_is_err_and c.from_residual-in_err-place.result c.from_residual-in_err-place.ensures.1 in
-    let there : AreThere c.args.m.now c.args.o c.args.d = record { real = c.if-o-eq0.false; real_into = c.if-d-eq0.false; at = c.in_ok-entry.field-0; into_at = c.in_ok-entry-2.field-0; entry = sym c.in_ok-entry.ensures.value; into_entry = sym c.in_ok-entry-2.ensures.value } in
-    rw (p.1, p.2) (insertion_fails c.args.m.now c.args.o c.args.d _ there c.in_err-place.ensures, refl)
+    let there : AreThere c.args.memory.now c.args.object c.args.destination = record { real = c.if-object-eq0.false; real_into = c.if-destination-eq0.false; at = c.in_ok-entry.field-0; into_at = c.in_ok-entry-2.field-0; entry = sym c.in_ok-entry.ensures.value; into_entry = sym c.in_ok-entry-2.ensures.value } in
+    rw (p.1, p.2) (insertion_fails c.args.memory.now c.args.object c.args.destination _ there c.in_err-place.ensures, refl)
 
-pub returns-in_err-check_write : goal.returns-in_err-check_write
-returns-in_err-check_write c =
-    let p = err_from_is_err_and c.from_residual-in_err-check_write.result c.from_residual-in_err-check_write.ensures.1 in
-    let there : AreThere c.args.m.now c.args.o c.args.d = record { real = c.if-o-eq0.false; real_into = c.if-d-eq0.false; at = c.in_ok-entry.field-0; into_at = c.in_ok-entry-2.field-0; entry = sym c.in_ok-entry.ensures.value; into_entry = sym c.in_ok-entry-2.ensures.value } in
-    let one : write_test c.args.m.now (sibling_of c.args.o) ≡ Err c.in_err-check_write.field-0.0 = ap (λ (place : Place). write_test c.args.m.now place) (sym c.sibling_link.ensures) ∙ sym c.in_err-check_write.ensures in
-    rw (p.1, p.2) (insertion_refused_sibling c.args.m.now c.args.o c.args.d _ there c.in_ok-place.ensures.1 one, refl)
-
-pub returns-in_err-check_write-2 : goal.returns-in_err-check_write-2
-returns-in_err-check_write-2 c =
-    let p = err_from_is_err_and c.from_residual-in_err-check_write-2.result c.from_residual-in_err-check_write-2.ensures.1 in
-    let there : AreThere c.args.m.now c.args.o c.args.d = record { real = c.if-o-eq0.false; real_into = c.if-d-eq0.false; at = c.in_ok-entry.field-0; into_at = c.in_ok-entry-2.field-0; entry = sym c.in_ok-entry.ensures.value; into_entry = sym c.in_ok-entry-2.ensures.value } in
-    let one : write_test c.args.m.now (sibling_of c.args.o) ≡ Ok tt = ap (λ (place : Place). write_test c.args.m.now place) (sym c.sibling_link.ensures) ∙ sym c.in_ok-check_write.ensures in
-    let two : write_test c.args.m.now (parent_of c.args.o) ≡ Err c.in_err-check_write-2.field-0.0 = ap (λ (place : Place). write_test c.args.m.now place) (sym c.parent_link.ensures) ∙ sym c.in_err-check_write-2.ensures in
-    rw (p.1, p.2) (insertion_refused_parent c.args.m.now c.args.o c.args.d _ there c.in_ok-place.ensures.1 one two, refl)
-
-pub returns-in_err-check_write-3 : goal.returns-in_err-check_write-3
-returns-in_err-check_write-3 c =
-    let p = err_from_is_err_and c.from_residual-in_err-check_write-3.result c.from_residual-in_err-check_write-3.ensures.1 in
-    let there : AreThere c.args.m.now c.args.o c.args.d = record { real = c.if-o-eq0.false; real_into = c.if-d-eq0.false; at = c.in_ok-entry.field-0; into_at = c.in_ok-entry-2.field-0; entry = sym c.in_ok-entry.ensures.value; into_entry = sym c.in_ok-entry-2.ensures.value } in
-    let one : write_test c.args.m.now (sibling_of c.args.o) ≡ Ok tt = ap (λ (place : Place). write_test c.args.m.now place) (sym c.sibling_link.ensures) ∙ sym c.in_ok-check_write.ensures in
-    let two : write_test c.args.m.now (parent_of c.args.o) ≡ Ok tt = ap (λ (place : Place). write_test c.args.m.now place) (sym c.parent_link.ensures) ∙ sym c.in_ok-check_write-2.ensures in
-    let three : write_test c.args.m.now (child_of c.args.d) ≡ Err c.in_err-check_write-3.field-0.0 = ap (λ (place : Place). write_test c.args.m.now place) (sym c.child_link.ensures) ∙ sym c.in_err-check_write-3.ensures in
-    rw (p.1, p.2) (insertion_refused_child c.args.m.now c.args.o c.args.d _ there c.in_ok-place.ensures.1 one two three, refl)
+pub returns-in_err-check_writes : goal.returns-in_err-check_writes
+returns-in_err-check_writes c =
+    let p = err_from_is_err_and c.from_residual-in_err-check_writes.result c.from_residual-in_err-check_writes.ensures.1 in
+    let there : AreThere c.args.memory.now c.args.object c.args.destination = record { real = c.if-object-eq0.false; real_into = c.if-destination-eq0.false; at = c.in_ok-entry.field-0; into_at = c.in_ok-entry-2.field-0; entry = sym c.in_ok-entry.ensures.value; into_entry = sym c.in_ok-entry-2.ensures.value } in
+    let refused = rw (c.sibling_link.ensures, c.parent_link.ensures, c.child_link.ensures) at c.in_err-check_writes.ensures in
+    rw (p.1, p.2) (insertion_refused c.args.memory.now c.args.object c.args.destination _ there c.in_ok-place.ensures.1 (sym refused), refl)
 
 pub returns-in_err-unlink : goal.returns-in_err-unlink
-returns-in_err-unlink c = absurd (removal_stands c.args.m.now c.args.o c.in_ok-place.place _ c.in_ok-place.ensures.0 c.in_ok-place.ensures.1 c.in_err-unlink.ensures)
+returns-in_err-unlink c = absurd (removal_stands c.args.memory.now c.args.object c.in_ok-place.place _ c.in_ok-place.ensures.0 c.in_ok-place.ensures.1 c.in_err-unlink.ensures)
 
 pub returns : goal.returns
 returns c =
-    let there : AreThere c.args.m.now c.args.o c.args.d = record { real = c.if-o-eq0.false; real_into = c.if-d-eq0.false; at = c.in_ok-entry.field-0; into_at = c.in_ok-entry-2.field-0; entry = sym c.in_ok-entry.ensures.value; into_entry = sym c.in_ok-entry-2.ensures.value } in
-    let one : write_test c.args.m.now (sibling_of c.args.o) ≡ Ok tt = ap (λ (place : Place). write_test c.args.m.now place) (sym c.sibling_link.ensures) ∙ sym c.in_ok-check_write.ensures in
-    let two : write_test c.args.m.now (parent_of c.args.o) ≡ Ok tt = ap (λ (place : Place). write_test c.args.m.now place) (sym c.parent_link.ensures) ∙ sym c.in_ok-check_write-2.ensures in
-    let three : write_test c.args.m.now (child_of c.args.d) ≡ Ok tt = ap (λ (place : Place). write_test c.args.m.now place) (sym c.child_link.ensures) ∙ sym c.in_ok-check_write-3.ensures in
-    let without = removed_by c.args.m.now c.unlink.new.m c.args.o c.in_ok-place.place c.in_ok-place.ensures.0 c.in_ok-unlink.ensures in
-    insert_ends c.args.m.now c.unlink.new.m c.link_first.new.m c.args.o c.args.d c.link_first.result there without one two three c.link_first.ensures
+    let there : AreThere c.args.memory.now c.args.object c.args.destination = record { real = c.if-object-eq0.false; real_into = c.if-destination-eq0.false; at = c.in_ok-entry.field-0; into_at = c.in_ok-entry-2.field-0; entry = sym c.in_ok-entry.ensures.value; into_entry = sym c.in_ok-entry-2.ensures.value } in
+    let allowed = rw (c.sibling_link.ensures, c.parent_link.ensures, c.child_link.ensures) at c.in_ok-check_writes.ensures in
+    let without = removed_by c.args.memory.now c.unlink.new.memory c.args.object c.in_ok-place.place c.in_ok-place.ensures.0 c.in_ok-unlink.ensures in
+    insert_ends c.args.memory.now c.unlink.new.memory c.link_first.new.memory c.args.object c.args.destination c.link_first.result there without (sym allowed) c.link_first.ensures

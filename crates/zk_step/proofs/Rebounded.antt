@@ -1,0 +1,240 @@
+-- No definition of what an instruction does looks at the bounds on frames and words.
+use Rattle.std.proofs.Common.{◌≡◌, ℕ, ◌+◌, ◌-◌, ◌%◌, Bool, true, false, List, [], ◌∷◌, length, take, drop, Option, Some, None, Result, Ok, Err, refl, nat_lt, nat_le}
+use Rattle.std.specs.Prelude.{◌==◌, if◌then◌else◌}
+use Rattle.zk_mem.specs.declared.fault.Fault.{Fault}
+use Rattle.zk_mem.specs.Results.{◌>>=◌}
+use Rattle.zk_mem.specs.Map.{word_put, byte_put, word_at, byte_at}
+use Rattle.zk_mem.specs.Header.{unpacked}
+use Rattle.zk_state.specs.declared.frames.Return.{Return}
+use Rattle.zk_state.specs.Frames.{Frame, FrameList, with_bounds, has_local, frames_of, popped, top_of, with_top, local_of, with_local, left, unwound}
+use Rattle.zk_state.specs.Frames as frames
+use Rattle.zk_code.specs.declared.instr.Instr.{Instr}
+use Rattle.zk_code.specs.declared.operands.Operand.{Operand}
+use Rattle.zk_code.specs.declared.operands.Operand.TheVariants.{Large, Small, Variable}
+use Rattle.zk_code.specs.declared.opcode.Opcode.{Opcode}
+use Rattle.zk_code.specs.declared.opcode.Opcode.TheVariants as opcode
+use Rattle.zk_code.specs.declared.opcode.Assignment.{Assignment}
+use Rattle.zk_code.specs.declared.opcode.Assignment.TheVariants.{Store, Load, Inc, Dec, IncChk, DecChk, Pull, Pop}
+use Rattle.zk_code.specs.declared.opcode.Array.{Array}
+use Rattle.zk_code.specs.declared.opcode.Array.TheVariants.{Loadw, Loadb, Storew, Storeb}
+use Rattle.zk_code.specs.declared.opcode.Routine.{Routine}
+use Rattle.zk_code.specs.declared.opcode.Routine.TheVariants.{Rtrue, Rfalse, Ret, RetPopped, Catch, Throw, CheckArgCount}
+use Rattle.zk_step.specs.declared.ending.Effect.{Effect}
+use Rattle.zk_step.specs.declared.ending.Ending.{Ending}
+use Rattle.zk_step.specs.declared.ending.Ending.TheVariants as ending
+use Rattle.zk_step.specs.declared.ending.Next.{Next}
+use Rattle.zk_step.specs.declared.finish.Way.{Way}
+use Rattle.zk_step.specs.declared.finish.Way.TheVariants.{To, Back, Out}
+use Rattle.zk_step.specs.declared.workspace.Workspace.{Workspace}
+use Rattle.zk_step.specs.Arithmetic.{arithmetic}
+use Rattle.zk_step.specs.Arrays.{array_effect, byte_of, word_of}
+use Rattle.zk_step.specs.Assignment.{assignment, moved}
+use Rattle.zk_step.specs.Effects.{effect_by, effect_of, beside}
+use Rattle.zk_step.specs.Finish.{led, gone, gone_on, finished, way_on}
+use Rattle.zk_step.specs.Instructions.{carried_out}
+use Rattle.zk_step.specs.Laws.{rebounded, moved_in, BoundsAreNotSeen}
+use Rattle.zk_step.specs.Objects.{object_changed, object_answer}
+use Rattle.zk_step.specs.Printing.{printing}
+use Rattle.zk_step.specs.Routines.{called, stored, returned, thrown, routine_at, routine_effect}
+use Rattle.zk_step.specs.Routing.{Texts, routed}
+use Rattle.zk_step.specs.Values.{first, second, third}
+use Rattle.zk_step.specs.Variables.{with_frames, global_address, named_read, named_written, variable_read, variable_written, indirect_read, indirect_written, operand_read, operands_read}
+
+-- the second result is the first with its value changed
+data Mapped {A B : Type 0} (g : A → B) : Result A Fault → Result B Fault → Type 0 where
+  both : {x : A} → Mapped g (Ok x) (Ok (g x))
+  fails : {e : Fault} → Mapped g (Err e) (Err e)
+
+mapped_then : {A B C D : Type 0} {g : A → B} {h : C → D} (r : Result A Fault) (s : Result B Fault) (k : A → Result C Fault) (l : B → Result D Fault) → Mapped g r s → ((x : A) → Mapped h (k x) (l (g x))) → Mapped h (r >>= k) (s >>= l)
+mapped_then {A} {B} {C} {D} {g} {h} _ _ k l both c = c _
+mapped_then {A} {B} {C} {D} {g} {h} _ _ k l fails c = fails
+
+mapped_after : {A C D : Type 0} {h : C → D} (r : Result A Fault) (k : A → Result C Fault) (l : A → Result D Fault) → ((x : A) → Mapped h (k x) (l x)) → Mapped h (r >>= k) (r >>= l)
+mapped_after {A} {C} {D} {h} (Ok x) k l c = c x
+mapped_after {A} {C} {D} {h} (Err e) k l c = fails
+
+mapped_if : {A B : Type 0} {g : A → B} (b : Bool) {r p : Result A Fault} {s q : Result B Fault} → Mapped g r s → Mapped g p q → Mapped g (if b then r else p) (if b then s else q)
+mapped_if {A} {B} {g} true h k = h
+mapped_if {A} {B} {g} false h k = k
+
+module _ (f m : ℕ) where
+  abbrev frames_too : {A : Type 0} → FrameList × A → FrameList × A
+  frames_too {A} p = (with_bounds f m p.0, p.1)
+
+  abbrev too : {A : Type 0} → Workspace × A → Workspace × A
+  too {A} p = (rebounded f m p.0, p.1)
+
+  -- frames
+
+  popped_same : (s : FrameList) → Mapped (frames_too {A = ℕ}) (popped s) (popped (with_bounds f m s))
+  unfolding popped
+  popped_same s = mapped_if (nat_lt 0 (length s.current.words)) both fails
+
+  with_top_same : (s : FrameList) (v : ℕ) → Mapped (with_bounds f m) (with_top s v) (with_top (with_bounds f m s) v)
+  unfolding with_top
+  with_top_same s v = mapped_if (nat_lt 0 (length s.current.words)) both fails
+
+  with_local_same : (s : FrameList) (n v : ℕ) → Mapped (with_bounds f m) (with_local s n v) (with_local (with_bounds f m s) n v)
+  unfolding with_local
+  with_local_same s n v = mapped_if (has_local s n) both fails
+
+  left_by : (s : FrameList) (back : Return) (fs : List Frame) → Mapped (frames_too {A = Return}) (Ok (frames.with_frames s fs, back)) (Ok (frames.with_frames (with_bounds f m s) fs, back))
+  left_by s back [] = both
+  left_by s back (x ∷ xs) = both
+
+  left_same : (s : FrameList) → Mapped (frames_too {A = Return}) (left s) (left (with_bounds f m s))
+  unfolding left
+  left_same s = mapped_if (nat_lt 0 (length s.callers)) (left_by s (record { place = s.current.place; result = s.current.result }) s.callers) fails
+
+  unwound_by : (s : FrameList) (fs : List Frame) → Mapped (with_bounds f m) (Ok (frames.with_frames s fs)) (Ok (frames.with_frames (with_bounds f m s) fs))
+  unwound_by s [] = both
+  unwound_by s (x ∷ xs) = both
+
+  unwound_same : (s : FrameList) (n : ℕ) → Mapped (with_bounds f m) (unwound s n) (unwound (with_bounds f m s) n)
+  unfolding unwound
+  unwound_same s n = mapped_if (nat_le n (length s.callers)) (unwound_by s (drop (length s.callers - n) (frames_of s))) fails
+
+  -- variables
+
+  named_written_same : (w : Workspace) (v x : ℕ) → Mapped (rebounded f m) (named_written w v x) (named_written (rebounded f m w) v x)
+  unfolding named_written
+  named_written_same w v x = mapped_if (nat_lt v 16)
+      (mapped_then _ _ _ _ (with_local_same w.frames v x) (λ s. both))
+      (mapped_after (word_put w.memory (global_address w.memory v) x) _ _ (λ y. both))
+
+  variable_read_same : (w : Workspace) (v : ℕ) → Mapped (too {A = ℕ}) (variable_read w v) (variable_read (rebounded f m w) v)
+  unfolding variable_read named_read local_of
+  variable_read_same w v = mapped_if (v == 0)
+      (mapped_then _ _ _ _ (popped_same w.frames) (λ r. both))
+      (mapped_after (named_read w v) _ _ (λ x. both))
+
+  variable_written_same : (w : Workspace) (v x : ℕ) → Mapped (rebounded f m) (variable_written w v x) (variable_written (rebounded f m w) v x)
+  unfolding variable_written
+  variable_written_same w v x = mapped_if (v == 0) both (named_written_same w v x)
+
+  indirect_written_same : (w : Workspace) (v x : ℕ) → Mapped (rebounded f m) (indirect_written w v x) (indirect_written (rebounded f m w) v x)
+  unfolding indirect_written
+  indirect_written_same w v x = mapped_if (nat_lt 255 v) fails (mapped_if (v == 0)
+      (mapped_then _ _ _ _ (with_top_same w.frames x) (λ s. both))
+      (named_written_same w v x))
+
+  operand_same : (w : Workspace) (o : Operand) → Mapped (too {A = ℕ}) (operand_read w o) (operand_read (rebounded f m w) o)
+  unfolding operand_read
+  operand_same w (Large x) = both
+  operand_same w (Small x) = both
+  operand_same w (Variable v) = variable_read_same w v
+
+  operands_same : (w : Workspace) (os : List Operand) → Mapped (too {A = List ℕ}) (operands_read w os) (operands_read (rebounded f m w) os)
+  unfolding operands_read
+  operands_same w [] = both
+  operands_same w (o ∷ os) = mapped_then _ _ _ _ (operand_same w o) (λ r. mapped_then _ _ _ _ (operands_same r.0 os) (λ q. both))
+
+  -- returns and calls
+
+  stored_same : (w : Workspace) (v x : Option ℕ) → Mapped (rebounded f m) (stored w v x) (stored (rebounded f m w) v x)
+  unfolding stored
+  stored_same w (Some v) (Some x) = variable_written_same w v x
+  stored_same w (Some v) None = both
+  stored_same w None x = both
+
+  returned_same : (w : Workspace) (x : ℕ) → Mapped (too {A = Next}) (returned w x) (returned (rebounded f m w) x)
+  unfolding returned
+  returned_same w x = mapped_then _ _ _ _ (left_same w.frames) (λ r. mapped_then _ _ _ _ (stored_same (with_frames w r.0) r.1.result (Some x)) (λ u. both))
+
+  thrown_same : (w : Workspace) (x n : ℕ) → Mapped (too {A = Next}) (thrown w x n) (thrown (rebounded f m w) x n)
+  unfolding thrown
+  thrown_same w x n = mapped_then _ _ _ _ (unwound_same w.frames n) (λ s. returned_same (with_frames w s) x)
+
+  called_same : (w : Workspace) (i : Instr) (p : ℕ) (args : List ℕ) → Mapped (too {A = Next}) (called w i p args) (called (rebounded f m w) i p args)
+  unfolding called
+  called_same w i p args = mapped_after (routine_at w.memory (unpacked w.memory.version p)) _ _ (λ r. both)
+
+  -- effects
+
+  moved_same : (w : Workspace) (v step : ℕ) → Mapped (too {A = ℕ}) (moved w v step) (moved (rebounded f m w) v step)
+  unfolding moved indirect_read top_of named_read local_of
+  moved_same w v step = mapped_after (indirect_read w v) _ _ (λ x. mapped_then _ _ _ _ (indirect_written_same w v ((x + step) % 65536)) (λ u. both))
+
+  assignment_same : (o : Assignment) (w : Workspace) (vs : List ℕ) → Mapped (too {A = Effect}) (assignment o w vs) (assignment o (rebounded f m w) vs)
+  unfolding assignment indirect_read top_of named_read local_of
+  assignment_same Store w vs = mapped_then _ _ _ _ (indirect_written_same w (first vs) (second vs)) (λ u. both)
+  assignment_same Load w vs = mapped_after (indirect_read w (first vs)) _ _ (λ x. both)
+  assignment_same Inc w vs = mapped_then _ _ _ _ (moved_same w (first vs) 1) (λ r. both)
+  assignment_same Dec w vs = mapped_then _ _ _ _ (moved_same w (first vs) 65535) (λ r. both)
+  assignment_same IncChk w vs = mapped_then _ _ _ _ (moved_same w (first vs) 1) (λ r. both)
+  assignment_same DecChk w vs = mapped_then _ _ _ _ (moved_same w (first vs) 65535) (λ r. both)
+  assignment_same Pull w vs = mapped_then _ _ _ _ (popped_same w.frames) (λ r. mapped_then _ _ _ _ (indirect_written_same (with_frames w r.0) (first vs) r.1) (λ u. both))
+  assignment_same Pop w vs = mapped_then _ _ _ _ (popped_same w.frames) (λ r. both)
+
+  array_same : (o : Array) (w : Workspace) (vs : List ℕ) → Mapped (too {A = Effect}) (array_effect o w vs) (array_effect o (rebounded f m w) vs)
+  unfolding array_effect
+  array_same Loadw w vs = mapped_after (word_at w.memory (word_of (first vs) (second vs))) _ _ (λ x. both)
+  array_same Loadb w vs = mapped_after (byte_at w.memory (byte_of (first vs) (second vs))) _ _ (λ x. both)
+  array_same Storew w vs = mapped_after (word_put w.memory (word_of (first vs) (second vs)) (third vs)) _ _ (λ n. both)
+  array_same Storeb w vs = mapped_after (byte_put w.memory (byte_of (first vs) (second vs)) (third vs % 256)) _ _ (λ n. both)
+
+  routine_same : (o : Routine) (w : Workspace) (vs : List ℕ) → Mapped (too {A = Effect}) (routine_effect o w vs) (routine_effect o (rebounded f m w) vs)
+  unfolding routine_effect
+  routine_same Rtrue w vs = both
+  routine_same Rfalse w vs = both
+  routine_same Ret w vs = both
+  routine_same RetPopped w vs = mapped_then _ _ _ _ (popped_same w.frames) (λ r. both)
+  routine_same Catch w vs = both
+  routine_same Throw w vs = both
+  routine_same CheckArgCount w vs = both
+
+  beside_same : (w : Workspace) (r : Result Effect Fault) → Mapped (too {A = Effect}) (beside w r) (beside (rebounded f m w) r)
+  beside_same w r = mapped_after r _ _ (λ e. both)
+
+  effect_same : (o : Opcode) (w : Workspace) (text : Option ℕ) (vs : List ℕ) → Mapped (too {A = Effect}) (effect_by o w text vs) (effect_by o (rebounded f m w) text vs)
+  effect_same (opcode.Arithmetic o) w text vs = beside_same w (arithmetic o vs)
+  effect_same (opcode.Comparison o) w text vs = both
+  effect_same (opcode.Assignment o) w text vs = assignment_same o w vs
+  effect_same opcode.Push w text vs = both
+  effect_same (opcode.Array o) w text vs = array_same o w vs
+  effect_same (opcode.ObjectChange o) w text vs = mapped_after (object_changed o w.memory vs) _ _ (λ n. both)
+  effect_same (opcode.ObjectQuestion o) w text vs = beside_same w (object_answer o w.memory vs)
+  effect_same (opcode.Call o) w text vs = both
+  effect_same (opcode.Routine o) w text vs = routine_same o w vs
+  effect_same (opcode.Control o) w text vs = both
+  effect_same (opcode.Printing o) w text vs = beside_same w (printing o w.memory text vs)
+  effect_same (opcode.Idle o) w text vs = both
+  effect_same (opcode.Reading o) w text vs = fails
+  effect_same (opcode.Words o) w text vs = fails
+  effect_same (opcode.Window o) w text vs = fails
+  effect_same (opcode.Stream o) w text vs = fails
+  effect_same (opcode.Table o) w text vs = fails
+  effect_same opcode.Random w text vs = fails
+  effect_same (opcode.Saving o) w text vs = fails
+
+  -- the finish
+
+  led_same : (w : Workspace) (way : Way) → Mapped (too {A = Next}) (led w way) (led (rebounded f m w) way)
+  unfolding led
+  led_same w (To place) = both
+  led_same w (Back x) = returned_same w x
+  led_same w Out = fails
+
+  gone_same : (w : Workspace) (v x : Option ℕ) (way : Way) → Mapped (too {A = Next}) (gone w v x way) (gone (rebounded f m w) v x way)
+  unfolding gone
+  gone_same w v x way = mapped_then _ _ _ _ (stored_same w v x) (λ u. led_same u way)
+
+  finished_same : (w : Workspace) (i : Instr) (vs : List ℕ) (e : Ending) → Mapped (too {A = Next}) (finished w i vs e) (finished (rebounded f m w) i vs e)
+  unfolding finished gone_on
+  finished_same w i vs (ending.GoOn x truth) = gone_same w i.store x (way_on i.branch i.next truth)
+  finished_same w i vs (ending.Jump offset) = led_same w _
+  finished_same w i vs (ending.Call p most) = called_same w i p (take most (drop 1 vs))
+  finished_same w i vs (ending.Return x) = returned_same w x
+  finished_same w i vs (ending.Throw x n) = thrown_same w x n
+  finished_same w i vs ending.Quit = both
+
+  carried_same : (w : Workspace) (i : Instr) → Mapped (too {A = Next × Texts}) (carried_out w i) (carried_out (rebounded f m w) i)
+  unfolding carried_out effect_of routed
+  carried_same w i = mapped_then _ _ _ _ (operands_same w i.operands) (λ vs. mapped_then _ _ _ _ (effect_same i.opcode vs.0 i.text vs.1) (λ e. mapped_then _ _ _ _ (finished_same e.0 i vs.1 e.1.ending) (λ n. both)))
+
+  moved_is : (r s : Result (Workspace × (Next × Texts)) Fault) → Mapped (too {A = Next × Texts}) r s → s ≡ moved_in f m r
+  moved_is _ _ both = refl
+  moved_is _ _ fails = refl
+
+pub bounds_are_not_seen : BoundsAreNotSeen
+bounds_are_not_seen f m w i = moved_is f m (carried_out w i) (carried_out (rebounded f m w) i) (carried_same f m w i)

@@ -1,0 +1,107 @@
+// Calling a routine.
+
+ghost use Rattle.zk_state.specs.Frames.{bounds_of};
+ghost use Rattle.std.specs.Prelude.{◌≡◌, ◌≤◌, ◌<◌, ◌^◌, Ok, Err, IfSome, MatchResult, length, slice_index_or};
+ghost use Rattle.zk_step.specs.Limited.{limited_next};
+ghost use Rattle.zk_step.specs.Routines.{called, count_at, initial_value, initial_values, values_length, with_arguments};
+
+use crate::ending::Next;
+use crate::workspace::Workspace;
+use arrayvec::ArrayVec;
+use zk_code::instr::Instr;
+use zk_mem::fault::Fault;
+use zk_mem::header::unpack;
+use zk_mem::memory::Memory;
+use zk_state::refusal::Refusal;
+
+/// The bytes of the initial values of so many local variables.
+fn length_of_values(memory: &Memory, count: u8) -> u32
+    ensures value { result ≡ values_length memory.now count }
+    ensures bound { result ≤ 510 }
+{
+    if memory.version() < 5 {
+        2 * count as u32
+    } else {
+        0
+    }
+}
+
+/// How many local variables the routine at a byte address has, where it has at most 15 and lies in the
+/// story.
+#[tactic(auto, unfolding(crate::specs::Routines::count_at))]
+fn local_count(memory: &Memory, address: u32) -> Option<u8>
+    requires { address < 2 ^ 20 }
+    ensures value { result ≡ count_at memory.now address }
+    ensures few { IfSome result (λ n. n ≤ 15) }
+{
+    let count = memory.cell(address)?;
+    if count > 15 || address + 1 + length_of_values(memory, count) > memory.len() {
+        None
+    } else {
+        Some(count)
+    }
+}
+
+/// The initial value of a local variable: a word of the routine's, or 0 from version 5 on.
+fn initial_value(memory: &Memory, address: u32) -> u16
+    ensures { result ≡ initial_value memory.now address }
+{
+    if memory.version() < 5 {
+        memory.code_word(address).unwrap_or(0)
+    } else {
+        0
+    }
+}
+
+/// The argument at an index, or the initial value where there is none.
+fn argument_or(arguments: &[u16], k: usize, initial: u16) -> u16
+    ensures { result ≡ slice_index_or arguments.now k initial }
+{
+    arguments.get(k).copied().unwrap_or(initial)
+}
+
+/// The local variables of a called routine: its arguments, and initial values from a byte address on where
+/// there are fewer arguments than variables.
+fn locals_of(memory: &Memory, values: u32, count: u8, arguments: &[u16]) -> ArrayVec<u16, 15>
+    requires few { count ≤ 15 }
+    requires near { values < 2 ^ 20 }
+    ensures { result.items ≡ with_arguments (initial_values memory.now values count) arguments.now }
+{
+    let mut locals = ArrayVec::new();
+    let mut at = values;
+    for k in 0..count as usize {
+        let initial = initial_value(memory, at);
+        locals.push(argument_or(arguments, k, initial));
+        at += 2;
+    }
+    locals
+}
+
+/// Calls the routine at a packed address with arguments. A routine outside the story, or with more than 15
+/// local variables, is `BadTarget`.
+#[tactic(auto, unfolding(crate::specs::Routines::called, crate::specs::Routines::routine_at, zk_state::specs::Frames::called), using(zk_state::proofs::Kept::called_bounds, crate::proofs::WithinBounds::kept_with, crate::proofs::WithinBounds::kept_refused))]
+pub fn call_routine(
+    workspace: &mut Workspace,
+    i: &Instr,
+    routine: u16,
+    arguments: &[u16],
+) -> Result<Next, Refusal>
+    requires near { i.now.next ≤ 2 ^ 20 }
+    requires few { length arguments.now ≤ 7 }
+    ensures value { MatchResult result
+        (λ n. limited_next (called workspace.old i.now routine arguments.now) ≡ Ok (workspace.new, n))
+        (λ e. limited_next (called workspace.old i.now routine arguments.now) ≡ Err e) }
+    ensures bounds { bounds_of workspace.new.frames ≡ bounds_of workspace.old.frames }
+{
+    let header = unpack(workspace.memory.version(), routine);
+    let Some(count) = local_count(&workspace.memory, header) else {
+        return Err(Refusal::Fault(Fault::BadTarget));
+    };
+    let locals = locals_of(&workspace.memory, header + 1, count, arguments);
+    let start = header + 1 + length_of_values(&workspace.memory, count);
+    let supplied = arguments.len() as u8;
+    workspace
+        .frames
+        .call(locals.as_slice(), i.next, i.store, supplied)?;
+    Ok(Next::At(start))
+}

@@ -1,0 +1,96 @@
+// How an instruction's effect ends.
+
+/// How an effect ends, before the next place is known.
+#[derive(Clone, Copy, Debug, PartialEq, Eq, Drop)]
+pub enum Ending {
+    /// Goes on, with a result, a truth, both or neither.
+    GoOn(Option<u16>, Option<bool>),
+    /// Jumps by an offset.
+    Jump(u16),
+    /// Calls the routine at a packed address with the values of so many further operands at most.
+    Call(u16, u8),
+    /// Returns a value from the current routine.
+    Return(u16),
+    /// Returns a value from the frame of a number, where the first frame has number 0.
+    Throw(u16, u16),
+    /// The story has ended.
+    Quit,
+}
+
+/// What an instruction prints.
+#[derive(Clone, Copy, Debug, PartialEq, Eq, Drop)]
+pub enum Output {
+    Nothing,
+    /// A ZSCII code.
+    Code(u16),
+    /// A Unicode character.
+    Character(u16),
+    /// A signed number.
+    Number(u16),
+    /// The text at a byte address.
+    Text(u32),
+    /// The text at a byte address, and a new line.
+    Line(u32),
+}
+
+/// What an effect does beside its changes of the workspace.
+#[derive(Clone, Copy, Debug, PartialEq, Eq, Drop)]
+pub struct Effect {
+    pub output: Output,
+    pub ending: Ending,
+}
+
+/// Where a machine goes on.
+#[derive(Clone, Copy, Debug, PartialEq, Eq, Drop)]
+pub enum Next {
+    /// At the instruction at a byte address.
+    At(u32),
+    /// Nowhere: the story has ended.
+    End,
+}
+
+impl Effect {
+    ghost use Rattle.std.specs.Prelude.{◌≡◌};
+    ghost use Rattle.zk_step.specs.Endings.{ends, goes_on, gives, tests, prints};
+
+    /// Nothing is printed.
+    pub fn ends(ending: Ending) -> Effect
+        ensures { result ≡ ends ending }
+    {
+        Effect {
+            output: Output::Nothing,
+            ending,
+        }
+    }
+
+    /// The next instruction follows.
+    pub fn goes_on() -> Effect
+        ensures { result ≡ goes_on }
+    {
+        Effect::ends(Ending::GoOn(None, None))
+    }
+
+    /// The instruction gives a result.
+    pub fn gives(word: u16) -> Effect
+        ensures { result ≡ gives word }
+    {
+        Effect::ends(Ending::GoOn(Some(word), None))
+    }
+
+    /// The instruction tests a truth.
+    pub fn tests(truth: bool) -> Effect
+        ensures { result ≡ tests truth }
+    {
+        Effect::ends(Ending::GoOn(None, Some(truth)))
+    }
+
+    /// The instruction prints and goes on.
+    pub fn prints(output: Output) -> Effect
+        ensures { result ≡ prints output }
+    {
+        Effect {
+            output,
+            ending: Ending::GoOn(None, None),
+        }
+    }
+}

@@ -1,0 +1,63 @@
+// An instruction, from its operands to the next place.
+
+ghost use Rattle.zk_state.specs.Frames.{bounds_of};
+ghost use Rattle.std.specs.Prelude.{◌≡◌, ◌≤◌, ◌^◌, Ok, Err, IfOk, IfErr, IsOk, OnOk, MatchResult};
+ghost use Rattle.zk_step.specs.Finish.{finished};
+ghost use Rattle.zk_step.specs.Instructions.{carried_out, HasBegun};
+ghost use Rattle.zk_step.specs.Limited.{limited_next, limited_move};
+ghost use Rattle.zk_step.specs.Printing.{IsPlainEnd, IsPrintable};
+
+use crate::effects::effect;
+use crate::ending::{Effect, Next};
+use crate::finish::{check_finish, finish as finish_ending};
+use crate::values::{Values, read_operands};
+use crate::workspace::Workspace;
+use zk_code::instr::Instr;
+use zk_state::refusal::Refusal;
+
+/// An instruction whose operands were taken and whose effect was made: what it prints is to be shown, and
+/// how its effect ended is to be finished.
+#[derive(Drop)]
+pub struct Begun {
+    pub values: Values,
+    pub effect: Effect,
+}
+
+/// Takes an instruction's operands, first to last, and makes its effect. A refusal is that of the whole
+/// instruction.
+pub fn begin(workspace: &mut Workspace, i: &Instr) -> Result<Begun, Refusal>
+    ensures ok { IfOk result (λ b. HasBegun workspace.old i.now workspace.new b.values b.effect) }
+    ensures err { IfErr result (λ e. limited_move (carried_out workspace.old i.now) ≡ Err e) }
+    ensures ready { IfOk result (λ b. IsPrintable workspace.old.memory workspace.new.memory b.effect.output b.effect.ending) }
+    ensures bounds { bounds_of workspace.new.frames ≡ bounds_of workspace.old.frames }
+{
+    let values = match read_operands(workspace, &i.operands) {
+        Ok(values) => values,
+        Err(fault) => return Err(Refusal::Fault(fault)),
+    };
+    match effect(workspace, i, &values) {
+        Ok(effect) => Ok(Begun { values, effect }),
+        Err(refusal) => Err(refusal),
+    }
+}
+
+/// Whether an instruction that has begun, and prints, can be finished: the refusals are those of `finish`,
+/// and nothing changes.
+pub fn check(workspace: &Workspace, i: &Instr, begun: &Begun) -> Result<(), Refusal>
+    requires { IsPlainEnd begun.now.effect.ending }
+    ensures ok { OnOk result (IsOk (limited_next (finished workspace.now i.now begun.now.values begun.now.effect.ending))) }
+    ensures err { IfErr result (λ e. limited_next (finished workspace.now i.now begun.now.values begun.now.effect.ending) ≡ Err e) }
+{
+    check_finish(workspace, i, &begun.values, begun.effect.ending)
+}
+
+/// Stores an instruction's result and finds where the machine goes on.
+pub fn finish(workspace: &mut Workspace, i: &Instr, begun: &Begun) -> Result<Next, Refusal>
+    requires { i.now.next ≤ 2 ^ 20 }
+    ensures value { MatchResult result
+        (λ n. limited_next (finished workspace.old i.now begun.now.values begun.now.effect.ending) ≡ Ok (workspace.new, n))
+        (λ e. limited_next (finished workspace.old i.now begun.now.values begun.now.effect.ending) ≡ Err e) }
+    ensures bounds { bounds_of workspace.new.frames ≡ bounds_of workspace.old.frames }
+{
+    finish_ending(workspace, i, &begun.values, begun.effect.ending)
+}

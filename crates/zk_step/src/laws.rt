@@ -1,0 +1,9 @@
+// Laws of instructions.
+
+ghost use Rattle.zk_step.specs.Laws.{BoundsAreNotSeen};
+
+/// Bounds on frames and words change nothing of what an instruction does: in a workspace with other bounds
+/// it leads to the same workspace, with those bounds, to the same place, and shows the same.
+pub fn bounds_are_not_seen()
+    ensures { BoundsAreNotSeen }
+{}

@@ -1,0 +1,22 @@
+// One instruction, carried out: its operands, its effect and its finish.
+#![tactic(auto)]
+
+mod arithmetic;
+mod arrays;
+mod assignment;
+mod call;
+mod comparison;
+mod control;
+mod effects;
+pub mod ending;
+mod finish;
+mod idle;
+pub mod instruction;
+pub mod laws;
+mod objects;
+mod printing;
+mod returning;
+mod routines;
+mod values;
+mod variables;
+pub mod workspace;

@@ -1,0 +1,115 @@
+// The values of operands.
+
+ghost use Rattle.zk_state.specs.Frames.{bounds_of};
+ghost use Rattle.std.specs.Prelude.{◌≡◌, ◌<◌, ◌≤◌, [], ◌∷◌, ◌++◌, Ok, Err, drop, take, length, slice_index, MatchResult};
+ghost use Rattle.zk_step.specs.Values.{first, second, third};
+ghost use Rattle.zk_step.specs.Variables.{operand_read, operands_read};
+
+use crate::variables::read_variable;
+use crate::workspace::Workspace;
+use arrayvec::ArrayVec;
+use std::marker::Model;
+use zk_code::operands::{Operand, Operands};
+use zk_mem::fault::Fault;
+
+/// The values of an instruction's operands: at most eight words.
+#[derive(Drop)]
+pub struct Values {
+    list: ArrayVec<u16, 8>,
+}
+
+impl Model for Values {
+    ghost use Rattle.std.specs.Prelude.{List, ℕ};
+
+    ghost Value = { List ℕ };
+
+    ghost view = { λ v. v.list.items };
+}
+
+impl Values {
+    fn new() -> Values
+        ensures { result ≡ [] }
+    {
+        Values {
+            list: ArrayVec::new(),
+        }
+    }
+
+    fn push(&mut self, value: u16)
+        requires { length self.old < 8 }
+        ensures { self.new ≡ self.old ++ value ∷ [] }
+    {
+        self.list.push(value);
+    }
+
+    /// The value of the operand at an index, or 0 where there is none.
+    fn get(&self, i: usize) -> u16
+        ensures { result ≡ slice_index self.now i }
+    {
+        self.list.get(i).copied().unwrap_or(0)
+    }
+
+    pub fn first(&self) -> u16
+        ensures { result ≡ first self.now }
+    {
+        self.get(0)
+    }
+
+    pub fn second(&self) -> u16
+        ensures { result ≡ second self.now }
+    {
+        self.get(1)
+    }
+
+    pub fn third(&self) -> u16
+        ensures { result ≡ third self.now }
+    {
+        self.get(2)
+    }
+
+    /// The arguments of a call: the values after the first, so many at most.
+    pub fn arguments(&self, most: u8) -> &[u16]
+        ensures value { result.now ≡ take most (drop 1 self.now) }
+        ensures few { length result.now ≤ 7 }
+    {
+        let rest = match self.list.as_slice() {
+            [] => return &[],
+            [_, rest @ ..] => rest,
+        };
+        &rest[..rest.len().min(most as usize)]
+    }
+
+    pub fn as_slice(&self) -> &[u16]
+        ensures { result.now ≡ self.now }
+    {
+        self.list.as_slice()
+    }
+}
+
+#[tactic(auto, unfolding(crate::specs::Variables::operand_read))]
+fn read_operand(workspace: &mut Workspace, operand: Operand) -> Result<u16, Fault>
+    ensures value { MatchResult result (λ x. operand_read workspace.old operand ≡ Ok (workspace.new, x)) (λ e. operand_read workspace.old operand ≡ Err e) }
+    ensures bounds { bounds_of workspace.new.frames ≡ bounds_of workspace.old.frames }
+{
+    match operand {
+        Operand::Large(value) => Ok(value),
+        Operand::Small(value) => Ok(value as u16),
+        Operand::Variable(variable) => read_variable(workspace, variable),
+    }
+}
+
+/// The values of operands, first to last.
+pub fn read_operands(workspace: &mut Workspace, operands: &Operands) -> Result<Values, Fault>
+    ensures value { MatchResult result (λ v. operands_read workspace.old operands.now ≡ Ok (workspace.new, v)) (λ e. operands_read workspace.old operands.now ≡ Err e) }
+    ensures bounds { bounds_of workspace.new.frames ≡ bounds_of workspace.old.frames }
+{
+    let _few = operands.len();
+    let mut values = Values::new();
+    for operand in operands.as_slice() {
+        match read_operand(workspace, *operand) {
+            Ok(value) => values.push(value),
+            Err(fault) => return Err(fault),
+        }
+    }
+    Ok(values)
+}

@@ -1,0 +1,5 @@
+use Rattle.zk_tables.proofs.MadeLaw.{removals_are_made}
+use Rattle.zk_tables.proofs.laws.removals_are_made.Goals as goal
+
+pub returns : goal.returns
+returns c = removals_are_made

@@ -1,0 +1,5 @@
+use Rattle.zk_vm.proofs.FrameLimits.{runs_stay_within}
+use Rattle.zk_vm.proofs.laws.runs_stay_within.Goals as goal
+
+pub returns : goal.returns
+returns c = runs_stay_within

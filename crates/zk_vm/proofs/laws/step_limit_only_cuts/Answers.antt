@@ -1,0 +1,5 @@
+use Rattle.zk_vm.proofs.Runs.{step_limit_only_cuts}
+use Rattle.zk_vm.proofs.laws.step_limit_only_cuts.Goals as goal
+
+pub returns : goal.returns
+returns c = step_limit_only_cuts
