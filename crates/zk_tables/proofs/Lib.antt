@@ -2,6 +2,9 @@ pub mod Steps
 pub mod ChainSteps
 pub mod ListSteps
 pub mod Writes
+pub mod Finding
+pub mod Dividing
+pub mod Storing
 pub mod TreeSteps
 pub mod ChainLaw
 pub mod ListLaw

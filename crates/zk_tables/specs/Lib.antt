@@ -6,3 +6,6 @@ pub mod TreeLaws
 pub mod Attributes
 pub mod PropertyList
 pub mod Properties
+pub mod Dictionaries
+pub mod Tokens
+pub mod Parsing

@@ -1,0 +1,97 @@
+-- Looking a key up.
+use Rattle.std.proofs.Common.{◌≡◌, ◌≢◌, ◌≤◌, ◌<◌, ℕ, zero, suc, ◌+◌, ◌*◌, ◌-◌, Bool, true, false, List, [], ◌∷◌, length, drop, get_or, Option, Some, None, Result, Ok, Err, nat_lt, ◌==◌, nat_eq, drop-cons, add-one, refl, sym, ◌∙◌, ap, arith, inl, inr}
+use Rattle.std.specs.Prelude.{slice_get}
+use Rattle.std.proofs.Math.Nat.{mul-le-mul_left, mul-suc}
+use Rattle.std.proofs.lemmas.Bool.{ne_eqb, eq-eqb, cases_Bool}
+use Rattle.std.proofs.lemmas.Bool.Decides.{nat_tests}
+use Rattle.std.proofs.lemmas.List.{drop_all}
+use Rattle.zk_mem.specs.declared.fault.Fault.{Fault}
+use Rattle.zk_mem.specs.Map.{MemoryMap, readable_end, cell_at}
+use Rattle.zk_tables.specs.declared.dictionary.Dictionary.{Dictionary}
+use Rattle.zk_tables.specs.Dictionaries.{key_length, magnitude, dictionary_byte, dictionary_word, dictionary_by, dictionary_at, IsDictionaryOf, begins_with, has_key, found_from, entry_start}
+use Rattle.zk_tables.proofs.Steps.{bind_ok}
+
+-- what stands behind a byte that is there
+drop_some : (xs : List ℕ) (i x : ℕ) → slice_get xs i ≡ Some x → drop i xs ≡ x ∷ drop (suc i) xs
+drop_some [] i x h = absurd cc
+drop_some (y ∷ ys) zero x h = let same : y ≡ x = cc in rw same refl
+drop_some (y ∷ ys) (suc i) x h = drop_some ys i x h
+
+drop_none : (xs : List ℕ) (i : ℕ) → slice_get xs i ≡ None → drop i xs ≡ []
+drop_none [] zero h = refl
+drop_none [] (suc i) h = refl
+drop_none (y ∷ ys) zero h = absurd cc
+drop_none (y ∷ ys) (suc i) h = drop_none ys i h
+
+pub begins_on : (m : MemoryMap) (key : List ℕ) (a i x : ℕ) → i < length key → cell_at m (a + i) ≡ Some x → x ≡ get_or key i 0 → begins_with (drop (a + i) m.bytes) (drop i key) ≡ begins_with (drop (a + (i + 1)) m.bytes) (drop (i + 1) key)
+unfolding begins_with cell_at
+begins_on m key a i x h there same =
+    let next : a + (i + 1) ≡ suc (a + i) = omega arith in
+    let test : (x == get_or key i 0) ≡ true = eq-eqb x (get_or key i 0) same in
+    rw (next, drop_some m.bytes (a + i) x there, drop-cons key i 0, add-one, test) refl
+
+pub begins_not : (m : MemoryMap) (key : List ℕ) (a i x : ℕ) → i < length key → cell_at m (a + i) ≡ Some x → x ≢ get_or key i 0 → begins_with (drop (a + i) m.bytes) (drop i key) ≡ false
+unfolding begins_with cell_at
+begins_not m key a i x h there other =
+    let test : (x == get_or key i 0) ≡ false = ne_eqb x (get_or key i 0) other in
+    rw (drop_some m.bytes (a + i) x there, drop-cons key i 0, test) refl
+
+pub begins_past : (m : MemoryMap) (key : List ℕ) (a i : ℕ) → i < length key → (r : Option ℕ) → r ≡ cell_at m (a + i) → ((x : ℕ) → r ≡ Some x → ⊥) → begins_with (drop (a + i) m.bytes) (drop i key) ≡ false
+unfolding begins_with cell_at
+begins_past m key a i h None e gone = rw (drop_none m.bytes (a + i) (sym e), drop-cons key i 0) refl
+begins_past m key a i h (Some x) e gone = absurd (gone x refl)
+
+pub begins_end : (m : MemoryMap) (key : List ℕ) (a i : ℕ) → length key ≤ i → begins_with (drop (a + i) m.bytes) (drop i key) ≡ true
+unfolding begins_with
+begins_end m key a i h = rw (drop_all i key h) refl
+
+-- ---- the entries lie in data
+
+-- what a dictionary of the memory keeps to
+pub record IsInside (m : MemoryMap) (d : Dictionary) : Type 0 where
+  pub end : d.address + d.separators + 4 + d.entry_length * d.entries ≤ readable_end m
+  pub room : key_length m.version ≤ d.entry_length
+  pub some : 1 ≤ d.address + d.separators + 4
+
+by_inside : (m : MemoryMap) (a s l n : ℕ) (d : Dictionary) → dictionary_by m a s l n ≡ Ok d → IsInside m d × (d.address ≡ a) × (d.separators ≡ s)
+unfolding dictionary_by
+by_inside m a s l n d h = elim (cases_Bool (nat_lt l (key_length m.version))) [
+  | inl t ↦ (let g = rw t at h in absurd cc)
+  | inr t ↦ elim (cases_Bool (nat_lt (readable_end m) (a + s + 4 + l * magnitude n))) [
+    | inl u ↦ (let g = rw (t, u) at h in absurd cc)
+    | inr u ↦ (let g = rw (t, u) at h in
+        let same : record { address = a; separators = s; entry_length = l; entries = magnitude n; is_sorted = nat_lt n 32768 } ≡ d = cc in
+        rw (sym same) (record { end = grind (arith, nat_tests); room = grind (arith, nat_tests); some = omega arith }, refl, refl))
+  ]
+]
+
+pub dictionary_inside : (m : MemoryMap) (d : Dictionary) → IsDictionaryOf m d → IsInside m d
+unfolding dictionary_at
+dictionary_inside m d h =
+    let s = bind_ok (dictionary_byte m d.address) _ d h.stands in
+    let l = bind_ok (dictionary_byte m (d.address + s.0 + 1)) _ d s.2 in
+    let n = bind_ok (dictionary_word m (d.address + s.0 + 2)) _ d l.2 in
+    (by_inside m d.address s.0 l.0 n.0 d n.2).0
+
+rows_below : (l i n : ℕ) → i < n → l * i + l ≤ l * n
+rows_below l i n below = let all : l * suc i ≤ l * n = mul-le-mul_left l (omega arith) in omega (arith, all, mul-suc l i)
+
+pub entry_inside : (m : MemoryMap) (d : Dictionary) (i : ℕ) → IsDictionaryOf m d → i < d.entries → entry_start d i + key_length m.version ≤ readable_end m
+entry_inside m d i h below =
+    let inside = dictionary_inside m d h in
+    let front : d.entry_length * i + d.entry_length ≤ d.entry_length * d.entries = rows_below d.entry_length i d.entries below in
+    omega (arith, inside.end, inside.room)
+
+-- ---- one entry after the other
+
+pub found_on : (m : MemoryMap) (d : Dictionary) (key : List ℕ) (i : ℕ) → i < d.entries → has_key m d key i ≡ false → found_from m d key (d.entries - i) i ≡ found_from m d key (d.entries - (i + 1)) (i + 1)
+unfolding found_from
+found_on m d key i h test = let e : d.entries - i ≡ suc (d.entries - (i + 1)) = omega arith in rw (e, test) refl
+
+pub found_here : (m : MemoryMap) (d : Dictionary) (key : List ℕ) (i : ℕ) → i < d.entries → has_key m d key i ≡ true → found_from m d key (d.entries - i) i ≡ entry_start d i
+unfolding found_from
+found_here m d key i h test = let e : d.entries - i ≡ suc (d.entries - (i + 1)) = omega arith in rw (e, test) refl
+
+pub found_none : (m : MemoryMap) (d : Dictionary) (key : List ℕ) (i : ℕ) → d.entries ≤ i → found_from m d key (d.entries - i) i ≡ 0
+unfolding found_from
+found_none m d key i h = let e : d.entries - i ≡ zero = omega arith in rw e refl

@@ -1,0 +1,106 @@
+-- Dictionaries and their entries (Standard, sections 13.2 to 13.5).
+use Rattle.std.specs.Prelude.{◌≡◌, ℕ, zero, suc, ◌+◌, ◌*◌, ◌-◌, ◌<◌, Bool, true, false, ◌&&◌, ◌||◌, List, [], ◌∷◌, ◌++◌, All, length, drop, get_or, Option, Some, None, Result, Ok, Err, nat_lt, ◌==◌, ◌↔◌, if◌then◌else◌}
+use Rattle.std.specs.List.{concat}
+use Rattle.zk_mem.specs.declared.fault.Fault.{Fault}
+use Rattle.zk_mem.specs.declared.fault.Fault.TheVariants.{BadDictionary}
+use Rattle.zk_mem.specs.Results.{◌>>=◌}
+use Rattle.zk_mem.specs.Map.{MemoryMap, readable_end, byte_at, word_at, HasBytes}
+use Rattle.zk_text.specs.Keys.{two_bytes}
+use Rattle.zk_tables.specs.declared.dictionary.Dictionary.{Dictionary}
+use Rattle.zk_tables.specs.PropertyList.{Stands}
+
+-- the bytes of a key: 4 up to version 3, 6 from version 4 on (sections 13.3 and 13.4)
+abbrev pub key_length : ℕ → ℕ
+key_length version = if nat_lt version 4 then 4 else 6
+
+-- how many entries a count says, which is signed (section 13.2)
+abbrev pub magnitude : ℕ → ℕ
+magnitude count = if nat_lt count 32768 then count else 65536 - count
+
+-- a dictionary: its separators, the length of an entry, the count as it is written, and the entries
+-- (section 13.2)
+pub record Table : Type 0 where
+  pub separators : List ℕ
+  pub entry_length : ℕ
+  pub count : ℕ
+  pub entries : List (List ℕ)
+
+-- how it is spelled: how many separators, the separators, the length of an entry, the count, the entries
+-- (section 13.2)
+abbrev pub table_bytes : Table → List ℕ
+table_bytes t = (length t.separators ∷ t.separators) ++ (t.entry_length ∷ two_bytes t.count) ++ concat t.entries
+
+-- a dictionary whose bytes stand in data from an address on, with room for a key in each entry
+pub record IsTable (m : MemoryMap) (a : ℕ) (t : Table) : Type 0 where
+  pub end : ℕ
+  pub bytes : Stands m a (table_bytes t) end
+  pub count : t.count < 65536
+  pub entries : length t.entries ≡ magnitude t.count
+  pub lengths : All (λ e. length e ≡ t.entry_length) t.entries
+  pub room : key_length m.version < t.entry_length + 1
+
+-- where its parts stand
+abbrev pub described : ℕ → Table → Dictionary
+described a t = record { address = a; separators = length t.separators; entry_length = t.entry_length; entries = length t.entries; is_sorted = nat_lt t.count 32768 }
+
+-- ---- the same, read from its front on
+
+-- a byte of a dictionary
+unfoldable pub dictionary_byte : MemoryMap → ℕ → Result ℕ Fault
+dictionary_byte m a = if nat_lt a (readable_end m) then byte_at m a else Err BadDictionary
+
+-- a word of a dictionary
+unfoldable pub dictionary_word : MemoryMap → ℕ → Result ℕ Fault
+dictionary_word m a = if nat_lt (a + 1) (readable_end m) then word_at m a else Err BadDictionary
+
+-- the dictionary of so many separators, with entries of a length, by its count
+unfoldable pub dictionary_by : MemoryMap → ℕ → ℕ → ℕ → ℕ → Result Dictionary Fault
+dictionary_by m a separators entry_length count =
+    if nat_lt entry_length (key_length m.version) || nat_lt (readable_end m) (a + separators + 4 + entry_length * magnitude count)
+    then Err BadDictionary
+    else Ok (record { address = a; separators = separators; entry_length = entry_length; entries = magnitude count; is_sorted = nat_lt count 32768 })
+
+-- the dictionary at an address
+unfoldable pub dictionary_at : MemoryMap → ℕ → Result Dictionary Fault
+dictionary_at m a = do
+  separators ← dictionary_byte m a
+  entry_length ← dictionary_byte m (a + separators + 1)
+  count ← dictionary_word m (a + separators + 2)
+  dictionary_by m a separators entry_length count
+
+-- this is the dictionary that stands at its address
+pub record IsDictionaryOf (m : MemoryMap) (d : Dictionary) : Type 0 where
+  pub stands : dictionary_at m d.address ≡ Ok d
+
+-- ---- its separators and entries
+
+-- the separators of a dictionary
+unfoldable pub separators_from : MemoryMap → ℕ → ℕ → List ℕ
+separators_from m a zero = []
+separators_from m a (suc n) = get_or m.bytes a 0 ∷ separators_from m (a + 1) n
+
+unfoldable pub separators_of : MemoryMap → Dictionary → List ℕ
+separators_of m d = separators_from m (d.address + 1) d.separators
+
+-- where an entry begins, counted from 0
+abbrev pub entry_start : Dictionary → ℕ → ℕ
+entry_start d i = d.address + d.separators + 4 + d.entry_length * i
+
+-- bytes begin with a key
+unfoldable pub begins_with : List ℕ → List ℕ → Bool
+begins_with bytes [] = true
+begins_with [] (k ∷ ks) = false
+begins_with (b ∷ bs) (k ∷ ks) = (b == k) && begins_with bs ks
+
+-- an entry begins with a key
+unfoldable pub has_key : MemoryMap → Dictionary → List ℕ → ℕ → Bool
+has_key m d key i = begins_with (drop (entry_start d i) m.bytes) key
+
+-- the address of the first of n entries, from one on, that begins with a key, or 0
+unfoldable pub found_from : MemoryMap → Dictionary → List ℕ → ℕ → ℕ → ℕ
+found_from m d key zero i = 0
+found_from m d key (suc n) i = if has_key m d key i then entry_start d i else found_from m d key n (i + 1)
+
+-- the address of the first entry that begins with a key, or 0 (section 13.5)
+unfoldable pub found_in : MemoryMap → Dictionary → List ℕ → ℕ
+found_in m d key = found_from m d key d.entries 0

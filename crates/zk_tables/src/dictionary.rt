@@ -1,0 +1,161 @@
+// Dictionaries.
+
+ghost use Rattle.std.specs.Prelude.{◌≡◌, ◌≤◌, ◌<◌, ◌+◌, ◌*◌, IfOk, length, drop};
+ghost use Rattle.zk_mem.specs.Map.{readable_end};
+ghost use Rattle.zk_tables.specs.Dictionaries.{key_length, magnitude, dictionary_byte, dictionary_word, dictionary_by, dictionary_at, IsDictionaryOf, begins_with, entry_start, has_key, found_from, found_in};
+
+use zk_mem::fault::Fault;
+use zk_mem::memory::Memory;
+
+/// A dictionary of the story, which lies whole in readable data (Z-Machine Standards Document 1.1,
+/// section 13.2). It says where its parts stand; what they are is what memory holds.
+#[derive(Clone, Copy, Debug, PartialEq, Eq, Drop)]
+pub struct Dictionary {
+    /// Its byte address.
+    pub address: u32,
+    /// How many separators it has.
+    pub separators: u8,
+    /// The length of an entry, in bytes.
+    pub entry_length: u8,
+    /// How many entries it has.
+    pub entries: u16,
+    /// Whether the story says that its entries are sorted by their keys.
+    pub is_sorted: bool,
+}
+
+#[tactic(auto, unfolding(crate::specs::Dictionaries::dictionary_byte))]
+fn read_byte(memory: &Memory, address: u32) -> Result<u8, Fault>
+    ensures value { result ≡ dictionary_byte memory.now address }
+    ensures bound { IfOk result (λ _. address < 65536) }
+{
+    if address >= memory.data_end() {
+        return Err(Fault::BadDictionary);
+    }
+    memory.byte(address)
+}
+
+#[tactic(auto, unfolding(crate::specs::Dictionaries::dictionary_word))]
+fn read_word(memory: &Memory, address: u32) -> Result<u16, Fault>
+    requires { address < 4294967295 }
+    ensures { result ≡ dictionary_word memory.now address }
+{
+    if address + 1 >= memory.data_end() {
+        return Err(Fault::BadDictionary);
+    }
+    memory.word(address)
+}
+
+/// How many entries a signed count says.
+fn entries_of(count: u16) -> u16
+    ensures value { result ≡ magnitude count }
+    ensures bound { result ≤ 32768 }
+{
+    if count < 0x8000 {
+        count
+    } else {
+        (65_536 - count as u32) as u16
+    }
+}
+
+/// The bytes of a key: 4 up to version 3, 6 from version 4 on.
+fn key_bytes(memory: &Memory) -> u8
+    ensures { result ≡ key_length memory.now.version }
+{
+    if memory.version() < 4 { 4 } else { 6 }
+}
+
+#[tactic(auto, unfolding(crate::specs::Dictionaries::dictionary_by))]
+fn dictionary_with(
+    memory: &Memory,
+    address: u32,
+    separators: u8,
+    entry_length: u8,
+    count: u16,
+) -> Result<Dictionary, Fault>
+    requires { address < 65536 }
+    ensures { result ≡ dictionary_by memory.now address separators entry_length count }
+{
+    let entries = entries_of(count);
+    let end = address + separators as u32 + 4 + entry_length as u32 * entries as u32;
+    if entry_length < key_bytes(memory) || memory.data_end() < end {
+        return Err(Fault::BadDictionary);
+    }
+    Ok(Dictionary {
+        address,
+        separators,
+        entry_length,
+        entries,
+        is_sorted: count < 0x8000,
+    })
+}
+
+/// Whether the bytes from an address on begin with a key.
+fn bytes_begin_with(memory: &Memory, address: u32, key: &[u8]) -> bool
+    requires { address + length key.now ≤ 65536 }
+    ensures { result ≡ begins_with (drop address memory.now.bytes) key.now }
+{
+    for i in 0..key.len() {
+        let Some(byte) = memory.cell(address + i as u32) else {
+            return false;
+        };
+        if byte != key[i] {
+            return false;
+        }
+    }
+    true
+}
+
+impl Dictionary {
+    /// The dictionary at an address. `BadDictionary` where it does not lie whole in readable data, each entry
+    /// with all its bytes, or where its entries have no room for a key (Standard, sections 13.2 to 13.4).
+    #[tactic(auto, unfolding(crate::specs::Dictionaries::dictionary_at))]
+    pub fn at(memory: &Memory, address: u32) -> Result<Dictionary, Fault>
+        ensures { result ≡ dictionary_at memory.now address }
+    {
+        let separators = read_byte(memory, address)?;
+        let end = address + separators as u32;
+        let entry_length = read_byte(memory, end + 1)?;
+        let count = read_word(memory, end + 2)?;
+        dictionary_with(memory, address, separators, entry_length, count)
+    }
+
+    /// Whether an entry, counted from 0, begins with a key.
+    #[tactic(auto, unfolding(crate::specs::Dictionaries::has_key))]
+    fn entry_begins_with(&self, memory: &Memory, key: &[u8], index: u16) -> bool
+        requires stands { IsDictionaryOf memory.now self.now }
+        requires key { length key.now ≡ key_length memory.now.version }
+        requires index { index < self.now.entries }
+        ensures { result ≡ has_key memory.now self.now key.now index }
+    {
+        let start = self.start_of(memory, index);
+        bytes_begin_with(memory, start, key)
+    }
+
+    /// The byte address of an entry, counted from 0.
+    #[tactic(auto, using(crate::proofs::Finding::entry_inside, crate::proofs::Finding::dictionary_inside))]
+    fn start_of(&self, memory: &Memory, index: u16) -> u32
+        requires stands { IsDictionaryOf memory.now self.now }
+        requires index { index < self.now.entries }
+        ensures value { result ≡ entry_start self.now index }
+        ensures inside { result + key_length memory.now.version ≤ 65536 }
+        ensures some { 0 < result }
+    {
+        self.address + self.separators as u32 + 4 + self.entry_length as u32 * index as u32
+    }
+
+    /// The address of the first entry whose first bytes are a key, or 0 where there is none (Standard,
+    /// section 13.5).
+    #[tactic(auto, unfolding(crate::specs::Dictionaries::found_in), using(crate::proofs::Finding::found_on, crate::proofs::Finding::found_here, crate::proofs::Finding::found_none))]
+    pub fn find(&self, memory: &Memory, key: &[u8]) -> u16
+        requires stands { IsDictionaryOf memory.now self.now }
+        requires key { length key.now ≡ key_length memory.now.version }
+        ensures { result ≡ found_in memory.now self.now key.now }
+    {
+        for index in 0..self.entries {
+            if self.entry_begins_with(memory, key, index) {
+                return self.start_of(memory, index) as u16;
+            }
+        }
+        0
+    }
+}
