@@ -11,7 +11,7 @@ use Rattle.zk_mem.specs.Map.{MemoryMap, readable_end, byte_at, cell_at}
 use Rattle.zk_tables.specs.declared.dictionary.Dictionary.{Dictionary}
 use Rattle.zk_tables.specs.declared.tokens.Token.{Token}
 use Rattle.zk_tables.specs.declared.words.Word.{Word}
-use Rattle.zk_tables.specs.Dictionaries.{separators_from, IsDictionaryOf, separators_of}
+use Rattle.zk_tables.specs.Dictionaries.{bytes_from, IsDictionaryOf, separators_of}
 use Rattle.zk_tables.specs.Tokens.{is_letter, run, token_here, tokens_from, tokens}
 use Rattle.zk_tables.specs.Parsing.{letters_counted, letters_to_zero, word_in, words_for, words_of}
 use Rattle.zk_tables.proofs.Finding.{IsInside, dictionary_inside}
@@ -92,20 +92,20 @@ read_at [] (suc i) x h = absurd cc
 read_at (y ∷ ys) zero x h = cc
 read_at (y ∷ ys) (suc i) x h = read_at ys i x h
 
-separators_step : (m : MemoryMap) (a n i x : ℕ) → i < n → cell_at m (a + i) ≡ Some x → separators_from m (a + i) (n - i) ≡ x ∷ separators_from m (a + (i + 1)) (n - (i + 1))
-unfolding separators_from cell_at
+separators_step : (m : MemoryMap) (a n i x : ℕ) → i < n → cell_at m (a + i) ≡ Some x → bytes_from m (a + i) (n - i) ≡ x ∷ bytes_from m (a + (i + 1)) (n - (i + 1))
+unfolding bytes_from cell_at
 separators_step m a n i x h there =
     let e : n - i ≡ suc (n - (i + 1)) = omega arith in
     let next : a + (i + 1) ≡ (a + i) + 1 = omega arith in
     let same : get_or m.bytes (a + i) 0 ≡ x = read_at m.bytes (a + i) x there in
     rw (e, same, next) refl
 
-pub separators_on : (m : MemoryMap) (a n i x : ℕ) (xs ys : List ℕ) → i < n → cell_at m (a + i) ≡ Some x → xs ++ separators_from m (a + i) (n - i) ≡ ys → (xs ++ x ∷ []) ++ separators_from m (a + (i + 1)) (n - (i + 1)) ≡ ys
+pub separators_on : (m : MemoryMap) (a n i x : ℕ) (xs ys : List ℕ) → i < n → cell_at m (a + i) ≡ Some x → xs ++ bytes_from m (a + i) (n - i) ≡ ys → (xs ++ x ∷ []) ++ bytes_from m (a + (i + 1)) (n - (i + 1)) ≡ ys
 separators_on m a n i x xs ys h there so_far =
-    append_assoc xs (x ∷ []) (separators_from m (a + (i + 1)) (n - (i + 1))) ∙ ap (λ (zs : List ℕ). xs ++ zs) (sym (separators_step m a n i x h there)) ∙ so_far
+    append_assoc xs (x ∷ []) (bytes_from m (a + (i + 1)) (n - (i + 1))) ∙ ap (λ (zs : List ℕ). xs ++ zs) (sym (separators_step m a n i x h there)) ∙ so_far
 
-pub separators_end : (m : MemoryMap) (a n i : ℕ) (xs ys : List ℕ) → n ≤ i → xs ++ separators_from m (a + i) (n - i) ≡ ys → xs ≡ ys
-unfolding separators_from
+pub separators_end : (m : MemoryMap) (a n i : ℕ) (xs ys : List ℕ) → n ≤ i → xs ++ bytes_from m (a + i) (n - i) ≡ ys → xs ≡ ys
+unfolding bytes_from
 separators_end m a n i xs ys h so_far =
     let e : n - i ≡ zero = omega arith in
     let all = rw e at so_far in

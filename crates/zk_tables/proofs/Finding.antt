@@ -1,6 +1,6 @@
 -- Looking a key up.
-use Rattle.std.proofs.Common.{◌≡◌, ◌≢◌, ◌≤◌, ◌<◌, ℕ, zero, suc, ◌+◌, ◌*◌, ◌-◌, Bool, true, false, List, [], ◌∷◌, length, drop, get_or, Option, Some, None, Result, Ok, Err, nat_lt, ◌==◌, nat_eq, drop-cons, add-one, refl, sym, ◌∙◌, ap, arith, inl, inr}
-use Rattle.std.specs.Prelude.{slice_get}
+use Rattle.std.proofs.Common.{◌≡◌, ◌≢◌, ◌≤◌, ◌<◌, ℕ, zero, suc, ◌+◌, ◌*◌, ◌-◌, Bool, true, false, List, [], ◌∷◌, length, drop, get_or, Option, Some, None, Result, Ok, Err, nat_lt, ◌==◌, nat_eq, drop-cons, add-one, refl, sym, ◌∙◌, ap, subst, arith, inl, inr}
+use Rattle.std.specs.Prelude.{slice_get, IfOk}
 use Rattle.std.proofs.Math.Nat.{mul-le-mul_left, mul-suc}
 use Rattle.std.proofs.lemmas.Bool.{ne_eqb, eq-eqb, cases_Bool}
 use Rattle.std.proofs.lemmas.Bool.Decides.{nat_tests}
@@ -12,7 +12,7 @@ use Rattle.zk_tables.specs.Dictionaries.{key_length, magnitude, dictionary_byte,
 use Rattle.zk_tables.proofs.Steps.{bind_ok}
 
 -- what stands behind a byte that is there
-drop_some : (xs : List ℕ) (i x : ℕ) → slice_get xs i ≡ Some x → drop i xs ≡ x ∷ drop (suc i) xs
+pub drop_some : (xs : List ℕ) (i x : ℕ) → slice_get xs i ≡ Some x → drop i xs ≡ x ∷ drop (suc i) xs
 drop_some [] i x h = absurd cc
 drop_some (y ∷ ys) zero x h = let same : y ≡ x = cc in rw same refl
 drop_some (y ∷ ys) (suc i) x h = drop_some ys i x h
@@ -64,6 +64,19 @@ by_inside m a s l n d h = elim (cases_Bool (nat_lt l (key_length m.version))) [
         rw (sym same) (record { end = grind (arith, nat_tests); room = grind (arith, nat_tests); some = omega arith }, refl, refl))
   ]
 ]
+
+dictionary_address : (m : MemoryMap) (a : ℕ) (d : Dictionary) → dictionary_at m a ≡ Ok d → d.address ≡ a
+unfolding dictionary_at
+dictionary_address m a d h =
+    let s = bind_ok (dictionary_byte m a) _ d h in
+    let l = bind_ok (dictionary_byte m (a + s.0 + 1)) _ d s.2 in
+    let n = bind_ok (dictionary_word m (a + s.0 + 2)) _ d l.2 in
+    (by_inside m a s.0 l.0 n.0 d n.2).1
+
+-- what was read at an address is the dictionary that stands there
+pub dictionary_stands : (m : MemoryMap) (a : ℕ) (r : Result Dictionary Fault) → r ≡ dictionary_at m a → IfOk r (λ d. IsDictionaryOf m d)
+dictionary_stands m a (Ok d) h = record { stands = subst (λ x. dictionary_at m x ≡ Ok d) (sym (dictionary_address m a d (sym h))) (sym h) }
+dictionary_stands m a (Err e) h = tt
 
 pub dictionary_inside : (m : MemoryMap) (d : Dictionary) → IsDictionaryOf m d → IsInside m d
 unfolding dictionary_at

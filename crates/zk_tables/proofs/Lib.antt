@@ -5,6 +5,9 @@ pub mod Writes
 pub mod Finding
 pub mod Dividing
 pub mod Storing
+pub mod TokenLaw
+pub mod LookUpLaw
+pub mod TableLaw
 pub mod TreeSteps
 pub mod ChainLaw
 pub mod ListLaw

@@ -1,6 +1,6 @@
 -- Dictionaries and their entries (Standard, sections 13.2 to 13.5).
-use Rattle.std.specs.Prelude.{◌≡◌, ℕ, zero, suc, ◌+◌, ◌*◌, ◌-◌, ◌<◌, Bool, true, false, ◌&&◌, ◌||◌, List, [], ◌∷◌, ◌++◌, All, length, drop, get_or, Option, Some, None, Result, Ok, Err, nat_lt, ◌==◌, ◌↔◌, if◌then◌else◌}
-use Rattle.std.specs.List.{concat}
+use Rattle.std.specs.Prelude.{◌≡◌, ℕ, zero, suc, ◌+◌, ◌*◌, ◌-◌, ◌<◌, ◌≤◌, Bool, true, false, ◌&&◌, ◌||◌, List, [], ◌∷◌, ◌++◌, length, drop, get_or, Option, Some, None, Result, Ok, Err, nat_lt, ◌==◌, ◌↔◌, if◌then◌else◌}
+use Rattle.std.specs.List.{concat, AllByRecursion}
 use Rattle.zk_mem.specs.declared.fault.Fault.{Fault}
 use Rattle.zk_mem.specs.declared.fault.Fault.TheVariants.{BadDictionary}
 use Rattle.zk_mem.specs.Results.{◌>>=◌}
@@ -36,8 +36,8 @@ pub record IsTable (m : MemoryMap) (a : ℕ) (t : Table) : Type 0 where
   pub bytes : Stands m a (table_bytes t) end
   pub count : t.count < 65536
   pub entries : length t.entries ≡ magnitude t.count
-  pub lengths : All (λ e. length e ≡ t.entry_length) t.entries
-  pub room : key_length m.version < t.entry_length + 1
+  pub lengths : AllByRecursion (λ e. length e ≡ t.entry_length) t.entries
+  pub room : key_length m.version ≤ t.entry_length
 
 -- where its parts stand
 abbrev pub described : ℕ → Table → Dictionary
@@ -74,13 +74,14 @@ pub record IsDictionaryOf (m : MemoryMap) (d : Dictionary) : Type 0 where
 
 -- ---- its separators and entries
 
--- the separators of a dictionary
-unfoldable pub separators_from : MemoryMap → ℕ → ℕ → List ℕ
-separators_from m a zero = []
-separators_from m a (suc n) = get_or m.bytes a 0 ∷ separators_from m (a + 1) n
+-- n bytes from an address on
+unfoldable pub bytes_from : MemoryMap → ℕ → ℕ → List ℕ
+bytes_from m a zero = []
+bytes_from m a (suc n) = get_or m.bytes a 0 ∷ bytes_from m (a + 1) n
 
+-- the separators of a dictionary
 unfoldable pub separators_of : MemoryMap → Dictionary → List ℕ
-separators_of m d = separators_from m (d.address + 1) d.separators
+separators_of m d = bytes_from m (d.address + 1) d.separators
 
 -- where an entry begins, counted from 0
 abbrev pub entry_start : Dictionary → ℕ → ℕ
@@ -104,3 +105,28 @@ found_from m d key (suc n) i = if has_key m d key i then entry_start d i else fo
 -- the address of the first entry that begins with a key, or 0 (section 13.5)
 unfoldable pub found_in : MemoryMap → Dictionary → List ℕ → ℕ
 found_in m d key = found_from m d key d.entries 0
+
+-- ---- laws
+
+-- what is read at an address is the dictionary that the bytes spell there, and it is refused where they spell
+-- none
+pub record IsTableReading (m : MemoryMap) (a : ℕ) : Type 0 where
+  pub found : (d : Dictionary) → (dictionary_at m a ≡ Ok d) ↔ ((t : Table) × IsTable m a t × (d ≡ described a t))
+  pub refused : (e : Fault) → (dictionary_at m a ≡ Err e) ↔ ((e ≡ BadDictionary) × ((t : Table) → IsTable m a t → ⊥))
+
+-- at each address, where memory holds bytes
+abbrev pub DictionariesAreTables : Type 0
+DictionariesAreTables = (m : MemoryMap) (a : ℕ) → HasBytes m → IsTableReading m a
+
+-- no entry begins with a key
+abbrev pub NoneBegins : List (List ℕ) → List ℕ → Type 0
+NoneBegins entries key = AllByRecursion (λ e. begins_with e key ≡ false) entries
+
+-- a key is looked up: the first entry that begins with it is found, and 0 where there is none (section 13.5)
+pub record IsLookUp (m : MemoryMap) (a : ℕ) (t : Table) (key : List ℕ) : Type 0 where
+  pub first : (before behind : List (List ℕ)) (entry : List ℕ) → t.entries ≡ before ++ entry ∷ behind → begins_with entry key ≡ true → NoneBegins before key → found_in m (described a t) key ≡ entry_start (described a t) (length before)
+  pub none : NoneBegins t.entries key → found_in m (described a t) key ≡ 0
+
+-- in each dictionary
+abbrev pub LookUpsAreFirst : Type 0
+LookUpsAreFirst = (m : MemoryMap) (a : ℕ) (t : Table) (key : List ℕ) → IsTable m a t → length key ≡ key_length m.version → IsLookUp m a t key

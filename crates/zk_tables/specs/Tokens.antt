@@ -1,7 +1,6 @@
 -- The words of a text (Standard, section 13.6.1).
-use Rattle.std.specs.Prelude.{◌≡◌, ◌≤◌, ◌<◌, ℕ, ◌+◌, Bool, true, false, ◌&&◌, not, List, [], ◌∷◌, Contains, length, get_or, Option, Some, None, ◌==◌, nat_eq, nat_lt, ◌⊎◌, ◌↔◌, if◌then◌else◌}
-use Rattle.std.specs.List.{list_any, cons_option}
-use Rattle.std.specs.Prelude.{IsSortedBy}
+use Rattle.std.specs.Prelude.{◌≡◌, ◌≤◌, ◌<◌, ℕ, ◌+◌, Bool, true, false, ◌&&◌, not, List, [], ◌∷◌, length, get_or, Option, Some, None, ◌==◌, nat_eq, ◌⊎◌, ◌↔◌, if◌then◌else◌}
+use Rattle.std.specs.List.{list_any, cons_option, AllByRecursion}
 use Rattle.zk_tables.specs.declared.tokens.Token.{Token}
 
 -- the ZSCII code of a space
@@ -36,10 +35,20 @@ pub record IsAlone (separators text : List ℕ) (t : Token) : Type 0 where
 abbrev pub IsToken : List ℕ → List ℕ → Token → Type 0
 IsToken separators text t = IsRun separators text t ⊎ IsAlone separators text t
 
+-- each begins before those behind it
+unfoldable pub Rises : List Token → Type 0
+Rises [] = Unit {0}
+Rises (t ∷ ts) = AllByRecursion (λ u. t.position < u.position) ts × Rises ts
+
+-- a token is in a list
+unfoldable pub IsIn : Token → List Token → Type 0
+IsIn t [] = ⊥
+IsIn t (u ∷ us) = (t ≡ u) ⊎ IsIn t us
+
 -- all words of a text and nothing else, by rising position
 pub record AreTokens (separators text : List ℕ) (ts : List Token) : Type 0 where
-  pub tokens : (t : Token) → Contains ts t ↔ IsToken separators text t
-  pub rising : IsSortedBy (λ s t. nat_lt s.position t.position) ts
+  pub tokens : (t : Token) → IsIn t ts ↔ IsToken separators text t
+  pub rising : Rises ts
 
 -- ---- the same, from the front of the text on
 

@@ -105,18 +105,26 @@ fn bytes_begin_with(memory: &Memory, address: u32, key: &[u8]) -> bool
     true
 }
 
+#[tactic(auto, unfolding(crate::specs::Dictionaries::dictionary_at))]
+fn read_dictionary(memory: &Memory, address: u32) -> Result<Dictionary, Fault>
+    ensures { result ≡ dictionary_at memory.now address }
+{
+    let separators = read_byte(memory, address)?;
+    let end = address + separators as u32;
+    let entry_length = read_byte(memory, end + 1)?;
+    let count = read_word(memory, end + 2)?;
+    dictionary_with(memory, address, separators, entry_length, count)
+}
+
 impl Dictionary {
     /// The dictionary at an address. `BadDictionary` where it does not lie whole in readable data, each entry
     /// with all its bytes, or where its entries have no room for a key (Standard, sections 13.2 to 13.4).
-    #[tactic(auto, unfolding(crate::specs::Dictionaries::dictionary_at))]
+    #[tactic(auto, using(crate::proofs::Finding::dictionary_stands))]
     pub fn at(memory: &Memory, address: u32) -> Result<Dictionary, Fault>
-        ensures { result ≡ dictionary_at memory.now address }
+        ensures value { result ≡ dictionary_at memory.now address }
+        ensures stands { IfOk result (λ d. IsDictionaryOf memory.now d) }
     {
-        let separators = read_byte(memory, address)?;
-        let end = address + separators as u32;
-        let entry_length = read_byte(memory, end + 1)?;
-        let count = read_word(memory, end + 2)?;
-        dictionary_with(memory, address, separators, entry_length, count)
+        read_dictionary(memory, address)
     }
 
     /// Whether an entry, counted from 0, begins with a key.

@@ -6,6 +6,8 @@ ghost use Rattle.zk_tables.specs.Properties.{ListsDecide};
 ghost use Rattle.zk_tables.specs.Tree.{ChainsDecide};
 ghost use Rattle.zk_tables.specs.TreeLaws.{RemovalsTakeOut, RemovalsAreMade, InsertionsPutFirst, InsertionsAreMade};
 ghost use Rattle.zk_tables.specs.PropertyList.{ListsAreRead, AtMostOneList};
+ghost use Rattle.zk_tables.specs.Dictionaries.{DictionariesAreTables, LookUpsAreFirst};
+ghost use Rattle.zk_tables.specs.Tokens.{TokensAreWords, TokensAreDetermined};
 
 /// A link that was written names the object, and all other links name what they named.
 pub fn links_are_written()
@@ -62,4 +64,22 @@ pub fn at_most_one_list()
 /// that asks for a property.
 pub fn lists_decide()
     ensures { ListsDecide }
+{}
+
+/// What a text is divided into are its words, all of them and in their order: its separators, and its runs of
+/// other letters than spaces.
+pub fn texts_are_divided()
+    ensures words { TokensAreWords }
+    ensures determined { TokensAreDetermined }
+{}
+
+/// What is read at an address is the dictionary that the bytes spell there, with all its entries; where they
+/// spell none it is refused.
+pub fn dictionaries_are_tables()
+    ensures { DictionariesAreTables }
+{}
+
+/// A look-up finds the first entry of all that begins with the key, and 0 where none does.
+pub fn look_ups_are_first()
+    ensures { LookUpsAreFirst }
 {}

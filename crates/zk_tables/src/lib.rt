@@ -1,4 +1,4 @@
-// The objects of a story: their tree, attributes and properties.
+// The tables of a story: its objects with their tree, attributes and properties, and its dictionaries.
 #![tactic(auto)]
 
 pub mod attributes;
@@ -12,6 +12,8 @@ pub mod parsing;
 pub mod properties;
 #[cfg(test)]
 mod tests;
+#[cfg(test)]
+mod tests_of_words;
 mod tokens;
 pub mod tree;
 pub mod words;

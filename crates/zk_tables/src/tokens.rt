@@ -8,7 +8,7 @@ const SPACE: u8 = 32;
 
 /// A word of a text: where it begins in the text, and how many letters it has (Z-Machine Standards Document
 /// 1.1, section 13.6.1).
-#[derive(Clone, Copy, Debug, PartialEq, Eq, Drop)]
+#[derive(Clone, Copy, Drop)]
 pub struct Token {
     pub position: u8,
     pub length: u8,

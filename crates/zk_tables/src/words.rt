@@ -12,7 +12,7 @@ use zk_mem::memory::Memory;
 use zk_text::key::key;
 
 /// A word of a text, in a dictionary.
-#[derive(Clone, Copy, Debug, Default, PartialEq, Eq, Drop)]
+#[derive(Clone, Copy, Default, Drop)]
 pub struct Word {
     /// The byte address of its entry, or 0.
     pub entry: u16,

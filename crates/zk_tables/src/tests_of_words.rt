@@ -1,0 +1,222 @@
+// Dictionaries and words of small stories, against worked examples.
+
+use crate::dictionary::Dictionary;
+use crate::parsing::tokenise;
+use std::alloc::Global;
+use std::test::Fail;
+use zk_mem::fault::Fault;
+use zk_mem::memory::{Memory, Setup};
+use zk_mem::story::Story;
+use zk_text::key::key;
+
+const DICTIONARY: u8 = 0x40;
+
+const TEXT: u8 = 0x60;
+
+const PARSE: u8 = 0x80;
+
+/// The value of a hexadecimal digit.
+fn nibble(digit: u8) -> u8 {
+    if digit >= b'A' {
+        (digit - b'A') % 6 + 10
+    } else {
+        digit % 16
+    }
+}
+
+/// Puts the bytes that hexadecimal digits say from an address on; two digits and a space for each.
+fn put(bytes: &mut [u8; 0x200], start: u8, digits: &str) {
+    let mut at = start as usize;
+    let mut high = 0;
+    for (i, digit) in digits.bytes().enumerate() {
+        if i % 3 == 0 {
+            high = nibble(digit);
+        } else if i % 3 == 1 {
+            bytes[at % 0x200] = high % 16 * 16 + nibble(digit) % 16;
+            at = at % 0x200 + 1;
+        }
+    }
+}
+
+/// A story of 512 bytes with a dictionary, a text buffer and a parse buffer.
+fn story(
+    alloc: Global,
+    version: u8,
+    static_base: u8,
+    (dictionary, text, parse): (&str, &str, &str),
+) -> Result<Memory, Fail> {
+    let mut bytes = [0; 0x200];
+    put(&mut bytes, DICTIONARY, dictionary);
+    put(&mut bytes, TEXT, text);
+    put(&mut bytes, PARSE, parse);
+    bytes[0x00] = version;
+    bytes[0x07] = 0x40;
+    bytes[0x0f] = static_base;
+    let story = Story::open(alloc, &bytes)?;
+    Ok(Memory::start(alloc, story, Setup { undo_states: 0 })?)
+}
+
+/// Whether the bytes that hexadecimal digits say stand from an address on.
+fn holds(memory: &Memory, start: u8, digits: &str) -> bool {
+    let mut wanted = [0; 0x200];
+    for at in 0..0x200u32 {
+        wanted[at as usize] = memory.cell(at).unwrap_or(0);
+    }
+    let found = wanted;
+    put(&mut wanted, start, digits);
+    wanted == found
+}
+
+/// Two entries of `take`, and one of `the` and a space.
+const THREE: &str = "00 04 00 03 64 D0 A8 A5 64 D0 A8 A5 65 AA 80 A5";
+
+/// The same with the first and the third exchanged, and a negative count.
+const EXCHANGED: &str = "00 04 FF FD 65 AA 80 A5 64 D0 A8 A5 64 D0 A8 A5";
+
+/// A separator, the comma, and no entries.
+const COMMA: &str = "01 2C 07 00 00";
+
+/// The text `fred,go fishing` of version 3.
+const FRED: &str = "40 66 72 65 64 2C 67 6F 20 66 69 73 68 69 6E 67 00";
+
+/// Where the first entry of a word stands.
+fn found(alloc: Global, dictionary: &str, word: &str) -> Result<u16, Fail> {
+    let memory = story(alloc, 3, 0x40, (dictionary, "", ""))?;
+    let dictionary = Dictionary::at(&memory, 0x40)?;
+    let spelled = key(&memory, word.as_bytes());
+    Ok(dictionary.find(&memory, spelled.as_slice()))
+}
+
+#[test]
+fn finds_the_first_entry(rt: HostRuntime) -> Result<(), Fail> {
+    assert_eq!(rt; found(rt.alloc(), THREE, "take")?, 0x44);
+    assert_eq!(rt; found(rt.alloc(), THREE, "the ")?, 0x4c);
+    // its key is 64 D0 A8 A6
+    assert_eq!(rt; found(rt.alloc(), THREE, "take@")?, 0);
+    assert_eq!(rt; found(rt.alloc(), EXCHANGED, "take")?, 0x48);
+    assert_eq!(rt; found(rt.alloc(), EXCHANGED, "the ")?, 0x44);
+    Ok(())
+}
+
+fn dictionary_at(
+    alloc: Global,
+    version: u8,
+    dictionary: &str,
+    address: u32,
+) -> Result<Result<Dictionary, Fault>, Fail> {
+    let memory = story(alloc, version, 0x40, (dictionary, "", ""))?;
+    Ok(Dictionary::at(&memory, address))
+}
+
+#[test]
+fn refuses_dictionaries(rt: HostRuntime) -> Result<(), Fail> {
+    let alloc = rt.alloc();
+    let refused = Err(Fault::BadDictionary);
+    // entries without room for a key
+    assert_eq!(rt; dictionary_at(alloc, 3, "00 03 00 00", 0x40)?, refused);
+    assert_eq!(rt; dictionary_at(alloc, 5, "00 05 00 00", 0x40)?, refused);
+    // 63 entries of 7 bytes end at 01FD, 64 of them at 0204
+    assert!(rt; dictionary_at(alloc, 3, "00 07 FF C1", 0x40)?.is_ok());
+    assert_eq!(rt; dictionary_at(alloc, 3, "00 07 FF C0", 0x40)?, refused);
+    // no room for the count, and no byte at all
+    assert_eq!(rt; dictionary_at(alloc, 3, "", 0x1fd)?, refused);
+    assert_eq!(rt; dictionary_at(alloc, 3, "", 0xffff_ffff)?, refused);
+    Ok(())
+}
+
+/// Divides a text into words, and tells the result and whether the parse buffer holds bytes then.
+fn divides(
+    alloc: Global,
+    version: u8,
+    static_base: u8,
+    tables: (&str, &str, &str),
+    leaves_unknown: bool,
+    wanted: &str,
+) -> Result<(Result<(), Fault>, bool), Fail> {
+    let mut memory = story(alloc, version, static_base, tables)?;
+    let dictionary = Dictionary::at(&memory, 0x40)?;
+    let result = tokenise(&mut memory, 0x60, 0x80, &dictionary, leaves_unknown);
+    Ok((result, holds(&memory, 0x80, wanted)))
+}
+
+#[test]
+fn divides_a_text(rt: HostRuntime) -> Result<(), Fail> {
+    let alloc = rt.alloc();
+    let three = "03 03 00 00 04 01 00 00 01 05 00 00 02 06 00 00 00";
+    let four = "09 04 00 00 04 01 00 00 01 05 00 00 02 06 00 00 07 09 00";
+    let done = (Ok(()), true);
+    assert_eq!(rt;
+        divides(alloc, 3, 0xff, (COMMA, FRED, "03"), false, three)?,
+        done
+    );
+    assert_eq!(rt;
+        divides(alloc, 3, 0xff, (COMMA, FRED, "09"), false, four)?,
+        done
+    );
+    Ok(())
+}
+
+#[test]
+fn leaves_unknown_words_out(rt: HostRuntime) -> Result<(), Fail> {
+    let before = "02 00 55 55 55 55 55 55 55 55";
+    let after = "02 02 55 55 55 55 55 55 55 55";
+    assert_eq!(rt;
+        divides(rt.alloc(), 3, 0xff, (COMMA, FRED, before), true, after)?,
+        (Ok(()), true)
+    );
+    Ok(())
+}
+
+#[test]
+fn stores_up_to_the_static_base(rt: HostRuntime) -> Result<(), Fail> {
+    let alloc = rt.alloc();
+    let cut = (Err(Fault::ReadOnly), true);
+    let stored = "03 03 00 00 04 01 00 00 00";
+    assert_eq!(rt;
+        divides(alloc, 3, 0x87, (COMMA, FRED, "03"), false, stored)?,
+        cut
+    );
+    assert_eq!(rt;
+        divides(alloc, 3, 0x81, (COMMA, FRED, "00"), false, "00 00")?,
+        cut
+    );
+    Ok(())
+}
+
+#[test]
+fn finds_words_of_version_5(rt: HostRuntime) -> Result<(), Fail> {
+    let dictionary = "02 2C 2E 06 00 01 38 A5 14 A5 94 A5";
+    let text = "09 03 69 2C 69 69";
+    let stored = "09 03 00 46 01 02 00 00 01 03 00 46 01 04";
+    assert_eq!(rt;
+        divides(rt.alloc(), 5, 0xff, (dictionary, text, "09"), false, stored)?,
+        (Ok(()), true)
+    );
+    Ok(())
+}
+
+/// Divides a text at an address into words.
+fn divides_at(alloc: Global, text: u32, parse: u32) -> Result<(Result<(), Fault>, bool), Fail> {
+    let dictionary = "02 2C 2E 06 00 01 38 A5 14 A5 94 A5";
+    let letters = "09 03 69 2C 69";
+    let mut memory = story(alloc, 5, 0xff, (dictionary, letters, ""))?;
+    let dictionary = Dictionary::at(&memory, 0x40)?;
+    let result = tokenise(&mut memory, text, parse, &dictionary, false);
+    Ok((
+        result,
+        holds(&memory, 0x60, "09 03 00 46 01 02 00 00 01 03 00 46 01 04"),
+    ))
+}
+
+#[test]
+fn looks_all_words_up_first(rt: HostRuntime) -> Result<(), Fail> {
+    let alloc = rt.alloc();
+    let refused = (Err(Fault::BadAddress), false);
+    // the parse buffer lies over the text
+    assert_eq!(rt; divides_at(alloc, 0x60, 0x60)?, (Ok(()), true));
+    assert_eq!(rt; divides_at(alloc, 0x1ff, 0x80)?, refused);
+    assert_eq!(rt; divides_at(alloc, 0xffff_ffff, 0x80)?, refused);
+    assert_eq!(rt; divides_at(alloc, 0x60, 0x200)?, refused);
+    assert_eq!(rt; divides_at(alloc, 0x60, 0xffff_ffff)?, refused);
+    Ok(())
+}
