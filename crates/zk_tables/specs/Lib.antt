@@ -1,3 +1,4 @@
+pub mod Examples
 pub mod Layout
 pub mod Links
 pub mod Chain

@@ -3,6 +3,7 @@
 
 pub mod attributes;
 mod chain;
+pub mod examples;
 pub mod laws;
 mod layout;
 mod links;
