@@ -1,4 +1,3 @@
-pub mod Examples
 pub mod Layout
 pub mod Links
 pub mod Chain
@@ -7,3 +6,4 @@ pub mod TreeLaws
 pub mod Attributes
 pub mod PropertyList
 pub mod Properties
+pub mod Examples
