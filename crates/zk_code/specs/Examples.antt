@@ -1,6 +1,6 @@
 -- Worked examples of this crate's definitions: bytes and what they spell, by the Standard's sections 4 and 14, worked
 -- out by hand.
-use Rattle.std.specs.Prelude.{◌≡◌, ℕ, Bool, List, [], ◌∷◌, Option, Some, None, Result, Ok, Err, true, false, codes}
+use Rattle.std.specs.Prelude.{◌≡◌, ℕ, Bool, List, [], ◌∷◌, Option, Some, None, Result, Ok, Err, true, false, map, codes}
 use Rattle.zk_mem.specs.declared.fault.Fault.{Fault}
 use Rattle.zk_mem.specs.declared.fault.Fault.TheVariants.{CodePastEnd, BadOpcode, MissingOperand}
 use Rattle.zk_code.specs.declared.branch.Target.{Target}
@@ -8,19 +8,23 @@ use Rattle.zk_code.specs.declared.branch.Target.TheVariants.{ReturnFalse, Return
 use Rattle.zk_code.specs.declared.instr.Instr.{Instr}
 use Rattle.zk_code.specs.declared.opcode.Opcode.{Opcode}
 use Rattle.zk_code.specs.declared.opcode.Opcode.TheVariants as opcode
-use Rattle.zk_code.specs.declared.opcode.Arithmetic.TheVariants.{Not, Add, Sub, Mod, LogShift, ArtShift}
-use Rattle.zk_code.specs.declared.opcode.Comparison.TheVariants.{Je, Jz}
-use Rattle.zk_code.specs.declared.opcode.Assignment.TheVariants.{Store, Load, Pull, Pop}
-use Rattle.zk_code.specs.declared.opcode.Array.TheVariants.{Loadw, Storeb}
-use Rattle.zk_code.specs.declared.opcode.ObjectQuestion.TheVariants.{GetChild, GetPropLen}
-use Rattle.zk_code.specs.declared.opcode.Call.TheVariants.{CallVs, Call2s, CallVs2, Call1n, CallVn2}
-use Rattle.zk_code.specs.declared.opcode.Routine.TheVariants.{Rtrue, Rfalse, Ret, Catch, Throw, CheckArgCount}
+use Rattle.zk_code.specs.declared.opcode.Arithmetic.TheVariants.{Or, And, Not, Add, Sub, Mul, Div, Mod, LogShift, ArtShift}
+use Rattle.zk_code.specs.declared.opcode.Comparison.TheVariants.{Je, Jl, Jg, Jz, Test}
+use Rattle.zk_code.specs.declared.opcode.Assignment.TheVariants.{Store, Load, Inc, Dec, IncChk, DecChk, Pull, Pop}
+use Rattle.zk_code.specs.declared.opcode.Array.TheVariants.{Loadw, Loadb, Storew, Storeb}
+use Rattle.zk_code.specs.declared.opcode.ObjectChange.TheVariants.{SetAttr, ClearAttr, InsertObj, RemoveObj, PutProp}
+use Rattle.zk_code.specs.declared.opcode.ObjectQuestion.TheVariants.{Jin, TestAttr, GetProp, GetPropAddr, GetNextProp, GetPropLen, GetParent, GetSibling, GetChild}
+use Rattle.zk_code.specs.declared.opcode.Call.TheVariants.{CallVs, Call1s, Call2s, CallVs2, CallVn, Call1n, Call2n, CallVn2}
+use Rattle.zk_code.specs.declared.opcode.Routine.TheVariants.{Rtrue, Rfalse, Ret, RetPopped, Catch, Throw, CheckArgCount}
 use Rattle.zk_code.specs.declared.opcode.Control.TheVariants.{Jump, Quit}
-use Rattle.zk_code.specs.declared.opcode.Printing.TheVariants.{Print, NewLine}
-use Rattle.zk_code.specs.declared.opcode.Idle.TheVariants.{Piracy, SetTrueColour}
-use Rattle.zk_code.specs.declared.opcode.Reading.TheVariants.{Sread, Aread}
-use Rattle.zk_code.specs.declared.opcode.Table.TheVariants.{ScanTable}
-use Rattle.zk_code.specs.declared.opcode.Saving.TheVariants.{SaveBranch, SaveStore, Save}
+use Rattle.zk_code.specs.declared.opcode.Printing.TheVariants.{Print, PrintRet, NewLine, PrintNum, PrintChar, PrintUnicode, PrintAddr, PrintPaddr, PrintObj}
+use Rattle.zk_code.specs.declared.opcode.Idle.TheVariants.{Nop, SetColour, SetTrueColour, SetTextStyle, BufferMode, SoundEffect, SetFont, Piracy, CheckUnicode}
+use Rattle.zk_code.specs.declared.opcode.Reading.TheVariants.{Sread, Aread, ReadChar}
+use Rattle.zk_code.specs.declared.opcode.Words.TheVariants.{Tokenise, EncodeText}
+use Rattle.zk_code.specs.declared.opcode.Window.TheVariants.{SplitWindow, SetWindow, EraseWindow, EraseLine, SetCursor, GetCursor, ShowStatus}
+use Rattle.zk_code.specs.declared.opcode.Stream.TheVariants.{OutputStream, InputStream}
+use Rattle.zk_code.specs.declared.opcode.Table.TheVariants.{ScanTable, CopyTable, PrintTable}
+use Rattle.zk_code.specs.declared.opcode.Saving.TheVariants.{SaveBranch, SaveStore, RestoreBranch, RestoreStore, Save, Restore, Restart, Verify, SaveUndo, RestoreUndo}
 use Rattle.zk_code.specs.declared.operands.Operand.{Operand}
 use Rattle.zk_code.specs.declared.operands.Operand.TheVariants.{Large, Small, Variable}
 use Rattle.zk_code.specs.declared.table.Entry.{Entry}
@@ -167,71 +171,130 @@ JumpsLead =
 abbrev pub listed : Opcode → ℕ → Follows → Option Entry
 listed code least follows = Some (record { opcode = code; least = least; follows = follows })
 
--- two-operand opcodes begin with 1, `je`; 25 is new in version 4, and 28 in version 5
+-- two-operand opcodes, 2OP: all numbers in version 3, and those that differ in versions 4, 5 and 8
 abbrev pub TwoOperandRows : Type 0
 TwoOperandRows =
-    (two_operand 3 0 ≡ None)
-    × (two_operand 3 1 ≡ listed (opcode.Comparison Je) 2 Branches)
-    × (two_operand 3 13 ≡ listed (opcode.Assignment Store) 2 Nothing)
-    × (two_operand 3 15 ≡ listed (opcode.Array Loadw) 2 Stores)
-    × (two_operand 3 24 ≡ listed (opcode.Arithmetic Mod) 2 Stores)
-    × (two_operand 3 25 ≡ None)
-    × (two_operand 4 25 ≡ listed (opcode.Call Call2s) 2 Stores)
-    × (two_operand 4 28 ≡ None)
-    × (two_operand 5 28 ≡ listed (opcode.Routine Throw) 2 Nothing)
-    × (two_operand 5 29 ≡ None)
+    (map (two_operand 3) (0 ∷ 1 ∷ 2 ∷ 3 ∷ 4 ∷ 5 ∷ 6 ∷ 7 ∷ 8 ∷ 9 ∷ 10 ∷ 11 ∷ 12 ∷ 13 ∷ 14 ∷ 15 ∷ 16 ∷ 17 ∷ 18 ∷ 19 ∷ 20 ∷ 21 ∷ 22 ∷ 23
+    ∷ 24 ∷ 25 ∷ 26 ∷ 27 ∷ 28 ∷ 29 ∷ 30 ∷ 31 ∷ [])
+    ≡ None ∷ listed (opcode.Comparison Je) 2 Branches ∷ listed (opcode.Comparison Jl) 2 Branches
+    ∷ listed (opcode.Comparison Jg) 2 Branches ∷ listed (opcode.Assignment DecChk) 2 Branches
+    ∷ listed (opcode.Assignment IncChk) 2 Branches ∷ listed (opcode.ObjectQuestion Jin) 2 Branches
+    ∷ listed (opcode.Comparison Test) 2 Branches ∷ listed (opcode.Arithmetic Or) 2 Stores
+    ∷ listed (opcode.Arithmetic And) 2 Stores ∷ listed (opcode.ObjectQuestion TestAttr) 2 Branches
+    ∷ listed (opcode.ObjectChange SetAttr) 2 Nothing ∷ listed (opcode.ObjectChange ClearAttr) 2 Nothing
+    ∷ listed (opcode.Assignment Store) 2 Nothing ∷ listed (opcode.ObjectChange InsertObj) 2 Nothing
+    ∷ listed (opcode.Array Loadw) 2 Stores ∷ listed (opcode.Array Loadb) 2 Stores
+    ∷ listed (opcode.ObjectQuestion GetProp) 2 Stores ∷ listed (opcode.ObjectQuestion GetPropAddr) 2 Stores
+    ∷ listed (opcode.ObjectQuestion GetNextProp) 2 Stores ∷ listed (opcode.Arithmetic Add) 2 Stores
+    ∷ listed (opcode.Arithmetic Sub) 2 Stores ∷ listed (opcode.Arithmetic Mul) 2 Stores
+    ∷ listed (opcode.Arithmetic Div) 2 Stores ∷ listed (opcode.Arithmetic Mod) 2 Stores ∷ None ∷ None ∷ None
+    ∷ None ∷ None ∷ None ∷ None ∷ [])
+    × (map (two_operand 4) (25 ∷ 26 ∷ 27 ∷ 28 ∷ [])
+    ≡ listed (opcode.Call Call2s) 2 Stores ∷ None ∷ None ∷ None ∷ [])
+    × (map (two_operand 5) (25 ∷ 26 ∷ 27 ∷ 28 ∷ [])
+    ≡ listed (opcode.Call Call2s) 2 Stores ∷ listed (opcode.Call Call2n) 2 Nothing
+    ∷ listed (opcode.Idle SetColour) 2 Nothing ∷ listed (opcode.Routine Throw) 2 Nothing ∷ [])
+    × (map (two_operand 8) (25 ∷ 26 ∷ 27 ∷ 28 ∷ [])
+    ≡ listed (opcode.Call Call2s) 2 Stores ∷ listed (opcode.Call Call2n) 2 Nothing
+    ∷ listed (opcode.Idle SetColour) 2 Nothing ∷ listed (opcode.Routine Throw) 2 Nothing ∷ [])
 
--- one-operand opcodes begin with 0, `jz`; 15 is `not` up to version 4, and `call_1n` from 5 on
+-- one-operand opcodes, 1OP
 abbrev pub OneOperandRows : Type 0
 OneOperandRows =
-    (one_operand 3 0 ≡ listed (opcode.Comparison Jz) 1 Branches)
-    × (one_operand 3 2 ≡ listed (opcode.ObjectQuestion GetChild) 1 StoresBranches)
-    × (one_operand 3 4 ≡ listed (opcode.ObjectQuestion GetPropLen) 1 Stores)
-    × (one_operand 3 8 ≡ None)
-    × (one_operand 3 12 ≡ listed (opcode.Control Jump) 1 Nothing)
-    × (one_operand 3 14 ≡ listed (opcode.Assignment Load) 1 Stores)
-    × (one_operand 4 15 ≡ listed (opcode.Arithmetic Not) 1 Stores)
-    × (one_operand 5 15 ≡ listed (opcode.Call Call1n) 1 Nothing)
+    (map (one_operand 3) (0 ∷ 1 ∷ 2 ∷ 3 ∷ 4 ∷ 5 ∷ 6 ∷ 7 ∷ 8 ∷ 9 ∷ 10 ∷ 11 ∷ 12 ∷ 13 ∷ 14 ∷ 15 ∷ [])
+    ≡ listed (opcode.Comparison Jz) 1 Branches ∷ listed (opcode.ObjectQuestion GetSibling) 1 StoresBranches
+    ∷ listed (opcode.ObjectQuestion GetChild) 1 StoresBranches ∷ listed (opcode.ObjectQuestion GetParent) 1 Stores
+    ∷ listed (opcode.ObjectQuestion GetPropLen) 1 Stores ∷ listed (opcode.Assignment Inc) 1 Nothing
+    ∷ listed (opcode.Assignment Dec) 1 Nothing ∷ listed (opcode.Printing PrintAddr) 1 Nothing ∷ None
+    ∷ listed (opcode.ObjectChange RemoveObj) 1 Nothing ∷ listed (opcode.Printing PrintObj) 1 Nothing
+    ∷ listed (opcode.Routine Ret) 1 Nothing ∷ listed (opcode.Control Jump) 1 Nothing
+    ∷ listed (opcode.Printing PrintPaddr) 1 Nothing ∷ listed (opcode.Assignment Load) 1 Stores
+    ∷ listed (opcode.Arithmetic Not) 1 Stores ∷ [])
+    × (map (one_operand 4) (8 ∷ 15 ∷ [])
+    ≡ listed (opcode.Call Call1s) 1 Stores ∷ listed (opcode.Arithmetic Not) 1 Stores ∷ [])
+    × (map (one_operand 5) (8 ∷ 15 ∷ [])
+    ≡ listed (opcode.Call Call1s) 1 Stores ∷ listed (opcode.Call Call1n) 1 Nothing ∷ [])
+    × (map (one_operand 8) (8 ∷ 15 ∷ [])
+    ≡ listed (opcode.Call Call1s) 1 Stores ∷ listed (opcode.Call Call1n) 1 Nothing ∷ [])
 
--- zero-operand opcodes: `save` branches up to version 3, stores in 4 and is no such opcode from 5 on; 9 is `pop` up to
--- version 4, and `catch` from 5 on
+-- zero-operand opcodes, 0OP: `save` and `restore` branch in version 3, store in 4 and are extended opcodes from 5 on
 abbrev pub ZeroOperandRows : Type 0
 ZeroOperandRows =
-    (zero_operand 3 0 ≡ listed (opcode.Routine Rtrue) 0 Nothing)
-    × (zero_operand 3 1 ≡ listed (opcode.Routine Rfalse) 0 Nothing)
-    × (zero_operand 3 2 ≡ listed (opcode.Printing Print) 0 Text)
-    × (zero_operand 3 5 ≡ listed (opcode.Saving SaveBranch) 0 Branches)
-    × (zero_operand 4 5 ≡ listed (opcode.Saving SaveStore) 0 Stores)
-    × (zero_operand 5 5 ≡ None)
-    × (zero_operand 4 9 ≡ listed (opcode.Assignment Pop) 0 Nothing)
-    × (zero_operand 5 9 ≡ listed (opcode.Routine Catch) 0 Stores)
-    × (zero_operand 3 10 ≡ listed (opcode.Control Quit) 0 Nothing)
-    × (zero_operand 4 15 ≡ None)
-    × (zero_operand 5 15 ≡ listed (opcode.Idle Piracy) 0 Branches)
+    (map (zero_operand 3) (0 ∷ 1 ∷ 2 ∷ 3 ∷ 4 ∷ 5 ∷ 6 ∷ 7 ∷ 8 ∷ 9 ∷ 10 ∷ 11 ∷ 12 ∷ 13 ∷ 14 ∷ 15 ∷ [])
+    ≡ listed (opcode.Routine Rtrue) 0 Nothing ∷ listed (opcode.Routine Rfalse) 0 Nothing
+    ∷ listed (opcode.Printing Print) 0 Text ∷ listed (opcode.Printing PrintRet) 0 Text
+    ∷ listed (opcode.Idle Nop) 0 Nothing ∷ listed (opcode.Saving SaveBranch) 0 Branches
+    ∷ listed (opcode.Saving RestoreBranch) 0 Branches ∷ listed (opcode.Saving Restart) 0 Nothing
+    ∷ listed (opcode.Routine RetPopped) 0 Nothing ∷ listed (opcode.Assignment Pop) 0 Nothing
+    ∷ listed (opcode.Control Quit) 0 Nothing ∷ listed (opcode.Printing NewLine) 0 Nothing
+    ∷ listed (opcode.Window ShowStatus) 0 Nothing ∷ listed (opcode.Saving Verify) 0 Branches ∷ None ∷ None ∷ [])
+    × (map (zero_operand 4) (5 ∷ 6 ∷ 9 ∷ 15 ∷ [])
+    ≡ listed (opcode.Saving SaveStore) 0 Stores ∷ listed (opcode.Saving RestoreStore) 0 Stores
+    ∷ listed (opcode.Assignment Pop) 0 Nothing ∷ None ∷ [])
+    × (map (zero_operand 5) (5 ∷ 6 ∷ 9 ∷ 15 ∷ [])
+    ≡ None ∷ None ∷ listed (opcode.Routine Catch) 0 Stores ∷ listed (opcode.Idle Piracy) 0 Branches ∷ [])
+    × (map (zero_operand 8) (5 ∷ 6 ∷ 9 ∷ 15 ∷ [])
+    ≡ None ∷ None ∷ listed (opcode.Routine Catch) 0 Stores ∷ listed (opcode.Idle Piracy) 0 Branches ∷ [])
 
--- variable-operand opcodes: 4 is `sread` up to version 4, and `aread`, which stores, from 5 on; 31 is `check_arg_count`
+-- variable-operand opcodes, VAR
 abbrev pub VariableOperandRows : Type 0
 VariableOperandRows =
-    (variable_operand 3 0 ≡ listed (opcode.Call CallVs) 1 Stores)
-    × (variable_operand 3 2 ≡ listed (opcode.Array Storeb) 3 Nothing)
-    × (variable_operand 4 4 ≡ listed (opcode.Reading Sread) 2 Nothing)
-    × (variable_operand 5 4 ≡ listed (opcode.Reading Aread) 1 Stores)
-    × (variable_operand 3 8 ≡ listed opcode.Push 1 Nothing)
-    × (variable_operand 3 9 ≡ listed (opcode.Assignment Pull) 1 Nothing)
-    × (variable_operand 3 12 ≡ None)
-    × (variable_operand 4 23 ≡ listed (opcode.Table ScanTable) 3 StoresBranches)
-    × (variable_operand 4 24 ≡ None)
-    × (variable_operand 5 24 ≡ listed (opcode.Arithmetic Not) 1 Stores)
-    × (variable_operand 5 31 ≡ listed (opcode.Routine CheckArgCount) 1 Branches)
+    (map (variable_operand 3) (0 ∷ 1 ∷ 2 ∷ 3 ∷ 4 ∷ 5 ∷ 6 ∷ 7 ∷ 8 ∷ 9 ∷ 10 ∷ 11 ∷ 12 ∷ 13 ∷ 14 ∷ 15 ∷ 16 ∷ 17 ∷ 18 ∷ 19 ∷ 20 ∷ 21 ∷ 22 ∷ 23
+    ∷ 24 ∷ 25 ∷ 26 ∷ 27 ∷ 28 ∷ 29 ∷ 30 ∷ 31 ∷ [])
+    ≡ listed (opcode.Call CallVs) 1 Stores ∷ listed (opcode.Array Storew) 3 Nothing
+    ∷ listed (opcode.Array Storeb) 3 Nothing ∷ listed (opcode.ObjectChange PutProp) 3 Nothing
+    ∷ listed (opcode.Reading Sread) 2 Nothing ∷ listed (opcode.Printing PrintChar) 1 Nothing
+    ∷ listed (opcode.Printing PrintNum) 1 Nothing ∷ listed opcode.Random 1 Stores ∷ listed opcode.Push 1 Nothing
+    ∷ listed (opcode.Assignment Pull) 1 Nothing ∷ listed (opcode.Window SplitWindow) 1 Nothing
+    ∷ listed (opcode.Window SetWindow) 1 Nothing ∷ None ∷ None ∷ None ∷ None ∷ None ∷ None ∷ None
+    ∷ listed (opcode.Stream OutputStream) 1 Nothing ∷ listed (opcode.Stream InputStream) 1 Nothing
+    ∷ listed (opcode.Idle SoundEffect) 0 Nothing ∷ None ∷ None ∷ None ∷ None ∷ None ∷ None ∷ None ∷ None ∷ None
+    ∷ None ∷ [])
+    × (map (variable_operand 4) (4 ∷ 12 ∷ 13 ∷ 14 ∷ 15 ∷ 16 ∷ 17 ∷ 18 ∷ 22 ∷ 23 ∷ 24 ∷ 25 ∷ 26 ∷ 27 ∷ 28 ∷ 29 ∷ 30 ∷ 31 ∷ [])
+    ≡ listed (opcode.Reading Sread) 2 Nothing ∷ listed (opcode.Call CallVs2) 1 Stores
+    ∷ listed (opcode.Window EraseWindow) 1 Nothing ∷ listed (opcode.Window EraseLine) 1 Nothing
+    ∷ listed (opcode.Window SetCursor) 2 Nothing ∷ listed (opcode.Window GetCursor) 1 Nothing
+    ∷ listed (opcode.Idle SetTextStyle) 1 Nothing ∷ listed (opcode.Idle BufferMode) 1 Nothing
+    ∷ listed (opcode.Reading ReadChar) 0 Stores ∷ listed (opcode.Table ScanTable) 3 StoresBranches ∷ None ∷ None
+    ∷ None ∷ None ∷ None ∷ None ∷ None ∷ None ∷ [])
+    × (map (variable_operand 5) (4 ∷ 12 ∷ 13 ∷ 14 ∷ 15 ∷ 16 ∷ 17 ∷ 18 ∷ 22 ∷ 23 ∷ 24 ∷ 25 ∷ 26 ∷ 27 ∷ 28 ∷ 29 ∷ 30 ∷ 31 ∷ [])
+    ≡ listed (opcode.Reading Aread) 1 Stores ∷ listed (opcode.Call CallVs2) 1 Stores
+    ∷ listed (opcode.Window EraseWindow) 1 Nothing ∷ listed (opcode.Window EraseLine) 1 Nothing
+    ∷ listed (opcode.Window SetCursor) 2 Nothing ∷ listed (opcode.Window GetCursor) 1 Nothing
+    ∷ listed (opcode.Idle SetTextStyle) 1 Nothing ∷ listed (opcode.Idle BufferMode) 1 Nothing
+    ∷ listed (opcode.Reading ReadChar) 0 Stores ∷ listed (opcode.Table ScanTable) 3 StoresBranches
+    ∷ listed (opcode.Arithmetic Not) 1 Stores ∷ listed (opcode.Call CallVn) 1 Nothing
+    ∷ listed (opcode.Call CallVn2) 1 Nothing ∷ listed (opcode.Words Tokenise) 2 Nothing
+    ∷ listed (opcode.Words EncodeText) 4 Nothing ∷ listed (opcode.Table CopyTable) 3 Nothing
+    ∷ listed (opcode.Table PrintTable) 2 Nothing ∷ listed (opcode.Routine CheckArgCount) 1 Branches ∷ [])
+    × (map (variable_operand 8) (4 ∷ 12 ∷ 13 ∷ 14 ∷ 15 ∷ 16 ∷ 17 ∷ 18 ∷ 22 ∷ 23 ∷ 24 ∷ 25 ∷ 26 ∷ 27 ∷ 28 ∷ 29 ∷ 30 ∷ 31 ∷ [])
+    ≡ listed (opcode.Reading Aread) 1 Stores ∷ listed (opcode.Call CallVs2) 1 Stores
+    ∷ listed (opcode.Window EraseWindow) 1 Nothing ∷ listed (opcode.Window EraseLine) 1 Nothing
+    ∷ listed (opcode.Window SetCursor) 2 Nothing ∷ listed (opcode.Window GetCursor) 1 Nothing
+    ∷ listed (opcode.Idle SetTextStyle) 1 Nothing ∷ listed (opcode.Idle BufferMode) 1 Nothing
+    ∷ listed (opcode.Reading ReadChar) 0 Stores ∷ listed (opcode.Table ScanTable) 3 StoresBranches
+    ∷ listed (opcode.Arithmetic Not) 1 Stores ∷ listed (opcode.Call CallVn) 1 Nothing
+    ∷ listed (opcode.Call CallVn2) 1 Nothing ∷ listed (opcode.Words Tokenise) 2 Nothing
+    ∷ listed (opcode.Words EncodeText) 4 Nothing ∷ listed (opcode.Table CopyTable) 3 Nothing
+    ∷ listed (opcode.Table PrintTable) 2 Nothing ∷ listed (opcode.Routine CheckArgCount) 1 Branches ∷ [])
 
--- extended opcodes: 0 is `save`, 2 `log_shift`, 13 `set_true_colour`; 29 is none, a choice of zkit
+-- extended opcodes, EXT: what version 6 alone has is none, and neither are those from 29 on, a choice of zkit
 abbrev pub ExtendedRows : Type 0
 ExtendedRows =
-    (extended 5 0 ≡ listed (opcode.Saving Save) 0 Stores)
-    × (extended 5 2 ≡ listed (opcode.Arithmetic LogShift) 2 Stores)
-    × (extended 5 13 ≡ listed (opcode.Idle SetTrueColour) 2 Nothing)
-    × (extended 5 14 ≡ None)
-    × (extended 5 29 ≡ None)
+    (map (extended 5) (0 ∷ 1 ∷ 2 ∷ 3 ∷ 4 ∷ 5 ∷ 6 ∷ 7 ∷ 8 ∷ 9 ∷ 10 ∷ 11 ∷ 12 ∷ 13 ∷ 14 ∷ 15 ∷ 16 ∷ 17 ∷ 18 ∷ 19 ∷ 20 ∷ 21 ∷ 22 ∷ 23
+    ∷ 24 ∷ 25 ∷ 26 ∷ 27 ∷ 28 ∷ 29 ∷ [])
+    ≡ listed (opcode.Saving Save) 0 Stores ∷ listed (opcode.Saving Restore) 0 Stores
+    ∷ listed (opcode.Arithmetic LogShift) 2 Stores ∷ listed (opcode.Arithmetic ArtShift) 2 Stores
+    ∷ listed (opcode.Idle SetFont) 1 Stores ∷ None ∷ None ∷ None ∷ None ∷ listed (opcode.Saving SaveUndo) 0 Stores
+    ∷ listed (opcode.Saving RestoreUndo) 0 Stores ∷ listed (opcode.Printing PrintUnicode) 1 Nothing
+    ∷ listed (opcode.Idle CheckUnicode) 1 Stores ∷ listed (opcode.Idle SetTrueColour) 2 Nothing ∷ None ∷ None
+    ∷ None ∷ None ∷ None ∷ None ∷ None ∷ None ∷ None ∷ None ∷ None ∷ None ∷ None ∷ None ∷ None ∷ None ∷ [])
+    × (map (extended 8) (0 ∷ 1 ∷ 2 ∷ 3 ∷ 4 ∷ 9 ∷ 10 ∷ 11 ∷ 12 ∷ 13 ∷ [])
+    ≡ listed (opcode.Saving Save) 0 Stores ∷ listed (opcode.Saving Restore) 0 Stores
+    ∷ listed (opcode.Arithmetic LogShift) 2 Stores ∷ listed (opcode.Arithmetic ArtShift) 2 Stores
+    ∷ listed (opcode.Idle SetFont) 1 Stores ∷ listed (opcode.Saving SaveUndo) 0 Stores
+    ∷ listed (opcode.Saving RestoreUndo) 0 Stores ∷ listed (opcode.Printing PrintUnicode) 1 Nothing
+    ∷ listed (opcode.Idle CheckUnicode) 1 Stores ∷ listed (opcode.Idle SetTrueColour) 2 Nothing ∷ [])
 
 -- `call` is named `call_vs` from version 4 on
 abbrev pub NamesByVersion : Type 0
