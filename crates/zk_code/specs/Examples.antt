@@ -50,7 +50,8 @@ branching code operands on target next =
 
 -- ---- forms and operands (sections 4.2 to 4.5)
 
--- bit 6 is the type of the first operand of a long form, and bit 5 that of the second: 0 a small constant, 1 a variable
+-- bit 6 is the type of the first operand of a long form, and bit 5 that of the second: 0 a small constant, 1 a
+-- variable (section 4.4.2)
 abbrev pub LongForms : Type 0
 LongForms =
     (read 5 (0x15 ∷ 7 ∷ 2 ∷ 3 ∷ []) ≡ plain (opcode.Arithmetic Sub) (Small 7 ∷ Small 2 ∷ []) (Some 3) 4)
@@ -59,7 +60,7 @@ LongForms =
     × (read 3 (0x75 ∷ 7 ∷ 2 ∷ 3 ∷ []) ≡ plain (opcode.Arithmetic Sub) (Variable 7 ∷ Variable 2 ∷ []) (Some 3) 4)
 
 -- 0x80 begins a short form with a large constant, high byte first, 0x90 with a small one, 0xa0 with a variable, and
--- 0xb0 with no operand
+-- 0xb0 with no operand (section 4.4.1)
 abbrev pub ShortForms : Type 0
 ShortForms =
     (read 5 (0x8b ∷ 0x12 ∷ 0x34 ∷ []) ≡ plain (opcode.Routine Ret) (Large 0x1234 ∷ []) None 3)
@@ -69,7 +70,7 @@ ShortForms =
     × (read 5 (0xbb ∷ []) ≡ plain (opcode.Printing NewLine) [] None 1)
 
 -- 0xc0 begins a variable form of two-operand opcodes: 0xd4 is `add`, 0xc1 `je`; the type byte 0x93 says a variable, a
--- small constant, a large one, and no fourth
+-- small constant, a large one, and no fourth (section 4.4.3)
 abbrev pub VariableForms : Type 0
 VariableForms =
     (read 5 (0xd4 ∷ 0x1f ∷ 0x12 ∷ 0x34 ∷ 7 ∷ 0 ∷ []) ≡ plain (opcode.Arithmetic Add) (Large 0x1234 ∷ Small 7 ∷ []) (Some 0) 6)
@@ -77,7 +78,7 @@ VariableForms =
     × (read 5 (0xe8 ∷ 0x7f ∷ 9 ∷ []) ≡ plain opcode.Push (Small 9 ∷ []) None 3)
     × (read 5 (0xe0 ∷ 0x2f ∷ 0x12 ∷ 0x34 ∷ 7 ∷ 0x10 ∷ []) ≡ plain (opcode.Call CallVs) (Large 0x1234 ∷ Variable 7 ∷ []) (Some 0x10) 6)
 
--- after the first omitted type no operand comes, a choice of zkit for types that go on
+-- after the first omitted type no operand comes, a choice of zkit for types that go on (section 4.4.3)
 abbrev pub OperandsEndAtOmitted : Type 0
 OperandsEndAtOmitted = read 5 (0xe8 ∷ 0x77 ∷ 9 ∷ []) ≡ plain opcode.Push (Small 9 ∷ []) None 3
 
@@ -89,7 +90,7 @@ TwoTypeBytes =
     × (read 5 (0xfa ∷ 0x5a ∷ 0xbf ∷ 1 ∷ 2 ∷ 3 ∷ 4 ∷ 5 ∷ [])
     ≡ plain (opcode.Call CallVn2) (Small 1 ∷ Small 2 ∷ Variable 3 ∷ Variable 4 ∷ Variable 5 ∷ []) None 8)
 
--- 0xbe begins an extended form from version 5 on, and nothing before it (section 4.3)
+-- 0xbe begins an extended form from version 5 on, and nothing before it (sections 4.3 and 4.3.4)
 abbrev pub ExtendedForms : Type 0
 ExtendedForms =
     (read 5 (0xbe ∷ 0x02 ∷ 0x1f ∷ 0x12 ∷ 0x34 ∷ 4 ∷ 5 ∷ []) ≡ plain (opcode.Arithmetic LogShift) (Large 0x1234 ∷ Small 4 ∷ []) (Some 5) 7)
@@ -99,20 +100,20 @@ ExtendedForms =
 
 -- ---- what follows the operands (sections 4.6 to 4.8)
 
--- the text of `print` begins right behind its byte, and the next instruction behind its last word
+-- the text of `print` begins right behind its byte, and the next instruction behind its last word (section 4.8)
 abbrev pub TextsFollow : Type 0
 TextsFollow =
     read 5 (0xb2 ∷ 0x18 ∷ 0xe8 ∷ 0x98 ∷ 0xe8 ∷ 0xba ∷ [])
     ≡ Ok (record { opcode = opcode.Printing Print; operands = []; store = None; branch = None; text = Some 1; next = 5 })
 
--- `get_child` stores, and then branches
+-- `get_child` stores, and then branches (sections 4.6 and 4.7)
 abbrev pub StoresBeforeBranches : Type 0
 StoresBeforeBranches =
     read 3 (0x92 ∷ 9 ∷ 0x11 ∷ 0xc1 ∷ [])
     ≡ Ok (record { opcode = opcode.ObjectQuestion GetChild; operands = Small 9 ∷ []; store = Some 0x11; branch = Some (record { on = true; target = ReturnTrue }); text = None; next = 4 })
 
--- bit 7 of a branch is its sense; bit 6 says that its offset has the other 6 bits, which have no sign; from the address
--- behind it the branch goes as far as the offset says, less 2
+-- bit 7 of a branch is its sense; bit 6 says that its offset has the other 6 bits, which have no sign; from the
+-- address behind it the branch goes as far as the offset says, less 2 (section 4.7)
 abbrev pub ShortBranches : Type 0
 ShortBranches =
     (read 5 (0x90 ∷ 1 ∷ 0xc5 ∷ 0 ∷ 0 ∷ 0 ∷ 0 ∷ []) ≡ branching (opcode.Comparison Jz) (Small 1 ∷ []) true (At 6) 3)
@@ -121,7 +122,7 @@ ShortBranches =
     × (read 5 (0x90 ∷ 1 ∷ 0xc0 ∷ []) ≡ branching (opcode.Comparison Jz) (Small 1 ∷ []) true ReturnFalse 3)
     × (read 5 (0x90 ∷ 1 ∷ 0x41 ∷ []) ≡ branching (opcode.Comparison Jz) (Small 1 ∷ []) false ReturnTrue 3)
 
--- without bit 6 the offset has 14 bits in two bytes, high byte first, and a sign
+-- without bit 6 the offset has 14 bits in two bytes, high byte first, and a sign (section 4.7)
 abbrev pub LongBranches : Type 0
 LongBranches =
     (read 5 (0x90 ∷ 1 ∷ 0x80 ∷ 5 ∷ 0 ∷ 0 ∷ 0 ∷ 0 ∷ []) ≡ branching (opcode.Comparison Jz) (Small 1 ∷ []) true (At 7) 4)
@@ -129,7 +130,7 @@ LongBranches =
     × (read 5 (0x90 ∷ 1 ∷ 0x81 ∷ 0x02 ∷ []) ≡ branching (opcode.Comparison Jz) (Small 1 ∷ []) true (Past 260) 4)
     × (read 5 (0x90 ∷ 1 ∷ 0x00 ∷ 0x01 ∷ []) ≡ branching (opcode.Comparison Jz) (Small 1 ∷ []) false ReturnTrue 4)
 
--- an unknown opcode goes before missing bytes, and these before missing operands, a choice of zkit
+-- an unknown opcode goes before missing bytes, and these before missing operands, a choice of zkit (section 4)
 abbrev pub RefusalsInOrder : Type 0
 RefusalsInOrder =
     (read 5 (0x15 ∷ 7 ∷ 2 ∷ []) ≡ Err CodePastEnd)
@@ -141,7 +142,8 @@ RefusalsInOrder =
 
 -- ---- targets (sections 4.7.1, 4.7.2 and 15, `jump`)
 
--- offset 0 returns false and 1 true; of 14 bits 0x1fff is the greatest, and 0x2000 is -8192
+-- offset 0 returns false and 1 true; of 14 bits 0x1fff is the greatest, and 0x2000 is -8192 (sections 4.7.1 and
+-- 4.7.2)
 abbrev pub BranchesLead : Type 0
 BranchesLead =
     (branch_target 100 50 0 ≡ ReturnFalse)
@@ -151,12 +153,12 @@ BranchesLead =
     × (branch_target 9000 8300 0x2000 ≡ At 106)
     × (branch_target 100 50 0x3fff ≡ At 47)
 
--- inside the story up to its last byte, past it from its length on, and below it
+-- inside the story up to its last byte, past it from its length on, and below it (section 4.7.2)
 abbrev pub BranchesLeaveTheStory : Type 0
 BranchesLeaveTheStory =
     (branch_target 100 50 51 ≡ At 99) × (branch_target 100 50 52 ≡ Past 100) × (branch_target 100 10 0x3ff0 ≡ Below 8)
 
--- the offset of `jump` has 16 bits and a sign, and 0 and 1 are offsets as others
+-- the offset of `jump` has 16 bits and a sign, and 0 and 1 are offsets as others (section 15, `jump`)
 abbrev pub JumpsLead : Type 0
 JumpsLead =
     (jump_target 100 50 0 ≡ At 48)
@@ -171,7 +173,7 @@ JumpsLead =
 abbrev pub listed : Opcode → ℕ → Follows → Option Entry
 listed code least follows = Some (record { opcode = code; least = least; follows = follows })
 
--- two-operand opcodes, 2OP: all numbers in version 3, and those that differ in versions 4, 5 and 8
+-- two-operand opcodes, 2OP: all numbers in version 3, and those that differ in versions 4, 5 and 8 (section 14)
 abbrev pub TwoOperandRows : Type 0
 TwoOperandRows =
     (map (two_operand 3) (0 ∷ 1 ∷ 2 ∷ 3 ∷ 4 ∷ 5 ∷ 6 ∷ 7 ∷ 8 ∷ 9 ∷ 10 ∷ 11 ∷ 12 ∷ 13 ∷ 14 ∷ 15 ∷ 16 ∷ 17 ∷ 18 ∷ 19 ∷ 20 ∷ 21 ∷ 22 ∷ 23
@@ -198,7 +200,7 @@ TwoOperandRows =
     ≡ listed (opcode.Call Call2s) 2 Stores ∷ listed (opcode.Call Call2n) 2 Nothing
     ∷ listed (opcode.Idle SetColour) 2 Nothing ∷ listed (opcode.Routine Throw) 2 Nothing ∷ [])
 
--- one-operand opcodes, 1OP
+-- one-operand opcodes, 1OP (section 14)
 abbrev pub OneOperandRows : Type 0
 OneOperandRows =
     (map (one_operand 3) (0 ∷ 1 ∷ 2 ∷ 3 ∷ 4 ∷ 5 ∷ 6 ∷ 7 ∷ 8 ∷ 9 ∷ 10 ∷ 11 ∷ 12 ∷ 13 ∷ 14 ∷ 15 ∷ [])
@@ -218,6 +220,7 @@ OneOperandRows =
     ≡ listed (opcode.Call Call1s) 1 Stores ∷ listed (opcode.Call Call1n) 1 Nothing ∷ [])
 
 -- zero-operand opcodes, 0OP: `save` and `restore` branch in version 3, store in 4 and are extended opcodes from 5 on
+-- (section 14)
 abbrev pub ZeroOperandRows : Type 0
 ZeroOperandRows =
     (map (zero_operand 3) (0 ∷ 1 ∷ 2 ∷ 3 ∷ 4 ∷ 5 ∷ 6 ∷ 7 ∷ 8 ∷ 9 ∷ 10 ∷ 11 ∷ 12 ∷ 13 ∷ 14 ∷ 15 ∷ [])
@@ -236,7 +239,7 @@ ZeroOperandRows =
     × (map (zero_operand 8) (5 ∷ 6 ∷ 9 ∷ 15 ∷ [])
     ≡ None ∷ None ∷ listed (opcode.Routine Catch) 0 Stores ∷ listed (opcode.Idle Piracy) 0 Branches ∷ [])
 
--- variable-operand opcodes, VAR
+-- variable-operand opcodes, VAR (section 14)
 abbrev pub VariableOperandRows : Type 0
 VariableOperandRows =
     (map (variable_operand 3) (0 ∷ 1 ∷ 2 ∷ 3 ∷ 4 ∷ 5 ∷ 6 ∷ 7 ∷ 8 ∷ 9 ∷ 10 ∷ 11 ∷ 12 ∷ 13 ∷ 14 ∷ 15 ∷ 16 ∷ 17 ∷ 18 ∷ 19 ∷ 20 ∷ 21 ∷ 22 ∷ 23
@@ -279,6 +282,7 @@ VariableOperandRows =
     ∷ listed (opcode.Table PrintTable) 2 Nothing ∷ listed (opcode.Routine CheckArgCount) 1 Branches ∷ [])
 
 -- extended opcodes, EXT: what version 6 alone has is none, and neither are those from 29 on, a choice of zkit
+-- (section 14)
 abbrev pub ExtendedRows : Type 0
 ExtendedRows =
     (map (extended 5) (0 ∷ 1 ∷ 2 ∷ 3 ∷ 4 ∷ 5 ∷ 6 ∷ 7 ∷ 8 ∷ 9 ∷ 10 ∷ 11 ∷ 12 ∷ 13 ∷ 14 ∷ 15 ∷ 16 ∷ 17 ∷ 18 ∷ 19 ∷ 20 ∷ 21 ∷ 22 ∷ 23
@@ -296,6 +300,6 @@ ExtendedRows =
     ∷ listed (opcode.Saving RestoreUndo) 0 Stores ∷ listed (opcode.Printing PrintUnicode) 1 Nothing
     ∷ listed (opcode.Idle CheckUnicode) 1 Stores ∷ listed (opcode.Idle SetTrueColour) 2 Nothing ∷ [])
 
--- `call` is named `call_vs` from version 4 on
+-- `call` is named `call_vs` from version 4 on (section 14)
 abbrev pub NamesByVersion : Type 0
 NamesByVersion = (name_of 3 (opcode.Call CallVs) ≡ codes "call") × (name_of 5 (opcode.Call CallVs) ≡ codes "call_vs")

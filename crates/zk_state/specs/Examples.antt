@@ -21,7 +21,7 @@ alone locals words = frames_with (frame locals words 70 (Some 2)) []
 
 -- ---- the evaluation stack (section 6.3)
 
--- the newest word is the last: it is pushed behind the others, and pulled first
+-- the newest word is the last: it is pushed behind the others, and pulled first (section 6.3)
 abbrev pub LastInFirstOut : Type 0
 LastInFirstOut =
     (pushed (alone [] (44 ∷ 55 ∷ [])) 9 ≡ Ok (alone [] (44 ∷ 55 ∷ 9 ∷ [])))
@@ -40,7 +40,7 @@ OwnWordsAlone =
 
 -- ---- local variables (section 4.2.2)
 
--- they are counted from 1
+-- they are counted from 1 (section 4.2.2)
 abbrev pub LocalsFromOne : Type 0
 LocalsFromOne =
     (local_of (alone (11 ∷ 22 ∷ []) []) 1 ≡ Ok 11)
@@ -52,20 +52,22 @@ LocalsFromOne =
 
 -- ---- calls and returns (sections 6.3 and 6.4)
 
--- a call puts a frame with an empty stack before its caller, and leaves the caller's as it is
+-- a call puts a frame with an empty stack before its caller, and leaves the caller's as it is (sections 6.3.1 and
+-- 6.4)
 abbrev pub CallsPutAFrame : Type 0
 CallsPutAFrame =
     called (alone (11 ∷ []) (44 ∷ [])) (5 ∷ 6 ∷ []) 80 (Some 0) 1
     ≡ Ok (frames_with (frame (5 ∷ 6 ∷ []) [] 80 (Some 0)) (frame (11 ∷ []) (44 ∷ []) 70 (Some 2) ∷ []))
 
--- a return drops the frame with its words, and tells its own place and variable; the first frame has none (section 5.5)
+-- a return drops the frame with its words, and tells its own place and variable; the first frame has none (sections
+-- 5.5 and 6.3.2)
 abbrev pub ReturnsDropAFrame : Type 0
 ReturnsDropAFrame =
     (left (frames_with (frame (5 ∷ []) (6 ∷ []) 80 (Some 0)) (frame (11 ∷ []) (44 ∷ []) 70 (Some 2) ∷ []))
     ≡ Ok (alone (11 ∷ []) (44 ∷ []), record { place = 80; result = Some 0 }))
     × (left (alone [] []) ≡ Err ReturnFromMain)
 
--- of three frames the newest has number 2, and the first number 0 (section 15, throw)
+-- of three frames the newest has number 2, and the first number 0 (section 15, `throw`)
 abbrev pub FramesCountFromZero : Type 0
 FramesCountFromZero =
     (unwound (frames_with (frame [] [] 90 None) (frame [] [] 80 None ∷ frame [] [] 70 (Some 2) ∷ [])) 2
@@ -76,6 +78,7 @@ FramesCountFromZero =
     × (unwound (alone [] []) 1 ≡ Err BadFrame)
 
 -- a value for variable 0 is pushed, for 1 to 15 goes into a local variable, and for a global one into none of these
+-- (sections 4.6 and 6.3)
 abbrev pub ValuesAreTaken : Type 0
 ValuesAreTaken =
     (taken (alone (11 ∷ []) (44 ∷ [])) (Some 0) 9 ≡ Ok (alone (11 ∷ []) (44 ∷ 9 ∷ [])))
@@ -84,7 +87,7 @@ ValuesAreTaken =
     × (taken (alone (11 ∷ []) (44 ∷ [])) (Some 16) 9 ≡ Ok (alone (11 ∷ []) (44 ∷ [])))
     × (taken (alone (11 ∷ []) (44 ∷ [])) None 9 ≡ Ok (alone (11 ∷ []) (44 ∷ [])))
 
--- the caller takes the value by the variable of the frame that is left
+-- the caller takes the value by the variable of the frame that is left (section 6.4.5)
 abbrev pub ValuesAreGivenBack : Type 0
 ValuesAreGivenBack =
     given_back (frames_with (frame (5 ∷ []) (6 ∷ []) 80 (Some 1)) (frame (11 ∷ []) (44 ∷ []) 70 (Some 2) ∷ [])) 9
@@ -93,6 +96,7 @@ ValuesAreGivenBack =
 -- ---- bounds: three frames and nine words here
 
 -- local variables count as words: of nine words a tenth is refused, and so is a fourth frame; frames go before words
+-- (section 6.3)
 abbrev pub BoundsRefuse : Type 0
 BoundsRefuse =
     (pushed (alone (replicate 3 0) (replicate 5 0)) 7 ≡ Ok (alone (replicate 3 0) (0 ∷ 0 ∷ 0 ∷ 0 ∷ 0 ∷ 7 ∷ [])))
@@ -103,7 +107,7 @@ BoundsRefuse =
     × (called (frames_with (frame [] [] 90 None) (frame [] [] 80 None ∷ frame [] [] 70 None ∷ [])) [] 95 None 1 ≡ Err (Limit Frames))
     × (called (frames_with (frame [] [] 90 None) (frame [] [] 80 None ∷ frame [] [] 70 None ∷ [])) (replicate 10 0) 95 None 1 ≡ Err (Limit Frames))
 
--- a story begins in one frame without words
+-- a story begins in one frame without words (section 5.5)
 abbrev pub BeginsInOneFrame : Type 0
 BeginsInOneFrame = (within_bounds (first_frames 1 0) ≡ Ok (first_frames 1 0)) × (total_of (first_frames 1 0) ≡ 0) × (popped (first_frames 1 0) ≡ Err StackEmpty)
 

@@ -1,6 +1,6 @@
 -- Worked examples of this crate's definitions. Their values come from the Standard by hand, and no definition made
 -- them. A word from 32768 on is negative: 65535 is -1 (Standard, section 2.2).
-use Rattle.std.specs.Prelude.{◌≡◌, ℕ, List, [], ◌∷◌, ◌++◌, Option, Some, None, Ok, Err, true, false, codes, replicate}
+use Rattle.std.specs.Prelude.{◌≡◌, ℕ, List, [], ◌∷◌, ◌++◌, Option, Some, None, Ok, Err, true, false, codes, replicate, ◌+◌, ◌*◌, ◌/◌, ◌%◌, ◌<◌}
 use Rattle.zk_mem.specs.declared.fault.Fault.TheVariants.{DivisionByZero, StackEmpty, NoSuchLocal, BadTarget, ReturnFromMain, BadFrame, BadOpcode}
 use Rattle.zk_mem.specs.Map.{MemoryMap}
 use Rattle.zk_state.specs.declared.refusal.Limit.TheVariants.{Frames, Words}
@@ -17,7 +17,7 @@ use Rattle.zk_code.specs.declared.opcode.Assignment.TheVariants.{Store, Load, In
 use Rattle.zk_code.specs.declared.opcode.Call.TheVariants.{CallVs, Call1s, Call2s, CallVs2, CallVn, Call1n, Call2n, CallVn2}
 use Rattle.zk_code.specs.declared.opcode.Comparison.TheVariants.{Je, Jl, Jg, Jz, Test}
 use Rattle.zk_code.specs.declared.opcode.Control.TheVariants.{Jump, Quit}
-use Rattle.zk_code.specs.declared.opcode.Idle.TheVariants.{Nop, SetColour, SetFont, Piracy, CheckUnicode}
+use Rattle.zk_code.specs.declared.opcode.Idle.TheVariants.{Nop, SetColour, SetTrueColour, SetTextStyle, BufferMode, SoundEffect, SetFont, Piracy, CheckUnicode}
 use Rattle.zk_code.specs.declared.opcode.ObjectChange.TheVariants.{SetAttr, ClearAttr, InsertObj, RemoveObj, PutProp}
 use Rattle.zk_code.specs.declared.opcode.ObjectQuestion.TheVariants.{Jin, TestAttr, GetProp, GetPropAddr, GetNextProp, GetPropLen, GetParent, GetSibling, GetChild}
 use Rattle.zk_code.specs.declared.opcode.Printing.TheVariants.{PrintObj, Print, PrintRet, NewLine, PrintNum, PrintChar, PrintUnicode, PrintAddr, PrintPaddr}
@@ -91,63 +91,73 @@ instruction code operands store branch =
 
 -- ---- arithmetic and logic (sections 2.3 and 15)
 
--- a sum has 16 bits: -1 + 2 is 1
+-- a sum has 16 bits: -1 + 2 is 1 (section 15, `add`)
 abbrev pub AddsModulo : Type 0
 AddsModulo = arithmetic Add (65535 ∷ 2 ∷ []) ≡ Ok (gives 1)
 
--- 5 - 3 is 2, and 3 - 5 is -2
+-- 5 - 3 is 2, and 3 - 5 is -2 (section 15, `sub`)
 abbrev pub SubtractsTheSecond : Type 0
 SubtractsTheSecond = (arithmetic Sub (5 ∷ 3 ∷ []) ≡ Ok (gives 2)) × (arithmetic Sub (3 ∷ 5 ∷ []) ≡ Ok (gives 65534))
 
--- 300 * 300 is 90000, which is 24464 in 16 bits
+-- 300 * 300 is 90000, which is 24464 in 16 bits (section 15, `mul`)
 abbrev pub MultipliesModulo : Type 0
 MultipliesModulo = arithmetic Mul (300 ∷ 300 ∷ []) ≡ Ok (gives 24464)
 
--- -11 / 2 is -5, 11 / -2 is -5, and -11 / -2 is 5
+-- -11 / 2 is -5, 11 / -2 is -5, and -11 / -2 is 5 (section 15, `div`)
 abbrev pub DividesTowardZero : Type 0
 DividesTowardZero =
     (arithmetic Div (65525 ∷ 2 ∷ []) ≡ Ok (gives 65531))
     × (arithmetic Div (11 ∷ 65534 ∷ []) ≡ Ok (gives 65531))
     × (arithmetic Div (65525 ∷ 65534 ∷ []) ≡ Ok (gives 5))
 
--- the remainder of -13 by 5 is -3, of 13 by -5 it is 3, and of -13 by -5 it is -3
+-- the remainder of -13 by 5 is -3, of 13 by -5 it is 3, and of -13 by -5 it is -3 (section 15, `mod`)
 abbrev pub RemainderHasTheSignOfTheDividend : Type 0
 RemainderHasTheSignOfTheDividend =
     (arithmetic Mod (65523 ∷ 5 ∷ []) ≡ Ok (gives 65533))
     × (arithmetic Mod (13 ∷ 65531 ∷ []) ≡ Ok (gives 3))
     × (arithmetic Mod (65523 ∷ 65531 ∷ []) ≡ Ok (gives 65533))
 
--- -32768 / -1 is -32768, a choice of zkit
+-- -32768 / -1 is -32768, a choice of zkit (section 15, `div`)
 abbrev pub LeastByMinusOneStays : Type 0
 LeastByMinusOneStays = arithmetic Div (32768 ∷ 65535 ∷ []) ≡ Ok (gives 32768)
 
--- a division by 0 is a fault
+-- a division by 0 is a fault (section 2.3.1)
 abbrev pub DivisionByZeroIsFault : Type 0
 DivisionByZeroIsFault =
     (arithmetic Div (5 ∷ 0 ∷ []) ≡ Err DivisionByZero) × (arithmetic Mod (5 ∷ 0 ∷ []) ≡ Err DivisionByZero)
 
--- bit by bit: 12 or 10 is 14, 12 and 10 is 8, and not 255 is 65280
+-- bit by bit: 12 or 10 is 14, 12 and 10 is 8, and not 255 is 65280 (section 15, `or`, `and`, `not`)
 abbrev pub LogicIsBitByBit : Type 0
 LogicIsBitByBit =
     (arithmetic Or (12 ∷ 10 ∷ []) ≡ Ok (gives 14))
     × (arithmetic And (12 ∷ 10 ∷ []) ≡ Ok (gives 8))
     × (arithmetic Not (255 ∷ []) ≡ Ok (gives 65280))
 
--- positive places are to the left: 0x1234 by 4 is 0x2340
+-- positive places are to the left: 0x1234 by 4 is 0x2340 (section 15, `log_shift`)
 abbrev pub ShiftsLeft : Type 0
 ShiftsLeft =
     (arithmetic LogShift (0x1234 ∷ 4 ∷ []) ≡ Ok (gives 0x2340)) × (arithmetic ArtShift (0x1234 ∷ 4 ∷ []) ≡ Ok (gives 0x2340))
 
 -- -4 places are 4 to the right: 0xfe00 becomes 0x0fe0 by log_shift, and 0xffe0 by art_shift; 0x1234 becomes 0x0123
+-- (section 15, `art_shift`)
 abbrev pub ShiftsRight : Type 0
 ShiftsRight =
     (arithmetic LogShift (0xfe00 ∷ 65532 ∷ []) ≡ Ok (gives 0x0fe0))
     × (arithmetic ArtShift (0xfe00 ∷ 65532 ∷ []) ≡ Ok (gives 0xffe0))
     × (arithmetic ArtShift (0x1234 ∷ 65532 ∷ []) ≡ Ok (gives 0x0123))
 
+-- for all words: what was added is taken away by `sub` (section 15, `sub`)
+abbrev pub SubUndoesAdd : Type 0
+SubUndoesAdd = (x y : ℕ) → x < 65536 → y < 65536 → arithmetic Sub ((x + y) % 65536 ∷ y ∷ []) ≡ Ok (gives x)
+
+-- for all words: a place to the right halves, and one to the left doubles in 16 bits (section 15, `log_shift`)
+abbrev pub ShiftsHalveAndDouble : Type 0
+ShiftsHalveAndDouble = (x : ℕ) → (arithmetic LogShift (x ∷ 65535 ∷ []) ≡ Ok (gives (x / 2))) × (arithmetic LogShift (x ∷ 1 ∷ []) ≡ Ok (gives ((x * 2) % 65536)))
+
 -- ---- comparisons (sections 2.2 and 15)
 
 -- one of the other operands is the first: the fourth is, none is, and two that are the same but not the first
+-- (section 15, `je`)
 abbrev pub EqualsAnother : Type 0
 EqualsAnother =
     (comparison Je (7 ∷ 1 ∷ 2 ∷ 7 ∷ []) ≡ tests true)
@@ -155,7 +165,8 @@ EqualsAnother =
     × (comparison Je (7 ∷ 1 ∷ 2 ∷ 3 ∷ []) ≡ tests false)
     × (comparison Je (7 ∷ 1 ∷ 1 ∷ []) ≡ tests false)
 
--- -1 is less than 1, 1 is not less than -1, 5 is not less than 5, and -32768 is less than 32767
+-- -1 is less than 1, 1 is not less than -1, 5 is not less than 5, and -32768 is less than 32767 (sections 2.2 and 15,
+-- `jl`)
 abbrev pub LessIsSigned : Type 0
 LessIsSigned =
     (comparison Jl (65535 ∷ 1 ∷ []) ≡ tests true)
@@ -163,32 +174,37 @@ LessIsSigned =
     × (comparison Jl (5 ∷ 5 ∷ []) ≡ tests false)
     × (comparison Jl (32768 ∷ 32767 ∷ []) ≡ tests true)
 
--- 32767 is greater than -32768, which is not greater than 32767; 5 is not greater than 5
+-- 32767 is greater than -32768, which is not greater than 32767; 5 is not greater than 5 (sections 2.2 and 15, `jg`)
 abbrev pub GreaterIsSigned : Type 0
 GreaterIsSigned =
     (comparison Jg (32767 ∷ 32768 ∷ []) ≡ tests true)
     × (comparison Jg (32768 ∷ 32767 ∷ []) ≡ tests false)
     × (comparison Jg (5 ∷ 5 ∷ []) ≡ tests false)
 
--- 0 alone is zero: 256, whose low byte is 0, is not
+-- for all words: x is greater than y where y is less than x (section 15, `jg`)
+abbrev pub GreaterIsLessExchanged : Type 0
+GreaterIsLessExchanged = (x y : ℕ) → comparison Jg (x ∷ y ∷ []) ≡ comparison Jl (y ∷ x ∷ [])
+
+-- 0 alone is zero: 256, whose low byte is 0, is not (section 15, `jz`)
 abbrev pub ZeroIsZeroAlone : Type 0
 ZeroIsZeroAlone = (comparison Jz (0 ∷ []) ≡ tests true) × (comparison Jz (256 ∷ []) ≡ tests false)
 
--- all bits of the second are in the first: those of 6 are in 14, those of 14 not in 6
+-- all bits of the second are in the first: those of 6 are in 14, those of 14 not in 6 (section 15, `test`)
 abbrev pub TestsAllBits : Type 0
 TestsAllBits = (comparison Test (14 ∷ 6 ∷ []) ≡ tests true) × (comparison Test (6 ∷ 14 ∷ []) ≡ tests false)
 
 -- ---- arrays (section 15): memory has 0xa0 at address 0 up to 0xaf at address 15
 
--- word 3 of the array at 4 stands at 10 and 11, high byte first
+-- word 3 of the array at 4 stands at 10 and 11, high byte first (section 15, `loadw`)
 abbrev pub WordsAreLoaded : Type 0
 WordsAreLoaded = array_effect Loadw (in_routine [] []) (4 ∷ 3 ∷ []) ≡ Ok (in_routine [] [], gives 0xaaab)
 
--- byte 3 of the array at 4 stands at 7
+-- byte 3 of the array at 4 stands at 7 (section 15, `loadb`)
 abbrev pub BytesAreLoaded : Type 0
 BytesAreLoaded = array_effect Loadb (in_routine [] []) (4 ∷ 3 ∷ []) ≡ Ok (in_routine [] [], gives 0xa7)
 
 -- an address is a sum of 16 bits, a choice of zkit: word 3 of the array at 65534 stands at 4, and byte 3 at 1
+-- (section 15, `loadw`)
 abbrev pub AddressesWrap : Type 0
 AddressesWrap =
     (array_effect Loadw (in_routine [] []) (65534 ∷ 3 ∷ []) ≡ Ok (in_routine [] [], gives 0xa4a5))
@@ -198,13 +214,13 @@ AddressesWrap =
 abbrev pub with_bytes : List ℕ → Workspace
 with_bytes bytes = working (memory_of 5 bytes) (routine_with [] [] None) []
 
--- word 1 of the array at 2 stands at 4 and 5, high byte first
+-- word 1 of the array at 2 stands at 4 and 5, high byte first (section 15, `storew`)
 abbrev pub WordsAreStored : Type 0
 WordsAreStored =
     array_effect Storew (with_bytes (0 ∷ 1 ∷ 2 ∷ 3 ∷ 4 ∷ 5 ∷ 6 ∷ [])) (2 ∷ 1 ∷ 0x1234 ∷ [])
     ≡ Ok (with_bytes (0 ∷ 1 ∷ 2 ∷ 3 ∷ 0x12 ∷ 0x34 ∷ 6 ∷ []), goes_on)
 
--- byte 1 of the array at 2 stands at 3, and gets the low byte
+-- byte 1 of the array at 2 stands at 3, and gets the low byte (section 15, `storeb`)
 abbrev pub LowBytesAreStored : Type 0
 LowBytesAreStored =
     array_effect Storeb (with_bytes (0 ∷ 1 ∷ 2 ∷ 3 ∷ 4 ∷ 5 ∷ 6 ∷ [])) (2 ∷ 1 ∷ 0x1234 ∷ [])
@@ -212,7 +228,7 @@ LowBytesAreStored =
 
 -- ---- variables (sections 4.2 and 6)
 
--- variable 1 is the first local variable, 3 the third; variable 4 of a routine with three is none
+-- variable 1 is the first local variable, 3 the third; variable 4 of a routine with three is none (section 4.2.2)
 abbrev pub LocalsCountFromOne : Type 0
 LocalsCountFromOne =
     (named_read (in_routine (11 ∷ 22 ∷ 33 ∷ []) []) 1 ≡ Ok 11)
@@ -221,6 +237,7 @@ LocalsCountFromOne =
     × (named_written (in_routine (11 ∷ 22 ∷ 33 ∷ []) []) 2 9 ≡ Ok (in_routine (11 ∷ 9 ∷ 33 ∷ []) []))
 
 -- variable 16 is the word at the table's address, here 4, variable 17 the next, and 255 the 240th; 15 is none of them
+-- (section 6.2)
 abbrev pub GlobalsCountFromSixteen : Type 0
 GlobalsCountFromSixteen =
     (global_address (memory_of 5 sixteen) 16 ≡ 4)
@@ -239,7 +256,7 @@ StackIsPulledAndPushed =
     × (variable_read (in_routine (11 ∷ []) []) 1 ≡ Ok (in_routine (11 ∷ []) [], 11))
     × (variable_written (in_routine (11 ∷ []) []) 1 9 ≡ Ok (in_routine (9 ∷ []) []))
 
--- where an operand names it, variable 0 is read and written in place (section 6.3.4); there is no variable 256
+-- where an operand names it, variable 0 is read and written in place; there is no variable 256 (section 6.3.4)
 abbrev pub StackIsNamedInPlace : Type 0
 StackIsNamedInPlace =
     (indirect_read (in_routine [] (44 ∷ 55 ∷ [])) 0 ≡ Ok 55)
@@ -247,7 +264,8 @@ StackIsNamedInPlace =
     × (indirect_written (in_routine [] []) 0 9 ≡ Err StackEmpty)
     × (indirect_read (in_routine (11 ∷ []) []) 256 ≡ Err NoSuchLocal)
 
--- operands are taken first to last: of two pulls the first gets the newest word; constants are what they say
+-- operands are taken first to last: of two pulls the first gets the newest word; constants are what they say (section
+-- 4.2)
 abbrev pub OperandsAreTakenInOrder : Type 0
 OperandsAreTakenInOrder =
     operands_read (in_routine (11 ∷ []) (44 ∷ 55 ∷ [])) (Variable 0 ∷ Small 0 ∷ Variable 0 ∷ Variable 1 ∷ Large 1 ∷ [])
@@ -255,40 +273,41 @@ OperandsAreTakenInOrder =
 
 -- ---- what is done to variables (sections 6.3 and 15)
 
--- `store` of local variable 2, and of the newest word in place
+-- `store` of local variable 2, and of the newest word in place (section 15, `store`)
 abbrev pub Stores : Type 0
 Stores =
     (assignment Store (in_routine (11 ∷ 22 ∷ []) []) (2 ∷ 9 ∷ []) ≡ Ok (in_routine (11 ∷ 9 ∷ []) [], goes_on))
     × (assignment Store (in_routine [] (44 ∷ 55 ∷ [])) (0 ∷ 9 ∷ []) ≡ Ok (in_routine [] (44 ∷ 9 ∷ []), goes_on))
 
--- `load` gives the value of a variable, and leaves the newest word on the stack
+-- `load` gives the value of a variable, and leaves the newest word on the stack (section 15, `load`)
 abbrev pub Loads : Type 0
 Loads =
     (assignment Load (in_routine (11 ∷ 22 ∷ []) []) (2 ∷ []) ≡ Ok (in_routine (11 ∷ 22 ∷ []) [], gives 22))
     × (assignment Load (in_routine [] (44 ∷ 55 ∷ [])) (0 ∷ []) ≡ Ok (in_routine [] (44 ∷ 55 ∷ []), gives 55))
 
--- `inc` of 65535 is 0, `dec` of 0 is 65535, and both change the newest word in place
+-- `inc` of 65535 is 0, `dec` of 0 is 65535, and both change the newest word in place (section 15, `inc`, `dec`)
 abbrev pub CountsUpAndDown : Type 0
 CountsUpAndDown =
     (assignment Inc (in_routine (11 ∷ 65535 ∷ []) []) (2 ∷ []) ≡ Ok (in_routine (11 ∷ 0 ∷ []) [], goes_on))
     × (assignment Dec (in_routine (0 ∷ 11 ∷ []) []) (1 ∷ []) ≡ Ok (in_routine (65535 ∷ 11 ∷ []) [], goes_on))
     × (assignment Inc (in_routine [] (44 ∷ 55 ∷ [])) (0 ∷ []) ≡ Ok (in_routine [] (44 ∷ 56 ∷ []), goes_on))
 
--- `inc_chk` asks whether the new value is greater, with signs: 6 than 5, not 5 than 5, not -1 than 0
+-- `inc_chk` asks whether the new value is greater, with signs: 6 than 5, not 5 than 5, not -1 than 0 (section 15,
+-- `inc_chk`)
 abbrev pub ChecksTheIncreased : Type 0
 ChecksTheIncreased =
     (assignment IncChk (in_routine (5 ∷ []) []) (1 ∷ 5 ∷ []) ≡ Ok (in_routine (6 ∷ []) [], tests true))
     × (assignment IncChk (in_routine (4 ∷ []) []) (1 ∷ 5 ∷ []) ≡ Ok (in_routine (5 ∷ []) [], tests false))
     × (assignment IncChk (in_routine (65534 ∷ []) []) (1 ∷ 0 ∷ []) ≡ Ok (in_routine (65535 ∷ []) [], tests false))
 
--- `dec_chk` asks whether the new value is less, with signs: -1 than 0, not 5 than 5
+-- `dec_chk` asks whether the new value is less, with signs: -1 than 0, not 5 than 5 (section 15, `dec_chk`)
 abbrev pub ChecksTheDecreased : Type 0
 ChecksTheDecreased =
     (assignment DecChk (in_routine (0 ∷ []) []) (1 ∷ 0 ∷ []) ≡ Ok (in_routine (65535 ∷ []) [], tests true))
     × (assignment DecChk (in_routine (6 ∷ []) []) (1 ∷ 5 ∷ []) ≡ Ok (in_routine (5 ∷ []) [], tests false))
 
 -- `pull` takes the newest word, and then looks at its variable, a choice of zkit: pulled into the stack, it takes the
--- place of the word below
+-- place of the word below (section 15, `pull`)
 abbrev pub PullsBeforeItsVariable : Type 0
 PullsBeforeItsVariable =
     (assignment Pull (in_routine (11 ∷ 22 ∷ []) (44 ∷ 55 ∷ [])) (2 ∷ []) ≡ Ok (in_routine (11 ∷ 55 ∷ []) (44 ∷ []), goes_on))
@@ -296,7 +315,7 @@ PullsBeforeItsVariable =
     × (assignment Pull (in_routine [] (55 ∷ [])) (0 ∷ []) ≡ Err StackEmpty)
     × (assignment Pull (in_routine [] []) (300 ∷ []) ≡ Err StackEmpty)
 
--- `pop` drops the newest word, and `push` adds one
+-- `pop` drops the newest word, and `push` adds one (section 15, `pop`, `push`)
 abbrev pub PopsAndPushes : Type 0
 PopsAndPushes =
     (assignment Pop (in_routine [] (44 ∷ 55 ∷ [])) [] ≡ Ok (in_routine [] (44 ∷ []), goes_on))
@@ -331,7 +350,7 @@ ArgumentsComeFirst =
     × (with_arguments [] (1 ∷ 2 ∷ []) ≡ [])
 
 -- a call of packed address 2 in version 3, which is 4, with one argument: it goes on behind the header, and will
--- return to address 9 and give its result to local variable 1
+-- return to address 9 and give its result to local variable 1 (section 6.4)
 abbrev pub CallsARoutine : Type 0
 CallsARoutine =
     called (working (memory_of 3 (with_header 2)) (routine_with [] (44 ∷ []) None) []) (instruction opcode.Push [] (Some 1) None) 2 (7 ∷ [])
@@ -342,7 +361,7 @@ CallsARoutine =
       At 9,
     )
 
--- arguments without a local variable count as given, a choice of zkit
+-- arguments without a local variable count as given, a choice of zkit (section 6.4.4)
 abbrev pub DroppedArgumentsCount : Type 0
 DroppedArgumentsCount =
     called (working (memory_of 5 (with_header 1)) (routine_with [] [] None) []) (instruction opcode.Push [] None None) 1 (7 ∷ 8 ∷ 9 ∷ [])
@@ -354,6 +373,7 @@ DroppedArgumentsCount =
     )
 
 -- a value goes into local variable 1 of the caller, which goes on where the call ended; the routine's own words go
+-- (section 6.4.5)
 abbrev pub ReturnsToTheCaller : Type 0
 ReturnsToTheCaller =
     returned (in_routine (11 ∷ []) (44 ∷ [])) 9
@@ -371,7 +391,8 @@ ResultsArePushedOrDropped =
 abbrev pub NoReturnFromMain : Type 0
 NoReturnFromMain = returned (working (memory_of 5 sixteen) (routine_with [] (44 ∷ []) None) []) 9 ≡ Err ReturnFromMain
 
--- two routines wait: the newer one has number 1, and returns for its caller, number 0, to address 80
+-- two routines wait: the newer one has number 1, and returns for its caller, number 0, to address 80 (section 15,
+-- `throw`)
 abbrev pub ThrowsToAFrame : Type 0
 ThrowsToAFrame =
     (thrown (working (memory_of 5 sixteen) (routine_with [] [] (Some 1)) (caller_with [] [] ∷ caller_with (1 ∷ 2 ∷ []) [] ∷ [])) 9 1
@@ -380,7 +401,8 @@ ThrowsToAFrame =
     × (thrown (in_routine [] []) 9 0 ≡ Err ReturnFromMain)
     × (thrown (in_routine [] []) 9 2 ≡ Err BadFrame)
 
--- the first operand is the routine; call_1 takes no argument, call_2 one, call_v three and call_v2 seven
+-- the first operand is the routine; call_1 takes no argument, call_2 one, call_v three and call_v2 seven (section 15,
+-- `call_vs`)
 abbrev pub CallsTakeArguments : Type 0
 CallsTakeArguments =
     (call_effect CallVs (50 ∷ 1 ∷ []) ≡ ends (ending.Call 50 3))
@@ -396,7 +418,8 @@ CallsTakeArguments =
 abbrev pub CallOfNothingGivesZero : Type 0
 CallOfNothingGivesZero = call_effect CallVs (0 ∷ 1 ∷ []) ≡ gives 0
 
--- true is 1, false is 0, `ret` returns its operand and `ret_popped` the newest word
+-- true is 1, false is 0, `ret` returns its operand and `ret_popped` the newest word (section 15, `rtrue`, `rfalse`,
+-- `ret`, `ret_popped`)
 abbrev pub ReturnedValues : Type 0
 ReturnedValues =
     (routine_effect Rtrue (in_routine [] []) [] ≡ Ok (in_routine [] [], ends (ending.Return 1)))
@@ -405,13 +428,14 @@ ReturnedValues =
     × (routine_effect RetPopped (in_routine [] (44 ∷ 55 ∷ [])) [] ≡ Ok (in_routine [] (44 ∷ []), ends (ending.Return 55)))
 
 -- `catch` gives how many frames are above the first, a choice of zkit: one here; `throw` names a value, then a frame
+-- (section 15, `catch`, `throw`)
 abbrev pub CatchesAndThrows : Type 0
 CatchesAndThrows =
     (routine_effect Catch (in_routine [] []) [] ≡ Ok (in_routine [] [], gives 1))
     × (routine_effect Catch (with_bytes []) [] ≡ Ok (with_bytes [], gives 0))
     × (routine_effect Throw (in_routine [] []) (9 ∷ 1 ∷ []) ≡ Ok (in_routine [] [], ends (ending.Throw 9 1)))
 
--- two arguments were given: there is a second, no third, and no argument 0
+-- two arguments were given: there is a second, no third, and no argument 0 (section 15, `check_arg_count`)
 abbrev pub ChecksArguments : Type 0
 ChecksArguments =
     (routine_effect CheckArgCount (in_routine [] []) (2 ∷ []) ≡ Ok (in_routine [] [], tests true))
@@ -420,7 +444,7 @@ ChecksArguments =
 
 -- ---- the way on (sections 4.6, 4.7 and 15)
 
--- a branch is taken where the truth is its sense, in both senses, and else the next instruction follows
+-- a branch is taken where the truth is its sense, in both senses, and else the next instruction follows (section 4.7)
 abbrev pub BranchesBySense : Type 0
 BranchesBySense =
     (way_on (Some (record { on = true; target = target.At 5 })) 9 (Some true) ≡ To 5)
@@ -428,7 +452,7 @@ BranchesBySense =
     × (way_on (Some (record { on = false; target = target.At 5 })) 9 (Some false) ≡ To 5)
     × (way_on (Some (record { on = false; target = target.At 5 })) 9 (Some true) ≡ To 9)
 
--- a branch that returns false gives 0, one that returns true 1 (section 4.7.1); one out of the story leads nowhere
+-- a branch that returns false gives 0, one that returns true 1; one out of the story leads nowhere (section 4.7.1)
 abbrev pub BranchesThatReturn : Type 0
 BranchesThatReturn =
     (way_on (Some (record { on = true; target = target.ReturnFalse })) 9 (Some true) ≡ Back 0)
@@ -437,7 +461,8 @@ BranchesThatReturn =
     × (led (in_routine [] []) Out ≡ Err BadTarget)
     × (led (in_routine [] []) (Back 1) ≡ Ok (working (memory_of 5 sixteen) (caller_with (1 ∷ 62 ∷ []) (63 ∷ [])) [], At 70))
 
--- a result is stored before the branch is taken: the caller's stack gets 8, then the routine returns 1
+-- a result is stored first: local variable 1 gets 8 before the way is taken, and where there is no such variable, the
+-- fault goes before the return; a result for variable 0 is pushed, and one for none dropped (sections 4.6 and 4.7)
 abbrev pub StoresBeforeItGoes : Type 0
 StoresBeforeItGoes =
     (gone (in_routine (11 ∷ []) []) (Some 1) (Some 8) (To 5) ≡ Ok (in_routine (8 ∷ []) [], At 5))
@@ -445,7 +470,7 @@ StoresBeforeItGoes =
     × (stored (in_routine [] []) (Some 0) (Some 8) ≡ Ok (in_routine [] (8 ∷ [])))
     × (stored (in_routine [] []) None (Some 8) ≡ Ok (in_routine [] []))
 
--- a jump goes to the address after it, here 9, plus a signed offset, less 2
+-- a jump goes to the address after it, here 9, plus a signed offset, less 2 (section 15, `jump`)
 abbrev pub JumpsBySignedOffset : Type 0
 JumpsBySignedOffset =
     (control Jump (6 ∷ []) ≡ ends (ending.Jump 6))
@@ -454,13 +479,13 @@ JumpsBySignedOffset =
     × (finished (in_routine [] []) (instruction (opcode.Control Jump) [] None None) [] (ending.Jump 0) ≡ Ok (in_routine [] [], At 7))
     × (finished (in_routine [] []) (instruction (opcode.Control Jump) [] None None) [] (ending.Jump 9) ≡ Err BadTarget)
 
--- `quit` ends the story, and changes nothing
+-- `quit` ends the story, and changes nothing (section 15, `quit`)
 abbrev pub Quits : Type 0
 Quits =
     (control Quit [] ≡ ends ending.Quit)
     × (finished (in_routine [] []) (instruction (opcode.Control Quit) [] None None) [] ending.Quit ≡ Ok (in_routine [] [], End))
 
--- a call passes so many of the operands behind the first
+-- a call passes so many of the operands behind the first (section 6.4)
 abbrev pub PassesTheOperandsBehind : Type 0
 PassesTheOperandsBehind =
     finished (working (memory_of 5 (with_header 2)) (routine_with [] [] None) []) (instruction opcode.Push [] None None) (1 ∷ 7 ∷ 8 ∷ []) (ending.Call 1 1)
@@ -485,7 +510,7 @@ three_objects =
     with_objects (0x80 ∷ 0 ∷ 0 ∷ 1 ∷ 2 ∷ 3 ∷ 0 ∷ 0 ∷ 89 ∷ []) (0 ∷ 0 ∷ 0 ∷ 0 ∷ 0 ∷ 0 ∷ 1 ∷ 0 ∷ 89 ∷ [])
     (0 ∷ 0 ∷ 0 ∷ 0 ∷ 2 ∷ 0 ∷ 0 ∷ 0 ∷ 89 ∷ []) (5 ∷ 0x2a ∷ 35 ∷ 1 ∷ 2 ∷ 0 ∷ [])
 
--- an object and whether it is one: 3 is, 0 is none
+-- an object and whether it is one: 3 is, 0 is none (section 15, `get_parent`, `get_sibling`, `get_child`, `jin`)
 abbrev pub FindsRelatives : Type 0
 FindsRelatives =
     (object_answer GetParent three_objects (1 ∷ []) ≡ Ok (gives 2))
@@ -496,7 +521,8 @@ FindsRelatives =
     × (object_answer Jin three_objects (1 ∷ 2 ∷ []) ≡ Ok (tests true))
     × (object_answer Jin three_objects (1 ∷ 3 ∷ []) ≡ Ok (tests false))
 
--- attributes 0 and 31 of object 1 are there and 1 is not; 7 is given, and 0 taken
+-- attributes 0 and 31 of object 1 are there and 1 is not; 7 is given, and 0 taken (section 15, `test_attr`,
+-- `set_attr`, `clear_attr`)
 abbrev pub AttributesOfObjects : Type 0
 AttributesOfObjects =
     (object_answer TestAttr three_objects (1 ∷ 0 ∷ []) ≡ Ok (tests true))
@@ -505,14 +531,15 @@ AttributesOfObjects =
     × (object_changed SetAttr three_objects (1 ∷ 7 ∷ []) ≡ Ok (with_objects (0x81 ∷ 0 ∷ 0 ∷ 1 ∷ 2 ∷ 3 ∷ 0 ∷ 0 ∷ 89 ∷ []) (0 ∷ 0 ∷ 0 ∷ 0 ∷ 0 ∷ 0 ∷ 1 ∷ 0 ∷ 89 ∷ []) (0 ∷ 0 ∷ 0 ∷ 0 ∷ 2 ∷ 0 ∷ 0 ∷ 0 ∷ 89 ∷ []) (5 ∷ 0x2a ∷ 35 ∷ 1 ∷ 2 ∷ 0 ∷ [])))
     × (object_changed ClearAttr three_objects (1 ∷ 0 ∷ []) ≡ Ok (with_objects (0 ∷ 0 ∷ 0 ∷ 1 ∷ 2 ∷ 3 ∷ 0 ∷ 0 ∷ 89 ∷ []) (0 ∷ 0 ∷ 0 ∷ 0 ∷ 0 ∷ 0 ∷ 1 ∷ 0 ∷ 89 ∷ []) (0 ∷ 0 ∷ 0 ∷ 0 ∷ 2 ∷ 0 ∷ 0 ∷ 0 ∷ 89 ∷ []) (5 ∷ 0x2a ∷ 35 ∷ 1 ∷ 2 ∷ 0 ∷ [])))
 
--- `insert_obj` puts its first operand into its second: 3 into 1; `remove_obj` takes 1 out, and 3 stays in 2
+-- `insert_obj` puts its first operand into its second: 3 into 1; `remove_obj` takes 1 out, and 3 stays in 2 (section
+-- 15, `insert_obj`, `remove_obj`)
 abbrev pub ObjectsMove : Type 0
 ObjectsMove =
     (object_changed InsertObj three_objects (3 ∷ 1 ∷ []) ≡ Ok (with_objects (0x80 ∷ 0 ∷ 0 ∷ 1 ∷ 2 ∷ 0 ∷ 3 ∷ 0 ∷ 89 ∷ []) (0 ∷ 0 ∷ 0 ∷ 0 ∷ 0 ∷ 0 ∷ 1 ∷ 0 ∷ 89 ∷ []) (0 ∷ 0 ∷ 0 ∷ 0 ∷ 1 ∷ 0 ∷ 0 ∷ 0 ∷ 89 ∷ []) (5 ∷ 0x2a ∷ 35 ∷ 1 ∷ 2 ∷ 0 ∷ [])))
     × (object_changed RemoveObj three_objects (1 ∷ []) ≡ Ok (with_objects (0x80 ∷ 0 ∷ 0 ∷ 1 ∷ 0 ∷ 0 ∷ 0 ∷ 0 ∷ 89 ∷ []) (0 ∷ 0 ∷ 0 ∷ 0 ∷ 0 ∷ 0 ∷ 3 ∷ 0 ∷ 89 ∷ []) (0 ∷ 0 ∷ 0 ∷ 0 ∷ 2 ∷ 0 ∷ 0 ∷ 0 ∷ 89 ∷ []) (5 ∷ 0x2a ∷ 35 ∷ 1 ∷ 2 ∷ 0 ∷ [])))
 
 -- property 5 is 0x2a, property 3 is 0x0102, and property 7, which is not there, has its default; `put_prop` names the
--- object, the property and the value
+-- object, the property and the value (section 15, `get_prop`, `put_prop`)
 abbrev pub PropertiesOfObjects : Type 0
 PropertiesOfObjects =
     (object_answer GetProp three_objects (1 ∷ 5 ∷ []) ≡ Ok (gives 0x2a))
@@ -520,8 +547,8 @@ PropertiesOfObjects =
     × (object_answer GetProp three_objects (1 ∷ 7 ∷ []) ≡ Ok (gives 0x0708))
     × (object_changed PutProp three_objects (1 ∷ 3 ∷ 0x1234 ∷ []) ≡ Ok (with_objects (0x80 ∷ 0 ∷ 0 ∷ 1 ∷ 2 ∷ 3 ∷ 0 ∷ 0 ∷ 89 ∷ []) (0 ∷ 0 ∷ 0 ∷ 0 ∷ 0 ∷ 0 ∷ 1 ∷ 0 ∷ 89 ∷ []) (0 ∷ 0 ∷ 0 ∷ 0 ∷ 2 ∷ 0 ∷ 0 ∷ 0 ∷ 89 ∷ []) (5 ∷ 0x2a ∷ 35 ∷ 0x12 ∷ 0x34 ∷ 0 ∷ [])))
 
--- the data of property 5 begins at 93 and that of 3 at 95, of 4 at 0; after 0 comes 5, after 5 comes 3; the data at 95
--- has two bytes
+-- the data of property 5 begins at 93 and that of 3 at 95, of 4 at 0; after 0 comes 5, after 5 comes 3; the data at
+-- 95 has two bytes (section 15, `get_prop_addr`, `get_next_prop`, `get_prop_len`)
 abbrev pub PropertiesHavePlaces : Type 0
 PropertiesHavePlaces =
     (object_answer GetPropAddr three_objects (1 ∷ 5 ∷ []) ≡ Ok (gives 93))
@@ -532,7 +559,7 @@ PropertiesHavePlaces =
     × (object_answer GetPropLen three_objects (95 ∷ []) ≡ Ok (gives 2))
     × (object_answer GetPropLen three_objects (0 ∷ []) ≡ Ok (gives 0))
 
--- `print_obj` prints the name, the text at 90
+-- `print_obj` prints the name, the text at 90 (section 15, `print_obj`)
 abbrev pub PrintsNames : Type 0
 PrintsNames = printing PrintObj three_objects None (1 ∷ []) ≡ Ok (prints (output.Text 90))
 
@@ -543,6 +570,7 @@ abbrev pub with_text : MemoryMap
 with_text = memory_of 5 (0 ∷ 0 ∷ 0 ∷ 0 ∷ 0 ∷ 0 ∷ 0 ∷ 0 ∷ 0x98 ∷ 0xe8 ∷ [])
 
 -- a new line is code 13; `print_char` prints a code, `print_num` a signed number, `print_unicode` a character
+-- (section 15, `new_line`, `print_char`, `print_num`, `print_unicode`)
 abbrev pub PrintsWhat : Type 0
 PrintsWhat =
     (printing NewLine with_text None [] ≡ Ok (prints (output.Code 13)))
@@ -550,19 +578,20 @@ PrintsWhat =
     × (printing PrintNum with_text None (65535 ∷ []) ≡ Ok (prints (output.Number 65535)))
     × (printing PrintUnicode with_text None (233 ∷ []) ≡ Ok (prints (output.Character 233)))
 
--- code 65 shows an A, and code 13 a new line; a Unicode character shows itself
+-- code 65 shows an A, and code 13 a new line; a Unicode character shows itself (section 3.8)
 abbrev pub ShowsCodes : Type 0
 ShowsCodes =
     (characters_of with_text (output.Code 65) ≡ 65 ∷ [])
     × (characters_of with_text (output.Code 13) ≡ 10 ∷ [])
     × (characters_of with_text (output.Character 233) ≡ 233 ∷ [])
 
--- a number shows with its sign: 65535 is -1, and 32767 itself
+-- a number shows with its sign: 65535 is -1, and 32767 itself (section 15, `print_num`)
 abbrev pub ShowsSignedNumbers : Type 0
 ShowsSignedNumbers =
     (characters_of with_text (output.Number 65535) ≡ codes "-1") × (characters_of with_text (output.Number 32767) ≡ codes "32767")
 
 -- `print_addr` takes a byte address, `print_paddr` a packed one: in version 5 the text at 8 has packed address 2
+-- (section 15, `print`, `print_addr`, `print_paddr`)
 abbrev pub PrintsTexts : Type 0
 PrintsTexts =
     (printing PrintAddr with_text None (8 ∷ []) ≡ Ok (prints (output.Text 8)))
@@ -570,7 +599,7 @@ PrintsTexts =
     × (printing Print with_text (Some 8) [] ≡ Ok (prints (output.Text 8)))
     × (characters_of with_text (output.Text 8) ≡ codes "abc")
 
--- `print_ret` prints its text and a new line, and returns 1
+-- `print_ret` prints its text and a new line, and returns 1 (section 15, `print_ret`)
 abbrev pub PrintsAndReturns : Type 0
 PrintsAndReturns =
     (printing PrintRet with_text (Some 8) [] ≡ Ok (record { output = output.Line 8; ending = ending.Return 1 }))
@@ -578,7 +607,8 @@ PrintsAndReturns =
 
 -- ---- what does nothing (sections 7, 8 and 15)
 
--- fonts 0 and 1 are there and 4 is not, the game is genuine, and colours change nothing
+-- fonts 0 and 1 are there and 4 is not, the game is genuine, and colours, styles, buffering and sounds do nothing (section 15, `set_font`,
+-- `piracy`)
 abbrev pub FontsAndColours : Type 0
 FontsAndColours =
     (idle SetFont with_text (1 ∷ []) ≡ gives 1)
@@ -586,9 +616,14 @@ FontsAndColours =
     × (idle SetFont with_text (4 ∷ []) ≡ gives 0)
     × (idle Piracy with_text [] ≡ tests true)
     × (idle SetColour with_text (3 ∷ 4 ∷ []) ≡ goes_on)
+    × (idle SetTrueColour with_text (3 ∷ 4 ∷ []) ≡ goes_on)
+    × (idle SetTextStyle with_text (2 ∷ []) ≡ goes_on)
+    × (idle BufferMode with_text (0 ∷ []) ≡ goes_on)
+    × (idle SoundEffect with_text (1 ∷ []) ≡ goes_on)
     × (idle Nop with_text [] ≡ goes_on)
 
 -- `a` and the small e with an acute accent can be printed and read, a Cyrillic letter printed alone, a control not
+-- (section 15, `check_unicode`)
 abbrev pub UnicodeAnswers : Type 0
 UnicodeAnswers =
     (idle CheckUnicode with_text (97 ∷ []) ≡ gives 3)
@@ -603,13 +638,14 @@ UnicodeAnswers =
 abbrev pub silent : Texts
 silent = record { screen = []; script = [] }
 
--- `sub` of local variable 1 and 3, stored in local variable 2: the next instruction follows
+-- `sub` of local variable 1 and 3, stored in local variable 2: the next instruction follows (sections 4.6 and 15,
+-- `sub`)
 abbrev pub CarriesOutASubtraction : Type 0
 CarriesOutASubtraction =
     carried_out (in_routine (5 ∷ 0 ∷ []) []) (instruction (opcode.Arithmetic Sub) (Variable 1 ∷ Small 3 ∷ []) (Some 2) None)
     ≡ Ok (in_routine (5 ∷ 2 ∷ []) [], (At 9, silent))
 
--- `jl` of -1 and 1 that branches on true to address 5, and one that branches on false
+-- `jl` of -1 and 1 that branches on true to address 5, and one that branches on false (sections 4.7 and 15, `jl`)
 abbrev pub CarriesOutABranch : Type 0
 CarriesOutABranch =
     (carried_out (in_routine [] []) (instruction (opcode.Comparison Jl) (Large 65535 ∷ Small 1 ∷ []) None (Some (record { on = true; target = target.At 5 })))
@@ -617,7 +653,7 @@ CarriesOutABranch =
     × (carried_out (in_routine [] []) (instruction (opcode.Comparison Jl) (Large 65535 ∷ Small 1 ∷ []) None (Some (record { on = false; target = target.At 5 })))
     ≡ Ok (in_routine [] [], (At 9, silent)))
 
--- `print_char` of 65 shows an A on the screen
+-- `print_char` of 65 shows an A on the screen (section 15, `print_char`)
 abbrev pub CarriesOutPrinting : Type 0
 CarriesOutPrinting =
     carried_out (in_routine [] []) (instruction (opcode.Printing PrintChar) (Small 65 ∷ []) None None)
@@ -636,6 +672,7 @@ abbrev pub waiting : ℕ → ℕ → Workspace
 waiting frames words = working (memory_of 5 []) (routine_with [] [] None) (replicate frames (routine_with [] (replicate words 0) None))
 
 -- the current routine and four others are 5 frames: five others are too many, and 21 words are; frames go first
+-- (section 6.3)
 abbrev pub BoundsAreLookedFor : Type 0
 BoundsAreLookedFor =
     (limited (Ok (waiting 4 5)) ≡ Ok (waiting 4 5))
@@ -643,7 +680,7 @@ BoundsAreLookedFor =
     × (limited (Ok (waiting 3 7)) ≡ Err (Limit Words))
     × (limited (Ok (waiting 5 7)) ≡ Err (Limit Frames))
 
--- where the story has ended no bound is looked for
+-- where the story has ended no bound is looked for (section 6.3)
 abbrev pub NoBoundAtTheEnd : Type 0
 NoBoundAtTheEnd =
     (limited_next (Ok (waiting 5 1, At 9)) ≡ Err (Limit Frames)) × (limited_next (Ok (waiting 5 1, End)) ≡ Ok (waiting 5 1, End))

@@ -1,6 +1,6 @@
 // Worked examples of the definitions, which refuse one that is turned together with its body.
 
-ghost use Rattle.zk_step.specs.Examples.{AddsModulo, SubtractsTheSecond, MultipliesModulo, DividesTowardZero, RemainderHasTheSignOfTheDividend, LeastByMinusOneStays, DivisionByZeroIsFault, LogicIsBitByBit, ShiftsLeft, ShiftsRight, EqualsAnother, LessIsSigned, GreaterIsSigned, ZeroIsZeroAlone, TestsAllBits, WordsAreLoaded, BytesAreLoaded, AddressesWrap, WordsAreStored, LowBytesAreStored, LocalsCountFromOne, GlobalsCountFromSixteen, StackIsPulledAndPushed, StackIsNamedInPlace, OperandsAreTakenInOrder, Stores, Loads, CountsUpAndDown, ChecksTheIncreased, ChecksTheDecreased, PullsBeforeItsVariable, PopsAndPushes, RoutinesBeginByVersion, BadRoutines, ArgumentsComeFirst, CallsARoutine, DroppedArgumentsCount, ReturnsToTheCaller, ResultsArePushedOrDropped, NoReturnFromMain, ThrowsToAFrame, CallsTakeArguments, CallOfNothingGivesZero, ReturnedValues, CatchesAndThrows, ChecksArguments, FindsRelatives, AttributesOfObjects, ObjectsMove, PropertiesOfObjects, PropertiesHavePlaces, PrintsNames, BranchesBySense, BranchesThatReturn, StoresBeforeItGoes, JumpsBySignedOffset, Quits, PassesTheOperandsBehind, PrintsWhat, ShowsCodes, ShowsSignedNumbers, PrintsTexts, PrintsAndReturns, FontsAndColours, UnicodeAnswers, CarriesOutASubtraction, CarriesOutABranch, CarriesOutPrinting, UnplayedIsFault, BoundsAreLookedFor, NoBoundAtTheEnd};
+ghost use Rattle.zk_step.specs.Examples.{AddsModulo, SubtractsTheSecond, MultipliesModulo, DividesTowardZero, RemainderHasTheSignOfTheDividend, LeastByMinusOneStays, DivisionByZeroIsFault, LogicIsBitByBit, ShiftsLeft, ShiftsRight, SubUndoesAdd, ShiftsHalveAndDouble, EqualsAnother, LessIsSigned, GreaterIsSigned, GreaterIsLessExchanged, ZeroIsZeroAlone, TestsAllBits, WordsAreLoaded, BytesAreLoaded, AddressesWrap, WordsAreStored, LowBytesAreStored, LocalsCountFromOne, GlobalsCountFromSixteen, StackIsPulledAndPushed, StackIsNamedInPlace, OperandsAreTakenInOrder, Stores, Loads, CountsUpAndDown, ChecksTheIncreased, ChecksTheDecreased, PullsBeforeItsVariable, PopsAndPushes, RoutinesBeginByVersion, BadRoutines, ArgumentsComeFirst, CallsARoutine, DroppedArgumentsCount, ReturnsToTheCaller, ResultsArePushedOrDropped, NoReturnFromMain, ThrowsToAFrame, CallsTakeArguments, CallOfNothingGivesZero, ReturnedValues, CatchesAndThrows, ChecksArguments, FindsRelatives, AttributesOfObjects, ObjectsMove, PropertiesOfObjects, PropertiesHavePlaces, PrintsNames, BranchesBySense, BranchesThatReturn, StoresBeforeItGoes, JumpsBySignedOffset, Quits, PassesTheOperandsBehind, PrintsWhat, ShowsCodes, ShowsSignedNumbers, PrintsTexts, PrintsAndReturns, FontsAndColours, UnicodeAnswers, CarriesOutASubtraction, CarriesOutABranch, CarriesOutPrinting, UnplayedIsFault, BoundsAreLookedFor, NoBoundAtTheEnd};
 
 /// Arithmetic and logic on words (Standard, sections 2.3 and 15).
 #[tactic(auto, unfolding(crate::specs::Arithmetic::arithmetic, crate::specs::Arithmetic::shifted_left, crate::specs::Arithmetic::shifted_right, crate::specs::Arithmetic::sign_shifted))]
@@ -15,6 +15,8 @@ pub fn arithmetic_by_example()
     ensures logic_is_bit_by_bit { LogicIsBitByBit }
     ensures shifts_left { ShiftsLeft }
     ensures shifts_right { ShiftsRight }
+    ensures sub_undoes_add { SubUndoesAdd }
+    ensures shifts_halve_and_double { ShiftsHalveAndDouble }
 {}
 
 /// Tests of words (Standard, section 15).
@@ -23,6 +25,7 @@ pub fn comparison_by_example()
     ensures equals_another { EqualsAnother }
     ensures less_is_signed { LessIsSigned }
     ensures greater_is_signed { GreaterIsSigned }
+    ensures greater_is_less_exchanged { GreaterIsLessExchanged }
     ensures zero_is_zero_alone { ZeroIsZeroAlone }
     ensures tests_all_bits { TestsAllBits }
 {}

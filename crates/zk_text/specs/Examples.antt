@@ -25,7 +25,7 @@ memory_by file bytes = record { version = 5; static_base = 0; bytes = bytes; fil
 
 -- ---- alphabets (sections 3.2 and 3.5)
 
--- the first and last letters of A0 and A1; of A2 the new line, the digits and the signs behind them
+-- the first and last letters of A0 and A1; of A2 the new line, the digits and the signs behind them (section 3.5.3)
 abbrev pub StandardLetters : Type 0
 StandardLetters =
     (map (letter_of (memory_of 3 []) A0) (6 ∷ 7 ∷ 31 ∷ []) ≡ codes "abz")
@@ -53,11 +53,11 @@ OwnLetters =
 
 -- ---- Z-characters and pieces (sections 3.2 to 3.4)
 
--- three to a word, from the high bits on; the top bit is none of them
+-- three to a word, from the high bits on; the top bit is none of them (section 3.2)
 abbrev pub ThreeToAWord : Type 0
 ThreeToAWord = z_characters (0x64d0 ∷ 0xa8a5 ∷ []) ≡ 25 ∷ 6 ∷ 16 ∷ 10 ∷ 5 ∷ 5 ∷ []
 
--- 4 and 5 shift the next letter alone, to A1 and to A2; of two shifts the later one counts
+-- 4 and 5 shift the next letter alone, to A1 and to A2; of two shifts the later one counts (section 3.2.3)
 abbrev pub ShiftsLastOneLetter : Type 0
 ShiftsLastOneLetter =
     (pieces (4 ∷ 6 ∷ 6 ∷ []) ≡ Letter A1 6 ∷ Letter A0 6 ∷ [])
@@ -66,14 +66,14 @@ ShiftsLastOneLetter =
     × (pieces (0 ∷ 31 ∷ []) ≡ Code 32 ∷ Letter A0 31 ∷ [])
 
 -- 5 and 6 begin a code of ten bits, high half first: 2 and 1 are 65, 31 and 31 are 1023; one that is cut off shows
--- nothing
+-- nothing (section 3.4)
 abbrev pub CodesOfTenBits : Type 0
 CodesOfTenBits =
     (pieces (5 ∷ 6 ∷ 2 ∷ 1 ∷ 6 ∷ []) ≡ Code 65 ∷ Letter A0 6 ∷ [])
     × (pieces (5 ∷ 6 ∷ 31 ∷ 31 ∷ []) ≡ Code 1023 ∷ [])
     × (pieces (5 ∷ 6 ∷ 2 ∷ []) ≡ [])
 
--- 1, 2 and 3 with the next Z-character x name abbreviation 32 (z - 1) + x
+-- 1, 2 and 3 with the next Z-character x name abbreviation 32 (z - 1) + x (section 3.3)
 abbrev pub AbbreviationsByThirtyTwo : Type 0
 AbbreviationsByThirtyTwo =
     (pieces (1 ∷ 0 ∷ []) ≡ Abbreviation 0 ∷ [])
@@ -88,7 +88,7 @@ AbbreviationsByThirtyTwo =
 abbrev pub units : List ℕ → List Unit
 units cs = map (λ (c : ℕ). unit.Code c) cs
 
--- 64 D0 A8 A5 is "take", and ends at 4; a text without a marked word has no end
+-- 64 D0 A8 A5 is "take", and ends at 4; a text without a marked word has no end (section 3.2)
 abbrev pub TextsMean : Type 0
 TextsMean =
     (text_units (memory_of 3 (0x64 ∷ 0xd0 ∷ 0xa8 ∷ 0xa5 ∷ [])) 0 ≡ Ok (units (codes "take")))
@@ -101,8 +101,8 @@ abbrev pub abbreviating : ℕ → ℕ → MemoryMap
 abbreviating high low =
     memory_by (replicate 24 0 ++ 0 ∷ 10 ∷ []) (0x88 ∷ 0x26 ∷ 0 ∷ 0 ∷ high ∷ low ∷ [] ++ replicate 70 0 ++ 0 ∷ 2 ∷ [])
 
--- an abbreviation is found by a table of words, which are word addresses (sections 3.3 and 1.2.2); inside it another
--- is a fault, a choice of zkit
+-- an abbreviation is found by a table of words, which are word addresses; inside it another is a fault, a choice of
+-- zkit (sections 3.3 and 1.2.2)
 abbrev pub AbbreviationsExpand : Type 0
 AbbreviationsExpand =
     (text_units (abbreviating 0x98 0xe8) 0 ≡ Ok (units (codes "abca")))
@@ -111,20 +111,21 @@ AbbreviationsExpand =
 
 -- ---- characters (section 3.8)
 
--- 32 to 126 are ASCII, and the extra characters go from 155 to 223
+-- 32 to 126 are ASCII, and the extra characters go from 155 to 223 (sections 3.8.3 and 3.8.5.3)
 abbrev pub CharactersOfCodes : Type 0
 CharactersOfCodes =
     (map (character None) (31 ∷ 32 ∷ 126 ∷ 127 ∷ 154 ∷ []) ≡ None ∷ Some 32 ∷ Some 126 ∷ None ∷ None ∷ [])
     × (map (character None) (155 ∷ 156 ∷ 161 ∷ 170 ∷ 201 ∷ 220 ∷ 223 ∷ []) ≡ map Some (codes "äößéåœ¿"))
     × (map (character None) (224 ∷ 251 ∷ 1023 ∷ []) ≡ None ∷ None ∷ None ∷ [])
 
--- and back
+-- and back (section 3.8.5.3)
 abbrev pub CodesOfCharacters : Type 0
 CodesOfCharacters =
     map (code_of None) (65 ∷ 0xe4 ∷ 0xe9 ∷ 0xbf ∷ 0x0416 ∷ [])
     ≡ Some 65 ∷ Some 155 ∷ Some 170 ∷ Some 223 ∷ None ∷ []
 
--- capitals become small letters: A, Z, A with two dots and OE; others stay; under an own table A to Z alone
+-- capitals become small letters: A, Z, A with two dots and OE; others stay; under an own table A to Z alone (section
+-- 3.8.5.3)
 abbrev pub LowerCase : Type 0
 LowerCase =
     (map (lower_code None) (65 ∷ 90 ∷ 158 ∷ 221 ∷ []) ≡ 97 ∷ 122 ∷ 155 ∷ 220 ∷ [])
@@ -150,6 +151,7 @@ OwnCharacters =
     × (map (code_of (Some (0x0416 ∷ 0x0417 ∷ []))) (0x0417 ∷ 0xe4 ∷ []) ≡ Some 156 ∷ None ∷ [])
 
 -- 0 shows nothing, 9 a space, 11 two, 13 a new line, 170 an e with an accent; what can't be shown is a question mark
+-- (section 3.8.2)
 abbrev pub UnitsShow : Type 0
 UnitsShow =
     (map (λ (c : ℕ). shown None (unit.Code c)) (0 ∷ 9 ∷ 11 ∷ 13 ∷ 97 ∷ 170 ∷ 1 ∷ 300 ∷ [])
@@ -160,18 +162,20 @@ UnitsShow =
 -- ---- keys (sections 3.7, 13.3 and 13.4)
 
 -- four bytes of six Z-characters up to version 3: "take" is 64 D0 A8 A5, and of "lantern" the last letter is cut off
+-- (sections 3.7 and 13.3)
 abbrev pub EarlyKeys : Type 0
 EarlyKeys =
     (key_of (memory_of 3 []) (codes "take") ≡ 0x64 ∷ 0xd0 ∷ 0xa8 ∷ 0xa5 ∷ [])
     × (key_of (memory_of 3 []) (codes "lantern") ≡ 0x44 ∷ 0xd3 ∷ 0xe5 ∷ 0x57 ∷ [])
 
--- six bytes of nine from version 4 on: "i" is 38 A5 14 A5 94 A5
+-- six bytes of nine from version 4 on: "i" is 38 A5 14 A5 94 A5 (sections 3.7 and 13.4)
 abbrev pub LateKeys : Type 0
 LateKeys =
     (key_of (memory_of 5 []) (codes "i") ≡ 0x38 ∷ 0xa5 ∷ 0x14 ∷ 0xa5 ∷ 0x94 ∷ 0xa5 ∷ [])
     × (key_of (memory_of 4 []) (codes "lantern") ≡ 0x44 ∷ 0xd3 ∷ 0x65 ∷ 0x57 ∷ 0xcc ∷ 0xa5 ∷ [])
 
--- a sign is 5 and its place in A2, another code 5, 6 and two halves, and a space 0: "x1", "@" and "a b"
+-- a sign is 5 and its place in A2, another code 5, 6 and two halves, and a space 0: "x1", "@" and "a b" (sections 3.4
+-- and 3.7)
 abbrev pub KeysOfSigns : Type 0
 KeysOfSigns =
     (key_of (memory_of 5 []) (codes "x1") ≡ 0x74 ∷ 0xa9 ∷ 0x14 ∷ 0xa5 ∷ 0x94 ∷ 0xa5 ∷ [])

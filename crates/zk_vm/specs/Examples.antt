@@ -26,7 +26,7 @@ stops stop screen = record { stop = stop; text = record { screen = screen; scrip
 abbrev pub prints_and_quits : List ℕ
 prints_and_quits = story_of (0xb2 ∷ 0x98 ∷ 0xe8 ∷ 0xba ∷ [])
 
--- it shows "abc" and ends by itself
+-- it shows "abc" and ends by itself (sections 5.5 and 15, `quit`)
 abbrev pub StoriesEnd : Type 0
 StoriesEnd = outcome_of (begun prints_and_quits (limits_of 1 0 10)) ≡ stops Quit (codes "abc")
 
@@ -36,26 +36,26 @@ StepsAreLimited =
     (outcome_of (begun prints_and_quits (limits_of 1 0 2)) ≡ stops Quit (codes "abc"))
     × (outcome_of (begun prints_and_quits (limits_of 1 0 1)) ≡ stops (Limit 67 Steps) (codes "abc"))
 
--- after "abc", at 67, `div` of 5 by 0: a fault there, and what was shown stays
+-- after "abc", at 67, `div` of 5 by 0: a fault there, and what was shown stays (section 2.3.1)
 abbrev pub FaultsStop : Type 0
 FaultsStop =
     (outcome_of (begun (story_of (0xb2 ∷ 0x98 ∷ 0xe8 ∷ 0x17 ∷ 5 ∷ 0 ∷ 0 ∷ [])) (limits_of 1 9 10)) ≡ stops (Fault 67 DivisionByZero) (codes "abc"))
     × (outcome_of (begun (story_of (0xb2 ∷ 0x98 ∷ 0xe8 ∷ [])) (limits_of 1 9 10)) ≡ stops (Fault 67 CodePastEnd) (codes "abc"))
 
--- `push` at 64 and at 67, where one word may be
+-- `push` at 64 and at 67, where one word may be (section 6.3)
 abbrev pub WordsAreLimited : Type 0
 WordsAreLimited =
     (outcome_of (begun (story_of (0xe8 ∷ 0x7f ∷ 9 ∷ 0xe8 ∷ 0x7f ∷ 9 ∷ 0xba ∷ [])) (limits_of 1 1 10)) ≡ stops (Limit 67 Words) [])
     × (outcome_of (begun (story_of (0xe8 ∷ 0x7f ∷ 9 ∷ 0xe8 ∷ 0x7f ∷ 9 ∷ 0xba ∷ [])) (limits_of 1 2 10)) ≡ stops Quit [])
 
--- `call_1n` at 64 of the routine at 68, packed address 17, which calls itself at 69: with two frames the first call is
--- made, and the second is past the limit
+-- `call_1n` at 64 of the routine at 68, packed address 17, which calls itself at 69: with two frames the first call
+-- is made, and the second is past the limit (section 6.4)
 abbrev pub FramesAreLimited : Type 0
 FramesAreLimited =
     (outcome_of (begun (story_of (0x8f ∷ 0 ∷ 17 ∷ 0xba ∷ 0 ∷ 0x8f ∷ 0 ∷ 17 ∷ [])) (limits_of 2 9 10)) ≡ stops (Limit 69 Frames) [])
     × (outcome_of (begun (story_of (0x8f ∷ 0 ∷ 17 ∷ 0xba ∷ 0 ∷ 0xb0 ∷ [])) (limits_of 2 9 10)) ≡ stops Quit [])
 
--- `jl` of 1 and 2 at 64 branches on true over the `quit` at 68 to the text at 69, and not on false
+-- `jl` of 1 and 2 at 64 branches on true over the `quit` at 68 to the text at 69, and not on false (section 4.7)
 abbrev pub BranchesLead : Type 0
 BranchesLead =
     (outcome_of (begun (story_of (0x02 ∷ 1 ∷ 2 ∷ 0xc3 ∷ 0xba ∷ 0xb2 ∷ 0x98 ∷ 0xe8 ∷ 0xba ∷ [])) (limits_of 1 0 10)) ≡ stops Quit (codes "abc"))
