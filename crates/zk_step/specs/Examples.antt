@@ -1,6 +1,6 @@
 -- Worked examples of this crate's definitions. Their values come from the Standard by hand, and no definition made
 -- them. A word from 32768 on is negative: 65535 is -1 (Standard, section 2.2).
-use Rattle.std.specs.Prelude.{◌≡◌, ℕ, List, [], ◌∷◌, ◌++◌, Option, Some, None, Ok, Err, true, false, codes, replicate, ◌+◌, ◌*◌, ◌/◌, ◌%◌, ◌<◌}
+use Rattle.std.specs.Prelude.{◌≡◌, ℕ, List, [], ◌∷◌, ◌++◌, Option, Some, None, Ok, Err, true, false, codes, replicate, ◌+◌, ◌*◌, ◌-◌, ◌/◌, ◌%◌, ◌<◌}
 use Rattle.zk_mem.specs.declared.fault.Fault.TheVariants.{DivisionByZero, StackEmpty, NoSuchLocal, BadTarget, ReturnFromMain, BadFrame, BadOpcode}
 use Rattle.zk_mem.specs.Map.{MemoryMap}
 use Rattle.zk_state.specs.declared.refusal.Limit.TheVariants.{Frames, Words}
@@ -153,6 +153,14 @@ SubUndoesAdd = (x y : ℕ) → x < 65536 → y < 65536 → arithmetic Sub ((x + 
 -- for all words: a place to the right halves, and one to the left doubles in 16 bits (section 15, `log_shift`)
 abbrev pub ShiftsHalveAndDouble : Type 0
 ShiftsHalveAndDouble = (x : ℕ) → (arithmetic LogShift (x ∷ 65535 ∷ []) ≡ Ok (gives (x / 2))) × (arithmetic LogShift (x ∷ 1 ∷ []) ≡ Ok (gives ((x * 2) % 65536)))
+
+-- of words below 32768 the quotient and the remainder are those of natural numbers (section 15, `div`, `mod`)
+abbrev pub DividesNaturals : Type 0
+DividesNaturals = (x y : ℕ) → x < 32768 → 0 < y → y < 32768 → (arithmetic Div (x ∷ y ∷ []) ≡ Ok (gives (x / y))) × (arithmetic Mod (x ∷ y ∷ []) ≡ Ok (gives (x % y)))
+
+-- for all words: what is not, twice, is the word (section 15, `not`)
+abbrev pub NotTwiceStays : Type 0
+NotTwiceStays = (x : ℕ) → x < 65536 → arithmetic Not ((65535 - x) ∷ []) ≡ Ok (gives x)
 
 -- ---- comparisons (sections 2.2 and 15)
 
