@@ -4,3 +4,4 @@ pub mod Targets
 pub mod Reading
 pub mod Grammar
 pub mod Laws
+pub mod Examples

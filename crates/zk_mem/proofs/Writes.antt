@@ -1,14 +1,12 @@
 -- What a write leaves as it was.
 use Rattle.std.specs.Prelude.{slice_set, if◌then◌else◌, slice_get}
-use Rattle.std.proofs.Common.{◌≡◌, ◌≢◌, ◌≤◌, ◌<◌, ◌⊎◌, inl, inr, ◌∙◌, ℕ, zero, suc, ◌+◌, ◌*◌, ◌/◌, ◌%◌, Bool, true, false, List, [], ◌∷◌, length, get_or, Some, Ok, Err, Result, nat_lt, min, arith, refl, sym, ap, subst}
+use Rattle.std.proofs.Common.{◌≡◌, ◌≢◌, ◌≤◌, ◌<◌, ◌⊎◌, inl, inr, ◌∙◌, ℕ, zero, suc, ◌+◌, ◌*◌, ◌/◌, ◌%◌, Bool, true, false, List, [], ◌∷◌, length, get_or, Ok, Err, nat_lt, min, arith, refl, ap, subst}
 use Rattle.std.proofs.lemmas.Bool.Decides.{nat_tests}
-use Rattle.std.proofs.lemmas.Grind.{common_steps}
 use Rattle.std.proofs.lemmas.List.{get_or-set_same, get_or-set_other}
 use Rattle.std.proofs.Math.ListN.{length-set}
 use Rattle.zk_mem.specs.declared.fault.Fault.TheVariants.{BadAddress, ReadOnly}
-use Rattle.zk_mem.specs.Header.{word_in}
 use Rattle.zk_mem.specs.Map.{MemoryMap, readable_end, byte_at, word_at, byte_put, word_put, cell_at, with_byte}
-use Rattle.zk_mem.specs.Laws.{IsSameBut, WritesByte, WritesWord, ByteIsWritten, WordIsWritten}
+use Rattle.zk_mem.specs.Laws.{WritesByte, WritesWord, ByteIsWritten, WordIsWritten}
 
 -- items beside the one that is set
 other_item : (xs : List ℕ) (i j v : ℕ) → j ≢ i → slice_get (slice_set xs i v) j ≡ slice_get xs j

@@ -6,3 +6,4 @@ pub mod Map
 pub mod Words
 pub mod Fresh
 pub mod Laws
+pub mod Examples

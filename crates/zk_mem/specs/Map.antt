@@ -1,5 +1,5 @@
 -- The memory map of a story (Standard, section 1.1), and how its data is read and written.
-use Rattle.std.specs.Prelude.{◌≡◌, ℕ, ◌+◌, ◌*◌, ◌/◌, ◌%◌, ◌<◌, ◌≤◌, List, length, drop, slice_index, slice_get, slice_set, Option, Some, None, Result, Ok, Err, nat_lt, min, if◌then◌else◌}
+use Rattle.std.specs.Prelude.{◌≡◌, ℕ, ◌+◌, ◌/◌, ◌%◌, ◌<◌, ◌≤◌, List, length, drop, slice_index, slice_get, slice_set, Option, Some, None, Result, Ok, Err, nat_lt, min, if◌then◌else◌}
 use Rattle.zk_mem.specs.declared.fault.Fault.{Fault}
 use Rattle.zk_mem.specs.declared.fault.Fault.TheVariants.{BadAddress, ReadOnly}
 use Rattle.zk_mem.specs.declared.header.Header.{Header}

@@ -1,6 +1,7 @@
 // The frames of the routines that have called one another, within bounds.
 #![tactic(auto)]
 
+pub mod examples;
 pub mod frames;
 pub mod refusal;
 #[cfg(test)]

@@ -5,6 +5,7 @@ pub mod Comparison
 pub mod Control
 pub mod Effects
 pub mod Endings
+pub mod Examples
 pub mod Finish
 pub mod Idle
 pub mod Instructions

@@ -9,6 +9,7 @@ mod comparison;
 mod control;
 mod effects;
 pub mod ending;
+pub mod examples;
 mod finish;
 mod idle;
 pub mod instruction;

@@ -9,3 +9,4 @@ pub mod Properties
 pub mod Dictionaries
 pub mod Tokens
 pub mod Parsing
+pub mod Examples

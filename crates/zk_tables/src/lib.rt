@@ -4,6 +4,7 @@
 pub mod attributes;
 mod chain;
 pub mod dictionary;
+pub mod examples;
 pub mod laws;
 mod layout;
 mod links;

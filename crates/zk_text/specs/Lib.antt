@@ -12,3 +12,4 @@ pub mod Buffers
 pub mod Laws
 pub mod TableLaws
 pub mod KeyLaws
+pub mod Examples

@@ -4,3 +4,4 @@ pub mod Laws
 pub mod Outcome
 pub mod Printed
 pub mod Step
+pub mod Examples

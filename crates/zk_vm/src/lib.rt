@@ -2,6 +2,7 @@
 #![tactic(auto)]
 
 mod console;
+pub mod examples;
 pub mod laws;
 pub mod limits;
 pub mod machine;

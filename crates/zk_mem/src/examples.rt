@@ -1,0 +1,54 @@
+// Worked examples of the definitions, which refuse one that is turned together with its body.
+
+ghost use Rattle.zk_mem.specs.Examples.{FieldsStand, LateFields, PackedByVersion, DataIsRead, CodeIsRead, BytesArePut, WordsArePut, DataEndsAt65536, DataEndsWithTheStory, TextsEndAtTheMark, TextsHaveAnEnd, GreatestLengths, StoriesAreOpened, ReasonsInOrder, RefusalsHaveNumbers, FaultsHaveNumbers, FieldsOfVersion3, FieldsOfVersion3SetABit, FieldsOfVersion4, FieldsOfVersion5, FieldsOfVersion8, MemoryStartsSo};
+
+/// The header, and packed addresses (Standard, sections 1.2.3 and 11.1).
+#[tactic(auto, unfolding(crate::specs::Header::header_of, crate::specs::Header::unit_length))]
+pub fn header_by_example()
+    ensures fields_stand { FieldsStand }
+    ensures late_fields { LateFields }
+    ensures packed_by_version { PackedByVersion }
+{}
+
+/// Data is read and written (Standard, sections 1.1 and 2.1).
+#[tactic(auto, unfolding(crate::specs::Map::byte_at, crate::specs::Map::word_at, crate::specs::Map::byte_put, crate::specs::Map::word_put, crate::specs::Map::cell_at, crate::specs::Map::code_word_at))]
+pub fn data_by_example()
+    ensures data_is_read { DataIsRead }
+    ensures code_is_read { CodeIsRead }
+    ensures bytes_are_put { BytesArePut }
+    ensures words_are_put { WordsArePut }
+    ensures data_ends_at65536 { DataEndsAt65536 }
+    ensures data_ends_with_the_story { DataEndsWithTheStory }
+{}
+
+/// The words of a text and its end (Standard, section 3.2).
+#[tactic(auto, unfolding(crate::specs::Words::words_in, crate::specs::Words::words_at, crate::specs::Words::text_end_at))]
+pub fn texts_by_example()
+    ensures texts_end_at_the_mark { TextsEndAtTheMark }
+    ensures texts_have_an_end { TextsHaveAnEnd }
+{}
+
+/// Which files are stories (Standard, section 1.1.4).
+#[tactic(auto, unfolding(crate::specs::Story::refusal))]
+pub fn opening_by_example()
+    ensures greatest_lengths { GreatestLengths }
+    ensures stories_are_opened { StoriesAreOpened }
+    ensures reasons_in_order { ReasonsInOrder }
+{}
+
+/// The numbers that reports name refusals and faults by.
+pub fn numbers_by_example()
+    ensures refusals_have_numbers { RefusalsHaveNumbers }
+    ensures faults_have_numbers { FaultsHaveNumbers }
+{}
+
+/// The header's fields that are set at the start (Standard, section 11.1).
+#[tactic(auto, unfolding(crate::specs::Fresh::with_fields, crate::specs::Fresh::fresh, crate::specs::Header::header_of, crate::specs::Header::unit_length))]
+pub fn fresh_by_example()
+    ensures fields_of_version3 { FieldsOfVersion3 }
+    ensures fields_of_version3_set_a_bit { FieldsOfVersion3SetABit }
+    ensures fields_of_version4 { FieldsOfVersion4 }
+    ensures fields_of_version5 { FieldsOfVersion5 }
+    ensures fields_of_version8 { FieldsOfVersion8 }
+    ensures memory_starts_so { MemoryStartsSo }
+{}

@@ -1,0 +1,139 @@
+// Worked examples of the definitions, which refuse one that is turned together with its body.
+
+ghost use Rattle.zk_step.specs.Examples.{AddsModulo, SubtractsTheSecond, MultipliesModulo, DividesTowardZero, RemainderHasTheSignOfTheDividend, LeastByMinusOneStays, DivisionByZeroIsFault, LogicIsBitByBit, ShiftsLeft, ShiftsRight, SubUndoesAdd, ShiftsHalveAndDouble, DividesNaturals, NotTwiceStays, EqualsAnother, LessIsSigned, GreaterIsSigned, GreaterIsLessExchanged, ZeroIsZeroAlone, TestsAllBits, WordsAreLoaded, BytesAreLoaded, AddressesWrap, WordsAreStored, LowBytesAreStored, LocalsCountFromOne, GlobalsCountFromSixteen, StackIsPulledAndPushed, StackIsNamedInPlace, OperandsAreTakenInOrder, Stores, Loads, CountsUpAndDown, ChecksTheIncreased, ChecksTheDecreased, PullsBeforeItsVariable, PopsAndPushes, RoutinesBeginByVersion, BadRoutines, ArgumentsComeFirst, CallsARoutine, DroppedArgumentsCount, ReturnsToTheCaller, ResultsArePushedOrDropped, NoReturnFromMain, ThrowsToAFrame, CallsTakeArguments, CallOfNothingGivesZero, ReturnedValues, CatchesAndThrows, ChecksArguments, FindsRelatives, AttributesOfObjects, ObjectsMove, PropertiesOfObjects, PropertiesHavePlaces, PrintsNames, BranchesBySense, BranchesThatReturn, StoresBeforeItGoes, JumpsBySignedOffset, Quits, PassesTheOperandsBehind, PrintsWhat, ShowsCodes, ShowsSignedNumbers, PrintsTexts, PrintsAndReturns, FontsAndColours, UnicodeAnswers, CarriesOutASubtraction, CarriesOutABranch, CarriesOutPrinting, UnplayedIsFault, BoundsAreLookedFor, NoBoundAtTheEnd};
+
+/// Arithmetic and logic on words (Standard, sections 2.3 and 15).
+#[tactic(auto, unfolding(crate::specs::Arithmetic::arithmetic, crate::specs::Arithmetic::shifted_left, crate::specs::Arithmetic::shifted_right, crate::specs::Arithmetic::sign_shifted))]
+pub fn arithmetic_by_example()
+    ensures adds_modulo { AddsModulo }
+    ensures subtracts_the_second { SubtractsTheSecond }
+    ensures multiplies_modulo { MultipliesModulo }
+    ensures divides_toward_zero { DividesTowardZero }
+    ensures remainder_has_the_sign_of_the_dividend { RemainderHasTheSignOfTheDividend }
+    ensures least_by_minus_one_stays { LeastByMinusOneStays }
+    ensures division_by_zero_is_fault { DivisionByZeroIsFault }
+    ensures logic_is_bit_by_bit { LogicIsBitByBit }
+    ensures shifts_left { ShiftsLeft }
+    ensures shifts_right { ShiftsRight }
+    ensures sub_undoes_add { SubUndoesAdd }
+    ensures shifts_halve_and_double { ShiftsHalveAndDouble }
+    ensures divides_naturals { DividesNaturals }
+    ensures not_twice_stays { NotTwiceStays }
+{}
+
+/// Tests of words (Standard, section 15).
+#[tactic(auto, unfolding(crate::specs::Comparison::comparison, crate::specs::Comparison::equals_another))]
+pub fn comparison_by_example()
+    ensures equals_another { EqualsAnother }
+    ensures less_is_signed { LessIsSigned }
+    ensures greater_is_signed { GreaterIsSigned }
+    ensures greater_is_less_exchanged { GreaterIsLessExchanged }
+    ensures zero_is_zero_alone { ZeroIsZeroAlone }
+    ensures tests_all_bits { TestsAllBits }
+{}
+
+/// Arrays in memory (Standard, section 15).
+#[tactic(auto, unfolding(crate::specs::Arrays::array_effect, zk_mem::specs::Map::byte_at, zk_mem::specs::Map::word_at, zk_mem::specs::Map::byte_put, zk_mem::specs::Map::word_put))]
+pub fn arrays_by_example()
+    ensures words_are_loaded { WordsAreLoaded }
+    ensures bytes_are_loaded { BytesAreLoaded }
+    ensures addresses_wrap { AddressesWrap }
+    ensures words_are_stored { WordsAreStored }
+    ensures low_bytes_are_stored { LowBytesAreStored }
+{}
+
+/// Local and global variables, and the stack (Standard, sections 4.2 and 6).
+#[tactic(auto, unfolding(crate::specs::Variables::named_read, crate::specs::Variables::named_written, crate::specs::Variables::variable_read, crate::specs::Variables::variable_written, crate::specs::Variables::indirect_read, crate::specs::Variables::indirect_written, crate::specs::Variables::operand_read, crate::specs::Variables::operands_read, crate::specs::Assignment::moved, crate::specs::Assignment::assignment, zk_mem::specs::Header::header_of, zk_mem::specs::Map::byte_at, zk_mem::specs::Map::word_at, zk_mem::specs::Map::byte_put, zk_mem::specs::Map::word_put, zk_state::specs::Frames::popped, zk_state::specs::Frames::top_of, zk_state::specs::Frames::with_top, zk_state::specs::Frames::local_of, zk_state::specs::Frames::with_local))]
+pub fn variables_by_example()
+    ensures locals_count_from_one { LocalsCountFromOne }
+    ensures globals_count_from_sixteen { GlobalsCountFromSixteen }
+    ensures stack_is_pulled_and_pushed { StackIsPulledAndPushed }
+    ensures stack_is_named_in_place { StackIsNamedInPlace }
+    ensures operands_are_taken_in_order { OperandsAreTakenInOrder }
+{}
+
+/// What is done to variables (Standard, sections 6.3 and 15).
+#[tactic(auto, unfolding(crate::specs::Variables::named_read, crate::specs::Variables::named_written, crate::specs::Variables::variable_read, crate::specs::Variables::variable_written, crate::specs::Variables::indirect_read, crate::specs::Variables::indirect_written, crate::specs::Variables::operand_read, crate::specs::Variables::operands_read, crate::specs::Assignment::moved, crate::specs::Assignment::assignment, zk_mem::specs::Header::header_of, zk_mem::specs::Map::byte_at, zk_mem::specs::Map::word_at, zk_mem::specs::Map::byte_put, zk_mem::specs::Map::word_put, zk_state::specs::Frames::popped, zk_state::specs::Frames::top_of, zk_state::specs::Frames::with_top, zk_state::specs::Frames::local_of, zk_state::specs::Frames::with_local))]
+pub fn assignment_by_example()
+    ensures stores { Stores }
+    ensures loads { Loads }
+    ensures counts_up_and_down { CountsUpAndDown }
+    ensures checks_the_increased { ChecksTheIncreased }
+    ensures checks_the_decreased { ChecksTheDecreased }
+    ensures pulls_before_its_variable { PullsBeforeItsVariable }
+    ensures pops_and_pushes { PopsAndPushes }
+{}
+
+/// Calls and returns, catch and throw (Standard, sections 5, 6.4 and 15).
+#[tactic(auto, unfolding(crate::specs::Routines::initial_values, crate::specs::Routines::count_at, crate::specs::Routines::routine_at, crate::specs::Routines::with_arguments, crate::specs::Routines::called, crate::specs::Routines::stored, crate::specs::Routines::returned, crate::specs::Routines::thrown, crate::specs::Routines::call_effect, crate::specs::Routines::routine_effect, zk_mem::specs::Header::unit_length, zk_mem::specs::Map::cell_at, zk_mem::specs::Map::code_word_at, zk_state::specs::Frames::left, zk_state::specs::Frames::unwound, crate::specs::Variables::named_read, crate::specs::Variables::named_written, crate::specs::Variables::variable_read, crate::specs::Variables::variable_written, crate::specs::Variables::indirect_read, crate::specs::Variables::indirect_written, crate::specs::Variables::operand_read, crate::specs::Variables::operands_read, zk_mem::specs::Header::header_of, zk_mem::specs::Map::byte_at, zk_mem::specs::Map::word_at, zk_mem::specs::Map::byte_put, zk_mem::specs::Map::word_put, zk_state::specs::Frames::popped, zk_state::specs::Frames::top_of, zk_state::specs::Frames::with_top, zk_state::specs::Frames::local_of, zk_state::specs::Frames::with_local))]
+pub fn routines_by_example()
+    ensures routines_begin_by_version { RoutinesBeginByVersion }
+    ensures bad_routines { BadRoutines }
+    ensures arguments_come_first { ArgumentsComeFirst }
+    ensures calls_a_routine { CallsARoutine }
+    ensures dropped_arguments_count { DroppedArgumentsCount }
+    ensures returns_to_the_caller { ReturnsToTheCaller }
+    ensures results_are_pushed_or_dropped { ResultsArePushedOrDropped }
+    ensures no_return_from_main { NoReturnFromMain }
+    ensures throws_to_a_frame { ThrowsToAFrame }
+    ensures calls_take_arguments { CallsTakeArguments }
+    ensures call_of_nothing_gives_zero { CallOfNothingGivesZero }
+    ensures returned_values { ReturnedValues }
+    ensures catches_and_throws { CatchesAndThrows }
+    ensures checks_arguments { ChecksArguments }
+{}
+
+/// The way on: branches, jumps, results (Standard, sections 4.6, 4.7 and 15).
+#[tactic(auto, unfolding(crate::specs::Finish::way_on, crate::specs::Finish::led, crate::specs::Finish::gone, crate::specs::Finish::gone_on, crate::specs::Finish::finished, crate::specs::Control::control, zk_code::specs::Targets::jump_target, zk_code::specs::Targets::offset_target, crate::specs::Routines::initial_values, crate::specs::Routines::count_at, crate::specs::Routines::routine_at, crate::specs::Routines::with_arguments, crate::specs::Routines::called, crate::specs::Routines::stored, crate::specs::Routines::returned, crate::specs::Routines::thrown, crate::specs::Routines::call_effect, crate::specs::Routines::routine_effect, zk_mem::specs::Header::unit_length, zk_mem::specs::Map::cell_at, zk_mem::specs::Map::code_word_at, zk_state::specs::Frames::left, zk_state::specs::Frames::unwound, crate::specs::Variables::named_read, crate::specs::Variables::named_written, crate::specs::Variables::variable_read, crate::specs::Variables::variable_written, crate::specs::Variables::indirect_read, crate::specs::Variables::indirect_written, crate::specs::Variables::operand_read, crate::specs::Variables::operands_read, zk_mem::specs::Header::header_of, zk_mem::specs::Map::byte_at, zk_mem::specs::Map::word_at, zk_mem::specs::Map::byte_put, zk_mem::specs::Map::word_put, zk_state::specs::Frames::popped, zk_state::specs::Frames::top_of, zk_state::specs::Frames::with_top, zk_state::specs::Frames::local_of, zk_state::specs::Frames::with_local))]
+pub fn finish_by_example()
+    ensures branches_by_sense { BranchesBySense }
+    ensures branches_that_return { BranchesThatReturn }
+    ensures stores_before_it_goes { StoresBeforeItGoes }
+    ensures jumps_by_signed_offset { JumpsBySignedOffset }
+    ensures quits { Quits }
+    ensures passes_the_operands_behind { PassesTheOperandsBehind }
+{}
+
+/// Objects and properties (Standard, sections 12 and 15).
+#[tactic(auto, unfolding(crate::specs::Objects::object_changed, crate::specs::Objects::object_answer, zk_tables::specs::Attributes::attribute_at, zk_tables::specs::Attributes::attribute_put, zk_tables::specs::Chain::chain_from, zk_tables::specs::Chain::children_of, zk_tables::specs::Layout::layout_of, zk_tables::specs::Layout::is_entry_in, zk_tables::specs::Layout::is_entry, zk_tables::specs::Layout::entry_of, zk_tables::specs::Layout::entries_in, zk_tables::specs::Layout::entries, zk_tables::specs::Links::address_of, zk_tables::specs::Links::number_at, zk_tables::specs::Links::number_put, zk_tables::specs::Links::link_at, zk_tables::specs::Links::link_put, zk_tables::specs::Properties::table_of, zk_tables::specs::Properties::list_of, zk_tables::specs::Properties::property_of, zk_tables::specs::Properties::default_of, zk_tables::specs::Properties::property_value, zk_tables::specs::Properties::property_address_of, zk_tables::specs::Properties::next_property_of, zk_tables::specs::Properties::property_put, zk_tables::specs::Properties::property_length_of, zk_tables::specs::Properties::name_of, zk_tables::specs::Tree::naming_among, zk_tables::specs::Tree::naming_of, zk_tables::specs::Tree::unlinked, zk_tables::specs::Tree::unlinked_where, zk_tables::specs::Tree::removed, zk_tables::specs::Tree::linked, zk_tables::specs::Tree::inserted, zk_tables::specs::PropertyList::list_byte, zk_tables::specs::PropertyList::property_by, zk_tables::specs::PropertyList::property_at, zk_tables::specs::PropertyList::properties_from, zk_tables::specs::PropertyList::properties_at, zk_tables::specs::PropertyList::found_at, zk_tables::specs::PropertyList::first_number_from, zk_tables::specs::PropertyList::first_number_at, zk_tables::specs::PropertyList::number_after_at, crate::specs::Printing::printing, crate::specs::Printing::units_of, crate::specs::Printing::characters_of, zk_text::specs::Alphabets::alphabet_table, zk_text::specs::Alphabets::letter_by, zk_text::specs::Extra::words_from, zk_text::specs::Extra::unicode_table, zk_text::specs::Extra::words_at_table, zk_text::specs::Extra::own_characters, zk_text::specs::Extra::character, zk_text::specs::Extra::code_from, zk_text::specs::Extra::code_of, zk_text::specs::Meaning::values, zk_text::specs::Meaning::abbreviation, zk_text::specs::Meaning::text_units, zk_text::specs::Meaning::checked_end, zk_text::specs::Pieces::pieces_past, zk_text::specs::Shown::shown, zk_text::specs::Shown::shown_all, zk_text::specs::Standard::standard_letters, zk_text::specs::Standard::standard_characters, zk_text::specs::Words::z_characters, zk_mem::specs::Words::words_in, zk_mem::specs::Words::words_at, zk_mem::specs::Words::text_end_at, zk_mem::specs::Header::header_of, zk_mem::specs::Map::byte_at, zk_mem::specs::Map::word_at, zk_mem::specs::Map::byte_put, zk_mem::specs::Map::word_put, zk_mem::specs::Header::unit_length))]
+pub fn objects_by_example()
+    ensures finds_relatives { FindsRelatives }
+    ensures attributes_of_objects { AttributesOfObjects }
+    ensures objects_move { ObjectsMove }
+    ensures properties_of_objects { PropertiesOfObjects }
+    ensures properties_have_places { PropertiesHavePlaces }
+    ensures prints_names { PrintsNames }
+{}
+
+/// What is printed (Standard, sections 3, 7 and 15).
+#[tactic(auto, unfolding(crate::specs::Printing::printing, crate::specs::Printing::units_of, crate::specs::Printing::characters_of, zk_text::specs::Alphabets::alphabet_table, zk_text::specs::Alphabets::letter_by, zk_text::specs::Extra::words_from, zk_text::specs::Extra::unicode_table, zk_text::specs::Extra::words_at_table, zk_text::specs::Extra::own_characters, zk_text::specs::Extra::character, zk_text::specs::Extra::code_from, zk_text::specs::Extra::code_of, zk_text::specs::Meaning::values, zk_text::specs::Meaning::abbreviation, zk_text::specs::Meaning::text_units, zk_text::specs::Meaning::checked_end, zk_text::specs::Pieces::pieces_past, zk_text::specs::Shown::shown, zk_text::specs::Shown::shown_all, zk_text::specs::Standard::standard_letters, zk_text::specs::Standard::standard_characters, zk_text::specs::Words::z_characters, zk_mem::specs::Words::words_in, zk_mem::specs::Words::words_at, zk_mem::specs::Words::text_end_at, zk_mem::specs::Header::header_of, zk_mem::specs::Map::byte_at, zk_mem::specs::Map::word_at, zk_mem::specs::Map::byte_put, zk_mem::specs::Map::word_put, zk_mem::specs::Header::unit_length))]
+pub fn printing_by_example()
+    ensures prints_what { PrintsWhat }
+    ensures shows_codes { ShowsCodes }
+    ensures shows_signed_numbers { ShowsSignedNumbers }
+    ensures prints_texts { PrintsTexts }
+    ensures prints_and_returns { PrintsAndReturns }
+{}
+
+/// What does nothing, and its answers (Standard, sections 8 and 15).
+#[tactic(auto, unfolding(crate::specs::Idle::idle, zk_text::specs::Alphabets::alphabet_table, zk_text::specs::Alphabets::letter_by, zk_text::specs::Extra::words_from, zk_text::specs::Extra::unicode_table, zk_text::specs::Extra::words_at_table, zk_text::specs::Extra::own_characters, zk_text::specs::Extra::character, zk_text::specs::Extra::code_from, zk_text::specs::Extra::code_of, zk_text::specs::Meaning::values, zk_text::specs::Meaning::abbreviation, zk_text::specs::Meaning::text_units, zk_text::specs::Meaning::checked_end, zk_text::specs::Pieces::pieces_past, zk_text::specs::Shown::shown, zk_text::specs::Shown::shown_all, zk_text::specs::Standard::standard_letters, zk_text::specs::Standard::standard_characters, zk_text::specs::Words::z_characters, zk_mem::specs::Words::words_in, zk_mem::specs::Words::words_at, zk_mem::specs::Words::text_end_at, zk_mem::specs::Header::header_of, zk_mem::specs::Map::byte_at, zk_mem::specs::Map::word_at, zk_mem::specs::Map::byte_put, zk_mem::specs::Map::word_put))]
+pub fn idle_by_example()
+    ensures fonts_and_colours { FontsAndColours }
+    ensures unicode_answers { UnicodeAnswers }
+{}
+
+/// Whole instructions.
+#[tactic(auto, unfolding(crate::specs::Instructions::carried_out, crate::specs::Effects::effect_of, crate::specs::Routing::routed, crate::specs::Arithmetic::arithmetic, crate::specs::Comparison::comparison, crate::specs::Printing::printing, crate::specs::Printing::units_of, crate::specs::Printing::characters_of, zk_text::specs::Alphabets::alphabet_table, zk_text::specs::Alphabets::letter_by, zk_text::specs::Extra::words_from, zk_text::specs::Extra::unicode_table, zk_text::specs::Extra::words_at_table, zk_text::specs::Extra::own_characters, zk_text::specs::Extra::character, zk_text::specs::Extra::code_from, zk_text::specs::Extra::code_of, zk_text::specs::Meaning::values, zk_text::specs::Meaning::abbreviation, zk_text::specs::Meaning::text_units, zk_text::specs::Meaning::checked_end, zk_text::specs::Pieces::pieces_past, zk_text::specs::Shown::shown, zk_text::specs::Shown::shown_all, zk_text::specs::Standard::standard_letters, zk_text::specs::Standard::standard_characters, zk_text::specs::Words::z_characters, zk_mem::specs::Words::words_in, zk_mem::specs::Words::words_at, zk_mem::specs::Words::text_end_at, crate::specs::Finish::way_on, crate::specs::Finish::led, crate::specs::Finish::gone, crate::specs::Finish::gone_on, crate::specs::Finish::finished, crate::specs::Control::control, zk_code::specs::Targets::jump_target, zk_code::specs::Targets::offset_target, crate::specs::Routines::initial_values, crate::specs::Routines::count_at, crate::specs::Routines::routine_at, crate::specs::Routines::with_arguments, crate::specs::Routines::called, crate::specs::Routines::stored, crate::specs::Routines::returned, crate::specs::Routines::thrown, crate::specs::Routines::call_effect, crate::specs::Routines::routine_effect, zk_mem::specs::Header::unit_length, zk_mem::specs::Map::cell_at, zk_mem::specs::Map::code_word_at, zk_state::specs::Frames::left, zk_state::specs::Frames::unwound, crate::specs::Variables::named_read, crate::specs::Variables::named_written, crate::specs::Variables::variable_read, crate::specs::Variables::variable_written, crate::specs::Variables::indirect_read, crate::specs::Variables::indirect_written, crate::specs::Variables::operand_read, crate::specs::Variables::operands_read, zk_mem::specs::Header::header_of, zk_mem::specs::Map::byte_at, zk_mem::specs::Map::word_at, zk_mem::specs::Map::byte_put, zk_mem::specs::Map::word_put, zk_state::specs::Frames::popped, zk_state::specs::Frames::top_of, zk_state::specs::Frames::with_top, zk_state::specs::Frames::local_of, zk_state::specs::Frames::with_local))]
+pub fn carried_out_by_example()
+    ensures carries_out_a_subtraction { CarriesOutASubtraction }
+    ensures carries_out_a_branch { CarriesOutABranch }
+    ensures carries_out_printing { CarriesOutPrinting }
+    ensures unplayed_is_fault { UnplayedIsFault }
+{}
+
+/// The bounds on frames and words.
+#[tactic(auto, unfolding(zk_state::specs::Frames::within_bounds, zk_state::specs::Frames::sizes_of))]
+pub fn limits_by_example()
+    ensures bounds_are_looked_for { BoundsAreLookedFor }
+    ensures no_bound_at_the_end { NoBoundAtTheEnd }
+{}

@@ -1,0 +1,49 @@
+// Worked examples of the definitions, which refuse one that is turned together with its body.
+
+ghost use Rattle.zk_tables.specs.Examples.{EarlyEntriesHaveNineBytes, LateEntriesHaveFourteenBytes, EarlyObjectsAreBytes, EarlyAttributesFromTheTopBit, AttributesByVersion, AttributesAreGivenAndTaken, ObjectZeroHasNoAttributes, EarlyLinksAreBytes, LateLinksAreWords, ObjectZeroHasNoLinks, ChildrenFollowSiblings, RemovesOneChild, InsertsAsFirstChild, ObjectZeroStaysOut, DefaultsCountFromOne, ValuesOfProperties, AddressesOfProperties, NumbersFollow, LengthsBeforeTheData, ValuesArePut, NamesBehindTheirCount};
+
+/// The entries of objects, by version (Standard, sections 12.2 and 12.3).
+#[tactic(auto, unfolding(crate::specs::Layout::layout_of, crate::specs::Layout::is_entry_in, crate::specs::Layout::is_entry, crate::specs::Layout::entry_of, crate::specs::Layout::entries_in, crate::specs::Layout::entries, zk_mem::specs::Header::header_of, zk_mem::specs::Header::unit_length, zk_mem::specs::Map::byte_at, zk_mem::specs::Map::word_at, zk_mem::specs::Map::byte_put, zk_mem::specs::Map::word_put, zk_mem::specs::Map::cell_at, zk_mem::specs::Map::code_word_at))]
+pub fn layout_by_example()
+    ensures early_entries_have_nine_bytes { EarlyEntriesHaveNineBytes }
+    ensures late_entries_have_fourteen_bytes { LateEntriesHaveFourteenBytes }
+    ensures early_objects_are_bytes { EarlyObjectsAreBytes }
+{}
+
+/// Attributes and their bits (Standard, section 12.3).
+#[tactic(auto, unfolding(crate::specs::Attributes::attribute_at, crate::specs::Attributes::attribute_put, crate::specs::Layout::layout_of, crate::specs::Layout::is_entry_in, crate::specs::Layout::is_entry, crate::specs::Layout::entry_of, crate::specs::Layout::entries_in, crate::specs::Layout::entries, zk_mem::specs::Header::header_of, zk_mem::specs::Header::unit_length, zk_mem::specs::Map::byte_at, zk_mem::specs::Map::word_at, zk_mem::specs::Map::byte_put, zk_mem::specs::Map::word_put, zk_mem::specs::Map::cell_at, zk_mem::specs::Map::code_word_at))]
+pub fn attributes_by_example()
+    ensures early_attributes_from_the_top_bit { EarlyAttributesFromTheTopBit }
+    ensures attributes_by_version { AttributesByVersion }
+    ensures attributes_are_given_and_taken { AttributesAreGivenAndTaken }
+    ensures object_zero_has_no_attributes { ObjectZeroHasNoAttributes }
+{}
+
+/// Parents, siblings and children (Standard, section 12.3).
+#[tactic(auto, unfolding(crate::specs::Links::address_of, crate::specs::Links::number_at, crate::specs::Links::number_put, crate::specs::Links::link_at, crate::specs::Links::link_put, crate::specs::Links::write_test, crate::specs::Layout::layout_of, crate::specs::Layout::is_entry_in, crate::specs::Layout::is_entry, crate::specs::Layout::entry_of, crate::specs::Layout::entries_in, crate::specs::Layout::entries, zk_mem::specs::Header::header_of, zk_mem::specs::Header::unit_length, zk_mem::specs::Map::byte_at, zk_mem::specs::Map::word_at, zk_mem::specs::Map::byte_put, zk_mem::specs::Map::word_put, zk_mem::specs::Map::cell_at, zk_mem::specs::Map::code_word_at))]
+pub fn links_by_example()
+    ensures early_links_are_bytes { EarlyLinksAreBytes }
+    ensures late_links_are_words { LateLinksAreWords }
+    ensures object_zero_has_no_links { ObjectZeroHasNoLinks }
+{}
+
+/// Objects that are taken out and put in (Standard, sections 12.5 and 15).
+#[tactic(auto, unfolding(crate::specs::Tree::naming_among, crate::specs::Tree::naming_of, crate::specs::Tree::unlinked, crate::specs::Tree::unlinked_where, crate::specs::Tree::removed, crate::specs::Tree::linked, crate::specs::Tree::inserted, crate::specs::Chain::chain_from, crate::specs::Chain::children_of, crate::specs::Links::address_of, crate::specs::Links::number_at, crate::specs::Links::number_put, crate::specs::Links::link_at, crate::specs::Links::link_put, crate::specs::Links::write_test, crate::specs::Layout::layout_of, crate::specs::Layout::is_entry_in, crate::specs::Layout::is_entry, crate::specs::Layout::entry_of, crate::specs::Layout::entries_in, crate::specs::Layout::entries, zk_mem::specs::Header::header_of, zk_mem::specs::Header::unit_length, zk_mem::specs::Map::byte_at, zk_mem::specs::Map::word_at, zk_mem::specs::Map::byte_put, zk_mem::specs::Map::word_put, zk_mem::specs::Map::cell_at, zk_mem::specs::Map::code_word_at))]
+pub fn tree_by_example()
+    ensures children_follow_siblings { ChildrenFollowSiblings }
+    ensures removes_one_child { RemovesOneChild }
+    ensures inserts_as_first_child { InsertsAsFirstChild }
+    ensures object_zero_stays_out { ObjectZeroStaysOut }
+{}
+
+/// Properties, their defaults and names (Standard, sections 12.2 and 12.4).
+#[tactic(auto, unfolding(crate::specs::Properties::table_of, crate::specs::Properties::list_of, crate::specs::Properties::property_of, crate::specs::Properties::default_of, crate::specs::Properties::property_value, crate::specs::Properties::property_address_of, crate::specs::Properties::next_property_of, crate::specs::Properties::property_put, crate::specs::Properties::property_length_of, crate::specs::Properties::name_of, crate::specs::PropertyList::list_byte, crate::specs::PropertyList::property_by, crate::specs::PropertyList::property_at, crate::specs::PropertyList::properties_from, crate::specs::PropertyList::properties_at, crate::specs::PropertyList::found_at, crate::specs::PropertyList::first_number_from, crate::specs::PropertyList::first_number_at, crate::specs::PropertyList::number_after_at, crate::specs::Layout::layout_of, crate::specs::Layout::is_entry_in, crate::specs::Layout::is_entry, crate::specs::Layout::entry_of, crate::specs::Layout::entries_in, crate::specs::Layout::entries, zk_mem::specs::Header::header_of, zk_mem::specs::Header::unit_length, zk_mem::specs::Map::byte_at, zk_mem::specs::Map::word_at, zk_mem::specs::Map::byte_put, zk_mem::specs::Map::word_put, zk_mem::specs::Map::cell_at, zk_mem::specs::Map::code_word_at))]
+pub fn properties_by_example()
+    ensures defaults_count_from_one { DefaultsCountFromOne }
+    ensures values_of_properties { ValuesOfProperties }
+    ensures addresses_of_properties { AddressesOfProperties }
+    ensures numbers_follow { NumbersFollow }
+    ensures lengths_before_the_data { LengthsBeforeTheData }
+    ensures values_are_put { ValuesArePut }
+    ensures names_behind_their_count { NamesBehindTheirCount }
+{}

@@ -1,0 +1,80 @@
+-- Worked examples of this crate's definitions: small stories, and what the Standard's machine does with them, worked
+-- out by hand.
+use Rattle.std.specs.Prelude.{◌≡◌, ℕ, List, [], ◌∷◌, ◌++◌, Some, None, replicate, codes}
+use Rattle.zk_mem.specs.declared.fault.Fault.TheVariants.{DivisionByZero, BadOpcode, CodePastEnd}
+use Rattle.zk_state.specs.declared.refusal.Limit.TheVariants.{Frames, Words, Steps}
+use Rattle.zk_state.specs.Frames.{first_frames}
+use Rattle.zk_vm.specs.declared.limits.Limits.{Limits}
+use Rattle.zk_vm.specs.declared.stop.Stop.{Stop}
+use Rattle.zk_vm.specs.declared.stop.Stop.TheVariants.{Quit, Fault, Limit}
+use Rattle.zk_vm.specs.Bounds.{AreInRange}
+use Rattle.zk_vm.specs.Outcome.{Outcome, begun, outcome_by, outcome_of}
+
+-- a story of version 5 with its static base and its first instruction at 64, where this code stands
+abbrev pub story_of : List ℕ → List ℕ
+story_of code = 5 ∷ 0 ∷ 0 ∷ 0 ∷ 0 ∷ 0 ∷ 0 ∷ 64 ∷ 0 ∷ 0 ∷ 0 ∷ 0 ∷ 0 ∷ 0 ∷ 0 ∷ 64 ∷ [] ++ replicate 48 0 ++ code
+
+-- so many frames, words and instructions
+abbrev pub limits_of : ℕ → ℕ → ℕ → Limits
+limits_of frames words steps = record { frames = frames; words = words; undo = 0; steps = steps }
+
+-- a stop, and the text on the screen
+abbrev pub stops : Stop → List ℕ → Outcome
+stops stop screen = record { stop = stop; text = record { screen = screen; script = [] } }
+
+-- at 64 `print` of "abc", and at 67 `quit`
+abbrev pub prints_and_quits : List ℕ
+prints_and_quits = story_of (0xb2 ∷ 0x98 ∷ 0xe8 ∷ 0xba ∷ [])
+
+-- it shows "abc" and ends by itself (sections 5.5 and 15, `quit`)
+abbrev pub StoriesEnd : Type 0
+StoriesEnd = outcome_of (begun prints_and_quits (limits_of 1 0 10)) ≡ stops Quit (codes "abc")
+
+-- of two instructions, two may be made where the limit is 2, and where it is 1 the second is past it
+abbrev pub StepsAreLimited : Type 0
+StepsAreLimited =
+    (outcome_of (begun prints_and_quits (limits_of 1 0 2)) ≡ stops Quit (codes "abc"))
+    × (outcome_of (begun prints_and_quits (limits_of 1 0 1)) ≡ stops (Limit 67 Steps) (codes "abc"))
+
+-- after "abc", at 67, `div` of 5 by 0: a fault there, and what was shown stays (section 2.3.1)
+abbrev pub FaultsStop : Type 0
+FaultsStop =
+    (outcome_of (begun (story_of (0xb2 ∷ 0x98 ∷ 0xe8 ∷ 0x17 ∷ 5 ∷ 0 ∷ 0 ∷ [])) (limits_of 1 9 10)) ≡ stops (Fault 67 DivisionByZero) (codes "abc"))
+    × (outcome_of (begun (story_of (0xb2 ∷ 0x98 ∷ 0xe8 ∷ [])) (limits_of 1 9 10)) ≡ stops (Fault 67 CodePastEnd) (codes "abc"))
+
+-- `push` at 64 and at 67, where one word may be (section 6.3)
+abbrev pub WordsAreLimited : Type 0
+WordsAreLimited =
+    (outcome_of (begun (story_of (0xe8 ∷ 0x7f ∷ 9 ∷ 0xe8 ∷ 0x7f ∷ 9 ∷ 0xba ∷ [])) (limits_of 1 1 10)) ≡ stops (Limit 67 Words) [])
+    × (outcome_of (begun (story_of (0xe8 ∷ 0x7f ∷ 9 ∷ 0xe8 ∷ 0x7f ∷ 9 ∷ 0xba ∷ [])) (limits_of 1 2 10)) ≡ stops Quit [])
+
+-- `call_1n` at 64 of the routine at 68, packed address 17, which calls itself at 69: with two frames the first call
+-- is made, and the second is past the limit (section 6.4)
+abbrev pub FramesAreLimited : Type 0
+FramesAreLimited =
+    (outcome_of (begun (story_of (0x8f ∷ 0 ∷ 17 ∷ 0xba ∷ 0 ∷ 0x8f ∷ 0 ∷ 17 ∷ [])) (limits_of 2 9 10)) ≡ stops (Limit 69 Frames) [])
+    × (outcome_of (begun (story_of (0x8f ∷ 0 ∷ 17 ∷ 0xba ∷ 0 ∷ 0xb0 ∷ [])) (limits_of 2 9 10)) ≡ stops Quit [])
+
+-- `jl` of 1 and 2 at 64 branches on true over the `quit` at 68 to the text at 69, and not on false (section 4.7)
+abbrev pub BranchesLead : Type 0
+BranchesLead =
+    (outcome_of (begun (story_of (0x02 ∷ 1 ∷ 2 ∷ 0xc3 ∷ 0xba ∷ 0xb2 ∷ 0x98 ∷ 0xe8 ∷ 0xba ∷ [])) (limits_of 1 0 10)) ≡ stops Quit (codes "abc"))
+    × (outcome_of (begun (story_of (0x02 ∷ 1 ∷ 2 ∷ 0x43 ∷ 0xba ∷ 0xb2 ∷ 0x98 ∷ 0xe8 ∷ 0xba ∷ [])) (limits_of 1 0 10)) ≡ stops Quit [])
+
+-- a story begins at its first instruction, with no step made, in one frame (section 5.5)
+abbrev pub BeginsAtTheFirstInstruction : Type 0
+BeginsAtTheFirstInstruction =
+    ((begun prints_and_quits (limits_of 3 4 10)).state.place ≡ 64)
+    × ((begun prints_and_quits (limits_of 3 4 10)).state.steps ≡ 0)
+    × ((begun prints_and_quits (limits_of 3 4 10)).state.workspace.frames ≡ first_frames 3 4)
+    × ((begun prints_and_quits (limits_of 3 4 10)).stopped ≡ None)
+
+-- a machine that has stopped shows nothing more, and has its stop
+abbrev pub StopsForGood : Type 0
+StopsForGood =
+    outcome_by (Some (Fault 67 BadOpcode)) (limits_of 1 0 10) (begun prints_and_quits (limits_of 1 0 10)).state ≡ stops (Fault 67 BadOpcode) []
+
+-- from 1 frame on, up to 64 undo states, and from 1 to 1,000,000,000 instructions
+abbrev pub LimitsHaveRanges : Type 0
+LimitsHaveRanges =
+    AreInRange (record { frames = 1; words = 0; undo = 64; steps = 1 }) × AreInRange (record { frames = 1; words = 0; undo = 0; steps = 1000000000 })
