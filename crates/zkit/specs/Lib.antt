@@ -1,2 +1,4 @@
+pub mod LastLine
+pub mod Playing
 pub mod Status
 pub mod Words
