@@ -8,6 +8,8 @@ use Rattle.zk_vm.specs.declared.limits.Limits.{Limits}
 use Rattle.zk_vm.specs.declared.stop.Stop.{Stop}
 use Rattle.zk_vm.specs.declared.stop.Stop.TheVariants.{Write, Memory}
 use Rattle.zk_vm.specs.Outcome.{begun, outcome_of}
+use Rattle.zkit.specs.LastLine.{TookExplained, last_line}
+use Rattle.zkit.specs.Status.{ending_status}
 use Rattle.zkit.specs.declared.ending.Ending.{Ending}
 use Rattle.zkit.specs.declared.ending.Ending.TheVariants.{Unread, Refused, Stopped}
 
@@ -44,3 +46,10 @@ EndsBy bytes limits old new (Stopped stop) = (refusal bytes ≡ None) × IsRun b
 abbrev pub EndsFrom : Option (List ℕ) → Limits → Device → Device → Ending → Type 0
 EndsFrom file limits old new (Unread e) = new ≡ old
 EndsFrom file limits old new ending = (bytes : List ℕ) × IfSome file (λ all. bytes ≡ bytes_read all) × EndsBy bytes limits old new ending
+
+-- a reader's story was played, with a screen and a device for errors before and after it, and with the program's status
+pub record IsPlayedFrom (file : Option (List ℕ)) (limits : Limits) (screen_old screen_new errors_old errors_new : Device) (status : ℕ) : Type 0 where
+  pub ending : Ending
+  pub ends : EndsFrom file limits screen_old screen_new ending
+  pub status_is : status ≡ ending_status ending
+  pub lines : TookExplained ending (last_line ending) errors_old errors_new

@@ -1,49 +1,80 @@
 // Plays Z-machine stories.
 #![tactic(auto)]
 
+ghost use Rattle.std.specs.Prelude.{◌≡◌, ◌⊎◌};
+ghost use Rattle.clap.specs.Words.{kind_of};
 ghost use Rattle.zk_vm.specs.Bounds.{AreInRange};
+ghost use Rattle.zkit.specs.CommandLine.{usage_status};
 
+mod choice;
 mod ending;
 mod playing;
 mod report;
 #[cfg(test)]
 mod tests;
-mod words;
 
+use crate::choice::{Choice, choose, usage_status_of};
 use crate::ending::Ending;
-use crate::playing::play_from;
-use crate::report::report;
-use crate::words::play_words;
+use crate::playing::play_and_report;
+use crate::report::{report, report_briefly};
+use clap::Error;
+use clap::error::ErrorKind;
 use std::fs::File;
 use std::process::ExitCode;
 use std::{env, io};
 use zk_term::over::Over;
 use zk_vm::limits::Limits;
+use zk_vm::stop::Stop;
 
-const USAGE: &str = "usage: zkit play [--steps n] STORY";
-
-/// Plays the story in a file.
-fn play_file(rt: &HostRuntime, path: &str, limits: Limits) -> Ending
+/// Plays the story in a file, and answers the program's status.
+fn play_file(rt: &HostRuntime, path: &str, limits: Limits) -> u8
     requires { AreInRange limits }
 {
+    let mut errors = Over::new(rt.stderr());
     match File::open(rt, path) {
-        Err(error) => Ending::Unread(error),
-        Ok(file) => play_from(rt.alloc(), file, limits, &mut Over::new(io::writer(rt))),
+        Err(error) => report(rt.alloc(), &Ending::Unread(error), &limits, &mut errors),
+        Ok(file) => play_and_report(
+            rt.alloc(),
+            file,
+            limits,
+            &mut Over::new(io::writer(rt)),
+            &mut errors,
+        ),
+    }
+}
+
+/// Shows help, the version or what is wrong with the words, and answers the program's status: 4 where help can't be
+/// written.
+fn tell_usage(rt: &HostRuntime, error: &Error) -> u8
+    ensures { (result ≡ usage_status (kind_of error.now)) ⊎ (result ≡ 4) }
+{
+    let mut errors = Over::new(rt.stderr());
+    if error.kind() == ErrorKind::OutOfMemory {
+        return report_briefly(&Ending::Stopped(Stop::Memory), &mut errors);
+    }
+    if error.print(rt).is_err() && !error.use_stderr() {
+        return report_briefly(&Ending::Stopped(Stop::Write), &mut errors);
+    }
+    usage_status_of(error)
+}
+
+/// Does what the words ask for, and answers the program's status.
+fn answer(rt: &HostRuntime, words: &[String]) -> u8 {
+    let Ok(words) = words
+        .iter()
+        .map(|word| word.as_str())
+        .collect::<Vec<&str>>(rt.alloc())
+    else {
+        let mut errors = Over::new(rt.stderr());
+        return report_briefly(&Ending::Stopped(Stop::Memory), &mut errors);
+    };
+    match choose(rt.alloc(), words.as_slice()) {
+        Ok(Choice::Play { story, limits }) => play_file(rt, story, limits),
+        Err(error) => tell_usage(rt, &error),
     }
 }
 
 fn main(rt: HostRuntime) -> anyhow::Result<ExitCode> {
     let words: Vec<String> = env::args(&rt)?.collect(rt.alloc())?;
-    let status = match play_words(words.as_slice()) {
-        Some(words) => {
-            let limits = words.limits();
-            let ending = play_file(&rt, words.story, limits);
-            report(rt.alloc(), &ending, &limits, &mut Over::new(rt.stderr()))
-        }
-        None => {
-            eprintln!(rt; "{USAGE}")?;
-            1
-        }
-    };
-    Ok(ExitCode::from(status))
+    Ok(ExitCode::from(answer(&rt, words.as_slice())))
 }

@@ -2,9 +2,10 @@
 
 ghost use Rattle.std.specs.Prelude.{◌≡◌, false, IfOk, IfSome};
 ghost use Rattle.zk_vm.specs.Bounds.{AreInRange};
-ghost use Rattle.zkit.specs.Playing.{EndsBy, EndsFrom, IsRun, bytes_read};
+ghost use Rattle.zkit.specs.Playing.{EndsBy, EndsFrom, IsPlayedFrom, IsRun, bytes_read};
 
 use crate::ending::Ending;
+use crate::report::report;
 use std::alloc::Global;
 use std::io::{self, Read};
 use zk_mem::story::Story;
@@ -76,4 +77,22 @@ pub fn play_from<R: Read + Drop, S: Target>(
         Err(error) => Ending::Unread(error),
         Ok(bytes) => play_bytes(alloc, bytes.as_slice(), limits, screen),
     }
+}
+
+/// Plays the story that a reader gives, reports how that ends, and answers the program's status.
+pub fn play_and_report<R: Read + Drop, S: Target, E: Target>(
+    alloc: Global,
+    reader: R,
+    limits: Limits,
+    screen: &mut S,
+    errors: &mut E,
+) -> u8
+    requires in_range { AreInRange limits }
+    requires works { S.failed screen.old ≡ false }
+    requires errors_work { E.failed errors.old ≡ false }
+    ensures { IsPlayedFrom (R.remaining reader) limits (record { taken = S.taken screen.old; failed = S.failed screen.old }) (record { taken = S.taken screen.new; failed = S.failed screen.new })
+        (record { taken = E.taken errors.old; failed = E.failed errors.old }) (record { taken = E.taken errors.new; failed = E.failed errors.new }) result }
+{
+    let ending = play_from(alloc, reader, limits, screen);
+    report(alloc, &ending, &limits, errors)
 }

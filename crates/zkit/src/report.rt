@@ -220,6 +220,16 @@ fn status(ending: &Ending) -> u8
     }
 }
 
+/// Writes the last line alone, and answers the program's status.
+pub fn report_briefly<E: Target>(ending: &Ending, errors: &mut E) -> u8
+    requires { E.failed errors.old ≡ false }
+    ensures status { result ≡ ending_status ending.now }
+    ensures line { Took (record { taken = E.taken errors.old; failed = E.failed errors.old }) (record { taken = E.taken errors.new; failed = E.failed errors.new }) (last_line ending.now) }
+{
+    let _ = write_last(errors, ending);
+    status(ending)
+}
+
 /// Writes why a play has ended, unless the story or its input has, and answers the program's status: 0 for an end,
 /// 1 for a file that is no story, 2 for a fault, 3 for a limit, 4 for a read or a write that failed, 5 for want of
 /// memory. Before the last line it writes what has happened in words.
@@ -229,10 +239,7 @@ pub fn report<E: Target>(alloc: Global, ending: &Ending, limits: &Limits, errors
     ensures lines { TookExplained ending.now (last_line ending.now) (record { taken = E.taken errors.old; failed = E.failed errors.old }) (record { taken = E.taken errors.new; failed = E.failed errors.new }) }
 {
     match write_words(alloc, ending, limits, errors) {
-        Ok(()) => {
-            let _ = write_last(errors, ending);
-            status(ending)
-        }
+        Ok(()) => report_briefly(ending, errors),
         Err(Failed) => status(ending),
     }
 }
