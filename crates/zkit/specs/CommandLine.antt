@@ -1,8 +1,9 @@
 -- What the words of the command line ask for, by clap's function of the words for a simple command.
-use Rattle.std.specs.Prelude.{◌≡◌, ◌≤◌, ℕ, true, List, [], ◌∷◌, Some, codes, IsSomeAnd}
+use Rattle.std.specs.Prelude.{◌≡◌, ◌⊎◌, ◌≤◌, ℕ, true, List, [], ◌∷◌, Some, codes, IsSomeAnd}
 use Rattle.std.specs.Str.Parse.{IsNumeral, digits_value, without_leading_plus}
-use Rattle.clap.specs.Words.{App, Row, Rule, Text, first_of, new_app, new_rule, subcommand_of, with_rule, with_subcommand}
+use Rattle.clap.specs.Words.{App, HasKind, Row, Rule, Text, fault_of, first_of, kind_of, new_app, new_rule, subcommand_of, with_rule, with_subcommand}
 use Rattle.clap.specs.Simple.{on_top}
+use Rattle.clap.specs.declared.Error.{Error}
 use Rattle.clap.specs.declared.error.ErrorKind.{ErrorKind}
 use Rattle.clap.specs.declared.error.ErrorKind.TheVariants as kind
 use Rattle.zk_vm.specs.declared.limits.Limits.{Limits}
@@ -55,6 +56,19 @@ pub record AsksToPlay (words : List Text) (story : Text) (l : Limits) : Type 0 w
   pub path : first_of (codes "STORY") rows ≡ Some story
   pub limits : SaysLimits rows l
 
+-- the status after words that are not understood, or that ask for help
+abbrev pub usage_status : ErrorKind → ℕ
+usage_status kind.DisplayHelp = 0
+usage_status kind.DisplayVersion = 0
+usage_status kind.OutOfMemory = 5
+usage_status _ = 1
+
+-- the words are refused: there is no memory, or clap's function of the words has a fault, or they do not ask to play
+-- and the error is no help
+abbrev pub IsRefusedWith : List Text → Error → Type 0
+IsRefusedWith words e =
+    HasKind (fault_of command_line words) e ⊎ ((1 ≤ usage_status (kind_of e)) × ((story : Text) (l : Limits) → AsksToPlay words story l → ⊥))
+
 -- the words ask for a choice
 abbrev pub Asks : List Text → Choice → Type 0
 Asks words (Play story l) = AsksToPlay words story.now l
@@ -62,10 +76,3 @@ Asks words (Play story l) = AsksToPlay words story.now l
 -- the limits of a choice lie in their ranges
 abbrev pub HasLimits : Choice → Type 0
 HasLimits (Play story l) = AreInRange l
-
--- the status after words that are not understood, or that ask for help
-abbrev pub usage_status : ErrorKind → ℕ
-usage_status kind.DisplayHelp = 0
-usage_status kind.DisplayVersion = 0
-usage_status kind.OutOfMemory = 5
-usage_status _ = 1

@@ -1,10 +1,11 @@
 // What the words of the command line ask for.
 
-ghost use Rattle.std.specs.Prelude.{◌≡◌, ◌≤◌, IfOk, SomeIff, IfSome, false, map};
+ghost use Rattle.std.specs.Prelude.{◌≡◌, ◌≤◌, ℕ, IfErr, IfNone, IfOk, IfSome, OnErr, SomeIff, false, map};
 ghost use Rattle.clap.specs.Words.{app_of, found_of, kind_of, rows_of, rule_of};
 ghost use Rattle.clap.specs.declared.Command.TheViews.{out-Command as fields_of};
 ghost use Rattle.zk_vm.specs.Bounds.{AreInRange};
-ghost use Rattle.zkit.specs.CommandLine.{Asks, HasLimits, IsNumberIn, SaysLimits, SaysNumber, command_line, number_in, number_option, play_command, usage_status};
+ghost use Rattle.zk_vm.specs.declared.limits.Limits.{Limits};
+ghost use Rattle.zkit.specs.CommandLine.{Asks, HasLimits, IsNumberIn, IsRefusedWith, SaysLimits, SaysNumber, command_line, number_in, number_option, play_command, usage_status};
 
 use clap::error::ErrorKind;
 use clap::{Arg, ArgMatches, Command, Error};
@@ -93,6 +94,7 @@ fn number_of(matches: &ArgMatches<'_>, option: &str, least: u32, most: u32) -> O
     ensures says { IfSome result (λ n. SaysNumber (rows_of (found_of matches.now)) option.now least most n) }
     ensures least { IfSome result (λ n. least ≤ n) }
     ensures most { IfSome result (λ n. n ≤ most) }
+    ensures none { IfNone result ((n : ℕ) → SaysNumber (rows_of (found_of matches.now)) option.now least most n → ⊥) }
 {
     let Some(word) = matches.get_str(option) else {
         return None;
@@ -101,7 +103,10 @@ fn number_of(matches: &ArgMatches<'_>, option: &str, least: u32, most: u32) -> O
 }
 
 /// An error of the command line.
-fn usage_error(command: &mut Command<'_>, kind: ErrorKind, text: &str) -> Error {
+fn usage_error(command: &mut Command<'_>, kind: ErrorKind, text: &str) -> Error
+    requires { 1 ≤ usage_status kind }
+    ensures { 1 ≤ usage_status (kind_of result) }
+{
     match command.error(kind, text) {
         Ok(error) => error,
         Err(error) => Error::from(error),
@@ -115,7 +120,9 @@ fn out_of_range(
     option: &str,
     least: u32,
     most: u32,
-) -> Error {
+) -> Error
+    ensures { 1 ≤ usage_status (kind_of result) }
+{
     match format!(in alloc; "'--{option} <n>' takes a number from {least} to {most}") {
         Ok(text) => usage_error(command, ErrorKind::ValueValidation, text.as_str()),
         Err(error) => Error::from(error),
@@ -130,6 +137,8 @@ fn limits_of(
 ) -> Result<Limits, Error>
     ensures says { IfOk result (λ l. SaysLimits (rows_of (found_of play.now)) l) }
     ensures in_range { IfOk result (λ l. AreInRange l) }
+    ensures mistake { IfErr result (λ e. 1 ≤ usage_status (kind_of e)) }
+    ensures says_none { OnErr result ((l : Limits) → SaysLimits (rows_of (found_of play.now)) l → ⊥) }
 {
     let Some(frames) = number_of(play, "frames", 1, 65_535) else {
         return Err(out_of_range(alloc, command, "frames", 1, 65_535));
@@ -152,6 +161,7 @@ fn limits_of(
 pub fn choose<'a>(alloc: Global, words: &'a [&'a str]) -> Result<Choice<'a>, Error>
     ensures asks { IfOk result (λ c. Asks (map (λ s. s.now) words.entry.now) c) }
     ensures in_range { IfOk result (λ c. HasLimits c) }
+    ensures refused { IfErr result (λ e. IsRefusedWith (map (λ s. s.now) words.entry.now) e) }
 {
     let mut command = command_line_of(alloc)?;
     let matches = command.try_get_matches_from_mut(words)?;

@@ -43,17 +43,23 @@ fn play_file(rt: &HostRuntime, path: &str, limits: Limits) -> u8
     }
 }
 
+/// Tells that there is no memory, and answers the program's status.
+fn out_of_memory(rt: &HostRuntime) -> u8
+    ensures { result ≡ 5 }
+{
+    report_briefly(&Ending::Stopped(Stop::Memory), &mut Over::new(rt.stderr()))
+}
+
 /// Shows help, the version or what is wrong with the words, and answers the program's status: 4 where help can't be
 /// written.
 fn tell_usage(rt: &HostRuntime, error: &Error) -> u8
-    ensures { (result ≡ usage_status (kind_of error.now)) ⊎ (result ≡ 4) }
+    ensures { (result ≡ usage_status (kind_of error.now)) ⊎ ((result ≡ 4) × (usage_status (kind_of error.now) ≡ 0)) }
 {
-    let mut errors = Over::new(rt.stderr());
     if error.kind() == ErrorKind::OutOfMemory {
-        return report_briefly(&Ending::Stopped(Stop::Memory), &mut errors);
+        return out_of_memory(rt);
     }
     if error.print(rt).is_err() && !error.use_stderr() {
-        return report_briefly(&Ending::Stopped(Stop::Write), &mut errors);
+        return report_briefly(&Ending::Stopped(Stop::Write), &mut Over::new(rt.stderr()));
     }
     usage_status_of(error)
 }
@@ -65,8 +71,7 @@ fn answer(rt: &HostRuntime, words: &[String]) -> u8 {
         .map(|word| word.as_str())
         .collect::<Vec<&str>>(rt.alloc())
     else {
-        let mut errors = Over::new(rt.stderr());
-        return report_briefly(&Ending::Stopped(Stop::Memory), &mut errors);
+        return out_of_memory(rt);
     };
     match choose(rt.alloc(), words.as_slice()) {
         Ok(Choice::Play { story, limits }) => play_file(rt, story, limits),
@@ -74,7 +79,20 @@ fn answer(rt: &HostRuntime, words: &[String]) -> u8 {
     }
 }
 
-fn main(rt: HostRuntime) -> anyhow::Result<ExitCode> {
-    let words: Vec<String> = env::args(&rt)?.collect(rt.alloc())?;
-    Ok(ExitCode::from(answer(&rt, words.as_slice())))
+/// The words that the program is called with, its name first.
+fn read_words(rt: &HostRuntime) -> io::Result<Vec<String>> {
+    let words = env::args(rt)?.collect(rt.alloc())?;
+    Ok(words)
+}
+
+fn main(rt: HostRuntime) -> ExitCode {
+    let status = match read_words(&rt) {
+        Ok(words) => answer(&rt, words.as_slice()),
+        Err(error) if error.kind() == io::ErrorKind::OutOfMemory => out_of_memory(&rt),
+        Err(_) => {
+            let _ = eprintln!(rt; "zkit: the words behind the program's name are no text");
+            1
+        }
+    };
+    ExitCode::from(status)
 }
