@@ -1,82 +1,98 @@
 // Plays Z-machine stories.
 #![tactic(auto)]
 
+ghost use Rattle.std.specs.Prelude.{◌≡◌, ◌⊎◌};
+ghost use Rattle.clap.specs.Words.{kind_of};
 ghost use Rattle.zk_vm.specs.Bounds.{AreInRange};
+ghost use Rattle.zkit.specs.CommandLine.{usage_status};
 
+mod choice;
+mod ending;
+mod playing;
 mod report;
 #[cfg(test)]
 mod tests;
-mod words;
 
-use crate::report::{refuse, report};
-use crate::words::{PlayWords, play_words};
+use crate::choice::{Choice, choose, usage_status_of};
+use crate::ending::Ending;
+use crate::playing::play_and_report;
+use crate::report::{report, report_briefly};
+use clap::Error;
+use clap::error::ErrorKind;
 use std::fs::File;
-use std::io::{Read, Write};
 use std::process::ExitCode;
 use std::{env, io};
-use zk_mem::story::Story;
-use zk_term::nothing::Nothing;
 use zk_term::over::Over;
 use zk_vm::limits::Limits;
-use zk_vm::machine::{Machine, play};
-use zk_vm::slot::NoSlot;
-use zk_vm::stop::{Stop, View};
+use zk_vm::stop::Stop;
 
-const USAGE: &str = "usage: zkit play [--steps n] STORY";
-
-/// One byte past the greatest length of a story.
-const MOST_BYTES: u64 = 524_289;
-
-/// The bytes of a story file, as many as a story may have and one more.
-fn read_story(rt: &HostRuntime, path: &str) -> io::Result<Vec<u8>> {
-    let mut bytes = Vec::new(rt.alloc());
-    File::open(rt, path)?
-        .take(MOST_BYTES)
-        .read_to_end(&mut bytes)?;
-    Ok(bytes)
-}
-
-/// Plays a story to its stop.
-fn play_story(rt: &HostRuntime, story: Story, limits: Limits) -> Stop
+/// Plays the story in a file, and answers the program's status.
+fn play_file(rt: &HostRuntime, path: &str, limits: Limits) -> u8
     requires { AreInRange limits }
 {
-    let mut screen = Over::new(io::writer(rt));
-    match Machine::start(rt.alloc(), story, 1, limits, View::Plain) {
-        Err(_) => Stop::Memory,
-        Ok(mut machine) => play(
+    let mut errors = Over::new(rt.stderr());
+    match File::open(rt, path) {
+        Err(error) => report(rt.alloc(), &Ending::Unread(error), &limits, &mut errors),
+        Ok(file) => play_and_report(
             rt.alloc(),
-            &mut Nothing,
-            &mut screen,
-            &mut Nothing,
-            &mut NoSlot,
-            &mut machine,
+            file,
+            limits,
+            &mut Over::new(io::writer(rt)),
+            &mut errors,
         ),
     }
 }
 
-/// Plays the story in a file, and answers the program's status.
-fn play_file(rt: &HostRuntime, words: &PlayWords) -> u8 {
-    let mut errors = rt.stderr();
-    let Ok(bytes) = read_story(rt, words.story) else {
-        return report(&Stop::Read, &mut errors);
+/// Tells that there is no memory, and answers the program's status.
+fn out_of_memory(rt: &HostRuntime) -> u8
+    ensures { result ≡ 5 }
+{
+    report_briefly(&Ending::Stopped(Stop::Memory), &mut Over::new(rt.stderr()))
+}
+
+/// Shows help, the version or what is wrong with the words, and answers the program's status: 4 where help can't be
+/// written.
+fn tell_usage(rt: &HostRuntime, error: &Error) -> u8
+    ensures { (result ≡ usage_status (kind_of error.now)) ⊎ ((result ≡ 4) × (usage_status (kind_of error.now) ≡ 0)) }
+{
+    if error.kind() == ErrorKind::OutOfMemory {
+        return out_of_memory(rt);
+    }
+    if error.print(rt).is_err() && !error.use_stderr() {
+        return report_briefly(&Ending::Stopped(Stop::Write), &mut Over::new(rt.stderr()));
+    }
+    usage_status_of(error)
+}
+
+/// Does what the words ask for, and answers the program's status.
+fn answer(rt: &HostRuntime, words: &[String]) -> u8 {
+    let Ok(words) = words
+        .iter()
+        .map(|word| word.as_str())
+        .collect::<Vec<&str>>(rt.alloc())
+    else {
+        return out_of_memory(rt);
     };
-    match Story::open(rt.alloc(), bytes.as_slice()) {
-        Err(error) => refuse(&error, &mut errors),
-        Ok(story) => {
-            let stop = play_story(rt, story, words.limits());
-            report(&stop, &mut errors)
-        }
+    match choose(rt.alloc(), words.as_slice()) {
+        Ok(Choice::Play { story, limits }) => play_file(rt, story, limits),
+        Err(error) => tell_usage(rt, &error),
     }
 }
 
-fn main(rt: HostRuntime) -> anyhow::Result<ExitCode> {
-    let words: Vec<String> = env::args(&rt)?.collect(rt.alloc())?;
-    let status = match play_words(words.as_slice()) {
-        Some(words) => play_file(&rt, &words),
-        None => {
-            eprintln!(rt; "{USAGE}")?;
+/// The words that the program is called with, its name first.
+fn read_words(rt: &HostRuntime) -> io::Result<Vec<String>> {
+    let words = env::args(rt)?.collect(rt.alloc())?;
+    Ok(words)
+}
+
+fn main(rt: HostRuntime) -> ExitCode {
+    let status = match read_words(&rt) {
+        Ok(words) => answer(&rt, words.as_slice()),
+        Err(error) if error.kind() == io::ErrorKind::OutOfMemory => out_of_memory(&rt),
+        Err(_) => {
+            let _ = eprintln!(rt; "zkit: the words behind the program's name are no text");
             1
         }
     };
-    Ok(ExitCode::from(status))
+    ExitCode::from(status)
 }

@@ -1,0 +1,66 @@
+-- What clap finds in the words of the command line.
+use Rattle.std.proofs.Common.{◌≡◌, ◌∙◌, ◌≤◌, ℕ, List, Option, Some, None, IfNone, IfSome, codes, refl, sym, ap, ap₂, subst, true}
+use Rattle.std.specs.Prelude.{SomeIff, IsSomeAnd, option_map, unwrap_or}
+use Rattle.clap.specs.Words.{App, HasMatchesOf, Row, Text, first_of, is_simple, is_simple_and_free, subcommand_name_of, subcommand_of, subcommand_rows_of}
+use Rattle.clap.proofs.OnLiterals.{clap_on_literals}
+use Rattle.clap.specs.declared.ArgMatches.{ArgMatches}
+use Rattle.zk_vm.specs.declared.limits.Limits.{Limits}
+use Rattle.zkit.specs.CommandLine.{AsksToPlay, IsNumberIn, SaysLimits, SaysNumber, command_line, number_in}
+
+-- the command line is simple in clap's sense
+pub command_line_is_simple : is_simple command_line ≡ true
+unfolding clap_on_literals
+command_line_is_simple = refl
+
+-- no argument of it has a rule on another
+pub command_line_is_free : is_simple_and_free command_line ≡ true
+unfolding clap_on_literals
+command_line_is_free = refl
+
+-- a number that was read of an option's text
+pub number_said : (rows : List Row) (option : Text) (least most : ℕ) (word : Text) (o : Option ℕ) → first_of option rows ≡ Some word
+    → SomeIff o (IsNumberIn least most word) (number_in word) → IfSome o (λ n. SaysNumber rows option least most n)
+number_said rows option least most word None e h = tt
+number_said rows option least most word (Some n) e h =
+    subst (λ (o : Option Text). IsSomeAnd o (λ w. IsNumberIn least most w × (number_in w ≡ n))) (sym e) (h.0, sym h.1)
+
+pub firsts : {X Y Z : Type 0} (f : X → Y × Z) (o : Option X) → option_map (λ p. p.0) (option_map f o) ≡ option_map (λ x. (f x).0) o
+firsts f None = refl
+firsts f (Some x) = refl
+
+-- a pair by its parts
+pub paired : (o : Option (Text × List Row)) (name : Text) (rows : List Row) → option_map (λ p. p.0) o ≡ Some name → option_map (λ p. p.1) o ≡ Some rows → o ≡ Some (name, rows)
+paired None name rows e f = cc
+paired (Some p) name rows e f = ap₂ (λ (a : Text) (b : List Row). Some (a, b)) (ap (λ (o : Option Text). unwrap_or o p.0) e) (ap (λ (o : Option (List Row)). unwrap_or o p.1) f)
+
+-- the rows of `play`, where clap met it
+pub play_met : (m : ArgMatches) (a : App) (words : List Text) (rows : List Row) → a ≡ command_line → HasMatchesOf a words m → subcommand_name_of m ≡ Some (codes "play")
+    → option_map (λ p. p.1) (subcommand_rows_of m) ≡ Some rows → subcommand_of command_line words ≡ Some (codes "play", rows)
+play_met m a words rows line_is has name rows_are =
+    ap (λ (b : App). subcommand_of b words) (sym line_is) ∙ sym (has (ap is_simple line_is ∙ command_line_is_simple)).1 ∙ paired (subcommand_rows_of m) (codes "play") rows (firsts _ _ ∙ name) rows_are
+
+-- an option without a text says no number
+pub none_said : (rows : List Row) (option : Text) (least most : ℕ) → first_of option rows ≡ None → (n : ℕ) → SaysNumber rows option least most n → ⊥
+none_said rows option least most e n h = subst (λ (o : Option Text). IsSomeAnd o (λ w. IsNumberIn least most w × (number_in w ≡ n))) e h
+
+-- neither does one whose text is no number in the range
+pub number_not_said : (rows : List Row) (option : Text) (least most : ℕ) (word : Text) (o : Option ℕ) → first_of option rows ≡ Some word
+    → SomeIff o (IsNumberIn least most word) (number_in word) → IfNone o ((n : ℕ) → SaysNumber rows option least most n → ⊥)
+number_not_said rows option least most word None e h =
+    λ n said. h (subst (λ (o : Option Text). IsSomeAnd o (λ w. IsNumberIn least most w × (number_in w ≡ n))) e said).0
+number_not_said rows option least most word (Some n) e h = tt
+
+-- the rows that words ask to play by are those that clap finds
+same_rows : (words : List Text) (rows : List Row) (story : Text) (l : Limits) (h : AsksToPlay words story l) → subcommand_of command_line words ≡ Some (codes "play", rows) → h.rows ≡ rows
+same_rows words rows story l h e = ap (λ (o : Option (Text × List Row)). unwrap_or (option_map (λ p. p.1) o) rows) (sym h.command ∙ e)
+
+pub no_story : (words : List Text) (rows : List Row) → subcommand_of command_line words ≡ Some (codes "play", rows) → first_of (codes "STORY") rows ≡ None
+    → (story : Text) (l : Limits) → AsksToPlay words story l → ⊥
+no_story words rows e none story l h =
+    let path = subst (λ (r : List Row). first_of (codes "STORY") r ≡ Some story) (same_rows words rows story l h e) h.path in
+    let both : None ≡ Some story = sym none ∙ path in
+    absurd cc
+
+pub no_limits : (words : List Text) (rows : List Row) → subcommand_of command_line words ≡ Some (codes "play", rows) → ((l : Limits) → SaysLimits rows l → ⊥)
+    → (story : Text) (l : Limits) → AsksToPlay words story l → ⊥
+no_limits words rows e none story l h = none l (subst (λ (r : List Row). SaysLimits r l) (same_rows words rows story l h e) h.limits)

@@ -1,0 +1,190 @@
+// What the words of the command line ask for.
+
+ghost use Rattle.std.specs.Prelude.{◌≡◌, ◌≤◌, ℕ, IfErr, IfNone, IfOk, IfSome, OnErr, SomeIff, false, map};
+ghost use Rattle.clap.specs.Words.{app_of, found_of, kind_of, rows_of, rule_of};
+ghost use Rattle.clap.specs.declared.Command.TheViews.{out-Command as fields_of};
+ghost use Rattle.zk_vm.specs.Bounds.{AreInRange};
+ghost use Rattle.zk_vm.specs.declared.limits.Limits.{Limits};
+ghost use Rattle.zkit.specs.CommandLine.{Asks, HasLimits, IsNumberIn, IsRefusedWith, SaysLimits, SaysNumber, command_line, number_in, number_option, play_command, usage_status};
+
+use clap::error::ErrorKind;
+use clap::{Arg, ArgMatches, Command, Error};
+use std::alloc::{AllocError, Global};
+use zk_vm::limits::Limits;
+
+/// What the program is asked to do.
+#[derive(Drop)]
+pub enum Choice<'a> {
+    /// To play the story in a file, within limits.
+    Play { story: &'a str, limits: Limits },
+}
+
+/// An option that takes a number.
+fn number_option_of<'a>(alloc: Global, name: &'a str, default: &'a str, help: &'a str) -> Arg<'a>
+    ensures rule { rule_of result ≡ number_option name.entry.now default.entry.now }
+    ensures local { result.global ≡ false }
+{
+    Arg::new(alloc, name)
+        .long(name)
+        .value_name("n")
+        .default_value(default)
+        .help(help)
+}
+
+/// The command `play`.
+fn play_command_of<'a>(alloc: Global) -> Result<Command<'a>, AllocError>
+    ensures shape { IfOk result (λ c. app_of c ≡ play_command) }
+    ensures local { IfOk result (λ c. (fields_of c).has_globals ≡ false) }
+{
+    let frames = number_option_of(
+        alloc,
+        "frames",
+        "1024",
+        "The most routines that may be open at once, 1 to 65535",
+    );
+    let words = number_option_of(
+        alloc,
+        "words",
+        "16384",
+        "The most words that the open routines may hold, 0 to 65535",
+    );
+    let steps = number_option_of(
+        alloc,
+        "steps",
+        "10000000",
+        "The most instructions without reading, 1 to 1000000000",
+    );
+    let story = Arg::new(alloc, "STORY")
+        .required(true)
+        .help("The story's file, of version 3, 5 or 8");
+    Command::new(alloc, "play")
+        .about("Plays a story")
+        .after_help("Example: zkit play --steps 50000000 story.z5")
+        .arg(frames)?
+        .arg(words)?
+        .arg(steps)?
+        .arg(story)
+}
+
+/// zkit's command line.
+fn command_line_of<'a>(alloc: Global) -> Result<Command<'a>, AllocError>
+    ensures { IfOk result (λ c. app_of c ≡ command_line) }
+{
+    let play = play_command_of(alloc)?;
+    Command::new(alloc, "zkit")
+        .about("Plays Z-machine stories")
+        .version("0.1.0")
+        .after_help("Example: zkit play story.z5")
+        .subcommand_required(true)
+        .subcommand(play)
+}
+
+/// The number that a word says, if it lies in a range.
+fn number_from(word: &str, least: u32, most: u32) -> Option<u32>
+    ensures { SomeIff result (IsNumberIn least most word.now) (number_in word.now) }
+{
+    match word.parse::<u64>() {
+        Ok(n) if n >= least as u64 && n <= most as u64 => Some(n as u32),
+        _ => None,
+    }
+}
+
+/// The number of an option, if it lies in a range.
+fn number_of(matches: &ArgMatches<'_>, option: &str, least: u32, most: u32) -> Option<u32>
+    ensures says { IfSome result (λ n. SaysNumber (rows_of (found_of matches.now)) option.now least most n) }
+    ensures least { IfSome result (λ n. least ≤ n) }
+    ensures most { IfSome result (λ n. n ≤ most) }
+    ensures none { IfNone result ((n : ℕ) → SaysNumber (rows_of (found_of matches.now)) option.now least most n → ⊥) }
+{
+    let Some(word) = matches.get_str(option) else {
+        return None;
+    };
+    number_from(word, least, most)
+}
+
+/// An error of the command line.
+fn usage_error(command: &mut Command<'_>, kind: ErrorKind, text: &str) -> Error
+    requires { 1 ≤ usage_status kind }
+    ensures { 1 ≤ usage_status (kind_of result) }
+{
+    match command.error(kind, text) {
+        Ok(error) => error,
+        Err(error) => Error::from(error),
+    }
+}
+
+/// The error of an option that is no number in its range.
+fn out_of_range(
+    alloc: Global,
+    command: &mut Command<'_>,
+    option: &str,
+    least: u32,
+    most: u32,
+) -> Error
+    ensures { 1 ≤ usage_status (kind_of result) }
+{
+    match format!(in alloc; "'--{option} <n>' takes a number from {least} to {most}") {
+        Ok(text) => usage_error(command, ErrorKind::ValueValidation, text.as_str()),
+        Err(error) => Error::from(error),
+    }
+}
+
+/// The limits that the options of `play` say.
+fn limits_of(
+    alloc: Global,
+    command: &mut Command<'_>,
+    play: &ArgMatches<'_>,
+) -> Result<Limits, Error>
+    ensures says { IfOk result (λ l. SaysLimits (rows_of (found_of play.now)) l) }
+    ensures in_range { IfOk result (λ l. AreInRange l) }
+    ensures mistake { IfErr result (λ e. 1 ≤ usage_status (kind_of e)) }
+    ensures says_none { OnErr result ((l : Limits) → SaysLimits (rows_of (found_of play.now)) l → ⊥) }
+{
+    let Some(frames) = number_of(play, "frames", 1, 65_535) else {
+        return Err(out_of_range(alloc, command, "frames", 1, 65_535));
+    };
+    let Some(words) = number_of(play, "words", 0, 65_535) else {
+        return Err(out_of_range(alloc, command, "words", 0, 65_535));
+    };
+    let Some(steps) = number_of(play, "steps", 1, 1_000_000_000) else {
+        return Err(out_of_range(alloc, command, "steps", 1, 1_000_000_000));
+    };
+    Ok(Limits {
+        frames: frames as u16,
+        words: words as u16,
+        undo: 16,
+        steps,
+    })
+}
+
+/// What the words ask for, the first of which is the program's name.
+pub fn choose<'a>(alloc: Global, words: &'a [&'a str]) -> Result<Choice<'a>, Error>
+    ensures asks { IfOk result (λ c. Asks (map (λ s. s.now) words.entry.now) c) }
+    ensures in_range { IfOk result (λ c. HasLimits c) }
+    ensures refused { IfErr result (λ e. IsRefusedWith (map (λ s. s.now) words.entry.now) e) }
+{
+    let mut command = command_line_of(alloc)?;
+    let matches = command.try_get_matches_from_mut(words)?;
+    let Some(play) = matches.subcommand_matches("play") else {
+        let text = "the one command is 'play'";
+        return Err(usage_error(&mut command, ErrorKind::MissingSubcommand, text));
+    };
+    let Some(story) = play.get_str("STORY") else {
+        let text = "the story's path is missing";
+        return Err(usage_error(&mut command, ErrorKind::MissingRequiredArgument, text));
+    };
+    let limits = limits_of(alloc, &mut command, play)?;
+    Ok(Choice::Play { story, limits })
+}
+
+/// The program's status after an error of the command line: 0 for help and the version, 5 for want of memory, and
+/// else 1.
+pub fn usage_status_of(error: &Error) -> u8
+    ensures { result ≡ usage_status (kind_of error.now) }
+{
+    match error.kind() {
+        ErrorKind::DisplayHelp | ErrorKind::DisplayVersion => 0,
+        ErrorKind::OutOfMemory => 5,
+        _ => 1,
+    }
+}
