@@ -1,8 +1,13 @@
 -- Worked examples of this crate's definitions. Their values come from the Standard by hand, and no definition made
 -- them.
-use Rattle.std.specs.Prelude.{◌≡◌, ℕ, List, [], ◌∷◌, ◌++◌, Some, None, Ok, Err, true, false, replicate}
-use Rattle.zk_mem.specs.declared.fault.Fault.TheVariants.{BadObject, BadProperty, BadTree}
+use Rattle.std.specs.Prelude.{◌≡◌, ℕ, Bool, List, [], ◌∷◌, ◌++◌, Some, None, Ok, Err, true, false, replicate, codes, ◌==◌, if◌then◌else◌}
+use Rattle.zk_mem.specs.declared.fault.Fault.TheVariants.{BadAddress, BadDictionary, BadObject, BadProperty, BadTree, ReadOnly}
 use Rattle.zk_mem.specs.Map.{MemoryMap}
+use Rattle.zk_tables.specs.declared.dictionary.Dictionary.{Dictionary}
+use Rattle.zk_tables.specs.declared.words.Word.{Word}
+use Rattle.zk_tables.specs.Dictionaries.{dictionary_at, found_in, separators_of}
+use Rattle.zk_tables.specs.Tokens.{tokens, token}
+use Rattle.zk_tables.specs.Parsing.{letters_of, letters_start, words_put}
 use Rattle.zk_tables.specs.Layout.{layout_of, is_entry_in, entry_of, entries}
 use Rattle.zk_tables.specs.Attributes.{attribute_at, attribute_put}
 use Rattle.zk_tables.specs.Links.{parent_of, sibling_of, child_of, link_at, link_put}
@@ -250,3 +255,77 @@ ValuesArePut =
 -- a name begins behind the count of its words, and an empty one is none (section 12.4)
 abbrev pub NamesBehindTheirCount : Type 0
 NamesBehindTheirCount = (name_of three_early 1 ≡ Ok (Some 76)) × (name_of four_late 1 ≡ Ok None) × (name_of three_early 0 ≡ Ok None)
+
+-- ---- dictionaries (sections 13.2 to 13.5)
+
+-- version 3: two separators, entries of 4 bytes, and three of them, the first two with one key
+abbrev pub three_entries : ℕ → List ℕ
+three_entries high_count =
+    2 ∷ 44 ∷ 46 ∷ 4 ∷ high_count ∷ (if high_count == 0 then 3 else 0xfd) ∷ []
+    ++ 0x64 ∷ 0xd0 ∷ 0xa8 ∷ 0xa5 ∷ 0x64 ∷ 0xd0 ∷ 0xa8 ∷ 0xa5 ∷ 0x65 ∷ 0xaa ∷ 0x80 ∷ 0xa5 ∷ []
+
+-- where its parts stand
+abbrev pub described_three : Bool → Dictionary
+described_three is_sorted = record { address = 0; separators = 2; entry_length = 4; entries = 3; is_sorted = is_sorted }
+
+-- a dictionary is its separators, the length of an entry, a signed count and the entries; a count of -3 is three
+-- entries that are not sorted (section 13.2)
+abbrev pub DictionariesAreRead : Type 0
+DictionariesAreRead =
+    (dictionary_at (memory_of 3 (three_entries 0)) 0 ≡ Ok (record { address = 0; separators = 2; entry_length = 4; entries = 3; is_sorted = true }))
+    × (dictionary_at (memory_of 3 (three_entries 0xff)) 0 ≡ Ok (record { address = 0; separators = 2; entry_length = 4; entries = 3; is_sorted = false }))
+    × (dictionary_at (memory_of 3 (7 ∷ 0 ∷ 5 ∷ 0 ∷ 0 ∷ [])) 1 ≡ Ok (record { address = 1; separators = 0; entry_length = 5; entries = 0; is_sorted = true }))
+
+-- an entry has room for a key: 4 bytes up to version 3, 6 from version 4 on; and all of it lies in data (sections 13.3
+-- and 13.4)
+abbrev pub DictionariesAreRefused : Type 0
+DictionariesAreRefused =
+    (dictionary_at (memory_of 3 (0 ∷ 3 ∷ 0 ∷ 0 ∷ [])) 0 ≡ Err BadDictionary)
+    × (dictionary_at (memory_of 4 (0 ∷ 5 ∷ 0 ∷ 0 ∷ [])) 0 ≡ Err BadDictionary)
+    × (dictionary_at (memory_of 3 (0 ∷ 4 ∷ 0 ∷ 1 ∷ 1 ∷ 2 ∷ 3 ∷ [])) 0 ≡ Err BadDictionary)
+    × (dictionary_at (memory_of 3 (0 ∷ 4 ∷ 0 ∷ [])) 0 ≡ Err BadDictionary)
+
+-- the first of two entries with one key is found, at 6; the third stands at 14; another key is not there (section 13.5)
+abbrev pub FirstEntriesAreFound : Type 0
+FirstEntriesAreFound =
+    (found_in (memory_of 3 (three_entries 0)) (described_three true) (0x64 ∷ 0xd0 ∷ 0xa8 ∷ 0xa5 ∷ []) ≡ 6)
+    × (found_in (memory_of 3 (three_entries 0xff)) (described_three false) (0x65 ∷ 0xaa ∷ 0x80 ∷ 0xa5 ∷ []) ≡ 14)
+    × (found_in (memory_of 3 (three_entries 0)) (described_three true) (0x64 ∷ 0xd0 ∷ 0xa8 ∷ 0xa6 ∷ []) ≡ 0)
+    × (separators_of (memory_of 3 (three_entries 0)) (described_three true) ≡ codes ",.")
+
+-- ---- words (sections 13.6 and 15)
+
+-- `fred,go fishing` has four words: a separator is one, and a space is none, also where it is listed (section 13.6.1)
+abbrev pub WordsOfATextAreDivided : Type 0
+WordsOfATextAreDivided =
+    (tokens (codes ",.") (codes "fred,go fishing") ≡ token 0 4 ∷ token 4 1 ∷ token 5 2 ∷ token 8 7 ∷ [])
+    × (tokens (codes " ,") (codes " a  ,,b ") ≡ token 1 1 ∷ token 4 1 ∷ token 5 1 ∷ token 6 1 ∷ [])
+    × (tokens (codes ",") (codes "") ≡ [])
+
+-- up to version 4 the letters of a text buffer begin at byte 1 and end before a zero, from version 5 on byte 1 counts
+-- them and they begin at byte 2 (section 15, `read`)
+abbrev pub LettersByVersion : Type 0
+LettersByVersion =
+    (letters_of (memory_of 3 (9 ∷ 97 ∷ 98 ∷ 0 ∷ 99 ∷ [])) 0 ≡ Ok (codes "ab"))
+    × (letters_of (memory_of 4 (9 ∷ 0 ∷ [])) 0 ≡ Ok [])
+    × (letters_of (memory_of 5 (9 ∷ 2 ∷ 98 ∷ 0 ∷ 99 ∷ [])) 0 ≡ Ok (98 ∷ 0 ∷ []))
+    × (letters_of (memory_of 5 (9 ∷ 4 ∷ 98 ∷ 0 ∷ 99 ∷ [])) 0 ≡ Err BadAddress)
+    × (letters_of (memory_of 3 (9 ∷ 97 ∷ 98 ∷ [])) 0 ≡ Err BadAddress)
+
+-- a word of a parse buffer
+abbrev pub word : ℕ → ℕ → ℕ → Word
+word entry length position = record { entry = entry; length = length; position = position }
+
+-- a parse buffer: its room, how many words there are, and four bytes for each: the entry or 0, the length, the place in
+-- the text buffer, which counts from its byte 0 (section 15, `read`)
+abbrev pub WordsAreStored : Type 0
+WordsAreStored =
+    (words_put (memory_of 3 (1 ∷ 9 ∷ 9 ∷ 9 ∷ 9 ∷ 9 ∷ 9 ∷ [])) 0 false (word 0x0102 3 4 ∷ word 5 6 7 ∷ []) ≡ Ok (memory_of 3 (1 ∷ 1 ∷ 1 ∷ 2 ∷ 3 ∷ 4 ∷ 9 ∷ [])))
+    × (words_put (memory_of 3 (2 ∷ 9 ∷ 9 ∷ 9 ∷ 9 ∷ 9 ∷ [])) 0 true (word 0 3 4 ∷ []) ≡ Ok (memory_of 3 (2 ∷ 1 ∷ 9 ∷ 9 ∷ 9 ∷ 9 ∷ [])))
+    × (words_put (memory_of 3 (2 ∷ 9 ∷ 9 ∷ 9 ∷ 9 ∷ 9 ∷ [])) 0 false (word 0 3 4 ∷ []) ≡ Ok (memory_of 3 (2 ∷ 1 ∷ 0 ∷ 0 ∷ 3 ∷ 4 ∷ [])))
+    × (words_put (memory_of 3 (2 ∷ 9 ∷ 9 ∷ 9 ∷ 9 ∷ [])) 0 false (word 0 3 4 ∷ []) ≡ Err BadAddress)
+
+-- the word at place 0 of the letters has position 1 in version 3, and 2 in version 5 (section 15, `read`)
+abbrev pub PositionsByVersion : Type 0
+PositionsByVersion =
+    (letters_start 3 ≡ 1) × (letters_start 4 ≡ 1) × (letters_start 5 ≡ 2) × (letters_start 8 ≡ 2)

@@ -1,6 +1,6 @@
 // Worked examples of the definitions, which refuse one that is turned together with its body.
 
-ghost use Rattle.zk_tables.specs.Examples.{EarlyEntriesHaveNineBytes, LateEntriesHaveFourteenBytes, EarlyObjectsAreBytes, EarlyAttributesFromTheTopBit, AttributesByVersion, AttributesAreGivenAndTaken, ObjectZeroHasNoAttributes, EarlyLinksAreBytes, LateLinksAreWords, ObjectZeroHasNoLinks, ChildrenFollowSiblings, RemovesOneChild, InsertsAsFirstChild, ObjectZeroStaysOut, DefaultsCountFromOne, ValuesOfProperties, AddressesOfProperties, NumbersFollow, LengthsBeforeTheData, ValuesArePut, NamesBehindTheirCount};
+ghost use Rattle.zk_tables.specs.Examples.{DictionariesAreRead, DictionariesAreRefused, FirstEntriesAreFound, WordsOfATextAreDivided, LettersByVersion, WordsAreStored, PositionsByVersion, EarlyEntriesHaveNineBytes, LateEntriesHaveFourteenBytes, EarlyObjectsAreBytes, EarlyAttributesFromTheTopBit, AttributesByVersion, AttributesAreGivenAndTaken, ObjectZeroHasNoAttributes, EarlyLinksAreBytes, LateLinksAreWords, ObjectZeroHasNoLinks, ChildrenFollowSiblings, RemovesOneChild, InsertsAsFirstChild, ObjectZeroStaysOut, DefaultsCountFromOne, ValuesOfProperties, AddressesOfProperties, NumbersFollow, LengthsBeforeTheData, ValuesArePut, NamesBehindTheirCount};
 
 /// The entries of objects, by version (Standard, sections 12.2 and 12.3).
 #[tactic(auto, unfolding(crate::specs::Layout::layout_of, crate::specs::Layout::is_entry_in, crate::specs::Layout::is_entry, crate::specs::Layout::entry_of, crate::specs::Layout::entries_in, crate::specs::Layout::entries, zk_mem::specs::Header::header_of, zk_mem::specs::Header::unit_length, zk_mem::specs::Map::byte_at, zk_mem::specs::Map::word_at, zk_mem::specs::Map::byte_put, zk_mem::specs::Map::word_put, zk_mem::specs::Map::cell_at, zk_mem::specs::Map::code_word_at))]
@@ -46,4 +46,21 @@ pub fn properties_by_example()
     ensures lengths_before_the_data { LengthsBeforeTheData }
     ensures values_are_put { ValuesArePut }
     ensures names_behind_their_count { NamesBehindTheirCount }
+{}
+
+/// Dictionaries and look-ups (Standard, sections 13.2 to 13.5).
+#[tactic(auto, unfolding(crate::specs::Dictionaries::dictionary_byte, crate::specs::Dictionaries::dictionary_word, crate::specs::Dictionaries::dictionary_by, crate::specs::Dictionaries::dictionary_at, crate::specs::Dictionaries::bytes_from, crate::specs::Dictionaries::separators_of, crate::specs::Dictionaries::begins_with, crate::specs::Dictionaries::has_key, crate::specs::Dictionaries::found_from, crate::specs::Dictionaries::found_in, zk_mem::specs::Map::byte_at, zk_mem::specs::Map::word_at))]
+pub fn dictionaries_by_example()
+    ensures dictionaries_are_read { DictionariesAreRead }
+    ensures dictionaries_are_refused { DictionariesAreRefused }
+    ensures first_entries_are_found { FirstEntriesAreFound }
+{}
+
+/// The words of a text, and a parse buffer (Standard, sections 13.6 and 15).
+#[tactic(auto, unfolding(crate::specs::Tokens::is_separator, crate::specs::Tokens::is_letter, crate::specs::Tokens::run, crate::specs::Tokens::token_here, crate::specs::Tokens::tokens_from, crate::specs::Tokens::tokens, crate::specs::Parsing::letters_counted, crate::specs::Parsing::letters_to_zero, crate::specs::Parsing::letters_of, crate::specs::Parsing::block_put, crate::specs::Parsing::blocks_put, crate::specs::Parsing::words_put, zk_mem::specs::Map::byte_at, zk_mem::specs::Map::word_at, zk_mem::specs::Map::byte_put, zk_mem::specs::Map::word_put))]
+pub fn words_by_example()
+    ensures words_are_divided { WordsOfATextAreDivided }
+    ensures letters_by_version { LettersByVersion }
+    ensures words_are_stored { WordsAreStored }
+    ensures positions_by_version { PositionsByVersion }
 {}
