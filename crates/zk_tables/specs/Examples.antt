@@ -1,7 +1,7 @@
 -- Worked examples of this crate's definitions. Their values come from the Standard by hand, and no definition made
 -- them.
 use Rattle.std.specs.Prelude.{◌≡◌, ℕ, List, [], ◌∷◌, ◌++◌, Some, None, Ok, Err, true, false, replicate}
-use Rattle.zk_mem.specs.declared.fault.Fault.TheVariants.{BadObject, BadProperty, BadTree}
+use Rattle.zk_mem.specs.declared.fault.Fault.TheVariants.{BadObject, BadProperty, BadTree, ReadOnly}
 use Rattle.zk_mem.specs.Map.{MemoryMap}
 use Rattle.zk_tables.specs.Layout.{layout_of, is_entry_in, entry_of, entries}
 use Rattle.zk_tables.specs.Attributes.{attribute_at, attribute_put}
@@ -250,3 +250,17 @@ ValuesArePut =
 -- a name begins behind the count of its words, and an empty one is none (section 12.4)
 abbrev pub NamesBehindTheirCount : Type 0
 NamesBehindTheirCount = (name_of three_early 1 ≡ Ok (Some 76)) × (name_of four_late 1 ≡ Ok None) × (name_of three_early 0 ≡ Ok None)
+
+-- the same memory with all of it static from an address on
+abbrev pub static_from : ℕ → MemoryMap → MemoryMap
+static_from base m = record m { static_base = base }
+
+-- what stands below the static base changes, and what does not is refused (section 1.1.1): attributes at 66, links at
+-- 70 to 72, and a property at 79
+abbrev pub StaticObjectsStay : Type 0
+StaticObjectsStay =
+    (attribute_put (static_from 66 (early_attributes (0 ∷ 0 ∷ 0 ∷ 0 ∷ []))) 1 0 true ≡ Err ReadOnly)
+    × (attribute_put (static_from 67 (early_attributes (0 ∷ 0 ∷ 0 ∷ 0 ∷ []))) 1 0 true ≡ Ok (static_from 67 (early_attributes (0x80 ∷ 0 ∷ 0 ∷ 0 ∷ []))))
+    × (link_put (static_from 71 (early_links (7 ∷ 8 ∷ 9 ∷ []))) (sibling_of 1) 5 ≡ Err ReadOnly)
+    × (removed (static_from 80 family) 2 ≡ Err ReadOnly)
+    × (property_put (static_from 79 three_early) 1 5 0x1234 ≡ Err ReadOnly)
