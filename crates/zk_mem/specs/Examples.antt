@@ -1,6 +1,6 @@
 -- Worked examples of this crate's definitions. Their values come from the Standard by hand, and no definition made
 -- them.
-use Rattle.std.specs.Prelude.{◌≡◌, ℕ, List, [], ◌∷◌, ◌++◌, length, Some, None, Ok, Err, true, false, replicate}
+use Rattle.std.specs.Prelude.{◌≡◌, ℕ, List, [], ◌∷◌, ◌++◌, length, Some, None, Ok, Err, true, false, replicate, slice_index}
 use Rattle.zk_mem.specs.declared.fault.Fault.TheVariants.{CodePastEnd, BadOpcode, MissingOperand, StackEmpty, NoSuchLocal, BadAddress, ReadOnly, DivisionByZero, BadObject, BadProperty, BadTree, TextPastEnd, NestedAbbreviation, StreamDepth, BadFrame, ReturnFromMain, BadTarget, BadDictionary}
 use Rattle.zk_mem.specs.declared.story.OpenError.TheVariants.{TooShort, Version, TooLong, StaticBase, FirstInstruction, OutOfMemory}
 use Rattle.zk_mem.specs.Faults.{fault_number}
@@ -107,6 +107,11 @@ DataEndsAt65536 = (m : MemoryMap) → length m.bytes ≡ 70000 → readable_end 
 -- of 1,000 bytes it is read below 1,000 (section 1.1)
 abbrev pub DataEndsWithTheStory : Type 0
 DataEndsWithTheStory = (m : MemoryMap) → length m.bytes ≡ 1000 → readable_end m ≡ 1000
+
+-- a word at 65,535 has its second byte past the end of data, a choice of zkit; the byte there is read (section 1.1)
+abbrev pub WordAt65535IsOutside : Type 0
+WordAt65535IsOutside = (m : MemoryMap) → length m.bytes ≡ 70000 →
+    (word_at m 65535 ≡ Err BadAddress) × (byte_at m 65536 ≡ Err BadAddress) × (byte_at m 65535 ≡ Ok (slice_index m.bytes 65535))
 
 -- ---- texts (section 3.2)
 

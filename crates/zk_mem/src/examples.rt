@@ -1,6 +1,6 @@
 // Worked examples of the definitions, which refuse one that is turned together with its body.
 
-ghost use Rattle.zk_mem.specs.Examples.{FieldsStand, LateFields, PackedByVersion, DataIsRead, CodeIsRead, BytesArePut, WordsArePut, DataEndsAt65536, DataEndsWithTheStory, TextsEndAtTheMark, TextsHaveAnEnd, GreatestLengths, StoriesAreOpened, ReasonsInOrder, RefusalsHaveNumbers, FaultsHaveNumbers, FieldsOfVersion3, FieldsOfVersion3SetABit, FieldsOfVersion4, FieldsOfVersion5, FieldsOfVersion8, MemoryStartsSo};
+ghost use Rattle.zk_mem.specs.Examples.{FieldsStand, LateFields, PackedByVersion, DataIsRead, CodeIsRead, BytesArePut, WordsArePut, DataEndsAt65536, DataEndsWithTheStory, WordAt65535IsOutside, TextsEndAtTheMark, TextsHaveAnEnd, GreatestLengths, StoriesAreOpened, ReasonsInOrder, RefusalsHaveNumbers, FaultsHaveNumbers, FieldsOfVersion3, FieldsOfVersion3SetABit, FieldsOfVersion4, FieldsOfVersion5, FieldsOfVersion8, MemoryStartsSo};
 
 /// The header, and packed addresses (Standard, sections 1.2.3 and 11.1).
 #[tactic(auto, unfolding(crate::specs::Header::header_of, crate::specs::Header::unit_length))]
@@ -19,6 +19,7 @@ pub fn data_by_example()
     ensures words_are_put { WordsArePut }
     ensures data_ends_at65536 { DataEndsAt65536 }
     ensures data_ends_with_the_story { DataEndsWithTheStory }
+    ensures word_at65535_is_outside { WordAt65535IsOutside }
 {}
 
 /// The words of a text and its end (Standard, section 3.2).

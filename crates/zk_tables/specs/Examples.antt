@@ -256,6 +256,20 @@ ValuesArePut =
 abbrev pub NamesBehindTheirCount : Type 0
 NamesBehindTheirCount = (name_of three_early 1 ≡ Ok (Some 76)) × (name_of four_late 1 ≡ Ok None) × (name_of three_early 0 ≡ Ok None)
 
+-- the same memory with all of it static from an address on
+abbrev pub static_from : ℕ → MemoryMap → MemoryMap
+static_from base m = record m { static_base = base }
+
+-- what stands below the static base changes, and what does not is refused (section 1.1.1): attributes at 66, links at
+-- 70 to 72, and a property at 79
+abbrev pub StaticObjectsStay : Type 0
+StaticObjectsStay =
+    (attribute_put (static_from 66 (early_attributes (0 ∷ 0 ∷ 0 ∷ 0 ∷ []))) 1 0 true ≡ Err ReadOnly)
+    × (attribute_put (static_from 67 (early_attributes (0 ∷ 0 ∷ 0 ∷ 0 ∷ []))) 1 0 true ≡ Ok (static_from 67 (early_attributes (0x80 ∷ 0 ∷ 0 ∷ 0 ∷ []))))
+    × (link_put (static_from 71 (early_links (7 ∷ 8 ∷ 9 ∷ []))) (sibling_of 1) 5 ≡ Err ReadOnly)
+    × (removed (static_from 80 family) 2 ≡ Err ReadOnly)
+    × (property_put (static_from 79 three_early) 1 5 0x1234 ≡ Err ReadOnly)
+
 -- ---- dictionaries (sections 13.2 to 13.5)
 
 -- version 3: two separators, entries of 4 bytes, and three of them, the first two with one key

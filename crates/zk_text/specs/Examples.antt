@@ -181,3 +181,9 @@ KeysOfSigns =
     (key_of (memory_of 5 []) (codes "x1") ≡ 0x74 ∷ 0xa9 ∷ 0x14 ∷ 0xa5 ∷ 0x94 ∷ 0xa5 ∷ [])
     × (key_of (memory_of 3 []) (codes "@") ≡ 0x14 ∷ 0xc2 ∷ 0x80 ∷ 0xa5 ∷ [])
     × (key_of (memory_of 3 []) (codes "a b") ≡ 0x18 ∷ 0x07 ∷ 0x94 ∷ 0xa5 ∷ [])
+
+-- a capital is 4 and its place in A1, and a spelling is cut off where the key is full: "A" and "abcde@" (section 3.7)
+abbrev pub KeysAreCut : Type 0
+KeysAreCut =
+    (key_of (memory_of 3 []) (codes "A") ≡ 0x10 ∷ 0xc5 ∷ 0x94 ∷ 0xa5 ∷ [])
+    × (key_of (memory_of 3 []) (codes "abcde@") ≡ 0x18 ∷ 0xe8 ∷ 0xa5 ∷ 0x45 ∷ [])

@@ -1,6 +1,6 @@
 // Worked examples of the definitions, which refuse one that is turned together with its body.
 
-ghost use Rattle.zk_text.specs.Examples.{StandardLetters, OwnLetters, ThreeToAWord, ShiftsLastOneLetter, CodesOfTenBits, AbbreviationsByThirtyTwo, TextsMean, AbbreviationsExpand, CharactersOfCodes, CodesOfCharacters, LowerCase, OwnCharacters, UnitsShow, EarlyKeys, LateKeys, KeysOfSigns};
+ghost use Rattle.zk_text.specs.Examples.{StandardLetters, OwnLetters, ThreeToAWord, ShiftsLastOneLetter, CodesOfTenBits, AbbreviationsByThirtyTwo, TextsMean, AbbreviationsExpand, CharactersOfCodes, CodesOfCharacters, LowerCase, OwnCharacters, UnitsShow, EarlyKeys, LateKeys, KeysOfSigns, KeysAreCut};
 
 /// The letters of the alphabets (Standard, sections 3.2 and 3.5).
 #[tactic(auto, unfolding(crate::specs::Alphabets::alphabet_table, crate::specs::Alphabets::letter_by, crate::specs::Standard::standard_letters, crate::specs::Standard::standard_characters, crate::specs::Standard::ascii_capitals, crate::specs::Standard::extra_capitals, zk_mem::specs::Header::header_of, zk_mem::specs::Header::unit_length))]
@@ -41,4 +41,5 @@ pub fn keys_by_example()
     ensures early_keys { EarlyKeys }
     ensures late_keys { LateKeys }
     ensures keys_of_signs { KeysOfSigns }
+    ensures keys_are_cut { KeysAreCut }
 {}

@@ -55,6 +55,13 @@ FramesAreLimited =
     (outcome_of (begun (story_of (0x8f ∷ 0 ∷ 17 ∷ 0xba ∷ 0 ∷ 0x8f ∷ 0 ∷ 17 ∷ [])) (limits_of 2 9 10)) ≡ stops (Limit 69 Frames) [])
     × (outcome_of (begun (story_of (0x8f ∷ 0 ∷ 17 ∷ 0xba ∷ 0 ∷ 0xb0 ∷ [])) (limits_of 2 9 10)) ≡ stops Quit [])
 
+-- `call_1s` at 64 of the routine at 72, packed address 18, whose `print_ret` at 73 gives 1 to the stack: where no word
+-- may be, it shows nothing, and where one may be, it shows "abc" and a new line (section 15, `print_ret`)
+abbrev pub RefusedStepsShowNothing : Type 0
+RefusedStepsShowNothing =
+    (outcome_of (begun (story_of (0x88 ∷ 0 ∷ 18 ∷ 0 ∷ 0xba ∷ 0 ∷ 0 ∷ 0 ∷ 0 ∷ 0xb3 ∷ 0x98 ∷ 0xe8 ∷ [])) (limits_of 2 0 10)) ≡ stops (Limit 73 Words) [])
+    × (outcome_of (begun (story_of (0x88 ∷ 0 ∷ 18 ∷ 0 ∷ 0xba ∷ 0 ∷ 0 ∷ 0 ∷ 0 ∷ 0xb3 ∷ 0x98 ∷ 0xe8 ∷ [])) (limits_of 2 1 10)) ≡ stops Quit (codes "abc" ++ 10 ∷ []))
+
 -- `jl` of 1 and 2 at 64 branches on true over the `quit` at 68 to the text at 69, and not on false (section 4.7)
 abbrev pub BranchesLead : Type 0
 BranchesLead =
