@@ -11,6 +11,7 @@ use std::alloc::Global;
 use std::env;
 use std::fs::File;
 use std::io::Read;
+use std::mem::forget;
 use std::process::ExitCode;
 use turning::turn_to;
 use zk_mem::story::Story;
@@ -78,7 +79,9 @@ fn play_story(alloc: Global, bytes: &[u8], words: u32, steps: u32) -> anyhow::Re
                 &mut NoSlot,
                 &mut machine,
             );
-            report(&stop, &mut line)
+            let status = report(&stop, &mut line);
+            forget(machine); // to drop many bytes one by one takes long
+            status
         }
     };
     Ok(Ending {
@@ -88,13 +91,18 @@ fn play_story(alloc: Global, bytes: &[u8], words: u32, steps: u32) -> anyhow::Re
     })
 }
 
-/// Plays the stories of a bundle, and answers whether all agree.
+/// Plays the stories in a file, and answers whether all agree.
 fn play_bundle(rt: HostRuntime, path: &str) -> anyhow::Result<bool> {
     let mut bundle = Vec::new(rt.alloc());
     File::open(&rt, path)?.read_to_end(&mut bundle)?;
-    let mut parts = Parts {
-        rest: bundle.as_slice(),
-    };
+    let agree = play_parts(rt, bundle.as_slice());
+    forget(bundle);
+    agree
+}
+
+/// Plays stories up to the first that does not agree, and names it.
+fn play_parts(rt: HostRuntime, bundle: &[u8]) -> anyhow::Result<bool> {
+    let mut parts = Parts { rest: bundle };
     while !parts.rest.is_empty() {
         let name = parts.text();
         let story = parts.text();

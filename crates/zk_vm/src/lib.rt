@@ -10,3 +10,5 @@ pub mod screen;
 pub mod slot;
 mod step;
 pub mod stop;
+#[cfg(test)]
+mod tests;
