@@ -22,6 +22,7 @@ use zk_vm::machine::{Machine, play};
 use zk_vm::slot::NoSlot;
 use zk_vm::stop::View;
 use zkit::report::{refuse, report};
+use zkit::words::play_words;
 
 /// What a story showed, the status that it ended with, and the last line.
 #[derive(Drop)]
@@ -58,13 +59,21 @@ impl<'a> Parts<'a> {
     }
 }
 
-fn play_story(alloc: Global, bytes: &[u8], words: u32, steps: u32) -> anyhow::Result<Ending> {
-    let limits = Limits {
-        frames: 1024,
-        words: words as u16,
-        undo: 16,
-        steps,
-    };
+/// The limits of `zkit play`, but for the words and steps that are given, where they are not 0.
+fn limits(alloc: Global, words: u32, steps: u32) -> anyhow::Result<Limits> {
+    let mut line = Vec::new(alloc);
+    for word in ["zkit", "play", "story"] {
+        line.push(String::from_str(alloc, word)?)?;
+    }
+    let limits = play_words(line.as_slice()).unwrap().limits();
+    Ok(Limits {
+        words: if words == 0 { limits.words } else { words as u16 },
+        steps: if steps == 0 { limits.steps } else { steps },
+        ..limits
+    })
+}
+
+fn play_story(alloc: Global, bytes: &[u8], limits: Limits) -> anyhow::Result<Ending> {
     let mut line = Vec::new(alloc);
     let mut screen = Over::new(Vec::new(alloc));
     let status = match Story::open(alloc, bytes) {
@@ -106,12 +115,11 @@ fn play_parts(rt: HostRuntime, bundle: &[u8]) -> anyhow::Result<bool> {
     while !parts.rest.is_empty() {
         let name = parts.text();
         let story = parts.text();
-        let words = parts.number();
-        let steps = parts.number();
+        let limits = limits(rt.alloc(), parts.number(), parts.number())?;
         let screen = parts.text();
         let status = parts.number();
         let line = parts.text();
-        let came = play_story(rt.alloc(), story, words, steps)?;
+        let came = play_story(rt.alloc(), story, limits)?;
         if came.shown.as_slice() != screen
             || came.status != status
             || came.line.as_slice() != line
