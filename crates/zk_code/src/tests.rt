@@ -3,7 +3,7 @@
 use crate::branch::{Branch, Target, jump_target};
 use crate::decode::decode;
 use crate::instr::Instr;
-use crate::opcode::name;
+use crate::opcode::{Call, Opcode, name};
 use crate::operands::Operand::{self, Large, Small, Variable};
 use std::alloc::Global;
 use std::mem::size_of;
@@ -591,4 +591,23 @@ fn small_types(rt: HostRuntime) {
     assert_eq!(rt; Large(0x1234).constant(), Some(0x1234));
     assert_eq!(rt; Small(200).constant(), Some(200));
     assert_eq!(rt; Variable(3).constant(), None);
+}
+
+#[test]
+fn operands_are_counted_from_0(rt: HostRuntime) -> Result<(), Fail> {
+    // add 5 6 -> sp
+    let memory = story(rt.alloc(), 5, &[0x14, 5, 6, 0])?;
+    match decode(&memory, 0x40) {
+        Ok(i) => {
+            assert_eq!(rt; i.operands.get(0), Some(Small(5)));
+            assert_eq!(rt; i.operands.get(1), Some(Small(6)));
+            assert_eq!(rt; i.operands.get(2), None);
+        }
+        Err(fault) => assert!(rt; false, "{fault:?}"),
+    }
+    assert_eq!(rt; Operand::default(), Small(0));
+    let call = Opcode::Call(Call::CallVs);
+    assert_eq!(rt; name(call, 3), "call");
+    assert_eq!(rt; name(call, 4), "call_vs");
+    Ok(())
 }

@@ -3,7 +3,7 @@
 use crate::fault::Fault;
 use crate::header::unpack;
 use crate::memory::{Memory, Setup};
-use crate::story::Story;
+use crate::story::{OpenError, Story};
 use std::alloc::Global;
 use std::process::Abort;
 use std::test::Fail;
@@ -101,4 +101,63 @@ fn packed_addresses(rt: HostRuntime) {
     for (version, address) in [(3, 0x1fffe), (4, 0x3fffc), (5, 0x3fffc), (8, 0x7fff8)] {
         assert_eq!(rt; unpack(version, 0xffff), address);
     }
+}
+
+/// A story of 4096 bytes whose header's bytes are their addresses, but for the version.
+fn counted_header(alloc: Global, version: u8) -> Result<Memory, Fail> {
+    let mut bytes = vec![in alloc; 0u8; 4096]?;
+    for address in 1..64u8 {
+        bytes[address as usize] = address;
+    }
+    bytes[0] = version;
+    let story = Story::open(alloc, bytes.as_slice())?;
+    Ok(Memory::start(alloc, story, Setup { undo_states: 0 })?)
+}
+
+#[test]
+fn header_fields_stand_where_they_should(rt: HostRuntime) -> Result<(), Fail> {
+    let header = counted_header(rt.alloc(), 5)?.header();
+    assert_eq!(rt; (header.version, header.flags_1), (5, 1));
+    assert_eq!(rt; header.release, 0x0203);
+    assert_eq!(rt; header.high_memory, 0x0405);
+    assert_eq!(rt; header.first_instruction, 0x0607);
+    assert_eq!(rt; header.dictionary, 0x0809);
+    assert_eq!(rt; header.objects, 0x0a0b);
+    assert_eq!(rt; header.globals, 0x0c0d);
+    assert_eq!(rt; header.static_base, 0x0e0f);
+    assert_eq!(rt; header.flags_2, 0x1011);
+    assert_eq!(rt; header.serial, [0x12, 0x13, 0x14, 0x15, 0x16, 0x17]);
+    assert_eq!(rt; header.abbreviations, 0x1819);
+    assert_eq!(rt; header.file_length, 0x1a1b);
+    assert_eq!(rt; header.checksum, 0x1c1d);
+    assert_eq!(rt; header.terminating_characters, 0x2e2f);
+    assert_eq!(rt; header.alphabet, 0x3435);
+    assert_eq!(rt; header.extension, 0x3637);
+    let header = counted_header(rt.alloc(), 3)?.header();
+    assert_eq!(rt; header.terminating_characters, 0);
+    assert_eq!(rt; (header.alphabet, header.extension), (0, 0));
+    Ok(())
+}
+
+#[test]
+fn data_ends_at_65536(rt: HostRuntime) -> Result<(), Fail> {
+    let mut bytes = vec![in rt.alloc(); 1u8; 65_544]?;
+    bytes[0] = 3;
+    let story = Story::open(rt.alloc(), bytes.as_slice())?;
+    let memory = Memory::start(rt.alloc(), story, Setup { undo_states: 0 })?;
+    assert_eq!(rt; memory.byte(65_535), Ok(1));
+    assert_eq!(rt; memory.byte(65_536), Err(Fault::BadAddress));
+    assert_eq!(rt; memory.word(65_534), Ok(0x0101));
+    assert_eq!(rt; memory.word(65_535), Err(Fault::BadAddress));
+    assert_eq!(rt; memory.cell(65_536), Some(1));
+    assert_eq!(rt; memory.len(), 65_544);
+    Ok(())
+}
+
+// The numbers that no story shows yet.
+#[test]
+fn faults_have_numbers(rt: HostRuntime) {
+    assert_eq!(rt; Fault::StreamDepth.number(), 14);
+    assert_eq!(rt; Fault::BadDictionary.number(), 18);
+    assert_eq!(rt; OpenError::OutOfMemory.number(), 6);
 }

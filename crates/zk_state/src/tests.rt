@@ -141,3 +141,49 @@ fn limits_and_faults_are_named(rt: HostRuntime) -> Result<(), Fail> {
     }
     Ok(())
 }
+
+#[test]
+fn returns_are_checked(rt: HostRuntime) -> Result<(), Fail> {
+    let mut frames = Frames::new(rt.alloc(), 3, 3)?;
+    assert_eq!(rt;
+        frames.check_return(),
+        Err(Refusal::Fault(Fault::ReturnFromMain))
+    );
+    assert_eq!(rt; frames.call(&[1], 66, Some(1), 0), Ok(()));
+    // the first frame has no local variable
+    assert_eq!(rt;
+        frames.check_return(),
+        Err(Refusal::Fault(Fault::NoSuchLocal))
+    );
+    for (variable, checked) in [
+        (None, Ok(None)),
+        (Some(0), Ok(Some(0))),
+        (Some(1), Ok(Some(1))),
+        (Some(2), Err(Refusal::Fault(Fault::NoSuchLocal))),
+        (Some(15), Err(Refusal::Fault(Fault::NoSuchLocal))),
+        (Some(16), Ok(Some(16))),
+    ] {
+        assert_eq!(rt; frames.call(&[5, 6], 70, variable, 0), Ok(()));
+        assert_eq!(rt; frames.check_return(), checked, "{variable:?}");
+        let _ = frames.leave();
+    }
+    for word in [2, 3] {
+        assert_eq!(rt; frames.push(word), Ok(()));
+    }
+    // all words are taken
+    assert_eq!(rt; frames.call(&[], 74, Some(0), 0), Ok(()));
+    assert_eq!(rt; frames.check_return(), Err(Refusal::Limit(Limit::Words)));
+    Ok(())
+}
+
+#[test]
+fn limits_have_numbers(rt: HostRuntime) {
+    for (limit, number) in [
+        (Limit::Frames, 1),
+        (Limit::Words, 2),
+        (Limit::Steps, 3),
+        (Limit::Reads, 4),
+    ] {
+        assert_eq!(rt; limit.number(), number);
+    }
+}

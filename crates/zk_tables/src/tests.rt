@@ -61,6 +61,13 @@ fn refuses_changes(rt: HostRuntime) -> Result<(), Fail> {
     let before = story(rt.alloc(), 3, 0x84, &TREE)?;
     assert_eq!(rt; insert(&mut memory, 2, 3), Err(Fault::ReadOnly));
     assert!(rt; is_same(&memory, &before));
+    // the last of the links that an insertion writes is the child of object 2
+    for (version, static_base) in [(3, 0x87), (5, 0xd7)] {
+        let mut memory = story(rt.alloc(), version, static_base, &[])?;
+        let before = story(rt.alloc(), version, static_base, &[])?;
+        assert_eq!(rt; insert(&mut memory, 1, 2), Err(Fault::ReadOnly));
+        assert!(rt; is_same(&memory, &before));
+    }
     let repeats = [(0x84, 3), (0x95, 4), (0x9e, 3), (0xa6, 1)];
     let mut memory = story(rt.alloc(), 3, 0xff, &repeats)?;
     let before = story(rt.alloc(), 3, 0xff, &repeats)?;

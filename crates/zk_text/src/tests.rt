@@ -268,3 +268,13 @@ fn shows_units(rt: HostRuntime) -> Result<(), Fail> {
     }
     Ok(())
 }
+
+#[test]
+fn finds_the_first_place_of_a_letter(rt: HostRuntime) -> Result<(), Fail> {
+    let memory = memory_of(rt.alloc(), &[(0, 5), (0x35, 0x40)], &[b'a'; 78])?;
+    assert_eq!(rt;
+        key(&memory, b"a").as_slice(),
+        [0x18, 0xa5, 0x14, 0xa5, 0x94, 0xa5].as_slice()
+    );
+    Ok(())
+}

@@ -11,3 +11,5 @@ pub mod screen;
 pub mod slot;
 mod step;
 pub mod stop;
+#[cfg(test)]
+mod tests;
