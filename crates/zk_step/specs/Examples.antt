@@ -331,7 +331,7 @@ PopsAndPushes =
 
 -- ---- routines (sections 5, 6.3, 6.4 and 15)
 
--- five bytes from address 4 on: a routine of two local variables, with the words 0x0102 and 0x0304
+-- from address 4 on a routine of so many local variables, and behind their count the words 0x0102 and 0x0304
 abbrev pub with_header : ℕ → List ℕ
 with_header count = 0 ∷ 0 ∷ 0 ∷ 0 ∷ count ∷ 1 ∷ 2 ∷ 3 ∷ 4 ∷ []
 
