@@ -1,5 +1,5 @@
 -- What clap finds in the words of the command line.
-use Rattle.std.proofs.Common.{◌≡◌, ◌∙◌, ◌≤◌, ℕ, List, Option, Some, None, IfNone, IfSome, codes, refl, sym, ap, ap₂, subst, true}
+use Rattle.std.proofs.Common.{◌≡◌, ◌∙◌, ℕ, List, Option, Some, None, IfNone, IfSome, codes, refl, sym, ap, ap₂, subst, true}
 use Rattle.std.specs.Prelude.{SomeIff, IsSomeAnd, option_map, unwrap_or}
 use Rattle.clap.specs.Words.{App, HasMatchesOf, Row, Text, first_of, is_simple, is_simple_and_free, subcommand_name_of, subcommand_of, subcommand_rows_of}
 use Rattle.clap.proofs.OnLiterals.{clap_on_literals}

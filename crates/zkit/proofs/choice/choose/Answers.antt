@@ -1,5 +1,5 @@
-use Rattle.std.proofs.Common.{rules, ◌≡◌, ◌∙◌, sym, ap, subst, codes, map, None, Some, Err, IfErr, inl, inr, Result}
-use Rattle.clap.specs.Words.{App, HasKind, app_of, fault_of, first_value, found_of, is_simple_and_free, rows_of, subcommand_name_of}
+use Rattle.std.proofs.Common.{rules, ◌≡◌, ◌∙◌, sym, ap, subst, codes, map, None, Some, Err, IfErr, inl, inr}
+use Rattle.clap.specs.Words.{App, HasKind, fault_of, first_value, found_of, is_simple_and_free, rows_of, subcommand_name_of}
 use Rattle.clap.proofs.WalkLemmas.{first_value-rows}
 use Rattle.zkit.specs.CommandLine.{IsRefusedWith}
 use Rattle.zkit.proofs.CommandLines.{command_line_is_free, no_limits, no_story, play_met}

@@ -4,7 +4,7 @@ use Rattle.std.proofs.lemmas.Result.{IfOk-weaker}
 use Rattle.clap.specs.Words.{app_of, new_app, rule_of, with_rule}
 use Rattle.clap.specs.Simple.{app_of_fields}
 use Rattle.clap.specs.declared.Command.TheViews.{out-Command as fields_of}
-use Rattle.zkit.specs.CommandLine.{number_option, play_command, story_word}
+use Rattle.zkit.specs.CommandLine.{story_word}
 use Rattle.zkit.proofs.choice.play_command_of.Goals as goal
 
 pub returns-clause-shape : goal.returns-clause-shape
