@@ -139,12 +139,19 @@ fn header_fields_stand_where_they_should(rt: HostRuntime) -> Result<(), Fail> {
     Ok(())
 }
 
+/// A story of version 3 that is as long, and whose other bytes are 1.
+fn long_story(alloc: Global, length: usize) -> Result<Memory, Fail> {
+    let mut bytes = vec![in alloc; 1u8; length]?;
+    if length > 0 {
+        bytes[0] = 3;
+    }
+    let story = Story::open(alloc, bytes.as_slice())?;
+    Ok(Memory::start(alloc, story, Setup { undo_states: 0 })?)
+}
+
 #[test]
 fn data_ends_at_65536(rt: HostRuntime) -> Result<(), Fail> {
-    let mut bytes = vec![in rt.alloc(); 1u8; 65_544]?;
-    bytes[0] = 3;
-    let story = Story::open(rt.alloc(), bytes.as_slice())?;
-    let memory = Memory::start(rt.alloc(), story, Setup { undo_states: 0 })?;
+    let memory = long_story(rt.alloc(), 65_544)?;
     assert_eq!(rt; memory.byte(65_535), Ok(1));
     assert_eq!(rt; memory.byte(65_536), Err(Fault::BadAddress));
     assert_eq!(rt; memory.word(65_534), Ok(0x0101));
