@@ -187,3 +187,14 @@ fn limits_have_numbers(rt: HostRuntime) {
         assert_eq!(rt; limit.number(), number);
     }
 }
+
+#[test]
+fn local_variables_count_from_1(rt: HostRuntime) -> Result<(), Fail> {
+    let mut frames = Frames::new(rt.alloc(), 2, 3)?;
+    assert_eq!(rt; frames.push(9), Ok(()));
+    assert_eq!(rt; frames.call(&[5, 6], 66, None, 0), Ok(()));
+    assert_eq!(rt; frames.local(0), Err(Fault::NoSuchLocal));
+    assert_eq!(rt; frames.set_local(0, 7), Err(Fault::NoSuchLocal));
+    assert_eq!(rt; (frames.local(1), frames.local(2)), (Ok(5), Ok(6)));
+    Ok(())
+}
