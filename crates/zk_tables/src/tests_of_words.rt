@@ -109,6 +109,27 @@ fn dictionary_at(
 }
 
 #[test]
+fn reads_dictionaries(rt: HostRuntime) -> Result<(), Fail> {
+    let three = Dictionary {
+        address: 0x40,
+        separators: 0,
+        entry_length: 4,
+        entries: 3,
+        is_sorted: true,
+    };
+    let exchanged = Dictionary {
+        is_sorted: false,
+        ..three
+    };
+    assert_eq!(rt; dictionary_at(rt.alloc(), 3, THREE, 0x40)?, Ok(three));
+    assert_eq!(rt;
+        dictionary_at(rt.alloc(), 3, EXCHANGED, 0x40)?,
+        Ok(exchanged)
+    );
+    Ok(())
+}
+
+#[test]
 fn refuses_dictionaries(rt: HostRuntime) -> Result<(), Fail> {
     let alloc = rt.alloc();
     let refused = Err(Fault::BadDictionary);
@@ -157,6 +178,18 @@ fn divides_a_text(rt: HostRuntime) -> Result<(), Fail> {
 }
 
 #[test]
+fn spaces_are_no_words(rt: HostRuntime) -> Result<(), Fail> {
+    // a space is among the separators
+    let tables = ("02 20 2C 07 00 00", "40 61 20 62 00", "09");
+    let stored = "09 02 00 00 01 01 00 00 01 03 00";
+    assert_eq!(rt;
+        divides(rt.alloc(), 3, 0xff, tables, false, stored)?,
+        (Ok(()), true)
+    );
+    Ok(())
+}
+
+#[test]
 fn leaves_unknown_words_out(rt: HostRuntime) -> Result<(), Fail> {
     let before = "02 00 55 55 55 55 55 55 55 55";
     let after = "02 02 55 55 55 55 55 55 55 55";
@@ -179,6 +212,18 @@ fn stores_up_to_the_static_base(rt: HostRuntime) -> Result<(), Fail> {
     assert_eq!(rt;
         divides(alloc, 3, 0x81, (COMMA, FRED, "00"), false, "00 00")?,
         cut
+    );
+    Ok(())
+}
+
+#[test]
+fn finds_words_by_all_letters(rt: HostRuntime) -> Result<(), Fail> {
+    // `take`, `ta`
+    let tables = (THREE, "40 74 61 6B 65 20 74 61 00", "09");
+    let stored = "09 02 00 44 04 01 00 00 02 06 00";
+    assert_eq!(rt;
+        divides(rt.alloc(), 3, 0xff, tables, false, stored)?,
+        (Ok(()), true)
     );
     Ok(())
 }
