@@ -77,3 +77,10 @@ fn sources_give_their_bytes(rt: HostRuntime) {
     assert_eq!(rt; Nothing.read(&mut buffer), Ok(0));
     assert_eq!(rt; Nothing.write(b"abc"), Ok(3));
 }
+
+#[test]
+fn no_bytes_are_written(rt: HostRuntime) {
+    let mut target = Over::new(Vec::<u8>::new(rt.alloc()));
+    assert_eq!(rt; target.write(b""), Ok(0));
+    assert_eq!(rt; target.into_inner().len(), 0);
+}
