@@ -1,4 +1,6 @@
 pub mod Arguments
+pub mod Keys
+pub mod Lines
 pub mod Operands
 pub mod Plain
 pub mod Pushes

@@ -38,6 +38,7 @@ use Rattle.zk_step.specs.Printing.{printing}
 use Rattle.zk_step.specs.Routines.{called, stored, returned, thrown, routine_at, routine_effect}
 use Rattle.zk_step.specs.Routing.{Texts, routed}
 use Rattle.zk_step.specs.Values.{first, second, third}
+use Rattle.zk_step.specs.Words.{words_changed}
 use Rattle.zk_step.specs.Variables.{with_frames, global_address, named_read, named_written, variable_read, variable_written, indirect_read, indirect_written, operand_read, operands_read}
 
 -- the second result is the first with its value changed
@@ -199,8 +200,8 @@ module _ (f m : ℕ) where
   effect_same (opcode.Control o) w text vs = both
   effect_same (opcode.Printing o) w text vs = beside_same w (printing o w.memory text vs)
   effect_same (opcode.Idle o) w text vs = both
-  effect_same (opcode.Reading o) w text vs = fails
-  effect_same (opcode.Words o) w text vs = fails
+  effect_same (opcode.Reading o) w text vs = both
+  effect_same (opcode.Words o) w text vs = mapped_after (words_changed o w.memory vs) _ _ (λ n. both)
   effect_same (opcode.Window o) w text vs = fails
   effect_same (opcode.Stream o) w text vs = fails
   effect_same (opcode.Table o) w text vs = fails
@@ -226,6 +227,7 @@ module _ (f m : ℕ) where
   finished_same w i vs (ending.Call p most) = called_same w i p (take most (drop 1 vs))
   finished_same w i vs (ending.Return x) = returned_same w x
   finished_same w i vs (ending.Throw x n) = thrown_same w x n
+  finished_same w i vs (ending.Wait for) = both
   finished_same w i vs ending.Quit = both
 
   carried_same : (w : Workspace) (i : Instr) → Mapped (too {A = Next × Texts}) (carried_out w i) (carried_out (rebounded f m w) i)

@@ -8,6 +8,7 @@ pub mod Endings
 pub mod Examples
 pub mod Finish
 pub mod Idle
+pub mod Inputs
 pub mod Instructions
 pub mod Laws
 pub mod Limited
@@ -16,4 +17,6 @@ pub mod Printing
 pub mod Routines
 pub mod Routing
 pub mod Values
+pub mod TextBuffers
 pub mod Variables
+pub mod Words

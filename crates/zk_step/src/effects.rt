@@ -12,10 +12,12 @@ use crate::comparison::comparison_effect;
 use crate::control::control_effect;
 use crate::ending::Effect;
 use crate::idle::idle_effect;
+use crate::inputs::reading_effect;
 use crate::objects::{answer_of_object, change_object};
 use crate::printing::printing_effect;
 use crate::routines::{call_effect, routine_effect};
 use crate::values::Values;
+use crate::words::change_words;
 use crate::workspace::Workspace;
 use zk_code::instr::Instr;
 use zk_code::opcode::Opcode;
@@ -53,6 +55,11 @@ fn effect_by(
         Opcode::Control(operation) => Ok(control_effect(operation, values)),
         Opcode::Printing(operation) => printing_effect(operation, &workspace.memory, text, values),
         Opcode::Idle(operation) => Ok(idle_effect(operation, &workspace.memory, values)),
+        Opcode::Reading(operation) => Ok(reading_effect(operation, values)),
+        Opcode::Words(operation) => {
+            change_words(operation, &mut workspace.memory, values)?;
+            Ok(Effect::goes_on())
+        }
         _ => Err(Fault::BadOpcode),
     }
 }

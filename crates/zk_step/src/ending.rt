@@ -13,8 +13,19 @@ pub enum Ending {
     Return(u16),
     /// Returns a value from the frame of a number, where the first frame has number 0.
     Throw(u16, u16),
+    /// Waits for an answer.
+    Wait(Wait),
     /// The story has ended.
     Quit,
+}
+
+/// What an instruction waits for.
+#[derive(Clone, Copy, Debug, PartialEq, Eq, Drop)]
+pub enum Wait {
+    /// A line, for the text buffer and the parse buffer at two byte addresses.
+    Line(u16, u16),
+    /// A character.
+    Char,
 }
 
 /// What an instruction prints.
@@ -45,6 +56,8 @@ pub struct Effect {
 pub enum Next {
     /// At the instruction at a byte address.
     At(u32),
+    /// Nowhere, until there is an answer.
+    Waits(Wait),
     /// Nowhere: the story has ended.
     End,
 }

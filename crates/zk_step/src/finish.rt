@@ -171,6 +171,7 @@ pub fn finish(
         }
         Ending::Return(value) => return_value(workspace, value),
         Ending::Throw(value, frame) => throw_value(workspace, value, frame),
+        Ending::Wait(wait) => Ok(Next::Waits(wait)),
         Ending::Quit => Ok(Next::End),
     }
 }

@@ -2,7 +2,7 @@
 
 ghost use Rattle.zk_state.specs.Frames.{bounds_of};
 ghost use Rattle.std.specs.Prelude.{◌≡◌, ◌<◌, ◌≤◌, [], ◌∷◌, ◌++◌, Ok, Err, drop, take, length, slice_index, MatchResult};
-ghost use Rattle.zk_step.specs.Values.{first, second, third};
+ghost use Rattle.zk_step.specs.Values.{first, second, third, fourth};
 ghost use Rattle.zk_step.specs.Variables.{operand_read, operands_read};
 
 use crate::variables::read_variable;
@@ -27,7 +27,7 @@ impl Model for Values {
 }
 
 impl Values {
-    fn new() -> Values
+    pub fn new() -> Values
         ensures { result ≡ [] }
     {
         Values {
@@ -65,6 +65,12 @@ impl Values {
         ensures { result ≡ third self.now }
     {
         self.get(2)
+    }
+
+    pub fn fourth(&self) -> u16
+        ensures { result ≡ fourth self.now }
+    {
+        self.get(3)
     }
 
     /// The arguments of a call: the values after the first, so many at most.

@@ -1,0 +1,79 @@
+// Reads, and their answers.
+
+ghost use Rattle.zk_state.specs.Frames.{bounds_of};
+ghost use Rattle.std.specs.Prelude.{◌≡◌, ◌≤◌, ◌^◌, Ok, Err, MatchResult};
+ghost use Rattle.zk_step.specs.Inputs.{reading, line_ending, line_answered, character_answered};
+ghost use Rattle.zk_step.specs.Limited.{limited_next};
+
+use crate::ending::{Effect, Ending, Next, Output, Wait};
+use crate::finish::finish;
+use crate::text_buffers::put_line;
+use crate::values::Values;
+use crate::workspace::Workspace;
+use zk_code::instr::Instr;
+use zk_code::opcode::Reading;
+use zk_state::refusal::Refusal;
+
+/// The effect of an opcode that reads: it waits.
+#[tactic(auto, unfolding(crate::specs::Inputs::reading))]
+pub fn reading_effect(operation: Reading, values: &Values) -> Effect
+    ensures value { result ≡ reading operation values.now }
+    ensures silent { result.output ≡ Output.Nothing }
+{
+    match operation {
+        Reading::Sread | Reading::Aread => {
+            Effect::ends(Ending::Wait(Wait::Line(values.first(), values.second())))
+        }
+        Reading::ReadChar => Effect::ends(Ending::Wait(Wait::Char)),
+    }
+}
+
+/// How a read of a line ends in a version.
+fn ending_of_line(version: u8) -> Ending
+    ensures { result ≡ line_ending version }
+{
+    if version < 5 {
+        Ending::GoOn(None, None)
+    } else {
+        Ending::GoOn(Some(13), None)
+    }
+}
+
+/// Answers a read by a line: its codes go to the text buffer, and its words to the parse buffer.
+#[tactic(auto, unfolding(crate::specs::Inputs::line_answered))]
+pub fn answer_line(
+    workspace: &mut Workspace,
+    i: &Instr,
+    text: u16,
+    parse: u16,
+    line: &[u8],
+) -> Result<Next, Refusal>
+    requires { i.now.next ≤ 2 ^ 20 }
+    ensures value { MatchResult result
+        (λ n. limited_next (line_answered workspace.old i.now text parse line.now) ≡ Ok (workspace.new, n))
+        (λ e. limited_next (line_answered workspace.old i.now text parse line.now) ≡ Err e) }
+    ensures bounds { bounds_of workspace.new.frames ≡ bounds_of workspace.old.frames }
+{
+    match put_line(&mut workspace.memory, text, parse, line) {
+        Ok(()) => {}
+        Err(fault) => return Err(Refusal::Fault(fault)),
+    }
+    let ending = ending_of_line(workspace.memory.version());
+    finish(workspace, i, &Values::new(), ending)
+}
+
+/// Answers a read by a character.
+#[tactic(auto, unfolding(crate::specs::Inputs::character_answered))]
+pub fn answer_character(
+    workspace: &mut Workspace,
+    i: &Instr,
+    code: u8,
+) -> Result<Next, Refusal>
+    requires { i.now.next ≤ 2 ^ 20 }
+    ensures value { MatchResult result
+        (λ n. limited_next (character_answered workspace.old i.now code) ≡ Ok (workspace.new, n))
+        (λ e. limited_next (character_answered workspace.old i.now code) ≡ Err e) }
+    ensures bounds { bounds_of workspace.new.frames ≡ bounds_of workspace.old.frames }
+{
+    finish(workspace, i, &Values::new(), Ending::GoOn(Some(code as u16), None))
+}

@@ -1,0 +1,100 @@
+// Lines of input in text buffers, and their words in parse buffers.
+
+ghost use Rattle.std.specs.Prelude.{◌≡◌, ◌≤◌, ◌<◌, ◌+◌, ◌-◌, Bool, Ok, Err, MatchResult, length, take, map};
+ghost use Rattle.zk_text.specs.Extra.{own_characters, lower_code};
+ghost use Rattle.zk_step.specs.TextBuffers.{bytes_put, taken_letters, ended_by_zero, early_line_put, counted_letters, later_line_put, divided, own_dictionary, line_put};
+
+use arrayvec::ArrayVec;
+use zk_mem::fault::Fault;
+use zk_mem::memory::Memory;
+use zk_tables::dictionary::Dictionary;
+use zk_tables::parsing::tokenise;
+use zk_text::extra::Extra;
+
+/// Stores bytes one after the other.
+#[tactic(auto, using(crate::proofs::Lines::bytes_on, crate::proofs::Lines::bytes_end))]
+pub fn put_bytes(memory: &mut Memory, address: u32, bytes: &[u8]) -> Result<(), Fault>
+    requires address { address < 132000 }
+    requires some { length bytes.now ≤ 255 }
+    ensures { MatchResult result (λ _. bytes_put memory.old address bytes.now ≡ Ok memory.new) (λ e. bytes_put memory.old address bytes.now ≡ Err e) }
+{
+    for i in 0..bytes.len() {
+        memory.set_byte(address + i as u32, bytes[i])?;
+    }
+    Ok(())
+}
+
+/// The letters of a line that there is room for, in lower case.
+#[tactic(auto, using(crate::proofs::Lines::taken_on, crate::proofs::Lines::taken_end))]
+fn take_letters(memory: &Memory, room: u8, line: &[u8]) -> ArrayVec<u8, 255>
+    ensures value { result.items ≡ taken_letters memory.now room line.now }
+    ensures few { length result.items ≤ room }
+{
+    let extra = Extra::of(memory);
+    let mut letters = ArrayVec::new();
+    for i in 0..line.len().min(room as usize) {
+        letters.push(extra.lower(line[i]));
+    }
+    letters
+}
+
+/// Stores a line up to version 4: letters from byte 1 on, and a zero behind them.
+#[tactic(auto, unfolding(crate::specs::TextBuffers::early_line_put))]
+fn put_early_line(memory: &mut Memory, text: u16, line: &[u8]) -> Result<(), Fault>
+    ensures { MatchResult result (λ _. early_line_put memory.old text line.now ≡ Ok memory.new) (λ e. early_line_put memory.old text line.now ≡ Err e) }
+{
+    let text = text as u32;
+    let size = memory.byte(text)?;
+    let letters = take_letters(memory, size.saturating_sub(1), line);
+    put_bytes(memory, text + 1, letters.as_slice())?;
+    memory.set_byte(text + 1 + letters.len() as u32, 0)
+}
+
+/// Stores a line from version 5 on: letters behind those that are there, and in byte 1 how many they are.
+#[tactic(auto, unfolding(crate::specs::TextBuffers::later_line_put))]
+fn put_later_line(memory: &mut Memory, text: u16, line: &[u8]) -> Result<(), Fault>
+    ensures { MatchResult result (λ _. later_line_put memory.old text line.now ≡ Ok memory.new) (λ e. later_line_put memory.old text line.now ≡ Err e) }
+{
+    let text = text as u32;
+    let size = memory.byte(text)?;
+    let count = memory.byte(text + 1)?;
+    if count > 0 && size <= count {
+        return Ok(());
+    }
+    let letters = take_letters(memory, size.saturating_sub(count), line);
+    put_bytes(memory, text + 2 + count as u32, letters.as_slice())?;
+    memory.set_byte(text + 1, count + letters.len() as u8)
+}
+
+/// Divides the text in a text buffer into words, by the dictionary at an address.
+#[tactic(auto, unfolding(crate::specs::TextBuffers::divided))]
+pub fn divide(
+    memory: &mut Memory,
+    text: u16,
+    parse: u16,
+    dictionary: u16,
+    leaves_unknown: bool,
+) -> Result<(), Fault>
+    ensures { MatchResult result (λ _. divided memory.old text parse dictionary leaves_unknown ≡ Ok memory.new) (λ e. divided memory.old text parse dictionary leaves_unknown ≡ Err e) }
+{
+    let dictionary = Dictionary::at(memory, dictionary as u32)?;
+    tokenise(memory, text as u32, parse as u32, &dictionary, leaves_unknown)
+}
+
+/// Stores a line in a text buffer and its words in a parse buffer.
+#[tactic(auto, unfolding(crate::specs::TextBuffers::line_put))]
+pub fn put_line(memory: &mut Memory, text: u16, parse: u16, line: &[u8]) -> Result<(), Fault>
+    ensures { MatchResult result (λ _. line_put memory.old text parse line.now ≡ Ok memory.new) (λ e. line_put memory.old text parse line.now ≡ Err e) }
+{
+    if memory.version() < 5 {
+        put_early_line(memory, text, line)?;
+        let dictionary = memory.header().dictionary;
+        return divide(memory, text, parse, dictionary, false);
+    }
+    put_later_line(memory, text, line)?;
+    if parse == 0 {
+        return Ok(());
+    }
+    let dictionary = memory.header().dictionary;
+    divide(memory, text, parse, dictionary, false)
+}
