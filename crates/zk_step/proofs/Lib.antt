@@ -7,5 +7,6 @@ pub mod Pushes
 pub mod Rebounded
 pub mod Returns
 pub mod Steps
+pub mod Waits
 pub mod Ways
 pub mod WithinBounds

@@ -31,15 +31,17 @@ use Rattle.zk_step.specs.Arrays.{array_effect, byte_of, word_of}
 use Rattle.zk_step.specs.Assignment.{assignment, moved}
 use Rattle.zk_step.specs.Effects.{effect_by, effect_of, beside}
 use Rattle.zk_step.specs.Finish.{led, gone, gone_on, finished, way_on}
+use Rattle.zk_step.specs.Inputs.{line_ending, line_answered, character_answered}
 use Rattle.zk_step.specs.Instructions.{carried_out}
-use Rattle.zk_step.specs.Laws.{rebounded, moved_in, BoundsAreNotSeen}
+use Rattle.zk_step.specs.Laws.{rebounded, moved_in, led_in, BoundsAreNotSeen, AnswersSeeNoBounds}
 use Rattle.zk_step.specs.Objects.{object_changed, object_answer}
 use Rattle.zk_step.specs.Printing.{printing}
 use Rattle.zk_step.specs.Routines.{called, stored, returned, thrown, routine_at, routine_effect}
 use Rattle.zk_step.specs.Routing.{Texts, routed}
+use Rattle.zk_step.specs.TextBuffers.{line_put}
 use Rattle.zk_step.specs.Values.{first, second, third}
 use Rattle.zk_step.specs.Words.{words_changed}
-use Rattle.zk_step.specs.Variables.{with_frames, global_address, named_read, named_written, variable_read, variable_written, indirect_read, indirect_written, operand_read, operands_read}
+use Rattle.zk_step.specs.Variables.{with_frames, with_memory, global_address, named_read, named_written, variable_read, variable_written, indirect_read, indirect_written, operand_read, operands_read}
 
 -- the second result is the first with its value changed
 data Mapped {A B : Type 0} (g : A → B) : Result A Fault → Result B Fault → Type 0 where
@@ -234,9 +236,27 @@ module _ (f m : ℕ) where
   unfolding carried_out effect_of routed
   carried_same w i = mapped_then _ _ _ _ (operands_same w i.operands) (λ vs. mapped_then _ _ _ _ (effect_same i.opcode vs.0 i.text vs.1) (λ e. mapped_then _ _ _ _ (finished_same e.0 i vs.1 e.1.ending) (λ n. both)))
 
+  line_same : (w : Workspace) (i : Instr) (text parse : ℕ) (codes : List ℕ) → Mapped (too {A = Next}) (line_answered w i text parse codes) (line_answered (rebounded f m w) i text parse codes)
+  unfolding line_answered
+  line_same w i text parse codes = mapped_after (line_put w.memory text parse codes) _ _ (λ n. finished_same (with_memory w n) i [] (line_ending n.version))
+
+  character_same : (w : Workspace) (i : Instr) (code : ℕ) → Mapped (too {A = Next}) (character_answered w i code) (character_answered (rebounded f m w) i code)
+  unfolding character_answered
+  character_same w i code = finished_same w i [] (ending.GoOn (Some code) None)
+
+  led_is : (r s : Result (Workspace × Next) Fault) → Mapped (too {A = Next}) r s → s ≡ led_in f m r
+  led_is _ _ both = refl
+  led_is _ _ fails = refl
+
   moved_is : (r s : Result (Workspace × (Next × Texts)) Fault) → Mapped (too {A = Next × Texts}) r s → s ≡ moved_in f m r
   moved_is _ _ both = refl
   moved_is _ _ fails = refl
 
 pub bounds_are_not_seen : BoundsAreNotSeen
 bounds_are_not_seen f m w i = moved_is f m (carried_out w i) (carried_out (rebounded f m w) i) (carried_same f m w i)
+
+pub answers_see_no_bounds : AnswersSeeNoBounds
+answers_see_no_bounds = record {
+  line = λ f m w i text parse codes. led_is f m _ _ (line_same f m w i text parse codes);
+  character = λ f m w i code. led_is f m _ _ (character_same f m w i code);
+}

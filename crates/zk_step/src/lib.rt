@@ -12,7 +12,7 @@ pub mod ending;
 pub mod examples;
 mod finish;
 mod idle;
-mod inputs;
+pub mod inputs;
 pub mod instruction;
 pub mod laws;
 mod objects;
