@@ -13,7 +13,7 @@ use Rattle.zk_state.proofs.Calls.{within_bounds_ok}
 use Rattle.zk_code.specs.declared.instr.Instr.{Instr}
 use Rattle.zk_code.specs.Reading.{instr_at}
 use Rattle.zk_step.specs.declared.ending.Next.{Next}
-use Rattle.zk_step.specs.declared.ending.Next.TheVariants.{At, End}
+use Rattle.zk_step.specs.declared.ending.Next.TheVariants.{At, Waits as Awaits, End}
 use Rattle.zk_step.specs.declared.workspace.Workspace.{Workspace}
 use Rattle.zk_step.specs.Instructions.{carried_out}
 use Rattle.zk_step.specs.Laws.{rebounded, moved_in}
@@ -21,30 +21,34 @@ use Rattle.zk_step.specs.Routing.{Texts}
 use Rattle.zk_step.proofs.Rebounded.{bounds_are_not_seen}
 use Rattle.zk_vm.specs.declared.limits.Limits.{Limits}
 use Rattle.zk_vm.specs.declared.stop.Stop.TheVariants.{Limit as LimitAt}
-use Rattle.zk_vm.specs.Step.{State, Step, step, settled, led_to, result_of, text_of, state_after, stop_over, text_within}
-use Rattle.zk_vm.specs.Step.Step.{Goes, Quits, Faults}
-use Rattle.zk_vm.specs.Outcome.{outcome, followed, begun, Leads}
-use Rattle.zk_vm.specs.Laws.{IsWithin, RunsStayWithin, state_in, IsNoFrameLimit, FrameLimitsOnlyCut, FrameLimitsCutThere}
+use Rattle.zk_vm.specs.declared.waiting.Waiting.{Waiting}
+use Rattle.zk_vm.specs.Step.{State, Step, Verdict, step, fetched, settled, led_to, verdict_of, text_of, state_after, goes_by, text_within, most_reads}
+use Rattle.zk_vm.specs.Step.Step.{Goes, Waits, Quits, Faults}
+use Rattle.zk_vm.specs.Step.Verdict.{GoesOn, WaitsFor, StopsBy}
+use Rattle.zk_vm.specs.Outcome.{Segment, segment, continued, begun, Leads}
+use Rattle.zk_vm.specs.Laws.{IsWithin, RunsStayWithin, state_in, segment_in, IsNoFrameLimit, FrameLimitsOnlyCut, FrameLimitsCutThere}
 
 -- a step from a state with other bounds
 step_in : ℕ → ℕ → Step → Step
 step_in f w (Goes s text) = Goes (state_in f w s) text
+step_in f w (Waits s waiting text) = Waits (state_in f w s) waiting text
 step_in f w (Quits text) = Quits text
 step_in f w (Faults e) = Faults e
 
-led_same : (f m : ℕ) (s : State) (w : Workspace) (text : Texts) (n : Next) → led_to (state_in f m s) (rebounded f m w) text n ≡ step_in f m (led_to s w text n)
+led_same : (f m : ℕ) (s : State) (i : Instr) (w : Workspace) (text : Texts) (n : Next) → led_to (state_in f m s) i (rebounded f m w) text n ≡ step_in f m (led_to s i w text n)
 unfolding step_in
-led_same f m s w text (At place) = refl
-led_same f m s w text End = refl
+led_same f m s i w text (At place) = refl
+led_same f m s i w text (Awaits wait) = refl
+led_same f m s i w text End = refl
 
-settled_same : (f m : ℕ) (s : State) (r : Result (Workspace × (Next × Texts)) Fault) → settled (state_in f m s) (moved_in f m r) ≡ step_in f m (settled s r)
+settled_same : (f m : ℕ) (s : State) (i : Instr) (r : Result (Workspace × (Next × Texts)) Fault) → settled (state_in f m s) i (moved_in f m r) ≡ step_in f m (settled s i r)
 unfolding step_in
-settled_same f m s (Ok r) = led_same f m s r.0 r.1.1 r.1.0
-settled_same f m s (Err e) = refl
+settled_same f m s i (Ok r) = led_same f m s i r.0 r.1.1 r.1.0
+settled_same f m s i (Err e) = refl
 
-fetched_same : (f m : ℕ) (s : State) (r : Result Instr Fault) → settled (state_in f m s) (r >>= λ i. carried_out (rebounded f m s.workspace) i) ≡ step_in f m (settled s (r >>= λ i. carried_out s.workspace i))
+fetched_same : (f m : ℕ) (s : State) (r : Result Instr Fault) → fetched (state_in f m s) r ≡ step_in f m (fetched s r)
 unfolding step_in
-fetched_same f m s (Ok i) = ap (settled (state_in f m s)) (bounds_are_not_seen f m s.workspace i) ∙ settled_same f m s (carried_out s.workspace i)
+fetched_same f m s (Ok i) = ap (settled (state_in f m s) i) (bounds_are_not_seen f m s.workspace i) ∙ settled_same f m s i (carried_out s.workspace i)
 fetched_same f m s (Err e) = refl
 
 step_same : (f m : ℕ) (s : State) → step (state_in f m s) ≡ step_in f m (step s)
@@ -95,98 +99,145 @@ frames_kept s t text h =
     (ap (λ (p : ℕ × ℕ). p.0) e, ap (λ (p : ℕ × ℕ). p.1) e)
 
 -- how a run goes on after a step, with other bounds
-followed_same : (n f m place : ℕ) (s : State) (x : Step)
-    → ((t : State) (text : Texts) → x ≡ Goes t text → (t.workspace.frames.most_frames ≤ f) × (t.workspace.frames.most_words ≤ m))
-    → ((t : State) (text : Texts) → x ≡ Goes t text → IsNoFrameLimit (outcome n t).stop → outcome n (state_in f m t) ≡ outcome n t)
-    → IsNoFrameLimit (followed (result_of place x) (text_of x) (outcome n (state_after s x))).stop
-    → followed (result_of place (step_in f m x)) (text_of (step_in f m x)) (outcome n (state_after (state_in f m s) (step_in f m x))) ≡ followed (result_of place x) (text_of x) (outcome n (state_after s x))
-unfolding step_in
-followed_same n f m place s (Goes t text) bounds more own = go (within_bounds t.workspace.frames) refl own
+continued_same : (f m : ℕ) (v : Verdict) (s : State) (text : Texts) (few more : Segment) → (IsNoFrameLimit few.end → more ≡ segment_in f m few) → IsNoFrameLimit (continued v s text few).end
+    → continued v (state_in f m s) text more ≡ segment_in f m (continued v s text few)
+continued_same f m GoesOn s text few more same own = rw (same own) refl
+continued_same f m (WaitsFor w) s text few more same own = refl
+continued_same f m (StopsBy stop) s text few more same own = refl
+
+-- a step within the bounds is within greater ones
+no_fault : (s : FrameList) (g : Fault) → within_bounds s ≡ Err (refusal.Fault g) → ⊥
+no_fault s g e = go (over_is s (refusal.Fault g) e)
   where
-    go : (r : Result FrameList Refusal) → within_bounds t.workspace.frames ≡ r → IsNoFrameLimit (followed (stop_over place r) (text_within r text) (outcome n t)).stop
-        → followed (stop_over place (within_bounds (with_bounds f m t.workspace.frames))) (text_within (within_bounds (with_bounds f m t.workspace.frames)) text) (outcome n (state_in f m t)) ≡ followed (stop_over place r) (text_within r text) (outcome n t)
+    go : ((refusal.Fault g ≡ refusal.Limit Frames) ⊎ (refusal.Fault g ≡ refusal.Limit Words)) → ⊥
+    go (inl d) = absurd cc
+    go (inr d) = absurd cc
+
+by_limit : (place : ℕ) (j : Limit) → ((refusal.Limit j ≡ refusal.Limit Frames) ⊎ (refusal.Limit j ≡ refusal.Limit Words)) → IsNoFrameLimit (Err (LimitAt place j)) → ⊥
+by_limit place Frames d own = own
+by_limit place Words d own = own
+by_limit place Steps (inl d) own = absurd cc
+by_limit place Steps (inr d) own = absurd cc
+by_limit place Reads (inl d) own = absurd cc
+by_limit place Reads (inr d) own = absurd cc
+
+-- what becomes of a step, with other bounds: the same, and the same text
+verdict_same : (f m : ℕ) (s : State) (x : Step)
+    → ((t : State) (text : Texts) → x ≡ Goes t text → (t.workspace.frames.most_frames ≤ f) × (t.workspace.frames.most_words ≤ m))
+    → (rest : Segment) → IsNoFrameLimit (continued (verdict_of s x) (state_after s x) (text_of s x) rest).end
+    → (verdict_of (state_in f m s) (step_in f m x) ≡ verdict_of s x) × (text_of (state_in f m s) (step_in f m x) ≡ text_of s x) × (state_after (state_in f m s) (step_in f m x) ≡ state_in f m (state_after s x))
+unfolding step_in
+verdict_same f m s (Goes t text) bounds rest own = go (within_bounds t.workspace.frames) refl own
+  where
+    go : (r : Result FrameList Refusal) → within_bounds t.workspace.frames ≡ r → IsNoFrameLimit (continued (goes_by s.place r) t (text_within r text) rest).end
+        → (goes_by s.place (within_bounds (with_bounds f m t.workspace.frames)) ≡ goes_by s.place r) × (text_within (within_bounds (with_bounds f m t.workspace.frames)) text ≡ text_within r text) × (state_in f m t ≡ state_in f m t)
     go (Ok u) e k =
         let least = bounds t text refl in
-        rw (within_more t.workspace.frames u f m least.0 least.1 e, more t text refl k) refl
-    go (Err (refusal.Fault g)) e k = absurd (no_fault (over_is t.workspace.frames (refusal.Fault g) e))
-      where
-        no_fault : ((refusal.Fault g ≡ refusal.Limit Frames) ⊎ (refusal.Fault g ≡ refusal.Limit Words)) → ⊥
-        no_fault (inl d) = absurd cc
-        no_fault (inr d) = absurd cc
-    go (Err (refusal.Limit l)) e k = absurd (by_limit l (over_is t.workspace.frames (refusal.Limit l) e) k)
-      where
-        by_limit : (j : Limit) → ((refusal.Limit j ≡ refusal.Limit Frames) ⊎ (refusal.Limit j ≡ refusal.Limit Words)) → IsNoFrameLimit (LimitAt place j) → ⊥
-        by_limit Frames d own = own
-        by_limit Words d own = own
-        by_limit Steps (inl d) own = absurd cc
-        by_limit Steps (inr d) own = absurd cc
-        by_limit Reads (inl d) own = absurd cc
-        by_limit Reads (inr d) own = absurd cc
-followed_same n f m place s (Quits text) bounds more own = refl
-followed_same n f m place s (Faults e) bounds more own = refl
+        let more = within_more t.workspace.frames u f m least.0 least.1 e in
+        (rw more refl, rw more refl, refl)
+    go (Err (refusal.Fault g)) e k = absurd (no_fault t.workspace.frames g e)
+    go (Err (refusal.Limit l)) e k = absurd (by_limit s.place l (over_is t.workspace.frames (refusal.Limit l) e) k)
+verdict_same f m s (Waits t waiting text) bounds rest own = (refl, refl, refl)
+verdict_same f m s (Quits text) bounds rest own = (refl, refl, refl)
+verdict_same f m s (Faults e) bounds rest own = (refl, refl, refl)
+
+-- the rest of a run that goes on ends as the run does
+same_here : (f m : ℕ) (s : State) (v : Verdict) (t : State) (text : Texts) (few more : Segment) → (v ≡ GoesOn → IsNoFrameLimit few.end → more ≡ segment_in f m few) → IsNoFrameLimit (continued v t text few).end
+    → continued v (state_in f m t) text more ≡ segment_in f m (continued v t text few)
+same_here f m s GoesOn t text few more same own = continued_same f m GoesOn t text few more (same refl) own
+same_here f m s (WaitsFor w) t text few more same own = refl
+same_here f m s (StopsBy stop) t text few more same own = refl
+
+-- a step that goes on leads to a state
+goes_to : (s : State) (x : Step) → verdict_of s x ≡ GoesOn → (t : State) × ((text : Texts) × (x ≡ Goes t text))
+goes_to s (Goes t text) h = (t, (text, refl))
+goes_to s (Waits t waiting text) h = absurd (by_reads (nat_lt s.reads most_reads) h)
+  where
+    by_reads : (b : Bool) → (if b then WaitsFor waiting else StopsBy (LimitAt s.place Reads)) ≡ GoesOn → ⊥
+    by_reads true k = absurd cc
+    by_reads false k = absurd cc
+goes_to s (Quits text) h = absurd cc
+goes_to s (Faults e) h = absurd cc
 
 pub frame_limits_only_cut : FrameLimitsOnlyCut
-unfolding outcome
+unfolding segment
 frame_limits_only_cut zero f m s few short own = refl
 frame_limits_only_cut (suc n) f m s few short own =
     let bounds : (t : State) (text : Texts) → step s ≡ Goes t text → (t.workspace.frames.most_frames ≤ f) × (t.workspace.frames.most_words ≤ m)
     = (λ t text e. let same = frames_kept s t text e in (omega (arith, same.0), omega (arith, same.1))) in
-    let more : (t : State) (text : Texts) → step s ≡ Goes t text → IsNoFrameLimit (outcome n t).stop → outcome n (state_in f m t) ≡ outcome n t
-    = (λ t text e free. let least = bounds t text e in frame_limits_only_cut n f m t least.0 least.1 free) in
-    rw (step_same f m s) (followed_same n f m s.place s (step s) bounds more own)
+    let parts = verdict_same f m s (step s) bounds (segment n (state_after s (step s))) own in
+    let more : verdict_of s (step s) ≡ GoesOn → IsNoFrameLimit (segment n (state_after s (step s))).end → segment n (state_in f m (state_after s (step s))) ≡ segment_in f m (segment n (state_after s (step s)))
+    = (λ on free. let to = goes_to s (step s) on in
+        let least = bounds to.0 to.1.0 to.1.1 in
+        let there : state_after s (step s) ≡ to.0 = ap (state_after s) to.1.1 in
+        let here : (state_after s (step s)).workspace.frames.most_frames ≤ f = rw there least.0 in
+        let below : (state_after s (step s)).workspace.frames.most_words ≤ m = rw there least.1 in
+        frame_limits_only_cut n f m (state_after s (step s)) here below free) in
+    rw (step_same f m s, parts.0, parts.1, parts.2)
+      (same_here f m s (verdict_of s (step s)) (state_after s (step s)) (text_of s (step s)) (segment n (state_after s (step s))) (segment n (state_in f m (state_after s (step s)))) more own)
 
 pub frame_limits_cut_there : FrameLimitsCutThere
-unfolding outcome
+unfolding segment
 frame_limits_cut_there zero k s end over text more l lead goes h =
     let e : zero + suc k ≡ suc k = omega arith in
-    rw (e, lead.0, goes, h, lead.1) refl
+    rw (e, lead.0, goes, h, lead.1) (refl, refl)
 frame_limits_cut_there (suc n) k s end over text more l lead goes h =
     let e : suc n + suc k ≡ suc (n + suc k) = omega arith in
-    rw (e, lead.1, frame_limits_cut_there n k (state_after s (step s)) end over lead.0 more l lead.2 goes h, lead.3) refl
+    let rest = frame_limits_cut_there n k (state_after s (step s)) end over lead.0 more l lead.2 goes h in
+    rw (e, lead.1, rest.0, rest.1, lead.3) (refl, refl)
 
 -- a step counts
-led_counts : (s t : State) (w : Workspace) (text more : Texts) (n : Next) → led_to s w text n ≡ Goes t more → t.steps ≡ s.steps + 1
-led_counts s t w text more (At place) h = ap (λ (u : State). u.steps) (sym (goes_same _ t text more h))
-led_counts s t w text more End h = absurd cc
+led_counts : (s t : State) (i : Instr) (w : Workspace) (text more : Texts) (n : Next) → led_to s i w text n ≡ Goes t more → (t.steps ≡ s.steps + 1) × (t.reads ≡ s.reads)
+led_counts s t i w text more (At place) h =
+    let same = sym (goes_same _ t text more h) in
+    (ap (λ (u : State). u.steps) same, ap (λ (u : State). u.reads) same)
+led_counts s t i w text more (Awaits wait) h = absurd cc
+led_counts s t i w text more End h = absurd cc
 
-settled_counts : (s t : State) (more : Texts) (r : Result (Workspace × (Next × Texts)) Fault) → settled s r ≡ Goes t more → t.steps ≡ s.steps + 1
-settled_counts s t more (Ok r) h = led_counts s t r.0 r.1.1 more r.1.0 h
-settled_counts s t more (Err e) h = absurd cc
+fetched_counts : (s t : State) (more : Texts) (r : Result Instr Fault) → fetched s r ≡ Goes t more → (t.steps ≡ s.steps + 1) × (t.reads ≡ s.reads)
+fetched_counts s t more (Ok i) h = go (carried_out s.workspace i) h
+  where
+    go : (r : Result (Workspace × (Next × Texts)) Fault) → settled s i r ≡ Goes t more → (t.steps ≡ s.steps + 1) × (t.reads ≡ s.reads)
+    go (Ok r) k = led_counts s t i r.0 r.1.1 more r.1.0 k
+    go (Err e) k = absurd cc
+fetched_counts s t more (Err e) h = absurd cc
 
-counts : (s t : State) (text : Texts) → step s ≡ Goes t text → t.steps ≡ s.steps + 1
+counts : (s t : State) (text : Texts) → step s ≡ Goes t text → (t.steps ≡ s.steps + 1) × (t.reads ≡ s.reads)
 unfolding step
-counts s t text h = settled_counts s t text (instr_at s.workspace.memory s.place >>= λ i. carried_out s.workspace i) h
+counts s t text h = fetched_counts s t text (instr_at s.workspace.memory s.place) h
 
 -- a step that goes on leads to a state within the bounds
-goes_within : (place : ℕ) (r : Result FrameList Refusal) → stop_over place r ≡ Ok tt → (u : FrameList) × (r ≡ Ok u)
+goes_within : (place : ℕ) (r : Result FrameList Refusal) → goes_by place r ≡ GoesOn → (u : FrameList) × (r ≡ Ok u)
 goes_within place (Ok u) h = (u, refl)
 goes_within place (Err (refusal.Limit l)) h = absurd cc
 goes_within place (Err (refusal.Fault e)) h = absurd cc
 
-after_goes : (l : Limits) (s : State) (x : Step) → step s ≡ x → bounds_of s.workspace.frames ≡ (l.frames, l.words) → s.steps + 1 ≤ l.steps → result_of s.place x ≡ Ok tt
-    → IsWithin l (state_after s x) × (bounds_of (state_after s x).workspace.frames ≡ (l.frames, l.words)) × ((state_after s x).steps ≡ s.steps + 1)
+after_goes : (l : Limits) (s t : State) (text : Texts) → step s ≡ Goes t text → bounds_of s.workspace.frames ≡ (l.frames, l.words) → s.steps + 1 ≤ l.steps → s.reads ≤ most_reads → goes_by s.place (within_bounds t.workspace.frames) ≡ GoesOn
+    → IsWithin l t × (bounds_of t.workspace.frames ≡ (l.frames, l.words)) × (t.steps ≡ s.steps + 1)
 unfolding bounds_of
-after_goes l s (Goes t text) e b few h =
+after_goes l s t text e b few read h =
     let within = goes_within s.place (within_bounds t.workspace.frames) h in
     let most = within_is t.workspace.frames within.0 within.1 in
     let same = keeps s t text e ∙ b in
     let more = counts s t text e in
     let f : t.workspace.frames.most_frames ≡ l.frames = ap (λ (p : ℕ × ℕ). p.0) same in
     let w : t.workspace.frames.most_words ≡ l.words = ap (λ (p : ℕ × ℕ). p.1) same in
-    (record { frames = omega (arith, most.0, f); words = omega (arith, most.1, w); steps = omega (arith, more) }, same, more)
-after_goes l s (Quits text) e b few h = absurd cc
-after_goes l s (Faults f) e b few h = absurd cc
+    (record { frames = omega (arith, most.0, f); words = omega (arith, most.1, w); steps = omega (arith, more.0); reads = omega (arith, more.1) }, same, more.0)
 
 stays : (l : Limits) (n : ℕ) (s end : State) (text : Texts) → bounds_of s.workspace.frames ≡ (l.frames, l.words) → IsWithin l s → s.steps + n ≤ l.steps → Leads n s end text → IsWithin l end
 stays l zero s end text b within few lead = subst (λ (u : State). IsWithin l u) lead.0 within
 stays l (suc n) s end text b within few lead =
-    let next = after_goes l s (step s) refl b (omega arith) lead.1 in
-    stays l n (state_after s (step s)) end lead.0 next.1 next.0 (omega (arith, next.2)) lead.2
+    let to = goes_to s (step s) lead.1 in
+    let there : state_after s (step s) ≡ to.0 = ap (state_after s) to.1.1 in
+    let verdict : goes_by s.place (within_bounds to.0.workspace.frames) ≡ GoesOn = sym (ap (verdict_of s) to.1.1) ∙ lead.1 in
+    let next = after_goes l s to.0 to.1.0 to.1.1 b (omega arith) within.reads verdict in
+    let rest : Leads n to.0 end lead.0 = subst (λ (u : State). Leads n u end lead.0) there lead.2 in
+    stays l n to.0 end lead.0 next.1 next.0 (omega (arith, next.2)) rest
 
 pub runs_stay_within : RunsStayWithin
 unfolding begun bounds_of sizes_of
 runs_stay_within story l n end text range few lead =
-    stays l n (begun story l).state end text refl (record { frames = range.frames; words = omega arith; steps = omega arith }) (omega (arith, few)) lead
+    stays l n (begun story l).state end text refl (record { frames = range.frames; words = omega arith; steps = omega arith; reads = omega arith }) (omega (arith, few)) lead
 
 -- frames of a machine with these limits
 
@@ -194,9 +245,9 @@ pub first_bounds : (s : FrameList) (f w : ℕ) → s ≡ first_frames f w → bo
 unfolding bounds_of
 first_bounds s f w e = ap bounds_of e
 
-pub within_limits : (l : Limits) (s : State) → s.steps ≤ l.steps → bounds_of s.workspace.frames ≡ (l.frames, l.words) → IsBounded s.workspace.frames → IsWithin l s
+pub within_limits : (l : Limits) (s : State) → s.steps ≤ l.steps → s.reads ≤ most_reads → bounds_of s.workspace.frames ≡ (l.frames, l.words) → IsBounded s.workspace.frames → IsWithin l s
 unfolding bounds_of
-within_limits l s few b is =
+within_limits l s few read b is =
     let f : s.workspace.frames.most_frames ≡ l.frames = ap (λ (p : ℕ × ℕ). p.0) b in
     let w : s.workspace.frames.most_words ≡ l.words = ap (λ (p : ℕ × ℕ). p.1) b in
-    record { frames = omega (arith, is.frames, f); words = omega (arith, is.words, w); steps = few }
+    record { frames = omega (arith, is.frames, f); words = omega (arith, is.words, w); steps = few; reads = read }

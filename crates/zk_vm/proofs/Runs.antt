@@ -1,42 +1,111 @@
 -- Runs, step by step.
-use Rattle.std.proofs.Common.{◌≡◌, ℕ, ◌+◌, ◌-◌, ◌<◌, ◌≤◌, suc, zero, List, ◌++◌, Result, Ok, Err, arith, refl, ap, sym, subst}
+use Rattle.std.proofs.Common.{◌≡◌, ◌∙◌, ℕ, ◌+◌, ◌-◌, ◌<◌, ◌≤◌, suc, zero, List, ◌++◌, Bool, true, false, Some, None, Result, Ok, Err, arith, refl, ap, sym, subst}
+use Rattle.std.specs.Prelude.{if◌then◌else◌}
+use Rattle.zk_mem.specs.declared.fault.Fault.{Fault}
 use Rattle.zk_state.specs.declared.refusal.Limit.TheVariants.{Steps}
+use Rattle.zk_state.specs.declared.refusal.Refusal.{Refusal}
+use Rattle.zk_state.specs.Frames.{FrameList, within_bounds}
+use Rattle.zk_code.specs.declared.instr.Instr.{Instr}
+use Rattle.zk_code.specs.Reading.{instr_at}
+use Rattle.zk_step.specs.declared.ending.Next.{Next}
+use Rattle.zk_step.specs.declared.ending.Next.TheVariants as next
+use Rattle.zk_step.specs.declared.ending.Wait.{Wait}
+use Rattle.zk_step.specs.declared.workspace.Workspace.{Workspace}
+use Rattle.zk_step.specs.Instructions.{carried_out}
+use Rattle.zk_step.specs.Limited.{kept, limited_move}
+use Rattle.zk_step.specs.Routing.{Texts, no_text, text_joined}
 use Rattle.zk_vm.specs.declared.stop.Stop.{Stop}
 use Rattle.zk_vm.specs.declared.stop.Stop.TheVariants.{Limit}
-use Rattle.zk_step.specs.Routing.{Texts, text_joined}
-use Rattle.zk_vm.specs.Step.{State, step, state_after, text_of, result_of}
-use Rattle.zk_vm.specs.Outcome.{Outcome, stopped_by, followed, outcome}
+use Rattle.zk_vm.specs.declared.waiting.Halt.{Halt}
+use Rattle.zk_vm.specs.declared.waiting.Waiting.{Waiting}
+use Rattle.zk_vm.specs.Halts.{halt_by, halt_of, IsLeftAt, IsLeftBy}
 use Rattle.zk_vm.specs.Laws.{IsNoStepLimit, StepLimitOnlyCuts, StepLimitCutsThere}
+use Rattle.zk_vm.specs.Outcome.{Segment, Session, continued, segment}
+use Rattle.zk_vm.specs.Step.{State, Verdict, step, settled, state_after, text_of, text_within, verdict_of, most_reads}
+use Rattle.zk_vm.specs.Step.Verdict.{GoesOn, WaitsFor, StopsBy}
 
-pub run_goes : (n i : ℕ) (s : State) → i < n → result_of s.place (step s) ≡ Ok tt
-    → outcome (n - i) s ≡ record { stop = (outcome (n - (i + 1)) (state_after s (step s))).stop; text = text_joined (text_of (step s)) (outcome (n - (i + 1)) (state_after s (step s))).text }
-unfolding outcome
-run_goes n i s lt h = let e : n - i ≡ suc (n - (i + 1)) = omega arith in rw (e, h) refl
+goes_by_halt : (v : Verdict) → Ok tt ≡ halt_by v → v ≡ GoesOn
+goes_by_halt GoesOn h = refl
+goes_by_halt (WaitsFor w) h = absurd cc
+goes_by_halt (StopsBy stop) h = absurd cc
 
-pub run_ends : (n i : ℕ) (s : State) (stop : Stop) → i < n → result_of s.place (step s) ≡ Err stop → outcome (n - i) s ≡ record { stop = stop; text = text_of (step s) }
-unfolding outcome
-run_ends n i s stop lt h = let e : n - i ≡ suc (n - (i + 1)) = omega arith in rw (e, h) refl
+-- a step that goes on
+pub run_goes : (n i : ℕ) (s : State) → i < n → Ok tt ≡ halt_by (verdict_of s (step s))
+    → segment (n - i) s ≡ record (segment (n - (i + 1)) (state_after s (step s))) { text = text_joined (text_of s (step s)) (segment (n - (i + 1)) (state_after s (step s))).text }
+unfolding segment
+run_goes n i s lt h = let e : n - i ≡ suc (n - (i + 1)) = omega arith in rw (e, goes_by_halt (verdict_of s (step s)) h) refl
 
-pub run_limit : (n i : ℕ) (s : State) → n ≤ i → outcome (n - i) s ≡ stopped_by (Limit s.place Steps)
-unfolding outcome
+pub left_goes : (old new : Session) (v : Verdict) (s : State) → Ok tt ≡ halt_by v → IsLeftAt old new v s → new ≡ record old { state = s }
+left_goes old new GoesOn s h left = left
+left_goes old new (WaitsFor w) s h left = absurd cc
+left_goes old new (StopsBy stop) s h left = absurd cc
+
+pub left_on : (old mid new : Session) (s : State) → mid ≡ record old { state = mid.state } → new ≡ record mid { state = s } → new ≡ record old { state = new.state }
+left_on old mid new s h k =
+    let there : new ≡ record old { state = s } = k ∙ ap (λ (m : Session). record m { state = s }) h in
+    let same : new.state ≡ s = ap (λ (m : Session). m.state) there in
+    there ∙ sym (ap (λ (x : State). record old { state = x }) same)
+
+-- a step that does not
+ends_by : (old mid new : Session) (h : Halt) → mid ≡ record old { state = mid.state } → (v : Verdict) (s : State) (t : Texts) (rest : Segment) → Err h ≡ halt_by v → IsLeftAt mid new v s
+    → (h ≡ halt_of (continued v s t rest).end) × IsLeftBy old new (continued v s t rest).end (continued v s t rest).state × ((continued v s t rest).text ≡ t)
+ends_by old mid new h same GoesOn s t rest e left = absurd cc
+ends_by old mid new h same (WaitsFor w) s t rest e left = (cc, left ∙ ap (λ (m : Session). record m { state = s; waiting = Some w }) same, refl)
+ends_by old mid new h same (StopsBy stop) s t rest e left = (cc, left, refl)
+
+pub run_ends : (n i : ℕ) (old mid new : Session) (h : Halt) → i < n → mid ≡ record old { state = mid.state } → Err h ≡ halt_by (verdict_of mid.state (step mid.state)) → IsLeftAt mid new (verdict_of mid.state (step mid.state)) (state_after mid.state (step mid.state))
+    → (h ≡ halt_of (segment (n - i) mid.state).end) × IsLeftBy old new (segment (n - i) mid.state).end (segment (n - i) mid.state).state × ((segment (n - i) mid.state).text ≡ text_of mid.state (step mid.state))
+unfolding segment
+run_ends n i old mid new h lt same e left =
+    let more : n - i ≡ suc (n - (i + 1)) = omega arith in
+    rw more (ends_by old mid new h same (verdict_of mid.state (step mid.state)) (state_after mid.state (step mid.state)) (text_of mid.state (step mid.state)) (segment (n - (i + 1)) (state_after mid.state (step mid.state))) e left)
+
+pub run_limit : (n i : ℕ) (s : State) → n ≤ i → segment (n - i) s ≡ record { end = Err (Limit s.place Steps); state = s; text = no_text }
+unfolding segment
 run_limit n i s h = let e : n - i ≡ zero = omega arith in rw e refl
 
-same_end : (r : Result (Unit {0}) Stop) (t : Texts) (few more : Outcome) → (IsNoStepLimit few.stop → more ≡ few) → IsNoStepLimit (followed r t few).stop → followed r t more ≡ followed r t few
-same_end (Ok x) t few more same own = ap (λ (o : Outcome). record { stop = o.stop; text = text_joined t o.text }) (same own)
-same_end (Err stop) t few more same own = refl
+same_end : (v : Verdict) (s : State) (t : Texts) (few more : Segment) → (IsNoStepLimit few.end → more ≡ few) → IsNoStepLimit (continued v s t few).end → continued v s t more ≡ continued v s t few
+same_end GoesOn s t few more same own = ap (λ (g : Segment). record g { text = text_joined t g.text }) (same own)
+same_end (WaitsFor w) s t few more same own = refl
+same_end (StopsBy stop) s t few more same own = refl
 
 pub step_limit_only_cuts : StepLimitOnlyCuts
-unfolding outcome
+unfolding segment
 step_limit_only_cuts zero k s own = absurd own
 step_limit_only_cuts (suc n) k s own =
     let e : suc n + k ≡ suc (n + k) = omega arith in
-    rw e (same_end (result_of s.place (step s)) (text_of (step s)) (outcome n (state_after s (step s))) (outcome (n + k) (state_after s (step s)))
+    rw e (same_end (verdict_of s (step s)) (state_after s (step s)) (text_of s (step s)) (segment n (state_after s (step s))) (segment (n + k) (state_after s (step s)))
     (step_limit_only_cuts n k (state_after s (step s))) own)
 
 pub step_limit_cuts_there : StepLimitCutsThere
-unfolding outcome
+unfolding segment
 step_limit_cuts_there zero s end text h = rw (h.0, h.1) refl
 step_limit_cuts_there (suc n) s end text h = rw (h.1, step_limit_cuts_there n (state_after s (step s)) end h.0 h.2, h.3) refl
+
+-- ---- a wait shows nothing
+
+same_move : (a b : Workspace × (Next × Texts)) → ◌≡◌ {A = Result (Workspace × (Next × Texts)) Refusal} (Ok a) (Ok b) → a.1.1 ≡ b.1.1
+same_move a b h =
+    let pair : a ≡ b = cc in
+    ap (λ (q : Workspace × (Next × Texts)). q.1.1) pair
+
+kept_text : (r : Result FrameList Refusal) (a b : Workspace × (Next × Texts)) → kept r a ≡ Ok b → b.1.1 ≡ no_text → text_within r a.1.1 ≡ no_text
+kept_text (Ok s) a b h none = same_move a b h ∙ none
+kept_text (Err e) a b h none = refl
+
+if_none : (b : Bool) (t : Texts) → t ≡ no_text → (if b then t else no_text) ≡ no_text
+if_none true t h = h
+if_none false t h = refl
+
+silent_move : (s : State) (i : Instr) (r : Result (Workspace × (Next × Texts)) Fault) (b : Workspace × (Next × Texts)) → limited_move r ≡ Ok b → b.1.1 ≡ no_text → text_of s (settled s i r) ≡ no_text
+silent_move s i (Ok (w, (next.At p, t))) b h none = kept_text (within_bounds w.frames) (w, (next.At p, t)) b h none
+silent_move s i (Ok (w, (next.Waits x, t))) b h none = if_none _ t (same_move (w, (next.Waits x, t)) b h ∙ none)
+silent_move s i (Ok (w, (next.End, t))) b h none = same_move (w, (next.End, t)) b h ∙ none
+silent_move s i (Err f) b h none = refl
+
+pub silent_step : (s : State) (i : Instr) (b : Workspace × (Next × Texts)) → instr_at s.workspace.memory s.place ≡ Ok i → limited_move (carried_out s.workspace i) ≡ Ok b → b.1.1 ≡ no_text → text_of s (step s) ≡ no_text
+unfolding step
+silent_step s i b h k none = rw h (silent_move s i (carried_out s.workspace i) b k none)
 
 -- what shows the rest of a run shows the whole
 abbrev pub ShowsRest : {S : Type 0} → (S → S → List ℕ → List ℕ → Type 0) → S → S → Texts → Texts → Type 0

@@ -4,13 +4,19 @@ use Rattle.zk_mem.specs.Map.{MemoryMap}
 use Rattle.zk_text.specs.Shown.{shown_all}
 use Rattle.zk_state.specs.declared.refusal.Refusal.{Refusal}
 use Rattle.zk_step.specs.declared.ending.Ending.{Ending}
+use Rattle.zk_code.specs.declared.instr.Instr.{Instr}
+use Rattle.zk_step.specs.declared.ending.Effect.{Effect}
 use Rattle.zk_step.specs.declared.ending.Next.{Next}
+use Rattle.zk_step.specs.declared.ending.Next.TheVariants.{At, Waits, End}
 use Rattle.zk_step.specs.declared.ending.Output.{Output}
 use Rattle.zk_step.specs.declared.ending.Output.TheVariants.{Nothing, Code, Character, Number, Text, Line}
 use Rattle.zk_step.specs.declared.workspace.Workspace.{Workspace}
-use Rattle.zk_step.specs.Limited.{text_in}
+use Rattle.zk_step.specs.Finish.{finished}
+use Rattle.zk_step.specs.Limited.{limited_next, text_in}
 use Rattle.zk_step.specs.Printing.{characters_of, units_of, IsPrintable}
 use Rattle.zk_step.specs.Routing.{Texts, no_text, on_screen}
+use Rattle.zk_step.proofs.Waits.{waits_ends, waits_silent}
+use Rattle.zk_vm.specs.Halts.{IsQuiet}
 
 -- an instruction that is not refused shows its texts
 pub told : (r : Result (Workspace × (Next × Texts)) Refusal) (w : Workspace) (n : Next) (t : Texts) → r ≡ Ok (w, (n, t)) → r ≡ Ok (w, (n, text_in r))
@@ -52,3 +58,12 @@ pub shown_nothing : {S : Type 0} (shows : S → S → List ℕ → List ℕ → 
 unfolding characters_of units_of shown_all
 shown_nothing {S} shows m o r e a b (inl none) h k = rw none at k
 shown_nothing {S} shows m o r e a b (inr ok) h k = let never = rw h at ok in absurd (search rules)
+
+-- an instruction that waits shows nothing
+pub quiet_wait : (w : Workspace) (i : Instr) (vs : List ℕ) (e : Effect) (v : Workspace) (n : Next) (found before after : MemoryMap) → IsPrintable before after e.output e.ending → limited_next (finished w i vs e.ending) ≡ Ok (v, n) → IsQuiet n (on_screen (characters_of found e.output))
+quiet_wait w i vs e v (At place) found before after ready h = tt
+quiet_wait w i vs e v (Waits x) found before after ready h =
+    let waits = waits_ends w i vs e.ending v x h in
+    let ready_wait = rw waits at ready in
+    silent found e.output (waits_silent before after e.output x ready_wait)
+quiet_wait w i vs e v End found before after ready h = tt

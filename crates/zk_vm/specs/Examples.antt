@@ -6,9 +6,9 @@ use Rattle.zk_state.specs.declared.refusal.Limit.TheVariants.{Frames, Words, Ste
 use Rattle.zk_state.specs.Frames.{first_frames}
 use Rattle.zk_vm.specs.declared.limits.Limits.{Limits}
 use Rattle.zk_vm.specs.declared.stop.Stop.{Stop}
-use Rattle.zk_vm.specs.declared.stop.Stop.TheVariants.{Quit, Fault, Limit}
+use Rattle.zk_vm.specs.declared.stop.Stop.TheVariants.{Quit, Fault, Limit, EndOfInput}
 use Rattle.zk_vm.specs.Bounds.{AreInRange}
-use Rattle.zk_vm.specs.Outcome.{Outcome, begun, outcome_by, outcome_of}
+use Rattle.zk_vm.specs.Outcome.{Outcome, Session, begun, outcome, with_stop}
 
 -- a story of version 5 with its static base and its first instruction at 64, where this code stands
 abbrev pub story_of : List ℕ → List ℕ
@@ -17,6 +17,10 @@ story_of code = 5 ∷ 0 ∷ 0 ∷ 0 ∷ 0 ∷ 0 ∷ 0 ∷ 64 ∷ 0 ∷ 0 ∷ 0 �
 -- so many frames, words and instructions
 abbrev pub limits_of : ℕ → ℕ → ℕ → Limits
 limits_of frames words steps = record { frames = frames; words = words; undo = 0; steps = steps }
+
+-- the outcome of a story that nobody answers
+abbrev pub outcome_of : Session → Outcome
+outcome_of s = outcome [] EndOfInput s
 
 -- a stop, and the text on the screen
 abbrev pub stops : Stop → List ℕ → Outcome
@@ -79,7 +83,7 @@ BeginsAtTheFirstInstruction =
 -- a machine that has stopped shows nothing more, and has its stop
 abbrev pub StopsForGood : Type 0
 StopsForGood =
-    outcome_by (Some (Fault 67 BadOpcode)) (limits_of 1 0 10) (begun prints_and_quits (limits_of 1 0 10)).state ≡ stops (Fault 67 BadOpcode) []
+    outcome_of (with_stop (begun prints_and_quits (limits_of 1 0 10)) (Fault 67 BadOpcode)) ≡ stops (Fault 67 BadOpcode) []
 
 -- from 1 frame on, up to 64 undo states, and from 1 to 1,000,000,000 instructions
 abbrev pub LimitsHaveRanges : Type 0

@@ -1,5 +1,7 @@
+pub mod Answers
 pub mod Bounds
 pub mod Consoles
+pub mod Halts
 pub mod Laws
 pub mod Outcome
 pub mod Printed

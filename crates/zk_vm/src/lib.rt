@@ -13,3 +13,4 @@ mod step;
 pub mod stop;
 #[cfg(test)]
 mod tests;
+mod waiting;

@@ -1,20 +1,23 @@
 // A machine that runs a story.
 
-ghost use Rattle.std.specs.Prelude.{◌≡◌, ◌≤◌, ◌<◌, ◌+◌, ◌-◌, ◌^◌, ◌||◌, Bool, true, false, Some, Ok, Err, IfOk, OnOk, if◌then◌else◌};
-ghost use Rattle.zk_term.specs.Devices.{Device, Shows};
+ghost use Rattle.std.specs.Prelude.{◌≡◌, ◌≤◌, ◌<◌, ◌+◌, ◌-◌, ◌^◌, ◌⊎◌, true, [], ◌∷◌, length, Some, None, Ok, IfOk, OnOk};
+ghost use Rattle.std.specs.List.{AllByRecursion};
+ghost use Rattle.zk_text.specs.Extra.{is_input_code};
 ghost use Rattle.zk_state.specs.Frames.{IsBounded};
-ghost use Rattle.zk_vm.specs.Bounds.{AreInRange};
+ghost use Rattle.zk_step.specs.Routing.{no_text};
 ghost use Rattle.zk_code.specs.Reading.{instr_at};
-ghost use Rattle.zk_vm.specs.Step.{step, result_of, state_after, text_of};
-ghost use Rattle.zk_vm.specs.Outcome.{begun, outcome, outcome_of, with_stop};
+ghost use Rattle.zk_vm.specs.Bounds.{AreInRange};
+ghost use Rattle.zk_vm.specs.Halts.{halt_of, halt_by, IsLeftAt, IsLeftBy, IsLeftAs, IsLed, event_by, event_of, event_waited};
 ghost use Rattle.zk_vm.specs.Laws.{IsWithin};
+ghost use Rattle.zk_vm.specs.Outcome.{begun, segment, segment_of, ran, given, with_stop};
+ghost use Rattle.zk_vm.specs.Step.{step, verdict_of, state_after, text_of};
+ghost use Rattle.zk_vm.specs.Step.Step.{Waits};
 
-use crate::console::Console;
 use crate::limits::Limits;
 use crate::screen::Screen;
-use crate::slot::SaveSlot;
 use crate::step::carry_out;
 use crate::stop::{Event, Stop, View};
+use crate::waiting::{Halt, Waiting};
 use std::alloc::{AllocError, Global};
 use std::marker::Model;
 use zk_code::decode::decode;
@@ -23,10 +26,12 @@ use zk_mem::memory::{Memory, Setup};
 use zk_mem::story::Story;
 use zk_state::frames::Frames;
 use zk_state::refusal::{Limit, Refusal};
-use zk_step::ending::Next;
+use zk_step::ending::{Next, Wait};
+use zk_step::inputs::{answer_character, answer_line};
 use zk_step::workspace::Workspace;
-use zk_term::source::Source;
-use zk_term::target::Target;
+
+/// So many reads are answered in a run.
+pub const MOST_READS: u32 = 16_777_216;
 
 /// A machine that runs a story within limits (Z-Machine Standards Document 1.1). What it shows, and where
 /// and why it stops, are those of the Standard's machine up to that stop.
@@ -35,20 +40,23 @@ pub struct Machine {
     workspace: Workspace,
     place: u32,
     steps: u32,
+    reads: u32,
     limits: Limits,
+    waiting: Option<Waiting>,
     stopped: Option<Stop>,
 }
 
 impl Model for Machine {
     ghost use Rattle.std.specs.Prelude.{◌≤◌, ◌≡◌};
     ghost use Rattle.zk_state.specs.Frames.{bounds_of};
+    ghost use Rattle.zk_vm.specs.Halts.{CanAnswer};
     ghost use Rattle.zk_vm.specs.Outcome.{Session};
 
     ghost Value = { Session };
 
-    ghost view = { λ m. record { state = record { workspace = m.workspace; place = m.place; steps = m.steps }; limits = m.limits; stopped = m.stopped } };
+    ghost view = { λ m. record { state = record { workspace = m.workspace; place = m.place; steps = m.steps; reads = m.reads }; limits = m.limits; waiting = m.waiting; stopped = m.stopped } };
 
-    ghost invariant = { λ m. (m.steps ≤ m.limits.steps) × (bounds_of m.workspace.frames ≡ (m.limits.frames, m.limits.words)) };
+    ghost invariant = { λ m. (m.steps ≤ m.limits.steps) × (bounds_of m.workspace.frames ≡ (m.limits.frames, m.limits.words)) × (m.reads ≤ 16777216) × CanAnswer m.reads m.stopped m.waiting };
 }
 
 impl Machine {
@@ -75,12 +83,14 @@ impl Machine {
             workspace: Workspace { memory, frames },
             place,
             steps: 0,
+            reads: 0,
             limits,
+            waiting: None,
             stopped: None,
         })
     }
 
-    /// There are no more frames, words and steps than the limits say.
+    /// There are no more frames, words, steps and reads than the limits say.
     #[inline(always)]
     fn is_within(&self)
         ensures bounded { IsBounded self.now.state.workspace.frames }
@@ -92,68 +102,91 @@ impl Machine {
 
     /// Carries out an instruction that was fetched from the machine's place.
     #[tactic(auto, unfolding(crate::specs::Step::step))]
-    fn advance<S: Screen>(&mut self, i: &Instr, screen: &mut S) -> Result<(), Stop>
+    fn advance<S: Screen>(&mut self, i: Instr, screen: &mut S) -> Result<(), Halt>
         requires room { self.old.state.steps < self.old.limits.steps }
-        requires near { i.now.next ≤ 2 ^ 20 }
-        requires fetched { instr_at self.old.state.workspace.memory self.old.state.place ≡ Ok i.now }
-        ensures value { result ≡ result_of self.old.state.place (step self.old.state) }
-        ensures state { OnOk result (self.new ≡ record self.old { state = state_after self.old.state (step self.old.state) }) }
-        ensures text { S.shows screen.old screen.new (text_of (step self.old.state)).screen (text_of (step self.old.state)).script }
+        requires free { self.old.waiting ≡ None }
+        requires runs { self.old.stopped ≡ None }
+        requires near { i.next ≤ 2 ^ 20 }
+        requires fetched { instr_at self.old.state.workspace.memory self.old.state.place ≡ Ok i }
+        ensures value { result ≡ halt_by (verdict_of self.old.state (step self.old.state)) }
+        ensures left { IsLeftAt self.old self.new (verdict_of self.old.state (step self.old.state)) (state_after self.old.state (step self.old.state)) }
+        ensures text { S.shows screen.old screen.new (text_of self.old.state (step self.old.state)).screen (text_of self.old.state (step self.old.state)).script }
         ensures counted { OnOk result (self.new.state.steps ≡ self.old.state.steps + 1) }
         ensures limits { self.new.limits ≡ self.old.limits }
     {
-        match carry_out(&mut self.workspace, i, screen) {
+        match carry_out(&mut self.workspace, &i, screen) {
             Ok(Next::At(place)) => {
                 self.place = place;
                 self.steps += 1;
                 Ok(())
             }
-            Ok(Next::End) => Err(Stop::Quit),
-            Err(Refusal::Fault(fault)) => Err(Stop::Fault(self.place, fault)),
-            Err(Refusal::Limit(limit)) => Err(Stop::Limit(self.place, limit)),
+            Ok(Next::Waits(wait)) => self.wait_for(wait, i),
+            Ok(Next::End) => Err(Halt::Stops(Stop::Quit)),
+            Err(Refusal::Fault(fault)) => Err(Halt::Stops(Stop::Fault(self.place, fault))),
+            Err(Refusal::Limit(limit)) => Err(Halt::Stops(Stop::Limit(self.place, limit))),
         }
+    }
+
+    /// Waits for an answer, where there may be one more.
+    fn wait_for(&mut self, wait: Wait, instruction: Instr) -> Result<(), Halt>
+        requires near { instruction.next ≤ 2 ^ 20 }
+        requires free { self.old.waiting ≡ None }
+        requires runs { self.old.stopped ≡ None }
+        ensures value { result ≡ halt_by (verdict_of self.old.state (Waits self.old.state (record { wait = wait; instruction = instruction }) no_text)) }
+        ensures left { IsLeftAt self.old self.new (verdict_of self.old.state (Waits self.old.state (record { wait = wait; instruction = instruction }) no_text)) self.old.state }
+        ensures limits { self.new.limits ≡ self.old.limits }
+    {
+        if self.reads >= MOST_READS {
+            return Err(Halt::Stops(Stop::Limit(self.place, Limit::Reads)));
+        }
+        self.waiting = Some(Waiting { wait, instruction });
+        Err(Halt::Waits(wait))
     }
 
     /// One step.
     #[tactic(auto, unfolding(crate::specs::Step::step))]
-    fn step<S: Screen>(&mut self, screen: &mut S) -> Result<(), Stop>
-        requires { self.old.state.steps < self.old.limits.steps }
-        ensures value { result ≡ result_of self.old.state.place (step self.old.state) }
-        ensures state { OnOk result (self.new ≡ record self.old { state = state_after self.old.state (step self.old.state) }) }
-        ensures text { S.shows screen.old screen.new (text_of (step self.old.state)).screen (text_of (step self.old.state)).script }
+    fn step<S: Screen>(&mut self, screen: &mut S) -> Result<(), Halt>
+        requires room { self.old.state.steps < self.old.limits.steps }
+        requires free { self.old.waiting ≡ None }
+        requires runs { self.old.stopped ≡ None }
+        ensures value { result ≡ halt_by (verdict_of self.old.state (step self.old.state)) }
+        ensures left { IsLeftAt self.old self.new (verdict_of self.old.state (step self.old.state)) (state_after self.old.state (step self.old.state)) }
+        ensures text { S.shows screen.old screen.new (text_of self.old.state (step self.old.state)).screen (text_of self.old.state (step self.old.state)).script }
         ensures counted { OnOk result (self.new.state.steps ≡ self.old.state.steps + 1) }
         ensures limits { self.new.limits ≡ self.old.limits }
     {
         match decode(&self.workspace.memory, self.place) {
-            Ok(i) => self.advance(&i, screen),
-            Err(fault) => Err(Stop::Fault(self.place, fault)),
+            Ok(i) => self.advance(i, screen),
+            Err(fault) => Err(Halt::Stops(Stop::Fault(self.place, fault))),
         }
     }
 
-    /// Steps up to the stop.
-    fn steps_to_stop<S: Screen>(&mut self, screen: &mut S) -> Stop
-        ensures stop { result ≡ (outcome (self.old.limits.steps - self.old.state.steps) self.old.state).stop }
-        ensures text { S.shows screen.old screen.new (outcome (self.old.limits.steps - self.old.state.steps) self.old.state).text.screen (outcome (self.old.limits.steps - self.old.state.steps) self.old.state).text.script }
+    /// Steps up to a read or a stop.
+    fn steps_to_halt<S: Screen>(&mut self, screen: &mut S) -> Halt
+        requires free { self.old.waiting ≡ None }
+        requires runs { self.old.stopped ≡ None }
+        ensures halt { result ≡ halt_of (segment (self.old.limits.steps - self.old.state.steps) self.old.state).end }
+        ensures left { IsLeftBy self.old self.new (segment (self.old.limits.steps - self.old.state.steps) self.old.state).end (segment (self.old.limits.steps - self.old.state.steps) self.old.state).state }
+        ensures text { S.shows screen.old screen.new (segment (self.old.limits.steps - self.old.state.steps) self.old.state).text.screen (segment (self.old.limits.steps - self.old.state.steps) self.old.state).text.script }
         ensures limits { self.new.limits ≡ self.old.limits }
     {
         for _i in self.steps..self.limits.steps {
             match self.step(screen) {
                 Ok(()) => {}
-                Err(stop) => return stop,
+                Err(halt) => return halt,
             }
         }
-        Stop::Limit(self.place, Limit::Steps)
+        Halt::Stops(Stop::Limit(self.place, Limit::Steps))
     }
 
-    /// Runs the story up to its next stop, and answers the same stop from then on until `close` sets
-    /// another. Nothing of an instruction that faults is shown.
-    #[tactic(auto, unfolding(crate::specs::Outcome::outcome_of))]
+    /// Runs the story up to its next read, or its stop, and answers the same stop from then on until
+    /// `close` sets another. Nothing of an instruction that faults is shown. It is not waiting.
+    #[tactic(auto, unfolding(crate::specs::Outcome::segment_of, crate::specs::Outcome::ran))]
     pub fn run<S: Screen>(&mut self, screen: &mut S) -> Result<Event, Stop>
-        ensures stop { result ≡ Err (outcome_of self.old).stop }
-        ensures text { S.shows screen.old screen.new (outcome_of self.old).text.screen (outcome_of self.old).text.script }
-        ensures stopped { self.new.stopped ≡ Some (outcome_of self.old).stop }
-        ensures limits { self.new.limits ≡ self.old.limits }
-        ensures steps { self.new.state.steps ≤ self.new.limits.steps }
+        requires { self.old.waiting ≡ None }
+        ensures answer { result ≡ event_of (segment_of self.old).end }
+        ensures left { IsLeftAs self.new (ran self.old) (ran self.old).stopped }
+        ensures text { S.shows screen.old screen.new (segment_of self.old).text.screen (segment_of self.old).text.script }
         ensures frames { IsBounded self.new.state.workspace.frames }
         ensures within { IsWithin self.new.limits self.new.state }
     {
@@ -161,50 +194,104 @@ impl Machine {
             self.is_within();
             return Err(stop);
         }
-        let stop = self.steps_to_stop(screen);
-        self.stopped = Some(stop);
-        self.is_within();
-        Err(stop)
+        match self.steps_to_halt(screen) {
+            Halt::Waits(wait) => {
+                self.is_within();
+                Ok(asked_by(wait))
+            }
+            Halt::Stops(stop) => {
+                self.stopped = Some(stop);
+                self.is_within();
+                Err(stop)
+            }
+        }
     }
 
-    /// Ends the machine with a stop, in place of one that it may have.
+    /// What the machine waits for.
+    pub fn waiting(&self) -> Option<Event>
+        ensures { result ≡ event_waited self.now.waiting }
+    {
+        match &self.waiting {
+            Some(waiting) => Some(asked_by(waiting.wait)),
+            None => None,
+        }
+    }
+
+    /// Goes on where the answer to a read leads, or stops.
+    fn follow(&mut self, answered: Result<Next, Refusal>)
+        requires free { self.old.waiting ≡ None }
+        requires room { self.old.state.reads < 16777216 }
+        ensures { IsLed self.old self.new answered }
+    {
+        match answered {
+            Ok(Next::At(place)) => {
+                self.place = place;
+                self.steps = 0;
+                self.reads += 1;
+            }
+            Ok(Next::Waits(_)) | Ok(Next::End) => self.stopped = Some(Stop::Quit),
+            Err(Refusal::Fault(fault)) => self.stopped = Some(Stop::Fault(self.place, fault)),
+            Err(Refusal::Limit(limit)) => self.stopped = Some(Stop::Limit(self.place, limit)),
+        }
+    }
+
+    /// Answers a read by the codes of a line, at most 255: they go to its text buffer and their words to its
+    /// parse buffer (Z-Machine Standards Document 1.1, section 15, `read`). A fault or a limit comes from the
+    /// next `run`. The machine waits for a line.
+    #[tactic(auto, unfolding(crate::specs::Outcome::given, crate::specs::Answers::answered))]
+    pub fn answer_line(&mut self, codes: &[u8])
+        requires waits { event_waited self.old.waiting ≡ Some Event.Line }
+        requires few { length codes.now ≤ 255 }
+        requires typed { AllByRecursion (λ c. is_input_code c ≡ true) codes.now }
+        ensures left { IsLeftAs self.new (given self.old codes.now) (given self.old codes.now).stopped }
+    {
+        let Some(waiting) = self.waiting.take() else {
+            return;
+        };
+        if let Wait::Line(text, parse) = waiting.wait {
+            let i = &waiting.instruction;
+            let answered = answer_line(&mut self.workspace, i, text, parse, codes);
+            self.follow(answered);
+        }
+    }
+
+    /// Answers a read by the code of a character (Z-Machine Standards Document 1.1, section 15,
+    /// `read_char`). A fault or a limit comes from the next `run`. The machine waits for a character.
+    #[tactic(auto, unfolding(crate::specs::Outcome::given, crate::specs::Answers::answered))]
+    pub fn answer_char(&mut self, code: u8)
+        requires waits { event_waited self.old.waiting ≡ Some Event.Char }
+        requires typed { (code ≡ 13) ⊎ (is_input_code code ≡ true) }
+        ensures left { IsLeftAs self.new (given self.old (code ∷ [])) (given self.old (code ∷ [])).stopped }
+    {
+        let Some(waiting) = self.waiting.take() else {
+            return;
+        };
+        let answered = answer_character(&mut self.workspace, &waiting.instruction, code);
+        self.follow(answered);
+    }
+
+    /// The memory of the story.
+    pub fn memory(&self) -> &Memory
+        ensures { result.now ≡ self.now.state.workspace.memory }
+    {
+        &self.workspace.memory
+    }
+
+    /// Ends the machine with a stop, in place of one that it may have. It waits for nothing.
     pub fn close(&mut self, stop: Stop)
         ensures { self.new ≡ with_stop self.old stop }
     {
+        self.waiting = None;
         self.stopped = Some(stop);
     }
 }
 
-/// Plays a story up to its stop, and ends the machine with it. Each character goes out at once, as UTF-8.
-/// Once a write has failed nothing more is written to either target, and the stop is `Write`: what went
-/// out is a first part of the text. No opcode asks the reader or the slot yet.
-pub fn play<R: Source, S: Target, T: Target, K: SaveSlot>(
-    _alloc: Global,
-    _reader: &mut R,
-    screen: &mut S,
-    script: &mut T,
-    _slot: &mut K,
-    machine: &mut Machine,
-) -> Stop
-    requires screen_works { S.failed screen.old ≡ false }
-    requires script_works { T.failed script.old ≡ false }
-    ensures stop { result ≡ (if S.failed screen.new || T.failed script.new then Stop.Write else (outcome_of machine.old).stop) }
-    ensures screen { Shows (record { taken = S.taken screen.old; failed = false }) (record { taken = S.taken screen.new; failed = S.failed screen.new || T.failed script.new }) (outcome_of machine.old).text.screen }
-    ensures script { Shows (record { taken = T.taken script.old; failed = false }) (record { taken = T.taken script.new; failed = S.failed screen.new || T.failed script.new }) (outcome_of machine.old).text.script }
-    ensures stopped { machine.new.stopped ≡ Some result }
-    ensures limits { machine.new.limits ≡ machine.old.limits }
-    ensures within { IsWithin machine.new.limits machine.new.state }
-    ensures reader { _reader.new ≡ _reader.old }
-    ensures slot { _slot.new ≡ _slot.old }
+/// What is asked for by a read.
+fn asked_by(wait: Wait) -> Event
+    ensures { result ≡ event_by wait }
 {
-    let mut console = Console::new(screen, script);
-    let stop = match machine.run(&mut console) {
-        Ok(_) => unreachable!(),
-        Err(stop) => stop,
-    };
-    if console.has_failed() {
-        machine.close(Stop::Write);
-        return Stop::Write;
+    match wait {
+        Wait::Line(_, _) => Event::Line,
+        Wait::Char => Event::Char,
     }
-    stop
 }

@@ -1,11 +1,12 @@
 // An instruction is carried out, and what it prints is shown.
 
-ghost use Rattle.std.specs.Prelude.{◌≡◌, ◌≤◌, ◌^◌, ◌⊎◌, Ok, Err, IsOk, [], MatchResult};
+ghost use Rattle.std.specs.Prelude.{◌≡◌, ◌≤◌, ◌^◌, ◌⊎◌, Ok, Err, IfOk, IsOk, [], MatchResult};
 ghost use Rattle.zk_state.specs.Frames.{bounds_of};
 ghost use Rattle.zk_step.specs.Finish.{finished};
 ghost use Rattle.zk_step.specs.Instructions.{carried_out};
 ghost use Rattle.zk_step.specs.Limited.{limited_move, limited_next, text_in};
 ghost use Rattle.zk_step.specs.Printing.{IsPrintable, characters_of};
+ghost use Rattle.zk_vm.specs.Halts.{IsQuiet};
 
 use crate::printer::show;
 use crate::screen::Screen;
@@ -55,6 +56,7 @@ pub fn carry_out<S: Screen>(
     ensures value { MatchResult result
         (λ n. limited_move (carried_out workspace.old i.now) ≡ Ok (workspace.new, (n, text_in (limited_move (carried_out workspace.old i.now)))))
         (λ e. limited_move (carried_out workspace.old i.now) ≡ Err e) }
+    ensures quiet { IfOk result (λ n. IsQuiet n (text_in (limited_move (carried_out workspace.old i.now)))) }
     ensures bounds { bounds_of workspace.new.frames ≡ bounds_of workspace.old.frames }
     ensures text { S.shows screen.old screen.new (text_in (limited_move (carried_out workspace.old i.now))).screen (text_in (limited_move (carried_out workspace.old i.now))).script }
 {
