@@ -1,6 +1,7 @@
 // The devices that a story is played on.
 #![tactic(auto)]
 
+pub mod lines;
 pub mod nothing;
 pub mod over;
 pub mod source;

@@ -1,0 +1,128 @@
+-- Bytes that a reader of lines takes from a source, one after another.
+use Rattle.std.proofs.Common.{◌≡◌, ◌≢◌, ◌≤◌, ◌<◌, ℕ, suc, ◌+◌, ◌-◌, Bool, true, false, List, [], ◌∷◌, ◌++◌, length, take, drop, get_or, Option, Some, append_assoc, drop-cons, add-one, refl, sym, ◌∙◌, ap, arith, length-drop, length-append, Ok, Err, inl, inr, ⊎_elim, lit≤, cond, nat_lt}
+use Rattle.std.proofs.lemmas.List.{length-take, length-take-le, take-take, take_all, take_at, take-append-le, append-nil}
+use Rattle.std.proofs.lemmas.Bool.{ne_eqb, cases_lt}
+use Rattle.std.proofs.lemmas.Bool.Decides.{nat_tests}
+use Rattle.std.specs.Str.Lines.{strip_carriage_return}
+use Rattle.arrayvec.specs.ArrayVec.{ArrayVec}
+use Rattle.zk_term.specs.declared.lines.Over.TheVariants as over
+use Rattle.zk_text.specs.Extra.{ExtraTable}
+use Rattle.zk_term.specs.Characters.{line_codes}
+use Rattle.zk_term.specs.Lines.{heard, behind, nothing_more, Reading, Gives, GivesEach, GivesLine, IsPlain, is_new_line}
+use Rattle.zk_term.proofs.Cutting.{cut_codes}
+use Rattle.zk_term.proofs.Hearing.{are_lines}
+
+-- ---- one byte
+
+pub ahead_on : (bytes : List ℕ) (start end : ℕ) → start < end → end ≤ length bytes → take (end - start) (drop start bytes) ≡ get_or bytes start 0 ∷ take (end - (start + 1)) (drop (start + 1) bytes)
+ahead_on bytes start end h w =
+    let e : end - start ≡ suc (end - (start + 1)) = omega arith in
+    let inside : start < length bytes = omega arith in
+    rw (e, drop-cons bytes start 0, add-one start) refl
+
+pub ahead_some : (bytes : List ℕ) (start end : ℕ) → end ≤ length bytes → 0 < length (take (end - start) (drop start bytes)) → start < end
+ahead_some bytes start end w h = omega (arith, length-take (end - start) (drop start bytes), length-drop start bytes)
+
+pub gives_ahead : (r r' : Reading) (left : Option (List ℕ)) (b : ℕ) → r.ahead ≡ b ∷ r'.ahead → Gives r left r' left (b ∷ [])
+gives_ahead r r' left b e = λ bytes h. (bytes, h, ap (λ xs. xs ++ bytes) e)
+
+pub gives_then : (r m r' : Reading) (left left' : Option (List ℕ)) (b : ℕ) → Gives r left m left' [] → m.ahead ≡ b ∷ r'.ahead → Gives r left r' left' (b ∷ [])
+gives_then r m r' left left' b h e = λ bytes k. let g = h bytes k in (g.0, g.1, g.2 ∙ ap (λ xs. xs ++ g.0) e)
+
+-- ---- the bytes of a line that are kept
+
+take_again : (n : ℕ) (xs ys : List ℕ) → take n (take n xs ++ ys) ≡ take n (xs ++ ys)
+take_again n xs ys = ⊎_elim
+    (λ (short : length xs < n). ap (λ zs. take n (zs ++ ys)) (take_all n xs (omega arith)))
+    (λ (long : n ≤ length xs). take_at (take n xs) ys n (length-take-le n xs long) ∙ sym (take-append-le n xs ys long))
+    (cases_lt (length xs) n)
+
+strip_by : (x : Bool) (line : List ℕ) → 1020 < length line → take 1020 (cond x (take (length line - 1) line) line) ≡ take 1020 line
+strip_by true line w = take-take 1020 (length line - 1) line (omega arith)
+strip_by false line w = refl
+
+-- a return at the end of a long line is past its codes
+strip_long : (t : ExtraTable) (line : List ℕ) → 1020 < length line → line_codes t (strip_carriage_return line) ≡ line_codes t (take 1020 line)
+strip_long t line w = sym (cut_codes t (strip_carriage_return line) 1020 (lit≤ tt)) ∙ ap (line_codes t) (strip_by _ line w)
+
+strip_codes : (t : ExtraTable) (line : List ℕ) → line_codes t (strip_carriage_return (take 1024 line)) ≡ line_codes t (strip_carriage_return line)
+strip_codes t line = ⊎_elim
+    (λ (long : 1024 < length line). strip_long t (take 1024 line) (omega (arith, length-take-le 1024 line (omega arith))) ∙ ap (line_codes t) (take-take 1020 1024 line (lit≤ tt)) ∙ sym (strip_long t line (omega arith)))
+    (λ (short : length line ≤ 1024). ap (λ l. line_codes t (strip_carriage_return l)) (take_all 1024 line short))
+    (cases_lt 1024 (length line))
+
+-- ---- a line
+
+-- the bytes taken so far are no new lines, and the first 1,024 of them are kept
+pub record Taken (r : Reading) (left : Option (List ℕ)) (r' : Reading) (left' : Option (List ℕ)) (count : ℕ) (kept : List ℕ) : Type 0 where
+  pub front : List ℕ
+  pub gives : Gives r left r' left' front
+  pub plain : IsPlain front
+  pub long : length front ≡ count
+  pub keeps : kept ≡ take 1024 front
+
+pub taken_none : (r : Reading) (left : Option (List ℕ)) → Taken r left r left 0 []
+taken_none r left = record { front = []; gives = λ bytes h. (bytes, h, refl); plain = tt; long = refl; keeps = refl }
+
+gives_on : (r m r' : Reading) (left leftm left' : Option (List ℕ)) (xs ys : List ℕ) → Gives r left m leftm xs → Gives m leftm r' left' ys → Gives r left r' left' (xs ++ ys)
+gives_on r m r' left leftm left' xs ys h k = λ bytes e.
+    let g = h bytes e in
+    let n = k g.0 g.1 in
+    (n.0, n.1, g.2 ∙ ap (λ zs. xs ++ zs) n.2 ∙ sym (append_assoc xs ys (r'.ahead ++ n.0)))
+
+plain_on : (xs : List ℕ) (b : ℕ) → IsPlain xs → is_new_line b ≡ false → IsPlain (xs ++ b ∷ [])
+plain_on [] b h e = (e, tt)
+plain_on (x ∷ xs) b h e = (h.0, plain_on xs b h.1 e)
+
+pub taken_on : (r m r' : Reading) (left leftm left' : Option (List ℕ)) (n b : ℕ) (kept kept' : List ℕ) → Taken r left m leftm n kept → Gives m leftm r' left' (b ∷ []) → b ≢ 10 → kept' ≡ take 1024 (kept ++ b ∷ []) → Taken r left r' left' (n + 1) kept'
+taken_on r m r' left leftm left' n b kept kept' t g h e = record {
+  front = t.front ++ b ∷ [];
+  gives = gives_on r m r' left leftm left' t.front (b ∷ []) t.gives g;
+  plain = plain_on t.front b t.plain (ne_eqb b 10 h);
+  long = omega (arith, length-append t.front (b ∷ []), t.long);
+  keeps = e ∙ ap (λ ks. take 1024 (ks ++ b ∷ [])) t.keeps ∙ take_again 1024 t.front (b ∷ []);
+}
+
+pub taken_line : (r m r' : Reading) (left leftm left' : Option (List ℕ)) (failed : Bool) (n : ℕ) (kept : List ℕ) (result : ArrayVec ℕ) → Taken r left m leftm n kept → n < 65536 → Gives m leftm r' left' (10 ∷ []) → result.items ≡ strip_carriage_return kept → GivesLine r left r' left' failed (Ok result)
+taken_line r m r' left leftm left' failed n kept result t h g e = λ bytes k.
+    let all = gives_on r m r' left leftm left' t.front (10 ∷ []) t.gives g bytes k in
+    let short : nat_lt (length t.front) 65536 ≡ true = grind (arith, nat_tests, t.long) in
+    let whole : r.ahead ++ bytes ≡ t.front ++ 10 ∷ (r'.ahead ++ all.0) = all.2 ∙ append_assoc t.front (10 ∷ []) (r'.ahead ++ all.0) in
+    (all.0, all.1, (strip_carriage_return t.front, ap heard whole ∙ are_lines.ended t.front (r'.ahead ++ all.0) t.plain short, λ x. ap (line_codes x) (e ∙ ap strip_carriage_return t.keeps) ∙ strip_codes x t.front))
+
+ends : (m r' : Reading) (leftm left' : Option (List ℕ)) → GivesEach {X = ℕ} (λ b. b ∷ []) m leftm r' left' (Err over.End) → (bytes : List ℕ) → leftm ≡ Some bytes → (later : List ℕ) × (left' ≡ Some later) × (m.ahead ++ bytes ≡ []) × (r'.ahead ++ later ≡ [])
+ends m r' leftm left' g bytes e =
+    let given = g.0 bytes e in
+    let none = g.1 bytes e in
+    (given.0, given.1, none, sym given.2 ∙ none)
+
+last_by : (line : List ℕ) → 0 < length line → IsPlain line → nat_lt (length line) 65536 ≡ true → heard line ≡ behind line (nothing_more over.End)
+last_by [] some plain short = absurd (omega arith)
+last_by (b ∷ line) some plain short = are_lines.last b line plain short
+
+pub taken_last : (r m r' : Reading) (left leftm left' : Option (List ℕ)) (failed : Bool) (n : ℕ) (result : ArrayVec ℕ) → Taken r left m leftm n result.items → n < 65536 → 0 < n → GivesEach {X = ℕ} (λ b. b ∷ []) m leftm r' left' (Err over.End) → GivesLine r left r' left' failed (Ok result)
+taken_last r m r' left leftm left' failed n result t h some g = λ bytes k.
+    let mid = t.gives bytes k in
+    let end = ends m r' leftm left' g mid.0 mid.1 in
+    let short : nat_lt (length t.front) 65536 ≡ true = grind (arith, nat_tests, t.long) in
+    let whole : r.ahead ++ bytes ≡ t.front = mid.2 ∙ ap (λ l. t.front ++ l) end.2 ∙ append-nil t.front in
+    (end.0, end.1, (t.front, ap heard whole ∙ last_by t.front (omega (arith, t.long)) t.plain short ∙ ap (behind t.front) (sym are_lines.none ∙ ap heard (sym end.3)), λ x. ap (line_codes x) t.keeps ∙ cut_codes x t.front 1024 (lit≤ tt)))
+
+none_by : (line : List ℕ) → length line ≡ 0 → line ≡ []
+none_by [] e = refl
+none_by (b ∷ line) e = absurd (omega arith)
+
+pub taken_end : (r m r' : Reading) (left leftm left' : Option (List ℕ)) (failed : Bool) (n : ℕ) (kept : List ℕ) → Taken r left m leftm n kept → n ≡ 0 → GivesEach {X = ℕ} (λ b. b ∷ []) m leftm r' left' (Err over.End) → GivesLine r left r' left' failed (Err over.End)
+taken_end r m r' left leftm left' failed n kept t h g = λ bytes k.
+    let mid = t.gives bytes k in
+    let end = ends m r' leftm left' g mid.0 mid.1 in
+    let none : r.ahead ++ bytes ≡ [] = mid.2 ∙ ap (λ l. l ++ (m.ahead ++ mid.0)) (none_by t.front (t.long ∙ h)) ∙ end.2 in
+    (end.0, end.1, ap heard none ∙ are_lines.none)
+
+pub taken_failed : (r m r' : Reading) (left leftm left' : Option (List ℕ)) (failed : Bool) (n : ℕ) (kept : List ℕ) → Taken r left m leftm n kept → Gives m leftm r' left' [] → failed ≡ true → GivesLine r left r' left' failed (Err over.Failed)
+taken_failed r m r' left leftm left' failed n kept t g e = λ bytes k. let all = gives_on r m r' left leftm left' t.front [] t.gives g bytes k in (all.0, all.1, inl e)
+
+pub taken_long : (r r' : Reading) (left left' : Option (List ℕ)) (failed : Bool) (n : ℕ) (kept : List ℕ) → Taken r left r' left' n kept → n ≡ 65536 → GivesLine r left r' left' failed (Err over.Failed)
+taken_long r r' left left' failed n kept t h = λ bytes k.
+    let all = t.gives bytes k in
+    (all.0, all.1, inr (ap heard all.2 ∙ are_lines.too_long t.front (r'.ahead ++ all.0) t.plain (t.long ∙ h)))
