@@ -4,6 +4,7 @@ pub mod Consoles
 pub mod Halts
 pub mod Laws
 pub mod Outcome
+pub mod Plays
 pub mod Printed
 pub mod Step
 pub mod Examples

@@ -6,6 +6,7 @@ pub mod examples;
 pub mod laws;
 pub mod limits;
 pub mod machine;
+pub mod play;
 mod printer;
 pub mod screen;
 pub mod slot;

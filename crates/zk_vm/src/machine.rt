@@ -187,6 +187,8 @@ impl Machine {
         ensures answer { result ≡ event_of (segment_of self.old).end }
         ensures left { IsLeftAs self.new (ran self.old) (ran self.old).stopped }
         ensures text { S.shows screen.old screen.new (segment_of self.old).text.screen (segment_of self.old).text.script }
+        ensures reads { OnOk result (self.new.state.reads < 16777216) }
+        ensures limits { self.new.limits ≡ self.old.limits }
         ensures frames { IsBounded self.new.state.workspace.frames }
         ensures within { IsWithin self.new.limits self.new.state }
     {
@@ -244,6 +246,9 @@ impl Machine {
         requires few { length codes.now ≤ 255 }
         requires typed { AllByRecursion (λ c. is_input_code c ≡ true) codes.now }
         ensures left { IsLeftAs self.new (given self.old codes.now) (given self.old codes.now).stopped }
+        ensures free { self.new.waiting ≡ None }
+        ensures counted { self.new.stopped ≡ None → self.new.state.reads ≡ self.old.state.reads + 1 }
+        ensures limits { self.new.limits ≡ self.old.limits }
     {
         let Some(waiting) = self.waiting.take() else {
             return;
@@ -262,6 +267,9 @@ impl Machine {
         requires waits { event_waited self.old.waiting ≡ Some Event.Char }
         requires typed { (code ≡ 13) ⊎ (is_input_code code ≡ true) }
         ensures left { IsLeftAs self.new (given self.old (code ∷ [])) (given self.old (code ∷ [])).stopped }
+        ensures free { self.new.waiting ≡ None }
+        ensures counted { self.new.stopped ≡ None → self.new.state.reads ≡ self.old.state.reads + 1 }
+        ensures limits { self.new.limits ≡ self.old.limits }
     {
         let Some(waiting) = self.waiting.take() else {
             return;
