@@ -26,7 +26,7 @@ use Rattle.zk_vm.specs.Halts.{event_by, event_of, event_waited, IsLeftAs}
 use Rattle.zk_vm.specs.Outcome.{Outcome, Session, Segment, continued, segment, followed, outcome, segment_of, segment_by, ended, ran, given, given_to, resumed}
 use Rattle.zk_vm.specs.Step.{State, Verdict, step, fetched, settled, led_to, state_after, text_of, verdict_of}
 use Rattle.zk_vm.specs.Step.Verdict.{GoesOn, WaitsFor, StopsBy}
-use Rattle.zk_vm.specs.Plays.{codes_read, typed, stop_behind, played, IsPlayed, IsPlay, turned}
+use Rattle.zk_vm.specs.Plays.{codes_read, typed, stop_behind, played, IsPlayed, IsAnswered, IsPlay, turned}
 
 -- a character is a line's first code
 char_by : (w : Workspace) (i : Instr) (x : Wait) (codes : List ℕ) → event_by x ≡ event.Char → answered_by w i x (first_code codes ∷ []) ≡ answered_by w i x codes
@@ -102,6 +102,11 @@ stopped_segment : (s : Session) (stop : Stop) → s.stopped ≡ Some stop → se
 unfolding segment_of
 stopped_segment s stop h = rw h refl
 
+outcome_stopped : (answers : List (List ℕ)) (end : Stop) (s : Session) (stop : Stop) → s.stopped ≡ Some stop → outcome answers end s ≡ record { stop = stop; text = no_text }
+outcome_stopped answers end s stop e =
+    let seg = stopped_segment s stop e in
+    outcome_stops answers end stop s (ap (λ (g : Segment). g.end) seg) ∙ ap (λ (t : Texts). let o : Outcome = record { stop = stop; text = t } in o) (ap (λ (g : Segment). g.text) seg)
+
 played_stopped : (h : Heard) (s : Session) (stop : Stop) → s.stopped ≡ Some stop → played h s ≡ record { stop = stop; text = no_text }
 played_stopped h s stop e =
     let seg = stopped_segment s stop e in
@@ -114,73 +119,85 @@ left_by h m s (Some stop) e left = played_stopped h m stop left.0 ∙ sym (playe
 played_left : (h : Heard) (m s : Session) → IsLeftAs m s s.stopped → played h m ≡ played h s
 played_left h m s left = left_by h m s s.stopped refl left
 
+outcome_left_by : (answers : List (List ℕ)) (end : Stop) (m s : Session) (x : Option Stop) → s.stopped ≡ x → IsLeftAs m s x → outcome answers end m ≡ outcome answers end s
+outcome_left_by answers end m s None e left = ap (outcome answers end) left
+outcome_left_by answers end m s (Some stop) e left = outcome_stopped answers end m stop left.0 ∙ sym (outcome_stopped answers end s stop e)
+
+outcome_left : (answers : List (List ℕ)) (end : Stop) (m s : Session) → IsLeftAs m s s.stopped → outcome answers end m ≡ outcome answers end s
+outcome_left answers end m s left = outcome_left_by answers end m s s.stopped refl left
+
+outcome_on : (codes : List ℕ) (answers : List (List ℕ)) (end : Stop) (s : Session) (w : Waiting) → (segment_of s).end ≡ Ok w
+    → outcome (codes ∷ answers) end s ≡ record { stop = (outcome answers end (given (ran s) codes)).stop; text = text_joined (segment_of s).text (outcome answers end (given (ran s) codes)).text }
+unfolding outcome
+outcome_on codes answers end s w e = rw e refl
+
 -- ---- what was played so far
 
--- from a machine at first to the machine now, on some bytes: those still to come, all that was shown, and that what is
--- played on makes the whole
-pub record SoFar (bytes : List ℕ) (left : Option (List ℕ)) (ahead : List ℕ) (first now : Session) (screen0 screen1 script0 script1 : Option (List ℕ)) : Type 0 where
-  pub later : List ℕ
-  pub told : left ≡ Some later
+-- an outcome behind some text
+abbrev pub shown_before : Texts → Outcome → Outcome
+shown_before t o = record { stop = o.stop; text = text_joined t o.text }
+
+-- a text was shown, and what a play has from here on makes, behind it, what the whole play has
+pub record SoFar (Whole Rest : Outcome → Type 0) (screen0 screen1 script0 script1 : Option (List ℕ)) : Type 0 where
   pub text : Texts
   pub screen : Shows (record { taken = screen0; failed = false }) (record { taken = screen1; failed = false }) text.screen
   pub script : Shows (record { taken = script0; failed = false }) (record { taken = script1; failed = false }) text.script
-  pub rest : (failed : Bool) (o : Outcome) → IsPlayed (heard (ahead ++ later)) failed now o → IsPlayed (heard bytes) failed first (record { stop = o.stop; text = text_joined text o.text })
+  pub rest : (o : Outcome) → Rest o → Whole (shown_before text o)
 
-pub so_far_none : (bytes : List ℕ) (left : Option (List ℕ)) (s : Session) (screen script : Option (List ℕ)) → left ≡ Some bytes → SoFar bytes left [] s s screen screen script script
-so_far_none bytes left s screen script e = record {
-  later = bytes;
-  told = e;
+pub so_far_none : (Whole : Outcome → Type 0) (screen script : Option (List ℕ)) → SoFar Whole Whole screen screen script script
+so_far_none Whole screen script = record {
   text = no_text;
   screen = shows_nothing _;
   script = shows_nothing _;
-  rest = λ failed o p. p;
+  rest = λ o p. p;
 }
 
 same_text : (a b c : Texts) → text_joined a (text_joined b c) ≡ text_joined (text_joined a b) c
 same_text a b c = rw (append_assoc a.screen b.screen c.screen, append_assoc a.script b.script c.script) refl
 
--- an outcome behind some text
-abbrev shown_before : Texts → Outcome → Outcome
-shown_before t o = record { stop = o.stop; text = text_joined t o.text }
+pub so_far_on : (Whole Rest Then : Outcome → Type 0) (screen0 screen1 screen2 script0 script1 script2 : Option (List ℕ)) (t : Texts) → SoFar Whole Rest screen0 screen1 script0 script1
+    → Shows (record { taken = screen1; failed = false }) (record { taken = screen2; failed = false }) t.screen → Shows (record { taken = script1; failed = false }) (record { taken = script2; failed = false }) t.script
+    → ((o : Outcome) → Then o → Rest (shown_before t o)) → SoFar Whole Then screen0 screen2 script0 script2
+so_far_on Whole Rest Then screen0 screen1 screen2 script0 script1 script2 t s screen script on = record {
+  text = text_joined s.text t;
+  screen = shows_twice _ _ _ _ _ s.screen screen;
+  script = shows_twice _ _ _ _ _ s.script script;
+  rest = λ o p. subst (λ (u : Texts). Whole (record { stop = o.stop; text = u })) (same_text s.text t o.text) (s.rest (shown_before t o) (on o p));
+}
 
-on_played : (line : List ℕ) (h h' : Heard) (failed : Bool) (now mid next : Session) (w : Waiting) (codes : List ℕ) (o : Outcome) → (segment_of now).end ≡ Ok w → mid ≡ ran now → h ≡ behind line h' → codes ≡ codes_read mid line
-    → IsLeftAs next (given mid codes) (given mid codes).stopped → IsPlayed h' failed next o → IsPlayed h failed now (shown_before (segment_of now).text o)
-on_played line h h' failed now mid next w codes o e same hear read left p = go p
+-- what is played on the lines of an input behind one that was read
+pub on_played : (line : List ℕ) (h h' : Heard) (failed : Bool) (now mid next : Session) (e : Event) (codes : List ℕ) → event_of (segment_of now).end ≡ Ok e → mid ≡ ran now → h ≡ behind line h' → codes ≡ codes_read mid line
+    → IsLeftAs next (given mid codes) (given mid codes).stopped → (o : Outcome) → IsPlayed h' failed next o → IsPlayed h failed now (shown_before (segment_of now).text o)
+on_played line h h' failed now mid next e codes ends same hear read left o p = go p
   where
+    w : (w : Waiting) × ((segment_of now).end ≡ Ok w)
+    w = waits_for (segment_of now).end e ends
     there : (g : Heard) → played g next ≡ played g (given (ran now) (codes_read (ran now) line))
     there g = played_left g next (given mid codes) left ∙ ap (λ (m : Session). played g (given m codes)) same ∙ ap (λ (cs : List ℕ). played g (given (ran now) cs)) (read ∙ ap (λ (m : Session). codes_read m line) same)
     on : (g : Heard) → shown_before (segment_of now).text (played g next) ≡ played (behind line g) now
-    on g = ap (shown_before (segment_of now).text) (there g) ∙ sym (played_on line g now w e)
+    on g = ap (shown_before (segment_of now).text) (there g) ∙ sym (played_on line g now w.0 w.1)
     go : IsPlayed h' failed next o → IsPlayed h failed now (shown_before (segment_of now).text o)
     go (inl q) = inl (ap (shown_before (segment_of now).text) q ∙ on h' ∙ ap (λ (g : Heard). played g now) (sym hear))
     go (inr q) = inr (q.0, (suc q.1.0, ap (shown_before (segment_of now).text) q.1.1 ∙ on (record { lines = take q.1.0 h'.lines; over = Failed }) ∙ rw hear refl))
 
-pub so_far_on : (bytes : List ℕ) (left left' : Option (List ℕ)) (ahead ahead' : List ℕ) (first now mid next : Session) (screen0 screen1 screen2 script0 script1 script2 : Option (List ℕ)) (e : Event) (line codes later : List ℕ)
-    → (s : SoFar bytes left ahead first now screen0 screen1 script0 script1) → event_of (segment_of now).end ≡ Ok e → mid ≡ ran now
-    → Shows (record { taken = screen1; failed = false }) (record { taken = screen2; failed = false }) (segment_of now).text.screen → Shows (record { taken = script1; failed = false }) (record { taken = script2; failed = false }) (segment_of now).text.script
-    → left' ≡ Some later → heard (ahead ++ s.later) ≡ behind line (heard (ahead' ++ later)) → codes ≡ codes_read mid line → IsLeftAs next (given mid codes) (given mid codes).stopped
-    → SoFar bytes left' ahead' first next screen0 screen2 script0 script2
-so_far_on bytes left left' ahead ahead' first now mid next screen0 screen1 screen2 script0 script1 script2 e line codes later s ends same screen script told hear read answer =
+-- what is played on answers behind one that was given
+pub on_answered : (now mid next : Session) (e : Event) (codes : List ℕ) → event_of (segment_of now).end ≡ Ok e → mid ≡ ran now → IsLeftAs next (given mid codes) (given mid codes).stopped
+    → (o : Outcome) → IsAnswered next o → IsAnswered now (shown_before (segment_of now).text o)
+on_answered now mid next e codes ends same left o p =
     let w = waits_for (segment_of now).end e ends in
-    record {
-      later = later;
-      told = told;
-      text = text_joined s.text (segment_of now).text;
-      screen = shows_twice _ _ _ _ _ s.screen screen;
-      script = shows_twice _ _ _ _ _ s.script script;
-      rest = λ failed o p. subst (λ (t : Texts). IsPlayed (heard bytes) failed first (record { stop = o.stop; text = t })) (same_text s.text (segment_of now).text o.text)
-        (s.rest failed (shown_before (segment_of now).text o) (on_played line (heard (ahead ++ s.later)) (heard (ahead' ++ later)) failed now mid next w.0 codes o w.1 same hear read answer p));
-    }
+    let there = outcome_left p.0 p.1.0 next (given mid codes) left ∙ ap (λ (m : Session). outcome p.0 p.1.0 (given m codes)) same in
+    (codes ∷ p.0, (p.1.0, ap (shown_before (segment_of now).text) (p.1.1 ∙ there) ∙ sym (outcome_on codes p.0 p.1.0 now w.0 w.1)))
 
 -- ---- the end of a play
 
-end_play : (bytes : List ℕ) (left : Option (List ℕ)) (ahead : List ℕ) (first now : Session) (screen0 screen1 screen2 script0 script1 script2 : Option (List ℕ)) (failed unwritten : Bool) (stop : Stop) (o : Outcome)
-    → (s : SoFar bytes left ahead first now screen0 screen1 script0 script1) → IsPlayed (heard (ahead ++ s.later)) failed now o
+-- what is left of a play: one more outcome
+pub ends_so : (Whole Rest : Outcome → Type 0) (screen0 screen1 screen2 script0 script1 script2 : Option (List ℕ)) (unwritten : Bool) (stop : Stop) (o : Outcome)
+    → SoFar Whole Rest screen0 screen1 script0 script1 → Rest o
     → Shows (record { taken = screen1; failed = false }) (record { taken = screen2; failed = unwritten }) o.text.screen → Shows (record { taken = script1; failed = false }) (record { taken = script2; failed = unwritten }) o.text.script
-    → stop ≡ (if unwritten then Write else o.stop) → IsPlay (heard bytes) failed first stop unwritten screen0 screen2 script0 script2
-end_play bytes left ahead first now screen0 screen1 screen2 script0 script1 script2 failed unwritten stop o s p screen script e = record {
+    → stop ≡ (if unwritten then Write else o.stop) → IsPlay Whole stop unwritten screen0 screen2 script0 script2
+ends_so Whole Rest screen0 screen1 screen2 script0 script1 script2 unwritten stop o s p screen script e = record {
   outcome = shown_before s.text o;
-  played = s.rest failed o p;
+  is = s.rest o p;
   stops = e;
   screen = shows_twice _ _ _ _ _ s.screen screen;
   script = shows_twice _ _ _ _ _ s.script script;
@@ -189,30 +206,46 @@ end_play bytes left ahead first now screen0 screen1 screen2 script0 script1 scri
 shows_longer : (a : Option (List ℕ)) (b : Option (List ℕ)) (s more whole : List ℕ) → whole ≡ s ++ more → Shows (record { taken = a; failed = false }) (record { taken = b; failed = true }) s → Shows (record { taken = a; failed = false }) (record { taken = b; failed = true }) whole
 shows_longer a b s more whole e h = rw e (shows_twice (record { taken = a; failed = false }) (record { taken = b; failed = true }) (record { taken = b; failed = true }) s more h (shows_past _ _ more refl refl refl))
 
--- a turn that stops, or whose write has failed
-pub stops_play : (bytes : List ℕ) (left : Option (List ℕ)) (ahead : List ℕ) (first now : Session) (screen0 screen1 screen2 script0 script1 script2 : Option (List ℕ)) (failed unwritten : Bool) (stop : Stop)
-    → SoFar bytes left ahead first now screen0 screen1 script0 script1 → Err stop ≡ (if unwritten then Err Write else event_of (segment_of now).end)
-    → Shows (record { taken = screen1; failed = false }) (record { taken = screen2; failed = unwritten }) (segment_of now).text.screen → Shows (record { taken = script1; failed = false }) (record { taken = script2; failed = unwritten }) (segment_of now).text.script
-    → IsPlay (heard bytes) failed first stop unwritten screen0 screen2 script0 script2
-stops_play bytes left ahead first now screen0 screen1 screen2 script0 script1 script2 failed true stop s e screen script =
-    let more = played_begins (heard (ahead ++ s.later)) now in
-    end_play bytes left ahead first now screen0 screen1 screen2 script0 script1 script2 failed true stop (played (heard (ahead ++ s.later)) now) s (inl refl)
-      (shows_longer screen1 screen2 (segment_of now).text.screen more.0.screen _ (ap (λ (t : Texts). t.screen) more.1) screen)
-      (shows_longer script1 script2 (segment_of now).text.script more.0.script _ (ap (λ (t : Texts). t.script) more.1) script) cc
-stops_play bytes left ahead first now screen0 screen1 screen2 script0 script1 script2 failed false stop s e screen script =
-    let ends = stops_by (segment_of now).end stop (sym e) in
-    end_play bytes left ahead first now screen0 screen1 screen2 script0 script1 script2 failed false stop (record { stop = stop; text = (segment_of now).text }) s (inl (sym (played_stops (heard (ahead ++ s.later)) stop now ends))) screen script refl
+-- an outcome from here on: it begins with the segment from here, and is that alone where the segment stops
+pub record IsOutcome (now : Session) (o : Outcome) : Type 0 where
+  pub more : Texts
+  pub begins : o.text ≡ text_joined (segment_of now).text more
+  pub stops : (stop : Stop) → (segment_of now).end ≡ Err stop → o ≡ record { stop = stop; text = (segment_of now).text }
 
--- an input that is over
-pub input_ends : (bytes : List ℕ) (left : Option (List ℕ)) (ahead : List ℕ) (first now : Session) (screen0 screen1 screen2 script0 script1 script2 : Option (List ℕ)) (failed : Bool) (x : Over) (e : Event)
-    → (s : SoFar bytes left ahead first now screen0 screen1 script0 script1) → event_of (segment_of now).end ≡ Ok e
+pub played_is : (h : Heard) (s : Session) → IsOutcome s (played h s)
+played_is h s = let more = played_begins h s in record { more = more.0; begins = more.1; stops = λ stop e. played_stops h stop s e }
+
+pub outcome_is : (answers : List (List ℕ)) (end : Stop) (s : Session) → IsOutcome s (outcome answers end s)
+outcome_is answers end s = let more = outcome_begins answers end s in record { more = more.0; begins = more.1; stops = λ stop e. outcome_stops answers end stop s e }
+
+-- a turn that stops, or whose write has failed
+pub stops_play : (Whole Rest : Outcome → Type 0) (now : Session) (o : Outcome) (screen0 screen1 screen2 script0 script1 script2 : Option (List ℕ)) (unwritten : Bool) (stop : Stop)
+    → SoFar Whole Rest screen0 screen1 script0 script1 → Rest o → IsOutcome now o → Err stop ≡ (if unwritten then Err Write else event_of (segment_of now).end)
+    → Shows (record { taken = screen1; failed = false }) (record { taken = screen2; failed = unwritten }) (segment_of now).text.screen → Shows (record { taken = script1; failed = false }) (record { taken = script2; failed = unwritten }) (segment_of now).text.script
+    → IsPlay Whole stop unwritten screen0 screen2 script0 script2
+stops_play Whole Rest now o screen0 screen1 screen2 script0 script1 script2 true stop s p is e screen script =
+    ends_so Whole Rest screen0 screen1 screen2 script0 script1 script2 true stop o s p
+      (shows_longer screen1 screen2 (segment_of now).text.screen is.more.screen _ (ap (λ (t : Texts). t.screen) is.begins) screen)
+      (shows_longer script1 script2 (segment_of now).text.script is.more.script _ (ap (λ (t : Texts). t.script) is.begins) script) cc
+stops_play Whole Rest now o screen0 screen1 screen2 script0 script1 script2 false stop s p is e screen script =
+    let all = is.stops stop (stops_by (segment_of now).end stop (sym e)) in
+    ends_so Whole Rest screen0 screen1 screen2 script0 script1 script2 false stop o s p (rw all screen) (rw all script) (rw all refl)
+
+-- a read that finds no answer
+pub answers_end : (Whole Rest : Outcome → Type 0) (now : Session) (o : Outcome) (screen0 screen1 screen2 script0 script1 script2 : Option (List ℕ)) (stop : Stop)
+    → SoFar Whole Rest screen0 screen1 script0 script1 → Rest o → o ≡ record { stop = stop; text = text_joined (segment_of now).text no_text }
     → Shows (record { taken = screen1; failed = false }) (record { taken = screen2; failed = false }) (segment_of now).text.screen → Shows (record { taken = script1; failed = false }) (record { taken = script2; failed = false }) (segment_of now).text.script
-    → IsPlayed (heard (ahead ++ s.later)) failed now (played (nothing_more x) now) → IsPlay (heard bytes) failed first (stop_behind x) false screen0 screen2 script0 script2
-input_ends bytes left ahead first now screen0 screen1 screen2 script0 script1 script2 failed x e s ends screen script p =
-    let w = waits_for (segment_of now).end e ends in
-    let is = played_ends x now w.0 w.1 in
-    end_play bytes left ahead first now screen0 screen1 screen2 script0 script1 script2 failed false (stop_behind x) (played (nothing_more x) now) s p
+    → IsPlay Whole stop false screen0 screen2 script0 script2
+answers_end Whole Rest now o screen0 screen1 screen2 script0 script1 script2 stop s p is screen script =
+    ends_so Whole Rest screen0 screen1 screen2 script0 script1 script2 false stop o s p
       (rw is (shows_twice _ _ _ (segment_of now).text.screen [] screen (shows_nothing _))) (rw is (shows_twice _ _ _ (segment_of now).text.script [] script (shows_nothing _))) (rw is refl)
+
+pub input_over : (x : Over) (s : Session) (e : Event) → event_of (segment_of s).end ≡ Ok e → played (nothing_more x) s ≡ record { stop = stop_behind x; text = text_joined (segment_of s).text no_text }
+input_over x s e ends = let w = waits_for (segment_of s).end e ends in played_ends x s w.0 w.1
+
+pub no_answer : (end : Stop) (s : Session) (e : Event) → event_of (segment_of s).end ≡ Ok e → outcome [] end s ≡ record { stop = end; text = text_joined (segment_of s).text no_text }
+unfolding outcome
+no_answer end s e ends = let w = waits_for (segment_of s).end e ends in rw w.1 refl
 
 pub heard_end : (h : Heard) (failed : Bool) (s : Session) (x : Over) → h ≡ nothing_more x → IsPlayed h failed s (played (nothing_more x) s)
 heard_end h failed s x e = inl (ap (λ (g : Heard). played g s) (sym e))

@@ -36,11 +36,15 @@ IsPlayed h failed s o = (o ≡ played h s) ⊎ ((failed ≡ true) × ((n : ℕ) 
 abbrev pub turned : Bool → Session → Session
 turned failed s = if failed then with_stop s Write else ran s
 
--- A machine was played on an input: there is the outcome that it has. Where a write has failed the stop is that, and
--- each target took a first part of its text, else all of it.
-pub record IsPlay (h : Heard) (unread : Bool) (s : Session) (stop : Stop) (unwritten : Bool) (screen0 screen1 script0 script1 : Option (List ℕ)) : Type 0 where
+-- an outcome of a machine's run on some answers
+abbrev pub IsAnswered : Session → Outcome → Type 0
+IsAnswered s o = (answers : List (List ℕ)) × ((end : Stop) × (o ≡ outcome answers end s))
+
+-- A machine was played: there is an outcome, of a kind, that it has. Where a write has failed the stop is that, and each
+-- target took a first part of its text, else all of it.
+pub record IsPlay (Is : Outcome → Type 0) (stop : Stop) (unwritten : Bool) (screen0 screen1 script0 script1 : Option (List ℕ)) : Type 0 where
   pub outcome : Outcome
-  pub played : IsPlayed h unread s outcome
+  pub is : Is outcome
   pub stops : stop ≡ (if unwritten then Write else outcome.stop)
   pub screen : Shows (record { taken = screen0; failed = false }) (record { taken = screen1; failed = unwritten }) outcome.text.screen
   pub script : Shows (record { taken = script0; failed = false }) (record { taken = script1; failed = unwritten }) outcome.text.script

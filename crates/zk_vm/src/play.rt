@@ -9,7 +9,7 @@ ghost use Rattle.zk_vm.specs.Answers.{first_code};
 ghost use Rattle.zk_vm.specs.Halts.{IsLeftAs, event_of, event_waited};
 ghost use Rattle.zk_vm.specs.Laws.{IsWithin};
 ghost use Rattle.zk_vm.specs.Outcome.{segment_of, given, with_stop};
-ghost use Rattle.zk_vm.specs.Plays.{turned, IsPlay};
+ghost use Rattle.zk_vm.specs.Plays.{turned, IsPlay, IsPlayed, IsAnswered};
 
 use crate::console::Console;
 use crate::machine::Machine;
@@ -119,7 +119,8 @@ pub fn play<R: Source, S: Target, T: Target, K: SaveSlot>(
     requires reader_works { R.failed reader.old ≡ false }
     requires screen_works { S.failed screen.old ≡ false }
     requires script_works { T.failed script.old ≡ false }
-    ensures played { (bytes : List ℕ) → R.left reader.old ≡ Some bytes → IsPlay (heard bytes) (R.failed reader.new) machine.old result (S.failed screen.new || T.failed script.new) (S.taken screen.old) (S.taken screen.new) (T.taken script.old) (T.taken script.new) }
+    ensures played { (bytes : List ℕ) → R.left reader.old ≡ Some bytes → IsPlay (IsPlayed (heard bytes) (R.failed reader.new) machine.old) result (S.failed screen.new || T.failed script.new) (S.taken screen.old) (S.taken screen.new) (T.taken script.old) (T.taken script.new) }
+    ensures answered { IsPlay (IsAnswered machine.old) result (S.failed screen.new || T.failed script.new) (S.taken screen.old) (S.taken screen.new) (T.taken script.old) (T.taken script.new) }
     ensures stopped { machine.new.stopped ≡ Some result }
     ensures limits { machine.new.limits ≡ machine.old.limits }
     ensures within { IsWithin machine.new.limits machine.new.state }
