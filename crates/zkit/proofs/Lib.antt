@@ -1,3 +1,4 @@
+pub mod Plays
 pub mod CommandLines
 pub mod Readings
 pub mod Reports

@@ -1,13 +1,15 @@
 -- How a file is played.
-use Rattle.std.specs.Prelude.{◌≡◌, ◌⊎◌, ℕ, List, take, Option, Some, None, IfSome, if◌then◌else◌}
+use Rattle.std.specs.Prelude.{◌≡◌, ◌⊎◌, ℕ, Bool, List, take, Option, Some, None, IfSome}
 use Rattle.zk_mem.specs.declared.story.OpenError.{OpenError}
 use Rattle.zk_mem.specs.declared.story.OpenError.TheVariants.{OutOfMemory}
 use Rattle.zk_mem.specs.Story.{refusal}
-use Rattle.zk_term.specs.Devices.{Device, Shows}
+use Rattle.zk_term.specs.Devices.{Device}
+use Rattle.zk_term.specs.Lines.{heard}
 use Rattle.zk_vm.specs.declared.limits.Limits.{Limits}
 use Rattle.zk_vm.specs.declared.stop.Stop.{Stop}
-use Rattle.zk_vm.specs.declared.stop.Stop.TheVariants.{Write, Memory}
-use Rattle.zk_vm.specs.Outcome.{begun, outcome_of}
+use Rattle.zk_vm.specs.declared.stop.Stop.TheVariants.{Memory}
+use Rattle.zk_vm.specs.Outcome.{begun}
+use Rattle.zk_vm.specs.Plays.{IsPlay, IsPlayed, IsAnswered}
 use Rattle.zkit.specs.LastLine.{TookExplained, last_line}
 use Rattle.zkit.specs.Status.{ending_status}
 use Rattle.zkit.specs.declared.ending.Ending.{Ending}
@@ -17,11 +19,16 @@ use Rattle.zkit.specs.declared.ending.Ending.TheVariants.{Unread, Refused, Stopp
 abbrev pub bytes_read : List ℕ → List ℕ
 bytes_read file = take 524289 file
 
--- a story was played up to its stop: the screen got the text of its outcome, or a first part of it where a write
--- failed
-pub record IsPlayed (story : List ℕ) (limits : Limits) (old new : Device) (stop : Stop) : Type 0 where
-  pub shown : Shows old new (outcome_of (begun story limits)).text.screen
-  pub stopped : stop ≡ (if new.failed then Write else (outcome_of (begun story limits)).stop)
+-- what a player has typed, where that is told, and whether it could not be read to its end
+pub record Player : Type 0 where
+  pub typed : Option (List ℕ)
+  pub unread : Bool
+
+-- A story was played up to its stop: on some answers to its reads, and where it is told what was typed, on its lines. The
+-- screen got the text of the outcome, or a first part of it where a write failed.
+pub record IsPlayedBy (player : Player) (story : List ℕ) (limits : Limits) (old new : Device) (stop : Stop) : Type 0 where
+  pub answered : IsPlay (IsAnswered (begun story limits)) stop new.failed old.taken new.taken None None
+  pub played : (bytes : List ℕ) → player.typed ≡ Some bytes → IsPlay (IsPlayed (heard bytes) player.unread (begun story limits)) stop new.failed old.taken new.taken None None
 
 -- there was no memory to start a story, and the screen got nothing
 pub record LacksMemory (old new : Device) (stop : Stop) : Type 0 where
@@ -29,27 +36,27 @@ pub record LacksMemory (old new : Device) (stop : Stop) : Type 0 where
   pub same : new ≡ old
 
 -- a story was played, or there was no memory to start it
-abbrev pub IsRun : List ℕ → Limits → Device → Device → Stop → Type 0
-IsRun story limits old new stop = IsPlayed story limits old new stop ⊎ LacksMemory old new stop
+abbrev pub IsRun : Player → List ℕ → Limits → Device → Device → Stop → Type 0
+IsRun player story limits old new stop = IsPlayedBy player story limits old new stop ⊎ LacksMemory old new stop
 
 -- the first reason why bytes are no story, or that there is no memory for them
 abbrev pub IsRefusedFor : List ℕ → OpenError → Type 0
 IsRefusedFor bytes e = (refusal bytes ≡ Some e) ⊎ ((e ≡ OutOfMemory) × (refusal bytes ≡ None))
 
 -- bytes end a play: they are refused and the screen gets nothing, or they are a story that is run
-abbrev pub EndsBy : List ℕ → Limits → Device → Device → Ending → Type 0
-EndsBy bytes limits old new (Unread e) = ⊥
-EndsBy bytes limits old new (Refused e) = IsRefusedFor bytes e × (new ≡ old)
-EndsBy bytes limits old new (Stopped stop) = (refusal bytes ≡ None) × IsRun bytes limits old new stop
+abbrev pub EndsBy : Player → List ℕ → Limits → Device → Device → Ending → Type 0
+EndsBy player bytes limits old new (Unread e) = ⊥
+EndsBy player bytes limits old new (Refused e) = IsRefusedFor bytes e × (new ≡ old)
+EndsBy player bytes limits old new (Stopped stop) = (refusal bytes ≡ None) × IsRun player bytes limits old new stop
 
 -- a reader's bytes, where it tells them, end a play; or it can't be read, and the screen gets nothing
-abbrev pub EndsFrom : Option (List ℕ) → Limits → Device → Device → Ending → Type 0
-EndsFrom file limits old new (Unread e) = new ≡ old
-EndsFrom file limits old new ending = (bytes : List ℕ) × IfSome file (λ all. bytes ≡ bytes_read all) × EndsBy bytes limits old new ending
+abbrev pub EndsFrom : Player → Option (List ℕ) → Limits → Device → Device → Ending → Type 0
+EndsFrom player file limits old new (Unread e) = new ≡ old
+EndsFrom player file limits old new ending = (bytes : List ℕ) × IfSome file (λ all. bytes ≡ bytes_read all) × EndsBy player bytes limits old new ending
 
--- a reader's story was played, with a screen and a device for errors before and after it, and with the program's status
-pub record IsPlayedFrom (file : Option (List ℕ)) (limits : Limits) (screen_old screen_new errors_old errors_new : Device) (status : ℕ) : Type 0 where
+-- a reader's story was played by a player, with a screen and a device for errors before and after it, and with the program's status
+pub record IsPlayedFrom (player : Player) (file : Option (List ℕ)) (limits : Limits) (screen_old screen_new errors_old errors_new : Device) (status : ℕ) : Type 0 where
   pub ending : Ending
-  pub ends : EndsFrom file limits screen_old screen_new ending
+  pub ends : EndsFrom player file limits screen_old screen_new ending
   pub status_is : status ≡ ending_status ending
   pub lines : TookExplained ending (last_line ending) errors_old errors_new

@@ -37,6 +37,7 @@ fn play_file(rt: &HostRuntime, path: &str, limits: Limits) -> u8
             rt.alloc(),
             file,
             limits,
+            &mut Over::new(rt.stdin()),
             &mut Over::new(io::writer(rt)),
             &mut errors,
         ),
