@@ -10,3 +10,5 @@ pub mod source;
 pub mod target;
 #[cfg(test)]
 mod tests;
+#[cfg(test)]
+mod tests_of_lines;
