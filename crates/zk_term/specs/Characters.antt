@@ -1,4 +1,4 @@
--- The characters of bytes that should be UTF-8 (Unicode Standard, section 3.9), and a typed line's codes.
+-- The characters of bytes that should be UTF-8 (Unicode Standard, definition D92), and a typed line's codes.
 use Rattle.std.specs.Prelude.{◌≡◌, ℕ, zero, suc, ◌-◌, Bool, ◌&&◌, List, [], ◌∷◌, ◌++◌, length, take, map, slice_get, Option, Some, None, chars, encode_utf8, nat_le, ◌==◌, unwrap_or, if◌then◌else◌}
 use Rattle.std.specs.Char.{IsScalar, len_utf8}
 use Rattle.std.specs.Str.{is_utf8}

@@ -15,6 +15,7 @@ pub record Heard : Type 0 where
   pub lines : List (List ℕ)
   pub over : Over
 
+-- the byte of a new line
 abbrev pub is_new_line : ℕ → Bool
 is_new_line b = nat_eq b 10
 
@@ -121,8 +122,8 @@ has_failed (Err over.Failed) = true
 abbrev pub IsPlain : List ℕ → Type 0
 IsPlain line = AllByRecursion (λ b. is_new_line b ≡ false) line
 
--- the three beginnings of an input: a line and its new line, with a return before it or not; a last line without
--- one; and too many bytes without one
+-- The beginnings of an input: a line and its new line, with a return before that or not; a last line without one; no
+-- bytes; and too many bytes without a new line.
 pub record AreLines : Type 0 where
   pub ended : (line rest : List ℕ) → IsPlain line → nat_lt (length line) 65536 ≡ true → heard (line ++ 10 ∷ rest) ≡ behind (strip_carriage_return line) (heard rest)
   pub last : (b : ℕ) (line : List ℕ) → IsPlain (b ∷ line) → nat_lt (length (b ∷ line)) 65536 ≡ true → heard (b ∷ line) ≡ behind (b ∷ line) (nothing_more over.End)

@@ -1,6 +1,8 @@
 // The devices that a story is played on.
 #![tactic(auto)]
 
+pub mod examples;
+pub mod laws;
 pub mod lines;
 pub mod nothing;
 pub mod over;
@@ -8,3 +10,5 @@ pub mod source;
 pub mod target;
 #[cfg(test)]
 mod tests;
+#[cfg(test)]
+mod tests_of_lines;
