@@ -1,14 +1,17 @@
 -- Worked examples of this crate's definitions: small stories, and what the Standard's machine does with them, worked
 -- out by hand.
 use Rattle.std.specs.Prelude.{◌≡◌, ℕ, List, [], ◌∷◌, ◌++◌, Some, None, replicate, codes}
-use Rattle.zk_mem.specs.declared.fault.Fault.TheVariants.{DivisionByZero, BadOpcode, CodePastEnd}
-use Rattle.zk_state.specs.declared.refusal.Limit.TheVariants.{Frames, Words, Steps}
+use Rattle.zk_mem.specs.declared.fault.Fault.TheVariants.{BadAddress, DivisionByZero, BadOpcode, CodePastEnd, ReadOnly}
+use Rattle.zk_state.specs.declared.refusal.Limit.TheVariants.{Frames, Words, Steps, Reads}
 use Rattle.zk_state.specs.Frames.{first_frames}
 use Rattle.zk_vm.specs.declared.limits.Limits.{Limits}
+use Rattle.zk_vm.specs.declared.stop.Event.TheVariants as event
 use Rattle.zk_vm.specs.declared.stop.Stop.{Stop}
-use Rattle.zk_vm.specs.declared.stop.Stop.TheVariants.{Quit, Fault, Limit, EndOfInput}
+use Rattle.zk_vm.specs.declared.stop.Stop.TheVariants.{Quit, Fault, Limit, EndOfInput, Read}
 use Rattle.zk_vm.specs.Bounds.{AreInRange}
-use Rattle.zk_vm.specs.Outcome.{Outcome, Session, begun, outcome, with_stop}
+use Rattle.zk_vm.specs.Halts.{event_waited}
+use Rattle.zk_vm.specs.Outcome.{Outcome, Session, begun, given, outcome, ran, with_stop}
+use Rattle.zk_vm.specs.Plays.{codes_read}
 
 -- a story of version 5 with its static base and its first instruction at 64, where this code stands
 abbrev pub story_of : List ℕ → List ℕ
@@ -89,3 +92,52 @@ StopsForGood =
 abbrev pub LimitsHaveRanges : Type 0
 LimitsHaveRanges =
     AreInRange (record { frames = 1; words = 0; undo = 64; steps = 1 }) × AreInRange (record { frames = 1; words = 0; undo = 0; steps = 1000000000 })
+
+-- ---- reads
+
+-- at 64 `read_char` to the stack, at 68 `print_char` of it, at 71 `jump` to 64
+abbrev pub echoes : List ℕ
+echoes = story_of (0xf6 ∷ 0x7f ∷ 1 ∷ 0 ∷ 0xe5 ∷ 0xbf ∷ 0 ∷ 0x8c ∷ 0xff ∷ 0xf8 ∷ [])
+
+-- each line answers one character: its first, and a new line where it has none; then the input has ended, or it fails
+abbrev pub LinesAnswerReads : Type 0
+LinesAnswerReads =
+    (outcome (codes "ab" ∷ [] ∷ codes "z" ∷ []) EndOfInput (begun echoes (limits_of 1 1 10)) ≡ stops EndOfInput (97 ∷ 10 ∷ 122 ∷ []))
+    × (outcome (codes "ab" ∷ []) Read (begun echoes (limits_of 1 1 10)) ≡ stops Read (codes "a"))
+
+-- a typed line is the codes of its characters, by the extra characters of the story that reads it: "aé", in UTF-8
+abbrev pub LinesAreTyped : Type 0
+LinesAreTyped = codes_read (begun echoes (limits_of 1 1 10)) (97 ∷ 195 ∷ 169 ∷ []) ≡ 97 ∷ 170 ∷ []
+
+-- steps are counted anew from an answer on, and the read itself is none of them: two lead from one to the next
+abbrev pub AnswersCountAnew : Type 0
+AnswersCountAnew =
+    (outcome (codes "a" ∷ codes "b" ∷ []) EndOfInput (begun echoes (limits_of 1 1 3)) ≡ stops EndOfInput (codes "ab"))
+    × (outcome (codes "a" ∷ codes "b" ∷ []) EndOfInput (begun echoes (limits_of 1 1 2)) ≡ stops (Limit 64 Steps) (codes "a"))
+
+-- a machine of a story that has answered so many reads
+abbrev pub after_reads : ℕ → Session → Session
+after_reads n s = record s { state = record s.state { reads = n } }
+
+-- 16,777,216 reads are answered, and the next one is past the limit, also where there is no answer to it
+abbrev pub ReadsAreLimited : Type 0
+ReadsAreLimited =
+    (outcome (codes "a" ∷ codes "b" ∷ []) EndOfInput (after_reads 16777215 (begun echoes (limits_of 1 1 10))) ≡ stops (Limit 64 Reads) (codes "a"))
+    × (outcome (codes "a" ∷ codes "b" ∷ []) EndOfInput (after_reads 16777213 (begun echoes (limits_of 1 1 10))) ≡ stops EndOfInput (codes "ab"))
+
+-- `aread` at 64 with its text buffer there: byte 65 says that it holds 127 letters already, of 228. A letter would stand
+-- past the story; of an empty line the count is to be stored, above the static base. The faults have the read's address.
+abbrev pub AnswersFault : Type 0
+AnswersFault =
+    (outcome (codes "a" ∷ []) EndOfInput (begun (story_of (0xe4 ∷ 0x7f ∷ 64 ∷ 0 ∷ [])) (limits_of 1 1 10)) ≡ stops (Fault 64 BadAddress) [])
+    × (outcome ([] ∷ []) EndOfInput (begun (story_of (0xe4 ∷ 0x7f ∷ 64 ∷ 0 ∷ [])) (limits_of 1 1 10)) ≡ stops (Fault 64 ReadOnly) [])
+    × (outcome (codes "a" ∷ []) EndOfInput (begun echoes (limits_of 1 0 10)) ≡ stops (Limit 64 Words) [])
+
+-- a machine waits for a line or a character, and goes on from there
+abbrev pub MachinesWait : Type 0
+MachinesWait =
+    (event_waited (ran (begun echoes (limits_of 1 1 10))).waiting ≡ Some event.Char)
+    × (event_waited (ran (begun (story_of (0xe4 ∷ 0x7f ∷ 64 ∷ 0 ∷ [])) (limits_of 1 1 10))).waiting ≡ Some event.Line)
+    × ((given (ran (begun echoes (limits_of 1 1 10))) (codes "a")).state.place ≡ 68)
+    × ((given (ran (begun echoes (limits_of 1 1 10))) (codes "a")).state.reads ≡ 1)
+    × ((given (ran (begun echoes (limits_of 1 1 10))) (codes "a")).waiting ≡ None)
