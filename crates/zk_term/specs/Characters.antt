@@ -52,7 +52,7 @@ abbrev pub typed_code : ExtraTable → Option ℕ → ℕ
 typed_code t None = 63
 typed_code t (Some c) = if c == 9 then 32 else unwrap_or (code_of t c) 63
 
--- the codes of a line, of which the first 255 are read
+-- the codes of a line: of its first 255 characters
 unfoldable pub line_codes : ExtraTable → List ℕ → List ℕ
 line_codes t bytes = take 255 (map (typed_code t) (characters_of bytes))
 

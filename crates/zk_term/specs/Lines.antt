@@ -88,7 +88,7 @@ abbrev pub FailsAlone : Bool → Bool → Bool → Type 0
 FailsAlone true before now = before ≡ true → now ≡ true
 FailsAlone false before now = now ≡ before
 
--- ---- its parts
+-- ---- one step of it
 
 -- a line's bytes are heard next, or how the input is over: those kept have the line's codes
 abbrev pub HearsBytes : List ℕ → List ℕ → Bool → Result (ArrayVec ℕ) Over → Type 0
