@@ -14,4 +14,6 @@ mod step;
 pub mod stop;
 #[cfg(test)]
 mod tests;
+#[cfg(test)]
+mod tests_of_reads;
 mod waiting;

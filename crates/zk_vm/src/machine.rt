@@ -1,6 +1,6 @@
 // A machine that runs a story.
 
-ghost use Rattle.std.specs.Prelude.{◌≡◌, ◌≤◌, ◌<◌, ◌+◌, ◌-◌, ◌^◌, ◌⊎◌, true, [], ◌∷◌, length, Some, None, Ok, IfOk, OnOk};
+ghost use Rattle.std.specs.Prelude.{◌≡◌, ◌≤◌, ◌<◌, ◌+◌, ◌-◌, ◌^◌, ◌⊎◌, true, [], ◌∷◌, length, Some, None, Ok, IfOk, OnOk, OnErr};
 ghost use Rattle.std.specs.List.{AllByRecursion};
 ghost use Rattle.zk_text.specs.Extra.{is_input_code};
 ghost use Rattle.zk_state.specs.Frames.{IsBounded};
@@ -187,6 +187,7 @@ impl Machine {
         ensures answer { result ≡ event_of (segment_of self.old).end }
         ensures left { IsLeftAs self.new (ran self.old) (ran self.old).stopped }
         ensures text { S.shows screen.old screen.new (segment_of self.old).text.screen (segment_of self.old).text.script }
+        ensures free { OnErr result (self.new.waiting ≡ None) }
         ensures reads { OnOk result (self.new.state.reads < 16777216) }
         ensures limits { self.new.limits ≡ self.old.limits }
         ensures frames { IsBounded self.new.state.workspace.frames }

@@ -1,6 +1,6 @@
 // Playing a story on devices.
 
-ghost use Rattle.std.specs.Prelude.{◌≡◌, ◌≤◌, ◌<◌, ◌+◌, ◌⊎◌, ◌++◌, ◌||◌, if◌then◌else◌, Err, List, ℕ, length, true, false, None, Some, OnOk};
+ghost use Rattle.std.specs.Prelude.{◌≡◌, ◌≤◌, ◌<◌, ◌+◌, ◌⊎◌, ◌++◌, ◌||◌, if◌then◌else◌, Err, List, ℕ, length, true, false, None, Some, OnOk, OnErr};
 ghost use Rattle.std.specs.List.{AllByRecursion};
 ghost use Rattle.zk_text.specs.Extra.{is_input_code, own_characters};
 ghost use Rattle.zk_term.specs.Devices.{Device, Shows};
@@ -39,6 +39,7 @@ pub fn turn<S: Target, T: Target, K: SaveSlot>(
     ensures screen { Shows (record { taken = S.taken screen.old; failed = false }) (record { taken = S.taken screen.new; failed = S.failed screen.new || T.failed script.new }) (segment_of machine.old).text.screen }
     ensures script { Shows (record { taken = T.taken script.old; failed = false }) (record { taken = T.taken script.new; failed = S.failed screen.new || T.failed script.new }) (segment_of machine.old).text.script }
     ensures left { IsLeftAs machine.new (turned (S.failed screen.new || T.failed script.new) machine.old) (turned (S.failed screen.new || T.failed script.new) machine.old).stopped }
+    ensures free_again { OnErr result (machine.new.waiting ≡ None) }
     ensures reads { OnOk result (machine.new.state.reads < 16777216) }
     ensures limits { machine.new.limits ≡ machine.old.limits }
     ensures within { IsWithin machine.new.limits machine.new.state }

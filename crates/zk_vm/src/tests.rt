@@ -1,5 +1,7 @@
 // Machines at their stops, limits, slots and screens that fail.
 
+ghost use Rattle.std.specs.Prelude.{◌≡◌, None, IfOk};
+
 use crate::console::Console;
 use crate::limits::Limits;
 use crate::machine::Machine;
@@ -22,7 +24,10 @@ const AMPLE: Limits = Limits {
 };
 
 /// A machine of a story with two instructions that do nothing, and a quit.
-fn started(rt: &(impl Abort + AllocGlobal), limits: Limits) -> Result<Machine, Fail> {
+#[tactic(auto, unfolding(crate::specs::Outcome::begun))]
+fn started(rt: &(impl Abort + AllocGlobal), limits: Limits) -> Result<Machine, Fail>
+    ensures { IfOk result (λ m. m.waiting ≡ None) }
+{
     let mut bytes = [0; 68];
     for (address, byte) in [
         (0x00, 5),
@@ -44,13 +49,11 @@ fn a_stop_is_kept(rt: HostRuntime) -> Result<(), Fail> {
     let (mut screen, mut script) = (Nothing, Nothing);
     let mut console = Console::new(&mut screen, &mut script);
     let mut machine = started(&rt, AMPLE)?;
-    for _i in 0..3 {
-        assert_eq!(rt; machine.run(&mut console), Err(Stop::Quit));
-    }
+    assert_eq!(rt; machine.run(&mut console), Err(Stop::Quit));
+    assert_eq!(rt; machine.run(&mut console), Err(Stop::Quit));
     machine.close(Stop::Write);
-    for _i in 0..3 {
-        assert_eq!(rt; machine.run(&mut console), Err(Stop::Write));
-    }
+    assert_eq!(rt; machine.run(&mut console), Err(Stop::Write));
+    assert_eq!(rt; machine.run(&mut console), Err(Stop::Write));
     Ok(())
 }
 

@@ -1,0 +1,143 @@
+// Machines that read: what they wait for, and what is written when the reader is asked.
+
+ghost use Rattle.std.specs.Prelude.{◌≡◌, None, IfOk};
+
+use crate::limits::Limits;
+use crate::machine::Machine;
+use crate::play::{play, turn};
+use crate::slot::NoSlot;
+use crate::stop::{Event, Stop, View};
+use std::cell::Cell;
+use std::io::{self, Read, Write};
+use std::process::Abort;
+use std::test::Fail;
+use zk_mem::fault::Fault;
+use zk_mem::story::Story;
+use zk_term::nothing::Nothing;
+use zk_term::over::Over;
+
+const AMPLE: Limits = Limits {
+    frames: 9,
+    words: 9,
+    undo: 0,
+    steps: 99,
+};
+
+/// A machine of a story of version 5, with this code at address 64.
+#[tactic(auto, unfolding(crate::specs::Outcome::begun))]
+fn machine_of(rt: &(impl Abort + AllocGlobal), code: &[u8]) -> Result<Machine, Fail>
+    ensures { IfOk result (λ m. m.waiting ≡ None) }
+{
+    let mut bytes = vec![in rt.alloc(); 0u8; 64]?;
+    bytes[0] = 5;
+    bytes[0x07] = 0x40;
+    bytes[0x0f] = 0x40;
+    bytes.extend_from_slice(code)?;
+    let story = Story::open(rt.alloc(), bytes.as_slice())?;
+    let limits = AMPLE;
+    assert!(rt; limits.check());
+    Ok(Machine::start(rt.alloc(), story, 1, limits, View::Plain)?)
+}
+
+/// Counts the bytes that it takes.
+#[derive(Drop)]
+struct Counting<'a> {
+    taken: &'a Cell<u32>,
+}
+
+impl Write for Counting<'_> {
+    fn write(&mut self, bytes: &[u8]) -> io::Result<usize> {
+        for _i in 0..bytes.len() {
+            self.taken.set(self.taken.get().wrapping_add(1));
+        }
+        Ok(bytes.len())
+    }
+
+    fn flush(&mut self) -> io::Result<()> {
+        Ok(())
+    }
+}
+
+/// Gives one byte at a time, and notes as a decimal digit how many bytes were written when it was asked.
+#[derive(Drop)]
+struct Watching<'a> {
+    taken: &'a Cell<u32>,
+    noted: &'a Cell<u32>,
+    rest: &'a [u8],
+}
+
+impl Read for Watching<'_> {
+    fn read(&mut self, buffer: &mut [u8]) -> io::Result<usize> {
+        let digit = self.taken.get();
+        self.noted.set(self.noted.get().wrapping_mul(10).wrapping_add(digit));
+        match (self.rest, buffer) {
+            ([byte, rest @ ..], [first, ..]) => {
+                *first = *byte;
+                self.rest = rest;
+                Ok(1)
+            }
+            _ => Ok(0),
+        }
+    }
+}
+
+#[test]
+fn turns_go_from_read_to_read(rt: HostRuntime) -> Result<(), Fail> {
+    // print_char a, read_char -> sp, quit
+    let code = [0xe5, 0x7f, 0x61, 0xf6, 0x7f, 0x01, 0x00, 0xba];
+    let mut machine = machine_of(&rt, &code)?;
+    let taken = Cell::new(0);
+    let mut screen = Over::new(Counting { taken: &taken });
+    assert_eq!(rt; machine.waiting(), None);
+    let first = turn(rt.alloc(), &mut screen, &mut Nothing, &mut NoSlot, &mut machine);
+    assert_eq!(rt; first, Ok(Event::Char));
+    assert_eq!(rt; taken.get(), 1);
+    assert_eq!(rt; machine.waiting(), Some(Event::Char));
+    if machine.waiting() == Some(Event::Char) {
+        machine.answer_char(120);
+        assert_eq!(rt; machine.waiting(), None);
+        let mut screen = Over::new(Counting { taken: &taken });
+        let last = turn(rt.alloc(), &mut screen, &mut Nothing, &mut NoSlot, &mut machine);
+        assert_eq!(rt; last, Err(Stop::Quit));
+        assert_eq!(rt; taken.get(), 1);
+    }
+    Ok(())
+}
+
+#[test]
+fn answers_fault_in_the_next_turn(rt: HostRuntime) -> Result<(), Fail> {
+    // aread with its text buffer at 64, where byte 65 counts 127 letters of 228: a letter is past the story
+    let mut machine = machine_of(&rt, &[0xe4, 0x7f, 0x40, 0x00])?;
+    let first = turn(rt.alloc(), &mut Nothing, &mut Nothing, &mut NoSlot, &mut machine);
+    assert_eq!(rt; first, Ok(Event::Line));
+    if machine.waiting() == Some(Event::Line) {
+        machine.answer_line(b"a");
+        assert_eq!(rt; machine.waiting(), None);
+        let next = turn(rt.alloc(), &mut Nothing, &mut Nothing, &mut NoSlot, &mut machine);
+        assert_eq!(rt; next, Err(Stop::Fault(0x40, Fault::BadAddress)));
+    }
+    Ok(())
+}
+
+#[test]
+fn all_text_is_written_before_the_reader_is_asked(rt: HostRuntime) -> Result<(), Fail> {
+    // print_char a, read_char -> sp, print_char b, print_char c, read_char -> sp, quit
+    let code = [
+        0xe5, 0x7f, 0x61, 0xf6, 0x7f, 0x01, 0x00, 0xe5, 0x7f, 0x62, 0xe5, 0x7f, 0x63, 0xf6, 0x7f,
+        0x01, 0x00, 0xba,
+    ];
+    let mut machine = machine_of(&rt, &code)?;
+    let (taken, noted) = (Cell::new(0), Cell::new(0));
+    let mut screen = Over::new(Counting { taken: &taken });
+    let mut reader = Over::new(Watching {
+        taken: &taken,
+        noted: &noted,
+        rest: b"x\ny\n",
+    });
+    let stop = play(rt.alloc(), &mut reader, &mut screen, &mut Nothing, &mut NoSlot, &mut machine);
+    assert_eq!(rt; stop, Stop::Quit);
+    // each of the four bytes was asked for when one, one, three and three bytes were written
+    assert_eq!(rt; noted.get(), 1133);
+    assert_eq!(rt; taken.get(), 3);
+    Ok(())
+}
