@@ -3,7 +3,7 @@
 use crate::branch::{Branch, Target, jump_target};
 use crate::decode::decode;
 use crate::instr::Instr;
-use crate::opcode::{Call, Opcode, name};
+use crate::opcode::{Call, Opcode, Saving, name};
 use crate::operands::Operand::{self, Large, Small, Variable};
 use std::alloc::Global;
 use std::mem::size_of;
@@ -609,5 +609,16 @@ fn operands_are_counted_from_0(rt: HostRuntime) -> Result<(), Fail> {
     let call = Opcode::Call(Call::CallVs);
     assert_eq!(rt; name(call, 3), "call");
     assert_eq!(rt; name(call, 4), "call_vs");
+    Ok(())
+}
+
+// Their names are those of the opcodes that store, in later versions.
+#[test]
+fn saving_branches_in_version_3(rt: HostRuntime) -> Result<(), Fail> {
+    // save ?rtrue, restore ?rtrue
+    let memory = story(rt.alloc(), 3, b"\xb5\xc1\xb6\xc1")?;
+    let (save, restore) = (decode(&memory, 0x40)?, decode(&memory, 0x42)?);
+    assert_eq!(rt; save.opcode, Opcode::Saving(Saving::SaveBranch));
+    assert_eq!(rt; restore.opcode, Opcode::Saving(Saving::RestoreBranch));
     Ok(())
 }

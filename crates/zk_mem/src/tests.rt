@@ -92,7 +92,9 @@ fn dynamic_memory_alone_is_written(rt: HostRuntime) -> Result<(), Fail> {
     assert_eq!(rt; memory.cell(0xff), Some(0x12));
     assert_eq!(rt; memory.cell(0x100), None);
     assert_eq!(rt; memory.dynamic().len(), 0x80);
+    assert_eq!(rt; memory.check_word(0x7e), Ok(()));
     assert_eq!(rt; memory.check_word(0x7f), Err(Fault::ReadOnly));
+    assert_eq!(rt; memory.check_word(0xff), Err(Fault::BadAddress));
     Ok(())
 }
 

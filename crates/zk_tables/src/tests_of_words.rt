@@ -139,6 +139,8 @@ fn refuses_dictionaries(rt: HostRuntime) -> Result<(), Fail> {
     // 63 entries of 7 bytes end at 01FD, 64 of them at 0204
     assert!(rt; dictionary_at(alloc, 3, "00 07 FF C1", 0x40)?.is_ok());
     assert_eq!(rt; dictionary_at(alloc, 3, "00 07 FF C0", 0x40)?, refused);
+    // 111 entries of 4 bytes end at 0200, with the story
+    assert!(rt; dictionary_at(alloc, 3, "00 04 00 6F", 0x40)?.is_ok());
     // no room for the count, and no byte at all
     assert_eq!(rt; dictionary_at(alloc, 3, "", 0x1fd)?, refused);
     assert_eq!(rt; dictionary_at(alloc, 3, "", 0xffff_ffff)?, refused);
@@ -263,5 +265,32 @@ fn looks_all_words_up_first(rt: HostRuntime) -> Result<(), Fail> {
     assert_eq!(rt; divides_at(alloc, 0xffff_ffff, 0x80)?, refused);
     assert_eq!(rt; divides_at(alloc, 0x60, 0x200)?, refused);
     assert_eq!(rt; divides_at(alloc, 0x60, 0xffff_ffff)?, refused);
+    Ok(())
+}
+
+/// Divides a text of version 3 at an address: spaces up to the end of the story, without a zero.
+fn divides_spaces_at(alloc: Global, text: u32) -> Result<(Result<(), Fault>, bool), Fail> {
+    let mut bytes = [0; 0x200];
+    put(&mut bytes, DICTIONARY, COMMA);
+    put(&mut bytes, PARSE, "09 55 55");
+    for at in 0x101..0x200u32 {
+        bytes[at as usize] = 0x20;
+    }
+    bytes[0x00] = 3;
+    bytes[0x07] = 0x40;
+    bytes[0x0f] = 0xff;
+    let story = Story::open(alloc, &bytes)?;
+    let mut memory = Memory::start(alloc, story, Setup { undo_states: 0 })?;
+    let dictionary = Dictionary::at(&memory, 0x40)?;
+    let result = tokenise(&mut memory, text, 0x80, &dictionary, false);
+    Ok((result, holds(&memory, 0x80, "09 00 55")))
+}
+
+#[test]
+fn reads_254_letters_in_version_3(rt: HostRuntime) -> Result<(), Fail> {
+    // the last letter is the last byte of the story
+    assert_eq!(rt; divides_spaces_at(rt.alloc(), 0x101)?, (Ok(()), true));
+    let refused = (Err(Fault::BadAddress), false);
+    assert_eq!(rt; divides_spaces_at(rt.alloc(), 0x102)?, refused);
     Ok(())
 }

@@ -200,6 +200,10 @@ fn has_the_extra_characters_of_the_standard(rt: HostRuntime) -> Result<(), Fail>
         (b'a', b'z', b'[')
     );
     assert_eq!(rt;
+        (extra.lower(b'@'), extra.lower(224), extra.lower(255)),
+        (b'@', 224, 255)
+    );
+    assert_eq!(rt;
         (extra.from_char(0x7e), extra.from_char(0x20ac)),
         (Some(0x7e), None)
     );
@@ -276,5 +280,70 @@ fn finds_the_first_place_of_a_letter(rt: HostRuntime) -> Result<(), Fail> {
         key(&memory, b"a").as_slice(),
         [0x18, 0xa5, 0x14, 0xa5, 0x94, 0xa5].as_slice()
     );
+    Ok(())
+}
+
+/// The value of a hexadecimal digit.
+fn nibble(digit: u8) -> u8 {
+    if digit >= b'A' {
+        (digit - b'A') % 6 + 10
+    } else {
+        digit % 16
+    }
+}
+
+/// Whether bytes are those that hexadecimal digits say; two digits and a space for each.
+fn are(bytes: &[u8], digits: &str) -> bool {
+    let mut count = 0;
+    let mut high = 0;
+    let mut alike = true;
+    for (i, digit) in digits.bytes().enumerate() {
+        if i % 3 == 0 {
+            high = nibble(digit);
+        } else if i % 3 == 1 {
+            let byte = high % 16 * 16 + nibble(digit) % 16;
+            alike = alike && bytes.get(count).copied() == Some(byte);
+            count = i / 3 + 1;
+        }
+    }
+    alike && bytes.len() == count
+}
+
+/// Whether the key of a word is the one that hexadecimal digits say.
+fn spells(alloc: Global, version: u8, word: &[u8], digits: &str) -> Result<bool, Fail> {
+    let memory = memory_of(alloc, &[(0, version)], &[0])?;
+    Ok(are(key(&memory, word).as_slice(), digits))
+}
+
+#[test]
+fn spells_letters_at_the_ends_of_alphabets(rt: HostRuntime) -> Result<(), Fail> {
+    let alloc = rt.alloc();
+    // Z-characters 31, 4 31, 5 31, 5
+    assert!(rt; spells(alloc, 3, b"zZ)", "7C 9F 97 E5")?);
+    // 4 6, 5 8, 5 7
+    assert!(rt; spells(alloc, 3, b"A0\r", "10 C5 A0 A7")?);
+    Ok(())
+}
+
+#[test]
+fn spells_codes_and_nine_letters(rt: HostRuntime) -> Result<(), Fail> {
+    let alloc = rt.alloc();
+    // 5 6 4 27 for the code 155, 7, then 5 to the end
+    assert!(rt; spells(alloc, 5, &[155, b'b'], "14 C4 6C E5 94 A5")?);
+    assert!(rt; spells(alloc, 5, b"abcdefghij", "18 E8 25 4B B1 AE")?);
+    Ok(())
+}
+
+#[test]
+fn spells_keys_by_an_own_alphabet(rt: HostRuntime) -> Result<(), Fail> {
+    let mut table = [0; 78];
+    for i in 0..78u8 {
+        if let Some(code) = table.get_mut(i as usize) {
+            *code = 33 + i;
+        }
+    }
+    let memory = memory_of(rt.alloc(), &[(0, 5), (0x35, 0x40)], &table)?;
+    // `U` stands at 6 of A2, which is no letter: 5 6 2 21; `!` at 6 of A0; `n` at 31 of A2
+    assert!(rt; are(key(&memory, b"U!n").as_slice(), "14 C2 54 C5 FC A5"));
     Ok(())
 }
