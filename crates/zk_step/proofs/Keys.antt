@@ -52,7 +52,7 @@ characters_of_nine m most cs h = elim (cases_Bool (nat_lt (length cs) 9)) [
       let enough : most ≤ length (spellings m (take 9 cs)) = omega (arith, spellings_long m (take 9 cs), longer 9 cs long) in
       let whole : spellings m cs ≡ spellings m (take 9 cs) ++ spellings m (drop 9 cs) = ap (spellings m) (sym (take-append-drop 9 cs)) ∙ spellings_join m (take 9 cs) (drop 9 cs) in
       rw (whole, append_assoc (spellings m (take 9 cs)) (spellings m (drop 9 cs)) (fives most))
-        (take_full most (spellings m (take 9 cs)) (fives most) (spellings m (drop 9 cs) ++ fives most) enough))
+      (take_full most (spellings m (take 9 cs)) (fives most) (spellings m (drop 9 cs) ++ fives most) enough))
 ]
 
 pub key_of_nine : (m : MemoryMap) (cs : List ℕ) → key_of m (take 9 cs) ≡ key_of m cs
@@ -76,9 +76,9 @@ seen_first m a n i c items h there room s = record {
   seen = s.seen ++ c ∷ [];
   so_far = s.so_far ∙ counted_on m a n i c s.seen h there;
   first = let short : length s.seen ≤ 8 = omega (arith, ap length s.first, length-take 9 s.seen) in
-    let all : take 9 s.seen ≡ s.seen = take_all 9 s.seen (omega arith) in
-    let more : length (s.seen ++ c ∷ []) ≤ 9 = omega (arith, length-append s.seen (c ∷ [])) in
-    ap (λ (xs : List ℕ). xs ++ c ∷ []) (s.first ∙ all) ∙ sym (take_all 9 (s.seen ++ c ∷ []) more);
+      let all : take 9 s.seen ≡ s.seen = take_all 9 s.seen (omega arith) in
+      let more : length (s.seen ++ c ∷ []) ≤ 9 = omega (arith, length-append s.seen (c ∷ [])) in
+      ap (λ (xs : List ℕ). xs ++ c ∷ []) (s.first ∙ all) ∙ sym (take_all 9 (s.seen ++ c ∷ []) more);
   count = omega (arith, length-append s.seen (c ∷ []), s.count);
 }
 
@@ -87,7 +87,7 @@ seen_past m a n i c items h there full s = record {
   seen = s.seen ++ c ∷ [];
   so_far = s.so_far ∙ counted_on m a n i c s.seen h there;
   first = let long : 9 ≤ length s.seen = omega (arith, ap length s.first, length-take 9 s.seen) in
-    s.first ∙ sym (take-append-le 9 s.seen (c ∷ []) long);
+      s.first ∙ sym (take-append-le 9 s.seen (c ∷ []) long);
   count = omega (arith, length-append s.seen (c ∷ []), s.count);
 }
 

@@ -64,16 +64,17 @@ pub fn answer_line(
 
 /// Answers a read by a character.
 #[tactic(auto, unfolding(crate::specs::Inputs::character_answered))]
-pub fn answer_character(
-    workspace: &mut Workspace,
-    i: &Instr,
-    code: u8,
-) -> Result<Next, Refusal>
+pub fn answer_character(workspace: &mut Workspace, i: &Instr, code: u8) -> Result<Next, Refusal>
     requires { i.now.next ≤ 2 ^ 20 }
     ensures value { MatchResult result
         (λ n. limited_next (character_answered workspace.old i.now code) ≡ Ok (workspace.new, n))
         (λ e. limited_next (character_answered workspace.old i.now code) ≡ Err e) }
     ensures bounds { bounds_of workspace.new.frames ≡ bounds_of workspace.old.frames }
 {
-    finish(workspace, i, &Values::new(), Ending::GoOn(Some(code as u16), None))
+    finish(
+        workspace,
+        i,
+        &Values::new(),
+        Ending::GoOn(Some(code as u16), None),
+    )
 }

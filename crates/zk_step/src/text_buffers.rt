@@ -78,7 +78,13 @@ pub fn divide(
     ensures { MatchResult result (λ _. divided memory.old text parse dictionary leaves_unknown ≡ Ok memory.new) (λ e. divided memory.old text parse dictionary leaves_unknown ≡ Err e) }
 {
     let dictionary = Dictionary::at(memory, dictionary as u32)?;
-    tokenise(memory, text as u32, parse as u32, &dictionary, leaves_unknown)
+    tokenise(
+        memory,
+        text as u32,
+        parse as u32,
+        &dictionary,
+        leaves_unknown,
+    )
 }
 
 /// Stores a line in a text buffer and its words in a parse buffer.

@@ -53,7 +53,13 @@ pub fn change_words(operation: Words, memory: &mut Memory, values: &Values) -> R
         Words::Tokenise => {
             let dictionary = dictionary_or_own(memory, values.third());
             let leaves_unknown = values.fourth() != 0;
-            divide(memory, values.first(), values.second(), dictionary, leaves_unknown)
+            divide(
+                memory,
+                values.first(),
+                values.second(),
+                dictionary,
+                leaves_unknown,
+            )
         }
         Words::EncodeText => {
             let address = values.first() as u32 + values.third() as u32;
