@@ -1,4 +1,5 @@
 pub mod Arguments
+pub mod Buffers
 pub mod Keys
 pub mod Lines
 pub mod Operands

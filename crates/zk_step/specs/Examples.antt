@@ -687,8 +687,8 @@ LaterLinesGoOn =
     (later_line_put (memory_of 5 (5 ∷ 2 ∷ 0x67 ∷ 0x6f ∷ 0 ∷ 0 ∷ 0 ∷ [])) 0 (codes "NORTH") ≡ Ok (memory_of 5 (5 ∷ 5 ∷ 0x67 ∷ 0x6f ∷ 0x6e ∷ 0x6f ∷ 0x72 ∷ [])))
     × (later_line_put (memory_of 5 (3 ∷ 2 ∷ 0x67 ∷ 0x6f ∷ 9 ∷ 9 ∷ [])) 0 (codes "to") ≡ Ok (memory_of 5 (3 ∷ 3 ∷ 0x67 ∷ 0x6f ∷ 0x74 ∷ 9 ∷ [])))
 
--- letters that fill the buffer, or are more than it has room for, stay, and no byte is stored, not in static memory
--- either (section 15, `aread`)
+-- letters that fill the buffer, or are more than it has room for, stay as they are; no byte is stored, so that static
+-- memory is no fault (section 15, `aread`)
 abbrev pub FullBuffersStay : Type 0
 FullBuffersStay =
     (later_line_put (memory_of 5 (2 ∷ 2 ∷ 0x67 ∷ 0x6f ∷ [])) 0 (codes "X") ≡ Ok (memory_of 5 (2 ∷ 2 ∷ 0x67 ∷ 0x6f ∷ [])))
@@ -766,8 +766,8 @@ EarlyLinesAreDivided =
     × (line_put (early_buffers 4 (0x32 ∷ 0x85 ∷ 0x14 ∷ 0xa5 ∷ 0x94 ∷ 0xa5 ∷ []) (9 ∷ 9 ∷ 9 ∷ []) (1 ∷ 9 ∷ 9 ∷ 9 ∷ 9 ∷ 9 ∷ [])) 0 4 (codes "GO")
     ≡ Ok (early_buffers 4 (0x32 ∷ 0x85 ∷ 0x14 ∷ 0xa5 ∷ 0x94 ∷ 0xa5 ∷ []) (103 ∷ 111 ∷ 0 ∷ []) (1 ∷ 1 ∷ 0 ∷ 14 ∷ 2 ∷ 1 ∷ [])))
 
--- version 5: a whole line, one that goes on behind a letter, and none in a full buffer, whose letters are divided all
--- the same (section 15, `aread`)
+-- version 5: a whole line, one that goes on behind a letter, none in a full buffer, whose letters are divided all the
+-- same, and one that the dictionary does not have (section 15, `aread`)
 abbrev pub LaterLinesAreDivided : Type 0
 LaterLinesAreDivided =
     (line_put (later_buffers (4 ∷ 0 ∷ 9 ∷ 9 ∷ 9 ∷ 9 ∷ []) (1 ∷ 9 ∷ 9 ∷ 9 ∷ 9 ∷ 9 ∷ [])) 0 6 (codes "GO")
@@ -776,6 +776,8 @@ LaterLinesAreDivided =
     ≡ Ok (later_buffers (4 ∷ 2 ∷ 103 ∷ 111 ∷ 9 ∷ 9 ∷ []) (1 ∷ 1 ∷ 0 ∷ 16 ∷ 2 ∷ 2 ∷ [])))
     × (line_put (later_buffers (2 ∷ 2 ∷ 103 ∷ 111 ∷ 9 ∷ 9 ∷ []) (1 ∷ 9 ∷ 9 ∷ 9 ∷ 9 ∷ 9 ∷ [])) 0 6 (codes "X")
     ≡ Ok (later_buffers (2 ∷ 2 ∷ 103 ∷ 111 ∷ 9 ∷ 9 ∷ []) (1 ∷ 1 ∷ 0 ∷ 16 ∷ 2 ∷ 2 ∷ [])))
+    × (line_put (later_buffers (4 ∷ 0 ∷ 9 ∷ 9 ∷ 9 ∷ 9 ∷ []) (1 ∷ 9 ∷ 9 ∷ 9 ∷ 9 ∷ 9 ∷ [])) 0 6 (codes "X")
+    ≡ Ok (later_buffers (4 ∷ 1 ∷ 120 ∷ 9 ∷ 9 ∷ 9 ∷ []) (1 ∷ 1 ∷ 0 ∷ 0 ∷ 1 ∷ 2 ∷ [])))
 
 -- a parse buffer at 0: in version 5 there is none, and no dictionary is asked for; in versions 3 and 4 it stands at 0,
 -- before a text buffer at 6 and a dictionary at 10 (section 15, `aread`)
@@ -845,8 +847,8 @@ KeysOfAnyLength =
     × (words_changed EncodeText (memory_of 5 (replicate 6 9 ++ codes "abcdefghijk")) (6 ∷ 11 ∷ 0 ∷ 0 ∷ []) ≡ Ok (memory_of 5 (0x18 ∷ 0xe8 ∷ 0x25 ∷ 0x4b ∷ 0xb1 ∷ 0xae ∷ codes "abcdefghijk")))
     × (words_changed EncodeText (memory_of 5 (replicate 6 9 ++ codes "ab")) (65535 ∷ 0 ∷ 1 ∷ 0 ∷ []) ≡ Ok (memory_of 5 (0x14 ∷ 0xa5 ∷ 0x14 ∷ 0xa5 ∷ 0x94 ∷ 0xa5 ∷ codes "ab")))
 
--- each letter is looked for before the first byte of the key is stored, the tenth too, and the place where they begin
--- is an exact sum; then the key's bytes are stored one after the other (section 15, `encode_text`)
+-- each letter is read before the first byte of the key is stored, the tenth too, and the place where they begin is an
+-- exact sum; then the key's bytes are stored one after the other (section 15, `encode_text`)
 abbrev pub KeysInOrder : Type 0
 KeysInOrder =
     (words_changed EncodeText (memory_of 5 (replicate 6 9 ++ codes "abcdefghi")) (6 ∷ 10 ∷ 0 ∷ 0 ∷ []) ≡ Err BadAddress)
@@ -897,7 +899,7 @@ EarlyLinesGiveNothing =
     × (line_answered (reader (early_buffers 4 (replicate 6 9) (9 ∷ 9 ∷ 9 ∷ []) (1 ∷ 9 ∷ 9 ∷ 9 ∷ 9 ∷ 9 ∷ [])) 11) (read_into 1) 0 4 []
     ≡ Ok (reader (early_buffers 4 (replicate 6 9) (0 ∷ 9 ∷ 9 ∷ []) (1 ∷ 0 ∷ 9 ∷ 9 ∷ 9 ∷ 9 ∷ [])) 11, At 9))
 
--- a character's code is stored as it is, a capital too; in a variable that is there (section 15, `read_char`)
+-- a character's code is stored as it is, a capital's too (section 15, `read_char`)
 abbrev pub CharactersAreGiven : Type 0
 CharactersAreGiven =
     (character_answered (reader (memory_of 5 sixteen) 11) (instruction (opcode.Reading ReadChar) [] (Some 1) None) 129 ≡ Ok (reader (memory_of 5 sixteen) 129, At 9))
