@@ -3,7 +3,6 @@ use Rattle.std.proofs.Common.{◌≡◌, ◌∙◌, ℕ, zero, suc, ◌+◌, ◌
 use Rattle.std.specs.Prelude.{if◌then◌else◌}
 use Rattle.std.proofs.lemmas.Bool.Decides.{nat_tests}
 use Rattle.zk_mem.specs.declared.fault.Fault.{Fault}
-use Rattle.zk_mem.specs.Results.{◌>>=◌}
 use Rattle.zk_state.specs.declared.refusal.Limit.{Limit}
 use Rattle.zk_state.specs.declared.refusal.Limit.TheVariants.{Frames, Words, Steps, Reads}
 use Rattle.zk_state.specs.declared.refusal.Refusal.{Refusal}
@@ -21,7 +20,6 @@ use Rattle.zk_step.specs.Routing.{Texts}
 use Rattle.zk_step.proofs.Rebounded.{bounds_are_not_seen}
 use Rattle.zk_vm.specs.declared.limits.Limits.{Limits}
 use Rattle.zk_vm.specs.declared.stop.Stop.TheVariants.{Limit as LimitAt}
-use Rattle.zk_vm.specs.declared.waiting.Waiting.{Waiting}
 use Rattle.zk_vm.specs.Step.{State, Step, Verdict, step, fetched, settled, led_to, verdict_of, text_of, state_after, goes_by, text_within, most_reads}
 use Rattle.zk_vm.specs.Step.Step.{Goes, Waits, Quits, Faults}
 use Rattle.zk_vm.specs.Step.Verdict.{GoesOn, WaitsFor, StopsBy}
@@ -168,13 +166,13 @@ frame_limits_only_cut (suc n) f m s few short own =
     let parts = verdict_same f m s (step s) bounds (segment n (state_after s (step s))) own in
     let more : verdict_of s (step s) ≡ GoesOn → IsNoFrameLimit (segment n (state_after s (step s))).end → segment n (state_in f m (state_after s (step s))) ≡ segment_in f m (segment n (state_after s (step s)))
     = (λ on free. let to = goes_to s (step s) on in
-        let least = bounds to.0 to.1.0 to.1.1 in
-        let there : state_after s (step s) ≡ to.0 = ap (state_after s) to.1.1 in
-        let here : (state_after s (step s)).workspace.frames.most_frames ≤ f = rw there least.0 in
-        let below : (state_after s (step s)).workspace.frames.most_words ≤ m = rw there least.1 in
-        frame_limits_only_cut n f m (state_after s (step s)) here below free) in
+    let least = bounds to.0 to.1.0 to.1.1 in
+    let there : state_after s (step s) ≡ to.0 = ap (state_after s) to.1.1 in
+    let here : (state_after s (step s)).workspace.frames.most_frames ≤ f = rw there least.0 in
+    let below : (state_after s (step s)).workspace.frames.most_words ≤ m = rw there least.1 in
+    frame_limits_only_cut n f m (state_after s (step s)) here below free) in
     rw (step_same f m s, parts.0, parts.1, parts.2)
-      (same_here f m s (verdict_of s (step s)) (state_after s (step s)) (text_of s (step s)) (segment n (state_after s (step s))) (segment n (state_in f m (state_after s (step s)))) more own)
+    (same_here f m s (verdict_of s (step s)) (state_after s (step s)) (text_of s (step s)) (segment n (state_after s (step s))) (segment n (state_in f m (state_after s (step s)))) more own)
 
 pub frame_limits_cut_there : FrameLimitsCutThere
 unfolding segment

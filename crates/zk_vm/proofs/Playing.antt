@@ -1,10 +1,10 @@
 -- Turn after turn.
-use Rattle.std.proofs.Common.{◌≡◌, ◌∙◌, ◌<◌, ◌≤◌, ◌⊎◌, ◌||◌, inl, inr, ℕ, zero, suc, ◌+◌, ◌-◌, Bool, true, false, List, [], ◌∷◌, ◌++◌, take, append_assoc, append-nil, Option, Some, None, Result, Ok, Err, refl, ap, sym, subst, arith}
+use Rattle.std.proofs.Common.{◌≡◌, ◌∙◌, ◌<◌, ◌⊎◌, ◌||◌, inl, inr, ℕ, zero, suc, ◌+◌, ◌-◌, Bool, true, false, List, [], ◌∷◌, ◌++◌, take, append_assoc, append-nil, Option, Some, None, Result, Ok, Err, refl, ap, sym, subst, arith}
 use Rattle.std.specs.Prelude.{if◌then◌else◌}
 use Rattle.zk_term.specs.declared.lines.Over.{Over}
-use Rattle.zk_term.specs.declared.lines.Over.TheVariants.{End, Failed}
-use Rattle.zk_term.specs.Devices.{Device, Shows}
-use Rattle.zk_term.specs.Lines.{Heard, heard, behind, nothing_more}
+use Rattle.zk_term.specs.declared.lines.Over.TheVariants.{Failed}
+use Rattle.zk_term.specs.Devices.{Shows}
+use Rattle.zk_term.specs.Lines.{Heard, behind, nothing_more}
 use Rattle.zk_term.proofs.Shown.{shows_twice, shows_past, shows_nothing}
 use Rattle.zk_mem.specs.declared.fault.Fault.{Fault}
 use Rattle.zk_code.specs.declared.instr.Instr.{Instr}
@@ -23,7 +23,7 @@ use Rattle.zk_vm.specs.declared.stop.Stop.TheVariants.{Write}
 use Rattle.zk_vm.specs.declared.waiting.Waiting.{Waiting}
 use Rattle.zk_vm.specs.Answers.{first_code, answered_by, answered}
 use Rattle.zk_vm.specs.Halts.{event_by, event_of, event_waited, IsLeftAs}
-use Rattle.zk_vm.specs.Outcome.{Outcome, Session, Segment, continued, segment, followed, outcome, segment_of, segment_by, ended, ran, given, given_to, resumed}
+use Rattle.zk_vm.specs.Outcome.{Outcome, Session, Segment, continued, segment, followed, outcome, segment_of, segment_by, ran, given, given_to}
 use Rattle.zk_vm.specs.Step.{State, Verdict, step, fetched, settled, led_to, state_after, text_of, verdict_of}
 use Rattle.zk_vm.specs.Step.Verdict.{GoesOn, WaitsFor, StopsBy}
 use Rattle.zk_vm.specs.Plays.{codes_read, typed, stop_behind, played, IsPlayed, IsAnswered, IsPlay, turned}
@@ -172,10 +172,13 @@ on_played line h h' failed now mid next e codes ends same hear read left o p = g
   where
     w : (w : Waiting) × ((segment_of now).end ≡ Ok w)
     w = waits_for (segment_of now).end e ends
+
     there : (g : Heard) → played g next ≡ played g (given (ran now) (codes_read (ran now) line))
     there g = played_left g next (given mid codes) left ∙ ap (λ (m : Session). played g (given m codes)) same ∙ ap (λ (cs : List ℕ). played g (given (ran now) cs)) (read ∙ ap (λ (m : Session). codes_read m line) same)
+
     on : (g : Heard) → shown_before (segment_of now).text (played g next) ≡ played (behind line g) now
     on g = ap (shown_before (segment_of now).text) (there g) ∙ sym (played_on line g now w.0 w.1)
+
     go : IsPlayed h' failed next o → IsPlayed h failed now (shown_before (segment_of now).text o)
     go (inl q) = inl (ap (shown_before (segment_of now).text) q ∙ on h' ∙ ap (λ (g : Heard). played g now) (sym hear))
     go (inr q) = inr (q.0, (suc q.1.0, ap (shown_before (segment_of now).text) q.1.1 ∙ on (record { lines = take q.1.0 h'.lines; over = Failed }) ∙ rw hear refl))
@@ -225,8 +228,8 @@ pub stops_play : (Whole Rest : Outcome → Type 0) (now : Session) (o : Outcome)
     → IsPlay Whole stop unwritten screen0 screen2 script0 script2
 stops_play Whole Rest now o screen0 screen1 screen2 script0 script1 script2 true stop s p is e screen script =
     ends_so Whole Rest screen0 screen1 screen2 script0 script1 script2 true stop o s p
-      (shows_longer screen1 screen2 (segment_of now).text.screen is.more.screen _ (ap (λ (t : Texts). t.screen) is.begins) screen)
-      (shows_longer script1 script2 (segment_of now).text.script is.more.script _ (ap (λ (t : Texts). t.script) is.begins) script) cc
+    (shows_longer screen1 screen2 (segment_of now).text.screen is.more.screen _ (ap (λ (t : Texts). t.screen) is.begins) screen)
+    (shows_longer script1 script2 (segment_of now).text.script is.more.script _ (ap (λ (t : Texts). t.script) is.begins) script) cc
 stops_play Whole Rest now o screen0 screen1 screen2 script0 script1 script2 false stop s p is e screen script =
     let all = is.stops stop (stops_by (segment_of now).end stop (sym e)) in
     ends_so Whole Rest screen0 screen1 screen2 script0 script1 script2 false stop o s p (rw all screen) (rw all script) (rw all refl)
@@ -238,7 +241,7 @@ pub answers_end : (Whole Rest : Outcome → Type 0) (now : Session) (o : Outcome
     → IsPlay Whole stop false screen0 screen2 script0 script2
 answers_end Whole Rest now o screen0 screen1 screen2 script0 script1 script2 stop s p is screen script =
     ends_so Whole Rest screen0 screen1 screen2 script0 script1 script2 false stop o s p
-      (rw is (shows_twice _ _ _ (segment_of now).text.screen [] screen (shows_nothing _))) (rw is (shows_twice _ _ _ (segment_of now).text.script [] script (shows_nothing _))) (rw is refl)
+    (rw is (shows_twice _ _ _ (segment_of now).text.screen [] screen (shows_nothing _))) (rw is (shows_twice _ _ _ (segment_of now).text.script [] script (shows_nothing _))) (rw is refl)
 
 pub input_over : (x : Over) (s : Session) (e : Event) → event_of (segment_of s).end ≡ Ok e → played (nothing_more x) s ≡ record { stop = stop_behind x; text = text_joined (segment_of s).text no_text }
 input_over x s e ends = let w = waits_for (segment_of s).end e ends in played_ends x s w.0 w.1

@@ -1,10 +1,10 @@
 -- A story is played: its reads are answered by the lines of an input.
-use Rattle.std.specs.Prelude.{◌≡◌, ◌⊎◌, ℕ, Bool, true, false, List, [], ◌∷◌, take, Option, Some, None, if◌then◌else◌}
+use Rattle.std.specs.Prelude.{◌≡◌, ◌⊎◌, ℕ, Bool, true, false, List, [], ◌∷◌, take, Option, if◌then◌else◌}
 use Rattle.zk_text.specs.Extra.{own_characters}
 use Rattle.zk_term.specs.declared.lines.Over.{Over}
 use Rattle.zk_term.specs.declared.lines.Over.TheVariants.{End, Failed}
 use Rattle.zk_term.specs.Characters.{line_codes}
-use Rattle.zk_term.specs.Devices.{Device, Shows}
+use Rattle.zk_term.specs.Devices.{Shows}
 use Rattle.zk_term.specs.Lines.{Heard}
 use Rattle.zk_vm.specs.declared.stop.Stop.{Stop}
 use Rattle.zk_vm.specs.declared.stop.Stop.TheVariants.{EndOfInput, Read, Write}

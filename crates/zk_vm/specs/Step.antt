@@ -1,5 +1,5 @@
 -- A step of the Standard's machine (Standard, sections 4 to 6 and 15).
-use Rattle.std.specs.Prelude.{ℕ, ◌+◌, List, Result, Ok, Err, nat_lt, if◌then◌else◌}
+use Rattle.std.specs.Prelude.{ℕ, ◌+◌, Result, Ok, Err, nat_lt, if◌then◌else◌}
 use Rattle.zk_mem.specs.declared.fault.Fault.{Fault}
 use Rattle.zk_code.specs.declared.instr.Instr.{Instr}
 use Rattle.zk_code.specs.Reading.{instr_at}

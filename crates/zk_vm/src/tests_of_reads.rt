@@ -69,7 +69,8 @@ struct Watching<'a> {
 impl Read for Watching<'_> {
     fn read(&mut self, buffer: &mut [u8]) -> io::Result<usize> {
         let digit = self.taken.get();
-        self.noted.set(self.noted.get().wrapping_mul(10).wrapping_add(digit));
+        self.noted
+            .set(self.noted.get().wrapping_mul(10).wrapping_add(digit));
         match (self.rest, buffer) {
             ([byte, rest @ ..], [first, ..]) => {
                 *first = *byte;
@@ -89,7 +90,13 @@ fn turns_go_from_read_to_read(rt: HostRuntime) -> Result<(), Fail> {
     let taken = Cell::new(0);
     let mut screen = Over::new(Counting { taken: &taken });
     assert_eq!(rt; machine.waiting(), None);
-    let first = turn(rt.alloc(), &mut screen, &mut Nothing, &mut NoSlot, &mut machine);
+    let first = turn(
+        rt.alloc(),
+        &mut screen,
+        &mut Nothing,
+        &mut NoSlot,
+        &mut machine,
+    );
     assert_eq!(rt; first, Ok(Event::Char));
     assert_eq!(rt; taken.get(), 1);
     assert_eq!(rt; machine.waiting(), Some(Event::Char));
@@ -97,7 +104,13 @@ fn turns_go_from_read_to_read(rt: HostRuntime) -> Result<(), Fail> {
         machine.answer_char(120);
         assert_eq!(rt; machine.waiting(), None);
         let mut screen = Over::new(Counting { taken: &taken });
-        let last = turn(rt.alloc(), &mut screen, &mut Nothing, &mut NoSlot, &mut machine);
+        let last = turn(
+            rt.alloc(),
+            &mut screen,
+            &mut Nothing,
+            &mut NoSlot,
+            &mut machine,
+        );
         assert_eq!(rt; last, Err(Stop::Quit));
         assert_eq!(rt; taken.get(), 1);
     }
@@ -108,12 +121,24 @@ fn turns_go_from_read_to_read(rt: HostRuntime) -> Result<(), Fail> {
 fn answers_fault_in_the_next_turn(rt: HostRuntime) -> Result<(), Fail> {
     // aread with its text buffer at 64, where byte 65 counts 127 letters of 228: a letter is past the story
     let mut machine = machine_of(&rt, &[0xe4, 0x7f, 0x40, 0x00])?;
-    let first = turn(rt.alloc(), &mut Nothing, &mut Nothing, &mut NoSlot, &mut machine);
+    let first = turn(
+        rt.alloc(),
+        &mut Nothing,
+        &mut Nothing,
+        &mut NoSlot,
+        &mut machine,
+    );
     assert_eq!(rt; first, Ok(Event::Line));
     if machine.waiting() == Some(Event::Line) {
         machine.answer_line(b"a");
         assert_eq!(rt; machine.waiting(), None);
-        let next = turn(rt.alloc(), &mut Nothing, &mut Nothing, &mut NoSlot, &mut machine);
+        let next = turn(
+            rt.alloc(),
+            &mut Nothing,
+            &mut Nothing,
+            &mut NoSlot,
+            &mut machine,
+        );
         assert_eq!(rt; next, Err(Stop::Fault(0x40, Fault::BadAddress)));
     }
     Ok(())
@@ -134,7 +159,14 @@ fn all_text_is_written_before_the_reader_is_asked(rt: HostRuntime) -> Result<(),
         noted: &noted,
         rest: b"x\ny\n",
     });
-    let stop = play(rt.alloc(), &mut reader, &mut screen, &mut Nothing, &mut NoSlot, &mut machine);
+    let stop = play(
+        rt.alloc(),
+        &mut reader,
+        &mut screen,
+        &mut Nothing,
+        &mut NoSlot,
+        &mut machine,
+    );
     assert_eq!(rt; stop, Stop::Quit);
     // each of the four bytes was asked for when one, one, three and three bytes were written
     assert_eq!(rt; noted.get(), 1133);

@@ -1,4 +1,4 @@
-use Rattle.std.proofs.Common.{sym, subst}
+use Rattle.std.proofs.Common.{subst}
 use Rattle.zk_vm.specs.Halts.{IsLeftAs}
 use Rattle.zk_vm.specs.Outcome.{Session}
 use Rattle.zk_vm.proofs.Playing.{char_given}

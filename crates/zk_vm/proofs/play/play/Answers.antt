@@ -1,9 +1,9 @@
-use Rattle.std.proofs.Common.{◌≡◌, ◌∙◌, ◌||◌, ◌+◌, ◌++◌, Bool, false, inl, [], ap, sym, refl}
+use Rattle.std.proofs.Common.{◌≡◌, ◌∙◌, ◌||◌, ◌+◌, ◌++◌, false, inl, [], ap, refl}
 use Rattle.zk_term.specs.declared.lines.Over.TheVariants.{End, Failed}
 use Rattle.zk_term.specs.Lines.{heard, nothing_more}
 use Rattle.zk_vm.specs.declared.stop.Stop.TheVariants.{EndOfInput, Read}
 use Rattle.zk_vm.specs.Outcome.{segment_of, outcome}
-use Rattle.zk_vm.specs.Plays.{IsPlayed, IsAnswered, played}
+use Rattle.zk_vm.specs.Plays.{played}
 use Rattle.zk_vm.proofs.Playing.{so_far_none, so_far_on, on_played, on_answered, played_is, outcome_is, stops_play, answers_end, input_over, no_answer, heard_end, heard_failed, turned_on, turned_off, fewer}
 use Rattle.zk_vm.proofs.play.play.Goals as goal
 
@@ -55,12 +55,15 @@ loop-event-preserved g c =
       limits = c.answer.ensures.limits ∙ c.in-Ok.ensures.limits ∙ c.loop-event.invariant.limits;
       slot = c.in-Ok.ensures.slot ∙ c.loop-event.invariant.slot;
       answered = so_far_on _ _ _ _ _ _ _ _ _ (segment_of c.loop-event.machine).text c.loop-event.invariant.answered (rw none at c.in-Ok.ensures.screen) (rw none at c.in-Ok.ensures.script)
-        (on_answered c.loop-event.machine c.turn.new.machine c.answer.new.machine c.in-Ok.event c.in-Line.codes.items t.ends t.same left);
+          (on_answered c.loop-event.machine c.turn.new.machine c.answer.new.machine c.in-Ok.event c.in-Line.codes.items t.ends t.same left);
       played = λ bytes told.
-        let s = c.loop-event.invariant.played bytes told in
-        let h = c.in-Line.ensures.heard s.0 s.1 in
-        (h.0, h.1, λ failed. so_far_on _ _ _ _ _ _ _ _ _ (segment_of c.loop-event.machine).text (s.2 failed) (rw none at c.in-Ok.ensures.screen) (rw none at c.in-Ok.ensures.script)
-          (on_played h.2.0 (heard (c.loop-event.lines.ahead ++ s.0)) (heard (c.next_line.new.lines.ahead ++ h.0)) failed c.loop-event.machine c.turn.new.machine c.answer.new.machine c.in-Ok.event c.in-Line.codes.items t.ends t.same h.2.1 h.2.2 left));
+          let s = c.loop-event.invariant.played bytes told in
+          let h = c.in-Line.ensures.heard s.0 s.1 in (
+            h.0,
+            h.1,
+            λ failed. so_far_on _ _ _ _ _ _ _ _ _ (segment_of c.loop-event.machine).text (s.2 failed) (rw none at c.in-Ok.ensures.screen) (rw none at c.in-Ok.ensures.script)
+                (on_played h.2.0 (heard (c.loop-event.lines.ahead ++ s.0)) (heard (c.next_line.new.lines.ahead ++ h.0)) failed c.loop-event.machine c.turn.new.machine c.answer.new.machine c.in-Ok.event c.in-Line.codes.items t.ends t.same h.2.1 h.2.2 left),
+          );
     }
 
 pub returns-in-End-clause-played : goal.returns-in-End-clause-played

@@ -1,5 +1,4 @@
-use Rattle.std.proofs.Common.{◌≡◌, ℕ, List, ◌-◌, ◌+◌, ◌++◌, Bool, Option, None, Some, false}
-use Rattle.zk_vm.specs.declared.stop.Stop.{Stop}
+use Rattle.std.proofs.Common.{◌≡◌, ℕ, List, ◌++◌, Bool, None, Some, false}
 use Rattle.zk_term.specs.Lines.{heard}
 use Rattle.zk_vm.specs.Plays.{IsPlayed, IsAnswered}
 use Rattle.zk_vm.proofs.Playing.{SoFar, turns_left}
@@ -15,7 +14,7 @@ invariant-loop-event g l = record {
   slot : l.slot ≡ l.fn.slot;
   answered : SoFar (IsAnswered l.fn.machine) (IsAnswered l.machine) (g.S.Target.taken l.fn.screen) (g.S.Target.taken l.screen) (g.T.Target.taken l.fn.script) (g.T.Target.taken l.script);
   played : (bytes : List ℕ) → g.R.Source.left l.fn.reader ≡ Some bytes → (later : List ℕ) × (g.R.Source.left l.reader ≡ Some later)
-    × ((failed : Bool) → SoFar (IsPlayed (heard bytes) failed l.fn.machine) (IsPlayed (heard (l.lines.ahead ++ later)) failed l.machine) (g.S.Target.taken l.fn.screen) (g.S.Target.taken l.screen) (g.T.Target.taken l.fn.script) (g.T.Target.taken l.script));
+      × ((failed : Bool) → SoFar (IsPlayed (heard bytes) failed l.fn.machine) (IsPlayed (heard (l.lines.ahead ++ later)) failed l.machine) (g.S.Target.taken l.fn.screen) (g.S.Target.taken l.screen) (g.T.Target.taken l.fn.script) (g.T.Target.taken l.script));
 }
 
 abbrev pub decreases-loop-event : goal.decreases-loop-event

@@ -1,4 +1,4 @@
-use Rattle.std.proofs.Common.{◌≡◌, ◌∙◌, ℕ, ◌+◌, None, ap, sym}
+use Rattle.std.proofs.Common.{◌≡◌, ◌∙◌, ℕ, ◌+◌, ap, sym}
 use Rattle.zk_state.specs.declared.refusal.Limit.TheVariants.{Steps}
 use Rattle.zk_vm.specs.declared.stop.Stop.TheVariants.{Limit}
 use Rattle.zk_vm.specs.declared.waiting.Halt.TheVariants.{Stops}
