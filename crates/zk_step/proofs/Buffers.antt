@@ -1,11 +1,9 @@
 -- What storing a line leaves as it was.
-use Rattle.std.proofs.Common.{◌≡◌, ◌≤◌, ℕ, ◌+◌, ◌-◌, Bool, true, false, cond, ◌&&◌, List, [], ◌∷◌, length, take, map, min, Result, Ok, Err, nat_lt, nat_le, refl, sym, ap, arith, inl, inr}
-use Rattle.std.proofs.lemmas.Bool.{cases_Bool}
+use Rattle.std.proofs.Common.{◌≡◌, ◌≤◌, ℕ, ◌+◌, ◌-◌, Bool, true, false, cond, ◌&&◌, List, [], ◌∷◌, length, take, Ok, nat_lt, nat_le, refl, arith}
 use Rattle.std.proofs.lemmas.Bool.Decides.{nat_tests}
 use Rattle.std.proofs.lemmas.List.{length-map, length-take}
 use Rattle.zk_mem.specs.Laws.{IsSameBut}
 use Rattle.zk_mem.specs.Map.{MemoryMap, byte_at, byte_put}
-use Rattle.zk_mem.specs.Results.{◌>>=◌}
 use Rattle.zk_text.specs.Extra.{own_characters, lower_code}
 use Rattle.zk_tables.proofs.Steps.{bind_ok}
 use Rattle.zk_tables.proofs.Storing.{same_here, same_on, same_by_byte}
@@ -27,16 +25,16 @@ ended_same : (m n : MemoryMap) (text room : ℕ) (letters : List ℕ) → length
 ended_same m n text room letters few put =
     let step = bind_ok (bytes_put m (text + 1) letters) (λ o. byte_put o (text + 1 + length letters) 0) n put in
     same_on m step.0 n (text + 1) (text + 2 + room)
-        (bytes_same m step.0 (text + 1) letters (text + 1) (text + 2 + room) step.1 (omega arith) (omega arith))
-        (same_by_byte step.0 n (text + 1 + length letters) 0 (text + 1) (text + 2 + room) step.2 (omega arith) (omega arith))
+    (bytes_same m step.0 (text + 1) letters (text + 1) (text + 2 + room) step.1 (omega arith) (omega arith))
+    (same_by_byte step.0 n (text + 1 + length letters) 0 (text + 1) (text + 2 + room) step.2 (omega arith) (omega arith))
 
 counted_same : (m n : MemoryMap) (text size count : ℕ) (letters : List ℕ) → length letters ≤ size - count → nat_lt 0 count && nat_le size count ≡ false → counted_letters m text count letters ≡ Ok n → IsSameBut m n (text + 1) (text + 2 + size)
 counted_same m n text size count letters few test put =
     let step = bind_ok (bytes_put m (text + 2 + count) letters) (λ o. byte_put o (text + 1) (count + length letters)) n put in
     let room : count + length letters ≤ size = grind (arith, nat_tests) in
     same_on m step.0 n (text + 1) (text + 2 + size)
-        (bytes_same m step.0 (text + 2 + count) letters (text + 1) (text + 2 + size) step.1 (omega arith) (omega arith))
-        (same_by_byte step.0 n (text + 1) (count + length letters) (text + 1) (text + 2 + size) step.2 (omega arith) (omega arith))
+    (bytes_same m step.0 (text + 2 + count) letters (text + 1) (text + 2 + size) step.1 (omega arith) (omega arith))
+    (same_by_byte step.0 n (text + 1) (count + length letters) (text + 1) (text + 2 + size) step.2 (omega arith) (omega arith))
 
 early : (m n : MemoryMap) (text size : ℕ) (line : List ℕ) → byte_at m text ≡ Ok size → early_line_put m text line ≡ Ok n → IsSameBut m n (text + 1) (text + 2 + (size - 1))
 unfolding early_line_put

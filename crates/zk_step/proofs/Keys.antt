@@ -1,12 +1,11 @@
 -- A key of some letters is that of the first nine.
-use Rattle.std.proofs.Common.{◌≡◌, ◌≤◌, ◌<◌, ℕ, zero, suc, ◌+◌, ◌-◌, List, [], ◌∷◌, ◌++◌, length, take, drop, Option, Some, None, Bool, true, false, ◌==◌, nat_lt, refl, sym, ◌∙◌, ap, arith, inl, inr, append_assoc, length-append, Result, Ok, Err}
+use Rattle.std.proofs.Common.{◌≡◌, ◌≤◌, ◌<◌, ℕ, ◌+◌, ◌-◌, List, [], ◌∷◌, ◌++◌, length, take, drop, Option, Some, None, Bool, true, false, ◌==◌, nat_lt, refl, sym, ◌∙◌, ap, arith, inl, inr, append_assoc, length-append, Ok, Err}
 use Rattle.std.specs.Prelude.{if◌then◌else◌}
 use Rattle.std.proofs.lemmas.Bool.{cases_Bool}
 use Rattle.std.proofs.lemmas.Bool.Decides.{nat_tests}
 use Rattle.std.proofs.lemmas.List.{take_all, length-take, take-append-le, take-append-drop}
 use Rattle.zk_mem.specs.declared.fault.Fault.{Fault}
 use Rattle.zk_mem.specs.Map.{MemoryMap, byte_at}
-use Rattle.zk_text.specs.Alphabets as alphabets
 use Rattle.zk_text.specs.declared.alphabet.Row.TheVariants.{A0, A1}
 use Rattle.zk_text.specs.Keys.{place, a2_place, spelled, spelling, spellings, fives, key_characters, key_of}
 use Rattle.zk_text.proofs.Spells.{take_full}

@@ -1,5 +1,5 @@
 -- Storing a line.
-use Rattle.std.proofs.Common.{◌≡◌, ◌≤◌, ◌<◌, ℕ, suc, ◌+◌, List, [], ◌∷◌, ◌++◌, length, take, drop, map, min, zero, get_or, drop-cons, add-one, Result, Ok, Err, true, false, nat_lt, refl, sym, ◌∙◌, ap, arith, inl, inr}
+use Rattle.std.proofs.Common.{◌≡◌, ◌≤◌, ◌<◌, ℕ, ◌+◌, List, [], ◌∷◌, ◌++◌, length, take, drop, map, min, get_or, drop-cons, add-one, Ok, Err, nat_lt, refl, arith, inl, inr}
 use Rattle.std.proofs.lemmas.List.{drop_all, take_all, take_more, map-append}
 use Rattle.std.proofs.lemmas.Bool.{cases_Bool}
 use Rattle.std.proofs.lemmas.Bool.Decides.{nat_tests}

@@ -1,5 +1,5 @@
 -- Reads: what they wait for, and what an answer does (Standard, section 15, `sread`, `aread` and `read_char`).
-use Rattle.std.specs.Prelude.{ℕ, List, [], Some, None, Result, Ok, nat_lt, if◌then◌else◌}
+use Rattle.std.specs.Prelude.{ℕ, List, [], Some, None, Result, nat_lt, if◌then◌else◌}
 use Rattle.zk_mem.specs.declared.fault.Fault.{Fault}
 use Rattle.zk_mem.specs.Results.{◌>>=◌}
 use Rattle.zk_code.specs.declared.instr.Instr.{Instr}
@@ -9,10 +9,9 @@ use Rattle.zk_step.specs.declared.ending.Effect.{Effect}
 use Rattle.zk_step.specs.declared.ending.Ending.{Ending}
 use Rattle.zk_step.specs.declared.ending.Ending.TheVariants.{GoOn, Wait as WaitFor}
 use Rattle.zk_step.specs.declared.ending.Next.{Next}
-use Rattle.zk_step.specs.declared.ending.Wait.{Wait}
 use Rattle.zk_step.specs.declared.ending.Wait.TheVariants.{Line, Char}
 use Rattle.zk_step.specs.declared.workspace.Workspace.{Workspace}
-use Rattle.zk_step.specs.Endings.{ends, goes_on, gives}
+use Rattle.zk_step.specs.Endings.{ends}
 use Rattle.zk_step.specs.Finish.{finished}
 use Rattle.zk_step.specs.TextBuffers.{line_put}
 use Rattle.zk_step.specs.Values.{first, second}

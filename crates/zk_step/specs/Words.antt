@@ -1,5 +1,5 @@
 -- Words on demand (Standard, section 15, `tokenise` and `encode_text`).
-use Rattle.std.specs.Prelude.{ℕ, ◌+◌, not, List, slice_index, Result, ◌==◌, if◌then◌else◌}
+use Rattle.std.specs.Prelude.{ℕ, ◌+◌, not, List, Result, ◌==◌, if◌then◌else◌}
 use Rattle.zk_mem.specs.declared.fault.Fault.{Fault}
 use Rattle.zk_mem.specs.Map.{MemoryMap}
 use Rattle.zk_mem.specs.Results.{◌>>=◌}
