@@ -1,4 +1,5 @@
 pub mod FrameLimits
+pub mod GreaterLimits
 pub mod Playing
 pub mod Runs
 pub mod Showing

@@ -1,5 +1,5 @@
 -- What the limits of a run hold, and that they change nothing else.
-use Rattle.std.specs.Prelude.{◌≡◌, ℕ, suc, ◌+◌, ◌≤◌, List, length, Result, Err}
+use Rattle.std.specs.Prelude.{◌≡◌, ℕ, suc, ◌+◌, ◌≤◌, List, length, Result, Err, None, Ok}
 use Rattle.zk_state.specs.declared.refusal.Limit.{Limit}
 use Rattle.zk_state.specs.declared.refusal.Limit.TheVariants.{Frames, Words, Steps}
 use Rattle.zk_state.specs.declared.refusal.Refusal.TheVariants as refusal
@@ -13,7 +13,7 @@ use Rattle.zk_vm.specs.Bounds.{AreInRange}
 use Rattle.zk_vm.specs.declared.waiting.Waiting.{Waiting}
 use Rattle.zk_vm.specs.Step.{State, step, most_reads}
 use Rattle.zk_vm.specs.Step.Step.{Goes}
-use Rattle.zk_vm.specs.Outcome.{Segment, segment, begun, Leads}
+use Rattle.zk_vm.specs.Outcome.{Segment, Session, segment, outcome, begun, Leads}
 
 -- no more frames and words than the limits say, no more steps since the last answered read, and no more reads
 pub record IsWithin (l : Limits) (s : State) : Type 0 where
@@ -27,10 +27,15 @@ abbrev pub RunsStayWithin : Type 0
 RunsStayWithin = (story : List ℕ) (l : Limits) (n : ℕ) (end : State) (text : Texts) → AreInRange l → n ≤ l.steps
     → Leads n (begun story l).state end text → IsWithin l end
 
+-- a stop that is not the limit on steps
+abbrev pub IsNoStepStop : Stop → Type 0
+IsNoStepStop (LimitAt a Steps) = ⊥
+IsNoStepStop _ = Unit {0}
+
 -- a segment does not end by the limit on steps
 abbrev pub IsNoStepLimit : Result Waiting Stop → Type 0
-IsNoStepLimit (Err (LimitAt a Steps)) = ⊥
-IsNoStepLimit _ = Unit {0}
+IsNoStepLimit (Ok waiting) = Unit {0}
+IsNoStepLimit (Err stop) = IsNoStepStop stop
 
 -- a segment that ends otherwise is the same under any greater limit on steps
 abbrev pub StepLimitOnlyCuts : Type 0
@@ -64,3 +69,14 @@ FrameLimitsOnlyCut = (n f w : ℕ) (s : State) → s.workspace.frames.most_frame
 abbrev pub FrameLimitsCutThere : Type 0
 FrameLimitsCutThere = (n k : ℕ) (s end over : State) (text more : Texts) (l : Limit) → Leads n s end text → step end ≡ Goes over more
     → within_bounds over.workspace.frames ≡ Err (refusal.Limit l) → ((segment (n + suc k) s).end ≡ Err (LimitAt end.place l)) × ((segment (n + suc k) s).text ≡ text)
+
+-- ---- over all answers
+
+-- a machine with so many steps more as its limit
+abbrev pub with_more_steps : ℕ → Session → Session
+with_more_steps k s = record s { limits = record s.limits { steps = s.limits.steps + k } }
+
+-- a run that stops for another reason is the same under any greater limit on steps, whatever answers it gets
+abbrev pub StepLimitOnlyCutsRuns : Type 0
+StepLimitOnlyCutsRuns = (answers : List (List ℕ)) (end : Stop) (k : ℕ) (s : Session) → (s.stopped ≡ None → s.state.steps ≤ s.limits.steps)
+    → IsNoStepStop (outcome answers end s).stop → outcome answers end (with_more_steps k s) ≡ outcome answers end s

@@ -1,6 +1,6 @@
 // Laws of runs.
 
-ghost use Rattle.zk_vm.specs.Laws.{RunsStayWithin, StepLimitOnlyCuts, StepLimitCutsThere, FrameLimitsOnlyCut, FrameLimitsCutThere};
+ghost use Rattle.zk_vm.specs.Laws.{RunsStayWithin, StepLimitOnlyCuts, StepLimitCutsThere, FrameLimitsOnlyCut, FrameLimitsCutThere, StepLimitOnlyCutsRuns};
 
 /// Every state that a run passes has at most so many frames, words and steps as its limits say.
 pub fn runs_stay_within()
@@ -25,4 +25,9 @@ pub fn frame_limits_only_cut()
 /// The first step whose next state has too many frames or words is where the run stops, by that limit.
 pub fn frame_limits_cut_there()
     ensures { FrameLimitsCutThere }
+{}
+
+/// A run that stops for another reason is the same under any greater limit on steps, whatever answers it gets.
+pub fn step_limit_only_cuts_runs()
+    ensures { StepLimitOnlyCutsRuns }
 {}
