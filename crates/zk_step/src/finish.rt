@@ -148,6 +148,7 @@ fn go_on(
 
 /// Stores an instruction's result and finds where the machine goes on.
 #[tactic(auto, unfolding(crate::specs::Finish::finished))]
+#[inline(always)]
 pub fn finish(
     workspace: &mut Workspace,
     i: &Instr,

@@ -27,7 +27,7 @@ use Rattle.zk_vm.specs.Outcome.{Segment, segment, continued, begun, Leads}
 use Rattle.zk_vm.specs.Laws.{IsWithin, RunsStayWithin, state_in, segment_in, IsNoFrameLimit, FrameLimitsOnlyCut, FrameLimitsCutThere}
 
 -- a step from a state with other bounds
-step_in : ℕ → ℕ → Step → Step
+unfoldable pub step_in : ℕ → ℕ → Step → Step
 step_in f w (Goes s text) = Goes (state_in f w s) text
 step_in f w (Waits s waiting text) = Waits (state_in f w s) waiting text
 step_in f w (Quits text) = Quits text
@@ -49,7 +49,7 @@ unfolding step_in
 fetched_same f m s (Ok i) = ap (settled (state_in f m s) i) (bounds_are_not_seen f m s.workspace i) ∙ settled_same f m s i (carried_out s.workspace i)
 fetched_same f m s (Err e) = refl
 
-step_same : (f m : ℕ) (s : State) → step (state_in f m s) ≡ step_in f m (step s)
+pub step_same : (f m : ℕ) (s : State) → step (state_in f m s) ≡ step_in f m (step s)
 unfolding step
 step_same f m s = fetched_same f m s (instr_at s.workspace.memory s.place)
 
@@ -80,7 +80,7 @@ over_is s e h = go (nat_lt s.most_frames (length (frames_of s))) (nat_lt s.most_
     go false false k = absurd cc
 
 -- a step keeps the bounds
-goes_same : (s t : State) (text more : Texts) → Goes s text ≡ Goes t more → s ≡ t
+pub goes_same : (s t : State) (text more : Texts) → Goes s text ≡ Goes t more → s ≡ t
 goes_same s t text more h = cc
 
 keeps : (s t : State) (text : Texts) → step s ≡ Goes t text → bounds_of t.workspace.frames ≡ bounds_of s.workspace.frames
@@ -120,7 +120,7 @@ by_limit place Reads (inl d) own = absurd cc
 by_limit place Reads (inr d) own = absurd cc
 
 -- what becomes of a step, with other bounds: the same, and the same text
-verdict_same : (f m : ℕ) (s : State) (x : Step)
+pub verdict_same : (f m : ℕ) (s : State) (x : Step)
     → ((t : State) (text : Texts) → x ≡ Goes t text → (t.workspace.frames.most_frames ≤ f) × (t.workspace.frames.most_words ≤ m))
     → (rest : Segment) → IsNoFrameLimit (continued (verdict_of s x) (state_after s x) (text_of s x) rest).end
     → (verdict_of (state_in f m s) (step_in f m x) ≡ verdict_of s x) × (text_of (state_in f m s) (step_in f m x) ≡ text_of s x) × (state_after (state_in f m s) (step_in f m x) ≡ state_in f m (state_after s x))

@@ -1,5 +1,6 @@
 pub mod FrameLimits
 pub mod GreaterLimits
+pub mod GreaterRoom
 pub mod Playing
 pub mod Runs
 pub mod Showing

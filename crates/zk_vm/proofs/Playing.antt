@@ -102,7 +102,7 @@ stopped_segment : (s : Session) (stop : Stop) → s.stopped ≡ Some stop → se
 unfolding segment_of
 stopped_segment s stop h = rw h refl
 
-outcome_stopped : (answers : List (List ℕ)) (end : Stop) (s : Session) (stop : Stop) → s.stopped ≡ Some stop → outcome answers end s ≡ record { stop = stop; text = no_text }
+pub outcome_stopped : (answers : List (List ℕ)) (end : Stop) (s : Session) (stop : Stop) → s.stopped ≡ Some stop → outcome answers end s ≡ record { stop = stop; text = no_text }
 outcome_stopped answers end s stop e =
     let seg = stopped_segment s stop e in
     outcome_stops answers end stop s (ap (λ (g : Segment). g.end) seg) ∙ ap (λ (t : Texts). let o : Outcome = record { stop = stop; text = t } in o) (ap (λ (g : Segment). g.text) seg)

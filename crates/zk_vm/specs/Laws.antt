@@ -49,11 +49,16 @@ StepLimitCutsThere = (n : ℕ) (s end : State) (text : Texts) → Leads n s end 
 abbrev pub state_in : ℕ → ℕ → State → State
 state_in f w s = record s { workspace = rebounded f w s.workspace }
 
+-- a stop that is not the limit on frames or words
+abbrev pub IsNoFrameStop : Stop → Type 0
+IsNoFrameStop (LimitAt a Frames) = ⊥
+IsNoFrameStop (LimitAt a Words) = ⊥
+IsNoFrameStop _ = Unit {0}
+
 -- a segment does not end by the limit on frames or words
 abbrev pub IsNoFrameLimit : Result Waiting Stop → Type 0
-IsNoFrameLimit (Err (LimitAt a Frames)) = ⊥
-IsNoFrameLimit (Err (LimitAt a Words)) = ⊥
-IsNoFrameLimit _ = Unit {0}
+IsNoFrameLimit (Ok waiting) = Unit {0}
+IsNoFrameLimit (Err stop) = IsNoFrameStop stop
 
 -- the segment with other bounds on frames and words in its state
 abbrev pub segment_in : ℕ → ℕ → Segment → Segment
@@ -80,3 +85,12 @@ with_more_steps k s = record s { limits = record s.limits { steps = s.limits.ste
 abbrev pub StepLimitOnlyCutsRuns : Type 0
 StepLimitOnlyCutsRuns = (answers : List (List ℕ)) (end : Stop) (k : ℕ) (s : Session) → (s.stopped ≡ None → s.state.steps ≤ s.limits.steps)
     → IsNoStepStop (outcome answers end s).stop → outcome answers end (with_more_steps k s) ≡ outcome answers end s
+
+-- a machine with other limits on frames and words
+abbrev pub session_in : ℕ → ℕ → Session → Session
+session_in f w s = record s { state = state_in f w s.state; limits = record s.limits { frames = f; words = w } }
+
+-- a run that stops for another reason is the same under any greater limits on frames and words, whatever answers it gets
+abbrev pub FrameLimitsOnlyCutRuns : Type 0
+FrameLimitsOnlyCutRuns = (answers : List (List ℕ)) (end : Stop) (f w : ℕ) (s : Session) → s.state.workspace.frames.most_frames ≤ f → s.state.workspace.frames.most_words ≤ w
+    → IsNoFrameStop (outcome answers end s).stop → outcome answers end (session_in f w s) ≡ outcome answers end s

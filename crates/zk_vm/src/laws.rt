@@ -1,6 +1,6 @@
 // Laws of runs.
 
-ghost use Rattle.zk_vm.specs.Laws.{RunsStayWithin, StepLimitOnlyCuts, StepLimitCutsThere, FrameLimitsOnlyCut, FrameLimitsCutThere, StepLimitOnlyCutsRuns};
+ghost use Rattle.zk_vm.specs.Laws.{RunsStayWithin, StepLimitOnlyCuts, StepLimitCutsThere, FrameLimitsOnlyCut, FrameLimitsCutThere, StepLimitOnlyCutsRuns, FrameLimitsOnlyCutRuns};
 
 /// Every state that a run passes has at most so many frames, words and steps as its limits say.
 pub fn runs_stay_within()
@@ -30,4 +30,9 @@ pub fn frame_limits_cut_there()
 /// A run that stops for another reason is the same under any greater limit on steps, whatever answers it gets.
 pub fn step_limit_only_cuts_runs()
     ensures { StepLimitOnlyCutsRuns }
+{}
+
+/// So it is under any greater limits on frames and words.
+pub fn frame_limits_only_cut_runs()
+    ensures { FrameLimitsOnlyCutRuns }
 {}
