@@ -1,5 +1,5 @@
 -- Whole runs under greater limits.
-use Rattle.std.proofs.Common.{◌≡◌, ◌∙◌, ◌≤◌, ℕ, zero, ◌+◌, ◌-◌, List, [], ◌∷◌, Option, Some, None, Result, Ok, Err, refl, ap, sym, subst, arith}
+use Rattle.std.proofs.Common.{◌≡◌, ◌≤◌, ℕ, ◌+◌, ◌-◌, List, [], ◌∷◌, Option, Some, None, Result, Ok, Err, refl, ap, arith}
 use Rattle.zk_mem.specs.declared.fault.Fault.{Fault}
 use Rattle.zk_state.specs.declared.refusal.Refusal.{Refusal}
 use Rattle.zk_state.specs.declared.refusal.Refusal.TheVariants as refusal
@@ -12,9 +12,8 @@ use Rattle.zk_vm.specs.declared.stop.Stop.{Stop}
 use Rattle.zk_vm.specs.declared.waiting.Waiting.{Waiting}
 use Rattle.zk_vm.specs.Answers.{answered, answered_by, answer_settled}
 use Rattle.zk_vm.specs.Laws.{IsNoStepLimit, IsNoStepStop, with_more_steps, StepLimitOnlyCutsRuns}
-use Rattle.zk_vm.specs.Outcome.{Outcome, Segment, Session, segment, segment_by, segment_of, followed, outcome, ended, ran, given, given_to, resumed}
-use Rattle.zk_vm.specs.Step.{State, Step, Verdict, verdict_of, state_after, goes_by}
-use Rattle.zk_vm.specs.Step.Step.{Goes}
+use Rattle.zk_vm.specs.Outcome.{Outcome, Segment, Session, segment_by, segment_of, followed, outcome, ended, ran, given, given_to, resumed}
+use Rattle.zk_vm.specs.Step.{State, Verdict, verdict_of, state_after, goes_by}
 use Rattle.zk_vm.specs.Step.Verdict.{GoesOn, WaitsFor, StopsBy}
 use Rattle.zk_vm.proofs.Runs.{step_limit_only_cuts}
 

@@ -1,21 +1,20 @@
 -- Whole runs under greater limits on frames and words.
-use Rattle.std.proofs.Common.{◌≡◌, ◌∙◌, ◌≤◌, ℕ, zero, suc, ◌+◌, ◌-◌, List, [], ◌∷◌, Option, Some, None, Result, Ok, Err, refl, ap, sym, subst, arith}
+use Rattle.std.proofs.Common.{◌≡◌, ◌∙◌, ◌≤◌, ℕ, zero, suc, ◌-◌, List, [], ◌∷◌, Option, Some, None, Result, Ok, Err, refl, ap, sym, subst, arith}
 use Rattle.zk_mem.specs.declared.fault.Fault.{Fault}
-use Rattle.zk_state.specs.Frames.{FrameList, bounds_of}
 use Rattle.zk_step.specs.declared.ending.Next.{Next}
 use Rattle.zk_step.specs.declared.ending.Next.TheVariants as next
 use Rattle.zk_step.specs.declared.ending.Wait.{Wait}
 use Rattle.zk_step.specs.declared.ending.Wait.TheVariants.{Line, Char}
 use Rattle.zk_step.specs.declared.workspace.Workspace.{Workspace}
 use Rattle.zk_step.specs.Laws.{rebounded, led_in}
-use Rattle.zk_step.specs.Routing.{Texts, no_text, text_joined}
+use Rattle.zk_step.specs.Routing.{Texts, no_text}
 use Rattle.zk_step.proofs.Rebounded.{answers_see_no_bounds}
 use Rattle.zk_code.specs.declared.instr.Instr.{Instr}
 use Rattle.zk_vm.specs.declared.stop.Stop.{Stop}
 use Rattle.zk_vm.specs.declared.waiting.Waiting.{Waiting}
 use Rattle.zk_vm.specs.Answers.{first_code, answered, answered_by, answer_settled}
 use Rattle.zk_vm.specs.Laws.{IsNoFrameLimit, IsNoFrameStop, state_in, segment_in, session_in, FrameLimitsOnlyCutRuns}
-use Rattle.zk_vm.specs.Outcome.{Outcome, Segment, Session, segment, segment_by, segment_of, continued, followed, outcome, ended, ran, given, given_to, resumed, with_stop}
+use Rattle.zk_vm.specs.Outcome.{Outcome, Segment, Session, segment, segment_by, segment_of, continued, followed, outcome, ended, ran, given, given_to, resumed}
 use Rattle.zk_vm.specs.Step.{State, Step, Verdict, step, verdict_of, state_after, text_of}
 use Rattle.zk_vm.specs.Step.Step.{Goes, Waits, Quits, Faults}
 use Rattle.zk_vm.specs.Step.Verdict.{GoesOn, WaitsFor, StopsBy}
