@@ -2,6 +2,7 @@ pub mod Arguments
 pub mod Buffers
 pub mod Keys
 pub mod Lines
+pub mod OpenTables
 pub mod Operands
 pub mod Plain
 pub mod Pushes

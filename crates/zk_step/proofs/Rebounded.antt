@@ -1,6 +1,6 @@
 -- No definition of what an instruction does looks at the bounds on frames and words.
 use Rattle.std.proofs.Common.{◌≡◌, ℕ, ◌+◌, ◌-◌, ◌%◌, Bool, true, false, List, [], ◌∷◌, length, take, drop, Option, Some, None, Result, Ok, Err, refl, nat_lt, nat_le}
-use Rattle.std.specs.Prelude.{◌==◌, if◌then◌else◌}
+use Rattle.std.specs.Prelude.{◌==◌, slice_get, if◌then◌else◌}
 use Rattle.zk_mem.specs.declared.fault.Fault.{Fault}
 use Rattle.zk_mem.specs.Results.{◌>>=◌}
 use Rattle.zk_mem.specs.Map.{word_put, byte_put, word_at, byte_at}
@@ -18,6 +18,8 @@ use Rattle.zk_code.specs.declared.opcode.Assignment.TheVariants.{Store, Load, In
 use Rattle.zk_code.specs.declared.opcode.Array.{Array}
 use Rattle.zk_code.specs.declared.opcode.Array.TheVariants.{Loadw, Loadb, Storew, Storeb}
 use Rattle.zk_code.specs.declared.opcode.Routine.{Routine}
+use Rattle.zk_code.specs.declared.opcode.Stream.{Stream}
+use Rattle.zk_code.specs.declared.opcode.Stream.TheVariants.{OutputStream, InputStream}
 use Rattle.zk_code.specs.declared.opcode.Routine.TheVariants.{Rtrue, Rfalse, Ret, RetPopped, Catch, Throw, CheckArgCount}
 use Rattle.zk_step.specs.declared.ending.Effect.{Effect}
 use Rattle.zk_step.specs.declared.ending.Ending.{Ending}
@@ -38,6 +40,9 @@ use Rattle.zk_step.specs.Objects.{object_changed, object_answer}
 use Rattle.zk_step.specs.Printing.{printing}
 use Rattle.zk_step.specs.Routines.{called, stored, returned, thrown, routine_at, routine_effect}
 use Rattle.zk_step.specs.Routing.{Texts, routed}
+use Rattle.zk_step.specs.declared.streams.OpenTable.{OpenTable}
+use Rattle.zk_step.specs.Selecting.{minus, flags_2, with_bit_0, transcript_set, table_opened, table_closed, stream_selected, stream_changed}
+use Rattle.zk_step.specs.Streams.{opened, newest_of}
 use Rattle.zk_step.specs.TextBuffers.{line_put}
 use Rattle.zk_step.specs.Values.{first, second, third}
 use Rattle.zk_step.specs.Words.{words_changed}
@@ -186,6 +191,24 @@ module _ (f m : ℕ) where
   routine_same Throw w vs = both
   routine_same CheckArgCount w vs = both
 
+  table_opened_same : (w : Workspace) (address : Option ℕ) → Mapped (rebounded f m) (table_opened w address) (table_opened (rebounded f m w) address)
+  table_opened_same w None = mapped_after (opened w.streams 0) _ _ (λ s. fails)
+  table_opened_same w (Some a) = mapped_after (opened w.streams a) _ _ (λ s. both)
+
+  table_closed_same : (w : Workspace) (t : Option OpenTable) → Mapped (rebounded f m) (table_closed w t) (table_closed (rebounded f m w) t)
+  table_closed_same w None = both
+  table_closed_same w (Some t) = mapped_after (word_put w.memory t.address t.count) _ _ (λ n. both)
+
+  transcript_same : (on : Bool) (w : Workspace) → Mapped (rebounded f m) (transcript_set on w) (transcript_set on (rebounded f m w))
+  transcript_same on w = mapped_after (byte_at w.memory flags_2) _ _ (λ b. mapped_after (byte_put w.memory flags_2 (with_bit_0 on b)) _ _ (λ n. both))
+
+  stream_same : (o : Stream) (w : Workspace) (vs : List ℕ) → Mapped (rebounded f m) (stream_changed o w vs) (stream_changed o (rebounded f m w) vs)
+  unfolding stream_changed stream_selected
+  stream_same OutputStream w vs = mapped_if (first vs == 1) both (mapped_if (first vs == minus 1) both
+      (mapped_if (first vs == 2) (transcript_same true w) (mapped_if (first vs == minus 2) (transcript_same false w)
+      (mapped_if (first vs == 3) (table_opened_same w (slice_get vs 1)) (mapped_if (first vs == minus 3) (table_closed_same w (newest_of w.streams.tables)) both)))))
+  stream_same InputStream w vs = both
+
   beside_same : (w : Workspace) (r : Result Effect Fault) → Mapped (too {A = Effect}) (beside w r) (beside (rebounded f m w) r)
   beside_same w r = mapped_after r _ _ (λ e. both)
 
@@ -205,9 +228,9 @@ module _ (f m : ℕ) where
   effect_same (opcode.Reading o) w text vs = both
   effect_same (opcode.Words o) w text vs = mapped_after (words_changed o w.memory vs) _ _ (λ n. both)
   effect_same (opcode.Window o) w text vs = fails
-  effect_same (opcode.Stream o) w text vs = fails
+  effect_same (opcode.Stream o) w text vs = mapped_then _ _ _ _ (stream_same o w vs) (λ u. both)
   effect_same (opcode.Table o) w text vs = fails
-  effect_same opcode.Random w text vs = fails
+  effect_same opcode.Random w text vs = both
   effect_same (opcode.Saving o) w text vs = fails
 
   -- the finish

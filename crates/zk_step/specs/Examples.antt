@@ -11,6 +11,7 @@ use Rattle.zk_code.specs.declared.branch.Target.TheVariants as target
 use Rattle.zk_code.specs.declared.instr.Instr.{Instr}
 use Rattle.zk_code.specs.declared.opcode.Opcode.{Opcode}
 use Rattle.zk_code.specs.declared.opcode.Opcode.TheVariants as opcode
+use Rattle.zk_code.specs.declared.opcode.Saving.TheVariants.{Verify}
 use Rattle.zk_code.specs.declared.opcode.Arithmetic.TheVariants.{Or, And, Not, Add, Sub, Mul, Div, Mod, LogShift, ArtShift}
 use Rattle.zk_code.specs.declared.opcode.Array.TheVariants.{Loadw, Loadb, Storew, Storeb}
 use Rattle.zk_code.specs.declared.opcode.Assignment.TheVariants.{Store, Load, Inc, Dec, IncChk, DecChk, Pull, Pop}
@@ -32,6 +33,8 @@ use Rattle.zk_step.specs.declared.ending.Output.TheVariants as output
 use Rattle.zk_step.specs.declared.ending.Wait.TheVariants.{Line, Char}
 use Rattle.zk_step.specs.declared.finish.Way.TheVariants.{To, Back, Out}
 use Rattle.zk_step.specs.declared.workspace.Workspace.{Workspace}
+use Rattle.zk_step.specs.declared.workspace.View.TheVariants.{Plain}
+use Rattle.zk_step.specs.Streams.{first_streams}
 use Rattle.zk_step.specs.Arithmetic.{arithmetic}
 use Rattle.zk_step.specs.Arrays.{array_effect}
 use Rattle.zk_step.specs.Assignment.{assignment, pushing}
@@ -82,6 +85,10 @@ abbrev pub working : MemoryMap → Frame → List Frame → Workspace
 working memory current callers = record {
   memory = memory;
   frames = record { current = current; callers = callers; most_frames = 5; most_words = 20 };
+  streams = first_streams;
+  generators = record { free = 1; predictable = None };
+  at_line_start = true;
+  view = Plain;
 }
 
 -- a routine with these local variables and these words on its evaluation stack, the newest last; its caller has the
@@ -945,8 +952,8 @@ CarriesOutInput =
 -- an opcode that is not played is the fault of an unknown one, after its operands (a choice of zkit)
 abbrev pub UnplayedIsFault : Type 0
 UnplayedIsFault =
-    (carried_out (in_routine [] (44 ∷ [])) (instruction opcode.Random (Variable 0 ∷ []) None None) ≡ Err BadOpcode)
-    × (carried_out (in_routine [] []) (instruction opcode.Random (Variable 0 ∷ []) None None) ≡ Err StackEmpty)
+    (carried_out (in_routine [] (44 ∷ [])) (instruction (opcode.Saving Verify) (Variable 0 ∷ []) None None) ≡ Err BadOpcode)
+    × (carried_out (in_routine [] []) (instruction (opcode.Saving Verify) (Variable 0 ∷ []) None None) ≡ Err StackEmpty)
 
 -- ---- the bounds (5 frames and 20 words here)
 

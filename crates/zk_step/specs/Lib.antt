@@ -20,3 +20,6 @@ pub mod Values
 pub mod TextBuffers
 pub mod Variables
 pub mod Words
+pub mod Random
+pub mod Streams
+pub mod Selecting

@@ -16,6 +16,7 @@ use crate::inputs::reading_effect;
 use crate::objects::{answer_of_object, change_object};
 use crate::printing::printing_effect;
 use crate::routines::{call_effect, routine_effect};
+use crate::selecting::change_stream;
 use crate::values::Values;
 use crate::words::change_words;
 use crate::workspace::Workspace;
@@ -60,6 +61,11 @@ fn effect_by(
             change_words(operation, &mut workspace.memory, values)?;
             Ok(Effect::goes_on())
         }
+        Opcode::Stream(operation) => {
+            change_stream(operation, workspace, values)?;
+            Ok(Effect::goes_on())
+        }
+        Opcode::Random => Ok(Effect::gives(workspace.generators.random(values.first()))),
         _ => Err(Fault::BadOpcode),
     }
 }

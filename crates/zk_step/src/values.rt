@@ -1,7 +1,7 @@
 // The values of operands.
 
 ghost use Rattle.zk_state.specs.Frames.{bounds_of};
-ghost use Rattle.std.specs.Prelude.{◌≡◌, ◌<◌, ◌≤◌, [], ◌∷◌, ◌++◌, Ok, Err, drop, take, length, slice_index, MatchResult};
+ghost use Rattle.std.specs.Prelude.{◌≡◌, ◌<◌, ◌≤◌, [], ◌∷◌, ◌++◌, Ok, Err, drop, take, length, slice_get, slice_index, MatchResult};
 ghost use Rattle.zk_step.specs.Values.{first, second, third, fourth};
 ghost use Rattle.zk_step.specs.Variables.{operand_read, operands_read};
 
@@ -59,6 +59,13 @@ impl Values {
         ensures { result ≡ second self.now }
     {
         self.get(1)
+    }
+
+    /// The value of the second operand, where there is one.
+    pub fn given_second(&self) -> Option<u16>
+        ensures { result ≡ slice_get self.now 1 }
+    {
+        self.list.get(1).copied()
     }
 
     pub fn third(&self) -> u16

@@ -1,0 +1,17 @@
+use Rattle.std.proofs.Common.{◌≡◌, ◌<◌, ℕ, List, length, arith, ap, rules, refl}
+use Rattle.zk_step.specs.declared.streams.OpenTable.{OpenTable}
+use Rattle.zk_step.specs.Streams.{OutputStreams}
+use Rattle.zk_step.proofs.OpenTables.{last_closed, newest_closed}
+use Rattle.zk_step.proofs.streams.Streams.close.Goals as goal
+
+pub returns-then-is_empty : goal.returns-then-is_empty
+returns-then-is_empty c =
+    let s = c.self.inside in
+    let none : length s.below.items ≡ 0 = search rules in
+    rw (← c.self.view_is) (ap (λ (ts : List OpenTable). record { screen = s.screen; tables = ts }) (last_closed s.newest s.below.items none))
+
+pub returns-else-is_empty : goal.returns-else-is_empty
+returns-else-is_empty c =
+    let s = c.self.inside in
+    let some : 0 < length s.below.items = search rules in
+    rw (← c.self.view_is, c.remove.ensures.items, c.remove.ensures.value) (ap (λ (ts : List OpenTable). record { screen = s.screen; tables = ts }) (newest_closed s.newest s.below.items c.remove.result c.self.invariant some))
