@@ -3,7 +3,7 @@ use Rattle.std.proofs.Common.{◌≡◌, ℕ, ◌+◌, ◌-◌, ◌%◌, Bool, t
 use Rattle.std.specs.Prelude.{◌==◌, slice_get, if◌then◌else◌}
 use Rattle.zk_mem.specs.declared.fault.Fault.{Fault}
 use Rattle.zk_mem.specs.Results.{◌>>=◌}
-use Rattle.zk_mem.specs.Map.{word_put, byte_put, word_at, byte_at}
+use Rattle.zk_mem.specs.Map.{MemoryMap, word_put, byte_put, word_at, byte_at}
 use Rattle.zk_mem.specs.Header.{unpacked}
 use Rattle.zk_state.specs.declared.frames.Return.{Return}
 use Rattle.zk_state.specs.Frames.{Frame, FrameList, with_bounds, has_local, frames_of, popped, top_of, with_top, local_of, with_local, left, unwound}
@@ -25,6 +25,8 @@ use Rattle.zk_step.specs.declared.ending.Effect.{Effect}
 use Rattle.zk_step.specs.declared.ending.Ending.{Ending}
 use Rattle.zk_step.specs.declared.ending.Ending.TheVariants as ending
 use Rattle.zk_step.specs.declared.ending.Next.{Next}
+use Rattle.zk_step.specs.declared.ending.Output.{Output}
+use Rattle.zk_step.specs.declared.ending.Output.TheVariants.{Nothing, Code, Character, Number, Text, Line}
 use Rattle.zk_step.specs.declared.finish.Way.{Way}
 use Rattle.zk_step.specs.declared.finish.Way.TheVariants.{To, Back, Out}
 use Rattle.zk_step.specs.declared.workspace.Workspace.{Workspace}
@@ -39,11 +41,11 @@ use Rattle.zk_step.specs.Laws.{rebounded, moved_in, led_in, BoundsAreNotSeen, An
 use Rattle.zk_step.specs.Objects.{object_changed, object_answer}
 use Rattle.zk_step.specs.Printing.{printing}
 use Rattle.zk_step.specs.Routines.{called, stored, returned, thrown, routine_at, routine_effect}
-use Rattle.zk_step.specs.Routing.{Texts, routed}
+use Rattle.zk_step.specs.Routing.{Texts, table_filled, routed_by, routed}
 use Rattle.zk_step.specs.declared.streams.OpenTable.{OpenTable}
 use Rattle.zk_step.specs.Selecting.{minus, flags_2, with_bit_0, transcript_set, table_opened, table_closed, stream_selected, stream_changed}
 use Rattle.zk_step.specs.Streams.{opened, newest_of}
-use Rattle.zk_step.specs.TextBuffers.{line_put}
+use Rattle.zk_step.specs.TextBuffers.{bytes_put, line_put}
 use Rattle.zk_step.specs.Values.{first, second, third}
 use Rattle.zk_step.specs.Words.{words_changed}
 use Rattle.zk_step.specs.Variables.{with_frames, with_memory, global_address, named_read, named_written, variable_read, variable_written, indirect_read, indirect_written, operand_read, operands_read}
@@ -255,9 +257,25 @@ module _ (f m : ℕ) where
   finished_same w i vs (ending.Wait for) = both
   finished_same w i vs ending.Quit = both
 
+  filled_same : (w : Workspace) (t : OpenTable) (cs : List ℕ) → Mapped (rebounded f m) (table_filled w t cs) (table_filled (rebounded f m w) t cs)
+  filled_same w t cs = mapped_after (bytes_put w.memory (t.address + 2 + t.count) cs) _ _ (λ n. both)
+
+  routed_tables : (found : MemoryMap) (w : Workspace) (o : Output) (ts : List OpenTable) → Mapped (too {A = Texts}) (routed_by ts found w o) (routed_by ts found (rebounded f m w) o)
+  routed_tables found w o [] = both
+  routed_tables found w o (t ∷ ts) = mapped_then _ _ _ _ (filled_same w t _) (λ u. both)
+
+  routed_same : (found : MemoryMap) (w : Workspace) (o : Output) → Mapped (too {A = Texts}) (routed found w o) (routed found (rebounded f m w) o)
+  unfolding routed
+  routed_same found w Nothing = both
+  routed_same found w (Code c) = routed_tables found w (Code c) w.streams.tables
+  routed_same found w (Character c) = routed_tables found w (Character c) w.streams.tables
+  routed_same found w (Number x) = routed_tables found w (Number x) w.streams.tables
+  routed_same found w (Text a) = routed_tables found w (Text a) w.streams.tables
+  routed_same found w (Line a) = routed_tables found w (Line a) w.streams.tables
+
   carried_same : (w : Workspace) (i : Instr) → Mapped (too {A = Next × Texts}) (carried_out w i) (carried_out (rebounded f m w) i)
-  unfolding carried_out effect_of routed
-  carried_same w i = mapped_then _ _ _ _ (operands_same w i.operands) (λ vs. mapped_then _ _ _ _ (effect_same i.opcode vs.0 i.text vs.1) (λ e. mapped_then _ _ _ _ (finished_same e.0 i vs.1 e.1.ending) (λ n. both)))
+  unfolding carried_out effect_of
+  carried_same w i = mapped_then _ _ _ _ (operands_same w i.operands) (λ vs. mapped_then _ _ _ _ (effect_same i.opcode vs.0 i.text vs.1) (λ e. mapped_then _ _ _ _ (routed_same w.memory e.0 e.1.output) (λ r. mapped_then _ _ _ _ (finished_same r.0 i vs.1 e.1.ending) (λ n. both))))
 
   line_same : (w : Workspace) (i : Instr) (text parse : ℕ) (codes : List ℕ) → Mapped (too {A = Next}) (line_answered w i text parse codes) (line_answered (rebounded f m w) i text parse codes)
   unfolding line_answered

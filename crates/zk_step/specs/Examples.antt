@@ -49,7 +49,7 @@ use Rattle.zk_step.specs.Limited.{limited, limited_next}
 use Rattle.zk_step.specs.Objects.{object_changed, object_answer}
 use Rattle.zk_step.specs.Printing.{printing, characters_of}
 use Rattle.zk_step.specs.Routines.{routine_at, with_arguments, called, stored, returned, thrown, call_effect, routine_effect}
-use Rattle.zk_step.specs.Routing.{Texts}
+use Rattle.zk_step.specs.Routing.{Texts, with_line_start}
 use Rattle.zk_step.specs.TextBuffers.{early_line_put, later_line_put, line_put}
 use Rattle.zk_step.specs.Variables.{global_address, named_read, named_written, variable_read, variable_written, indirect_read, indirect_written, operands_read}
 use Rattle.zk_step.specs.Words.{words_changed}
@@ -938,7 +938,7 @@ CarriesOutABranch =
 abbrev pub CarriesOutPrinting : Type 0
 CarriesOutPrinting =
     carried_out (in_routine [] []) (instruction (opcode.Printing PrintChar) (Small 65 ∷ []) None None)
-    ≡ Ok (in_routine [] [], (At 9, record { screen = codes "A"; script = [] }))
+    ≡ Ok (with_line_start false (in_routine [] []), (At 9, record { screen = codes "A"; script = [] }))
 
 -- `sread` takes its operands from left to right, and the story waits; `encode_text` of `i` goes on (section 15, `sread`,
 -- `encode_text`)

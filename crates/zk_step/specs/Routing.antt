@@ -1,10 +1,21 @@
--- Where an instruction's text goes (Standard, section 7.1).
-use Rattle.std.specs.Prelude.{ℕ, List, [], ◌++◌, Result, Ok}
+-- Where an instruction's text goes (Standard, sections 7.1 and 8.6).
+use Rattle.std.specs.Prelude.{Bool, true, false, ℕ, ◌+◌, List, [], ◌∷◌, ◌++◌, length, Option, Some, None, Result, Ok, Err, if◌then◌else◌, ◌==◌, ◌||◌, ◌%◌, is_some, unwrap_or}
 use Rattle.zk_mem.specs.declared.fault.Fault.{Fault}
-use Rattle.zk_mem.specs.Map.{MemoryMap}
+use Rattle.zk_mem.specs.Map.{MemoryMap, byte_at}
+use Rattle.zk_mem.specs.Results.{◌>>=◌}
+use Rattle.zk_text.specs.declared.unit.Unit as text
+use Rattle.zk_text.specs.declared.unit.Unit.TheVariants as unit
+use Rattle.zk_text.specs.Extra.{ExtraTable, own_characters, character, code_of}
+use Rattle.zk_text.specs.Shown.{shown_all}
 use Rattle.zk_step.specs.declared.ending.Output.{Output}
+use Rattle.zk_step.specs.declared.ending.Output.TheVariants.{Nothing}
+use Rattle.zk_step.specs.declared.streams.OpenTable.{OpenTable}
 use Rattle.zk_step.specs.declared.workspace.Workspace.{Workspace}
-use Rattle.zk_step.specs.Printing.{characters_of}
+use Rattle.zk_step.specs.Printing.{units_of, characters_of}
+use Rattle.zk_step.specs.Selecting.{flags_2, with_streams}
+use Rattle.zk_step.specs.Streams.{counted}
+use Rattle.zk_step.specs.TextBuffers.{bytes_put}
+use Rattle.zk_step.specs.Variables.{with_memory}
 
 -- characters for the screen, and for the transcript
 pub record Texts : Type 0 where
@@ -23,7 +34,78 @@ text_joined s t = record { screen = s.screen ++ t.screen; script = s.script ++ t
 abbrev pub on_screen : List ℕ → Texts
 on_screen characters = record { screen = characters; script = [] }
 
--- what is printed is read from memory as the instruction found it, and goes to the screen; no other stream is
--- open yet
+-- ---- the screen's last character
+
+-- whether the last character that the screen got is a new line, once it got some more
+unfoldable pub ends_line : Bool → List ℕ → Bool
+ends_line at_start [] = at_start
+ends_line at_start (c ∷ cs) = ends_line (c == 10) cs
+
+-- a workspace whose screen's last character is a new line, or another
+abbrev pub with_line_start : Bool → Workspace → Workspace
+with_line_start b w = record w { at_line_start = b }
+
+-- a workspace whose screen got characters
+abbrev pub with_shown : List ℕ → Workspace → Workspace
+with_shown cs w = with_line_start (ends_line w.at_line_start cs) w
+
+-- a new line, unless the last character was one
+abbrev pub fresh_line : Bool → List ℕ
+fresh_line true = []
+fresh_line false = 10 ∷ []
+
+-- ---- stream 3
+
+-- a code as a table gets it: a question mark where it has no character
+abbrev pub code_stored : ExtraTable → ℕ → List ℕ
+code_stored t code =
+    if code == 0 then []
+    else if code == 9 || (code == 11 || (code == 13 || is_some (character t code))) then code ∷ []
+    else 63 ∷ []
+
+-- a unit as codes for a table (section 7.1.2.2)
+unfoldable pub stored : ExtraTable → text.Unit → List ℕ
+stored t (unit.Code code) = code_stored t code
+stored t (unit.Character c) = unwrap_or (code_of t c) 63 ∷ []
+
+-- units as codes for a table
+unfoldable pub stored_all : ExtraTable → List text.Unit → List ℕ
+stored_all t [] = []
+stored_all t (u ∷ us) = stored t u ++ stored_all t us
+
+-- the newest table gets codes behind those that it has, all of them known before the first is stored
+abbrev pub table_filled : Workspace → OpenTable → List ℕ → Result Workspace Fault
+table_filled w t codes =
+    bytes_put w.memory (t.address + 2 + t.count) codes >>= λ m.
+    Ok (with_streams (with_memory w m) (record w.streams { tables = counted (length codes) w.streams.tables }))
+
+-- ---- streams 1 and 2
+
+-- characters, or none
+abbrev pub shown_if : Bool → List ℕ → List ℕ
+shown_if on cs = if on then cs else []
+
+-- bit 0 of a byte is set
+abbrev pub is_bit_0_set : Result ℕ Fault → Bool
+is_bit_0_set (Ok flags) = flags % 2 == 1
+is_bit_0_set (Err f) = false
+
+-- the transcript is on (section 7.4)
+unfoldable pub script_is_on : MemoryMap → Bool
+script_is_on m = is_bit_0_set (byte_at m flags_2)
+
+-- the screen and the transcript get characters while they are on
+abbrev pub streamed : MemoryMap → Workspace → List ℕ → Workspace × Texts
+streamed found w cs = (with_shown (shown_if w.streams.screen cs) w, record { screen = shown_if w.streams.screen cs; script = shown_if (script_is_on found) cs })
+
+-- ---- the route of a text
+
+-- while a table is open it alone gets the text
+abbrev pub routed_by : List OpenTable → MemoryMap → Workspace → Output → Result (Workspace × Texts) Fault
+routed_by [] found w output = Ok (streamed found w (characters_of found output))
+routed_by (t ∷ ts) found w output = table_filled w t (stored_all (own_characters found) (units_of found output)) >>= λ w'. Ok (w', no_text)
+
+-- what is printed is read from memory as the instruction found it
 unfoldable pub routed : MemoryMap → Workspace → Output → Result (Workspace × Texts) Fault
-routed found w output = Ok (w, on_screen (characters_of found output))
+routed found w Nothing = Ok (w, no_text)
+routed found w output = routed_by w.streams.tables found w output

@@ -1,10 +1,11 @@
 // Where an instruction leads.
 
 ghost use Rattle.zk_state.specs.Frames.{bounds_of};
-ghost use Rattle.std.specs.Prelude.{◌≡◌, ◌≤◌, ◌^◌, Ok, Err, IfErr, IsOk, OnOk, MatchResult, true};
+ghost use Rattle.std.specs.Prelude.{◌≡◌, ◌≤◌, ◌^◌, Bool, Ok, Err, IfErr, IsOk, OnOk, MatchResult, true};
 ghost use Rattle.zk_step.specs.Finish.{way_of, way_on, led, gone, gone_on, finished, beside_stack, leads_away};
 ghost use Rattle.zk_step.specs.Limited.{limited_next};
 ghost use Rattle.zk_step.specs.Printing.{IsPlainEnd};
+ghost use Rattle.zk_step.specs.Routing.{with_line_start};
 ghost use Rattle.zk_step.specs.Routines.{stored};
 
 use crate::call::call_routine;
@@ -178,7 +179,8 @@ pub fn finish(
 }
 
 /// Whether an instruction that prints can be finished: the refusals are those of `finish`, and nothing
-/// changes. What is printed is shown between the two.
+/// changes. What is printed is shown between the two, and the screen's last line may then end anywhere.
+#[tactic(auto, unfolding(crate::specs::Finish::finished))]
 pub fn check_finish(
     workspace: &Workspace,
     i: &Instr,
@@ -186,11 +188,14 @@ pub fn check_finish(
     ending: Ending,
 ) -> Result<(), Refusal>
     requires { IsPlainEnd ending }
-    ensures ok { OnOk result (IsOk (limited_next (finished workspace.now i.now values.now ending))) }
-    ensures err { IfErr result (λ e. limited_next (finished workspace.now i.now values.now ending) ≡ Err e) }
+    ensures ok { OnOk result ((b : Bool) → IsOk (limited_next (finished (with_line_start b workspace.now) i.now values.now ending))) }
+    ensures err { IfErr result (λ e. (b : Bool) → limited_next (finished (with_line_start b workspace.now) i.now values.now ending) ≡ Err e) }
 {
     match ending {
-        Ending::Return(_) => check_return(workspace),
+        Ending::Return(_) => match check_return(workspace) {
+            Ok(()) => Ok(()),
+            Err(refusal) => Err(refusal),
+        },
         _ => {
             workspace.is_bounded();
             Ok(())

@@ -1,11 +1,12 @@
 // An instruction, from its operands to the next place.
 
 ghost use Rattle.zk_state.specs.Frames.{bounds_of};
-ghost use Rattle.std.specs.Prelude.{◌≡◌, ◌≤◌, ◌^◌, Ok, Err, IfOk, IfErr, IsOk, OnOk, MatchResult};
+ghost use Rattle.std.specs.Prelude.{◌≡◌, ◌≤◌, ◌^◌, Bool, Ok, Err, IfOk, IfErr, IsOk, OnOk, MatchResult};
 ghost use Rattle.zk_step.specs.Finish.{finished};
 ghost use Rattle.zk_step.specs.Instructions.{carried_out, HasBegun};
 ghost use Rattle.zk_step.specs.Limited.{limited_next, limited_move};
 ghost use Rattle.zk_step.specs.Printing.{IsPlainEnd, IsPrintable};
+ghost use Rattle.zk_step.specs.Routing.{with_line_start};
 
 use crate::effects::effect;
 use crate::ending::{Effect, Next};
@@ -42,11 +43,11 @@ pub fn begin(workspace: &mut Workspace, i: &Instr) -> Result<Begun, Refusal>
 }
 
 /// Whether an instruction that has begun, and prints, can be finished: the refusals are those of `finish`,
-/// and nothing changes.
+/// wherever the screen's last line then ends, and nothing changes.
 pub fn check(workspace: &Workspace, i: &Instr, begun: &Begun) -> Result<(), Refusal>
     requires { IsPlainEnd begun.now.effect.ending }
-    ensures ok { OnOk result (IsOk (limited_next (finished workspace.now i.now begun.now.values begun.now.effect.ending))) }
-    ensures err { IfErr result (λ e. limited_next (finished workspace.now i.now begun.now.values begun.now.effect.ending) ≡ Err e) }
+    ensures ok { OnOk result ((b : Bool) → IsOk (limited_next (finished (with_line_start b workspace.now) i.now begun.now.values begun.now.effect.ending))) }
+    ensures err { IfErr result (λ e. (b : Bool) → limited_next (finished (with_line_start b workspace.now) i.now begun.now.values begun.now.effect.ending) ≡ Err e) }
 {
     check_finish(workspace, i, &begun.values, begun.effect.ending)
 }

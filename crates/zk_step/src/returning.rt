@@ -1,9 +1,10 @@
 // Results are stored, and values returned.
 
 ghost use Rattle.zk_state.specs.Frames.{bounds_of};
-ghost use Rattle.std.specs.Prelude.{◌≡◌, ◌<◌, ℕ, Ok, Err, IfErr, IfSome, IsOk, OnOk, MatchResult};
+ghost use Rattle.std.specs.Prelude.{◌≡◌, ◌<◌, ℕ, Bool, Ok, Err, IfErr, IfSome, IsOk, OnOk, MatchResult};
 ghost use Rattle.zk_step.specs.Limited.{limited, limited_next};
 ghost use Rattle.zk_step.specs.Routines.{returned, thrown, stored};
+ghost use Rattle.zk_step.specs.Routing.{with_line_start};
 
 use crate::ending::Next;
 use crate::variables::{global, write_variable};
@@ -64,8 +65,8 @@ pub fn throw_value(workspace: &mut Workspace, value: u16, frame: u16) -> Result<
 /// Whether a value can be returned from the current routine to its caller; the refusals are those of
 /// `return_value`.
 pub fn check_return(workspace: &Workspace) -> Result<(), Refusal>
-    ensures ok { OnOk result ((value : ℕ) → IsOk (limited_next (returned workspace.now value))) }
-    ensures err { IfErr result (λ e. (value : ℕ) → limited_next (returned workspace.now value) ≡ Err e) }
+    ensures ok { OnOk result ((value : ℕ) (b : Bool) → IsOk (limited_next (returned (with_line_start b workspace.now) value))) }
+    ensures err { IfErr result (λ e. (value : ℕ) (b : Bool) → limited_next (returned (with_line_start b workspace.now) value) ≡ Err e) }
 {
     let variable = match workspace.frames.check_return() {
         Ok(variable) => variable,

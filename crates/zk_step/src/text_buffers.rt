@@ -15,7 +15,7 @@ use zk_text::extra::Extra;
 #[tactic(auto, using(crate::proofs::Lines::bytes_on, crate::proofs::Lines::bytes_end))]
 pub fn put_bytes(memory: &mut Memory, address: u32, bytes: &[u8]) -> Result<(), Fault>
     requires address { address < 132000 }
-    requires some { length bytes.now ≤ 255 }
+    requires some { length bytes.now ≤ 65536 }
     ensures { MatchResult result (λ _. bytes_put memory.old address bytes.now ≡ Ok memory.new) (λ e. bytes_put memory.old address bytes.now ≡ Err e) }
 {
     for i in 0..bytes.len() {
