@@ -1,0 +1,5 @@
+pub mod Stored
+pub mod Places
+pub mod Scans
+pub mod Rows
+pub mod Units

@@ -1,0 +1,4 @@
+pub mod Runs
+pub mod Copying
+pub mod Scanning
+pub mod Rectangles

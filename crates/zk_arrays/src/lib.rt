@@ -1,0 +1,6 @@
+// Arrays of bytes and words in memory: copied, searched, shown as rectangles.
+#![tactic(auto)]
+
+pub mod rectangle;
+pub mod runs;
+pub mod scanning;
