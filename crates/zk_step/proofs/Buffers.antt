@@ -8,7 +8,8 @@ use Rattle.zk_text.specs.Extra.{own_characters, lower_code}
 use Rattle.zk_tables.proofs.Steps.{bind_ok}
 use Rattle.zk_tables.proofs.Storing.{same_here, same_on, same_by_byte}
 use Rattle.zk_step.specs.Laws.{LinesChangeTextBuffers}
-use Rattle.zk_step.specs.TextBuffers.{bytes_put, taken_letters, ended_by_zero, early_line_put, counted_letters, later_line_put}
+use Rattle.zk_arrays.specs.Runs.{bytes_put}
+use Rattle.zk_step.specs.TextBuffers.{taken_letters, ended_by_zero, early_line_put, counted_letters, later_line_put}
 
 -- bytes that were stored
 pub bytes_same : (m n : MemoryMap) (a : ℕ) (bs : List ℕ) (low high : ℕ) → bytes_put m a bs ≡ Ok n → low ≤ a → a + length bs ≤ high → IsSameBut m n low high

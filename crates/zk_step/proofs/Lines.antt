@@ -3,23 +3,6 @@ use Rattle.std.proofs.Common.{◌≡◌, ◌≤◌, ◌<◌, ℕ, ◌+◌, List,
 use Rattle.std.proofs.lemmas.List.{drop_all, take_all, take_more, map-append}
 use Rattle.std.proofs.lemmas.Bool.{cases_Bool}
 use Rattle.std.proofs.lemmas.Bool.Decides.{nat_tests}
-use Rattle.zk_mem.specs.declared.fault.Fault.{Fault}
-use Rattle.zk_mem.specs.Map.{MemoryMap, byte_put}
-use Rattle.zk_step.specs.TextBuffers.{bytes_put}
-
-pub bytes_on : (m n : MemoryMap) (a i : ℕ) (bs : List ℕ) → i < length bs → byte_put m (a + i) (get_or bs i 0) ≡ Ok n → bytes_put m (a + i) (drop i bs) ≡ bytes_put n (a + (i + 1)) (drop (i + 1) bs)
-unfolding bytes_put
-bytes_on m n a i bs h put =
-    let next : a + (i + 1) ≡ (a + i) + 1 = omega arith in
-    rw (next, drop-cons bs i 0, put, add-one i) refl
-
-pub bytes_fault : (m : MemoryMap) (a i : ℕ) (bs : List ℕ) (e : Fault) → i < length bs → byte_put m (a + i) (get_or bs i 0) ≡ Err e → bytes_put m (a + i) (drop i bs) ≡ Err e
-unfolding bytes_put
-bytes_fault m a i bs e h put = rw (drop-cons bs i 0, put) refl
-
-pub bytes_end : (m : MemoryMap) (a i : ℕ) (bs : List ℕ) → length bs ≤ i → bytes_put m (a + i) (drop i bs) ≡ Ok m
-unfolding bytes_put
-bytes_end m a i bs h = rw (drop_all i bs h) refl
 
 pub taken_on : (f : ℕ → ℕ) (xs : List ℕ) (i : ℕ) → i < length xs → map f (take (i + 1) xs) ≡ map f (take i xs) ++ f (get_or xs i 0) ∷ []
 taken_on f xs i h = rw (take_more xs i 0 h) (map-append f (take i xs) (get_or xs i 0 ∷ []))

@@ -4,7 +4,7 @@ use Rattle.zk_mem.specs.Map.{MemoryMap}
 use Rattle.zk_step.specs.declared.ending.Ending.{Ending}
 use Rattle.zk_step.specs.declared.ending.Ending.TheVariants.{GoOn, Jump, Call, Return, Throw, Wait, Quit}
 use Rattle.zk_step.specs.declared.ending.Output.{Output}
-use Rattle.zk_step.specs.declared.ending.Output.TheVariants.{Nothing, Code, Character, Number, Text, Line}
+use Rattle.zk_step.specs.declared.ending.Output.TheVariants.{Nothing, Code, Character, Number, Text, Line, Rows, Status}
 use Rattle.zk_step.specs.Printing.{IsPlainEnd, IsReady, IsPrintable}
 
 pub plain_by : (e : Ending) → IsPlainEnd e → ((x : ℕ) → e ≡ Return x → ⊥) → e ≡ GoOn None None
@@ -25,3 +25,5 @@ printable_parts before after (Character c) e h none = h
 printable_parts before after (Number x) e h none = h
 printable_parts before after (Text a) e h none = h
 printable_parts before after (Line a) e h none = h
+printable_parts before after (Rows r) e h none = h
+printable_parts before after Status e h none = h

@@ -26,7 +26,7 @@ use Rattle.zk_step.specs.declared.ending.Ending.{Ending}
 use Rattle.zk_step.specs.declared.ending.Ending.TheVariants as ending
 use Rattle.zk_step.specs.declared.ending.Next.{Next}
 use Rattle.zk_step.specs.declared.ending.Output.{Output}
-use Rattle.zk_step.specs.declared.ending.Output.TheVariants.{Nothing, Code, Character, Number, Text, Line}
+use Rattle.zk_step.specs.declared.ending.Output.TheVariants.{Nothing, Code, Character, Number, Text, Line, Rows, Status}
 use Rattle.zk_step.specs.declared.finish.Way.{Way}
 use Rattle.zk_step.specs.declared.finish.Way.TheVariants.{To, Back, Out}
 use Rattle.zk_step.specs.declared.workspace.Workspace.{Workspace}
@@ -41,11 +41,19 @@ use Rattle.zk_step.specs.Laws.{rebounded, moved_in, led_in, BoundsAreNotSeen, An
 use Rattle.zk_step.specs.Objects.{object_changed, object_answer}
 use Rattle.zk_step.specs.Printing.{printing}
 use Rattle.zk_step.specs.Routines.{called, stored, returned, thrown, routine_at, routine_effect}
-use Rattle.zk_step.specs.Routing.{Texts, table_filled, routed_by, routed}
+use Rattle.zk_step.specs.Routing.{Texts, table_filled, routed_by, routed, status_shown}
 use Rattle.zk_step.specs.declared.streams.OpenTable.{OpenTable}
 use Rattle.zk_step.specs.Selecting.{minus, flags_2, with_bit_0, transcript_set, table_opened, table_closed, stream_selected, stream_changed}
 use Rattle.zk_step.specs.Streams.{opened, newest_of}
-use Rattle.zk_step.specs.TextBuffers.{bytes_put, line_put}
+use Rattle.zk_arrays.specs.Runs.{bytes_put}
+use Rattle.zk_text.specs.declared.unit.Unit as text
+use Rattle.zk_step.specs.Status.{status_units}
+use Rattle.zk_step.specs.Tables.{rectangle_of, table_effect}
+use Rattle.zk_arrays.specs.Rectangles.{rows_of}
+use Rattle.zk_arrays.specs.Scanning.{scanned}
+use Rattle.zk_code.specs.declared.opcode.Table.{Table}
+use Rattle.zk_code.specs.declared.opcode.Table.TheVariants.{ScanTable, CopyTable, PrintTable}
+use Rattle.zk_step.specs.TextBuffers.{line_put}
 use Rattle.zk_step.specs.Values.{first, second, third}
 use Rattle.zk_step.specs.Words.{words_changed}
 use Rattle.zk_step.specs.Variables.{with_frames, with_memory, global_address, named_read, named_written, variable_read, variable_written, indirect_read, indirect_written, operand_read, operands_read}
@@ -211,6 +219,12 @@ module _ (f m : ℕ) where
       (mapped_if (first vs == 3) (table_opened_same w (slice_get vs 1)) (mapped_if (first vs == minus 3) (table_closed_same w (newest_of w.streams.tables)) both)))))
   stream_same InputStream w vs = both
 
+  table_same : (o : Table) (w : Workspace) (vs : List ℕ) → Mapped (too {A = Effect}) (table_effect o w vs) (table_effect o (rebounded f m w) vs)
+  unfolding table_effect
+  table_same ScanTable w vs = mapped_after (scanned w.memory _ _ _ _) _ _ (λ a. both)
+  table_same CopyTable w vs = fails
+  table_same PrintTable w vs = mapped_after (rows_of w.memory (rectangle_of vs)) _ _ (λ rows. both)
+
   beside_same : (w : Workspace) (r : Result Effect Fault) → Mapped (too {A = Effect}) (beside w r) (beside (rebounded f m w) r)
   beside_same w r = mapped_after r _ _ (λ e. both)
 
@@ -231,7 +245,7 @@ module _ (f m : ℕ) where
   effect_same (opcode.Words o) w text vs = mapped_after (words_changed o w.memory vs) _ _ (λ n. both)
   effect_same (opcode.Window o) w text vs = fails
   effect_same (opcode.Stream o) w text vs = mapped_then _ _ _ _ (stream_same o w vs) (λ u. both)
-  effect_same (opcode.Table o) w text vs = fails
+  effect_same (opcode.Table o) w text vs = table_same o w vs
   effect_same opcode.Random w text vs = both
   effect_same (opcode.Saving o) w text vs = fails
 
@@ -264,6 +278,10 @@ module _ (f m : ℕ) where
   routed_tables found w o [] = both
   routed_tables found w o (t ∷ ts) = mapped_then _ _ _ _ (filled_same w t _) (λ u. both)
 
+  status_same : (found : MemoryMap) (w : Workspace) (units : Result (List text.Unit) Fault) → Mapped (too {A = Texts}) (status_shown found w units) (status_shown found (rebounded f m w) units)
+  status_same found w (Ok units) = both
+  status_same found w (Err e) = fails
+
   routed_same : (found : MemoryMap) (w : Workspace) (o : Output) → Mapped (too {A = Texts}) (routed found w o) (routed found (rebounded f m w) o)
   unfolding routed
   routed_same found w Nothing = both
@@ -272,6 +290,8 @@ module _ (f m : ℕ) where
   routed_same found w (Number x) = routed_tables found w (Number x) w.streams.tables
   routed_same found w (Text a) = routed_tables found w (Text a) w.streams.tables
   routed_same found w (Line a) = routed_tables found w (Line a) w.streams.tables
+  routed_same found w (Rows r) = routed_tables found w (Rows r) w.streams.tables
+  routed_same found w Status = status_same found w (status_units found)
 
   carried_same : (w : Workspace) (i : Instr) → Mapped (too {A = Next × Texts}) (carried_out w i) (carried_out (rebounded f m w) i)
   unfolding carried_out effect_of

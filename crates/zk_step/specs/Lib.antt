@@ -23,3 +23,5 @@ pub mod Words
 pub mod Random
 pub mod Streams
 pub mod Selecting
+pub mod Status
+pub mod Tables

@@ -7,14 +7,15 @@ use Rattle.zk_text.specs.declared.unit.Unit as text
 use Rattle.zk_text.specs.declared.unit.Unit.TheVariants as unit
 use Rattle.zk_text.specs.Extra.{ExtraTable, own_characters, character, code_of}
 use Rattle.zk_text.specs.Shown.{shown_all}
+use Rattle.zk_arrays.specs.Runs.{bytes_put}
 use Rattle.zk_step.specs.declared.ending.Output.{Output}
-use Rattle.zk_step.specs.declared.ending.Output.TheVariants.{Nothing}
+use Rattle.zk_step.specs.declared.ending.Output.TheVariants.{Nothing, Status}
 use Rattle.zk_step.specs.declared.streams.OpenTable.{OpenTable}
 use Rattle.zk_step.specs.declared.workspace.Workspace.{Workspace}
 use Rattle.zk_step.specs.Printing.{units_of, characters_of}
 use Rattle.zk_step.specs.Selecting.{flags_2, with_streams}
+use Rattle.zk_step.specs.Status.{status_units}
 use Rattle.zk_step.specs.Streams.{counted}
-use Rattle.zk_step.specs.TextBuffers.{bytes_put}
 use Rattle.zk_step.specs.Variables.{with_memory}
 
 -- characters for the screen, and for the transcript
@@ -105,7 +106,14 @@ abbrev pub routed_by : List OpenTable → MemoryMap → Workspace → Output →
 routed_by [] found w output = Ok (streamed found w (characters_of found output))
 routed_by (t ∷ ts) found w output = table_filled w t (stored_all (own_characters found) (units_of found output)) >>= λ w'. Ok (w', no_text)
 
--- what is printed is read from memory as the instruction found it
+-- the status line stands on a line of its own
+abbrev pub status_shown : MemoryMap → Workspace → Result (List text.Unit) Fault → Result (Workspace × Texts) Fault
+status_shown found w (Err f) = Err f
+status_shown found w (Ok units) = Ok (with_line_start true w, on_screen (fresh_line w.at_line_start ++ shown_all (own_characters found) units ++ 10 ∷ []))
+
+-- What is printed is read from memory as the instruction found it. The status line is no printed text: it goes to the
+-- screen whatever the streams and windows are.
 unfoldable pub routed : MemoryMap → Workspace → Output → Result (Workspace × Texts) Fault
 routed found w Nothing = Ok (w, no_text)
+routed found w Status = status_shown found w (status_units found)
 routed found w output = routed_by w.streams.tables found w output

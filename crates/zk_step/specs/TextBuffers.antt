@@ -5,14 +5,10 @@ use Rattle.zk_mem.specs.declared.fault.Fault.{Fault}
 use Rattle.zk_mem.specs.Header.{header_of}
 use Rattle.zk_mem.specs.Map.{MemoryMap, byte_at, byte_put}
 use Rattle.zk_mem.specs.Results.{◌>>=◌}
+use Rattle.zk_arrays.specs.Runs.{bytes_put}
 use Rattle.zk_text.specs.Extra.{own_characters, lower_code}
 use Rattle.zk_tables.specs.Dictionaries.{dictionary_at}
 use Rattle.zk_tables.specs.Parsing.{tokenised}
-
--- memory with bytes stored from an address on, one after the other
-unfoldable pub bytes_put : MemoryMap → ℕ → List ℕ → Result MemoryMap Fault
-bytes_put m a [] = Ok m
-bytes_put m a (b ∷ bs) = byte_put m a b >>= λ n. bytes_put n (a + 1) bs
 
 -- the letters of a line that there is room for, in lower case
 abbrev pub taken_letters : MemoryMap → ℕ → List ℕ → List ℕ

@@ -1,5 +1,7 @@
 // How an instruction's effect ends.
 
+use zk_arrays::rectangle::Rectangle;
+
 /// How an effect ends, before the next place is known.
 #[derive(Clone, Copy, Debug, PartialEq, Eq, Drop)]
 pub enum Ending {
@@ -42,6 +44,10 @@ pub enum Output {
     Text(u32),
     /// The text at a byte address, and a new line.
     Line(u32),
+    /// Rows of ZSCII codes in memory.
+    Rows(Rectangle),
+    /// The status line, which is no printed text: no stream and no window matters to it.
+    Status,
 }
 
 /// What an effect does beside its changes of the workspace.

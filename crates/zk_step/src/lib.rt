@@ -22,6 +22,8 @@ mod returning;
 mod routines;
 mod selecting;
 pub mod streams;
+pub mod status;
+mod tables;
 mod text_buffers;
 mod values;
 mod variables;

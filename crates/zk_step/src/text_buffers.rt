@@ -2,27 +2,15 @@
 
 ghost use Rattle.std.specs.Prelude.{◌≡◌, ◌≤◌, ◌<◌, ◌+◌, ◌-◌, Bool, Ok, Err, MatchResult, length, take, map};
 ghost use Rattle.zk_text.specs.Extra.{own_characters, lower_code};
-ghost use Rattle.zk_step.specs.TextBuffers.{bytes_put, taken_letters, ended_by_zero, early_line_put, counted_letters, later_line_put, divided, own_dictionary, line_put};
+ghost use Rattle.zk_step.specs.TextBuffers.{taken_letters, ended_by_zero, early_line_put, counted_letters, later_line_put, divided, own_dictionary, line_put};
 
 use arrayvec::ArrayVec;
+use zk_arrays::runs::put_bytes;
 use zk_mem::fault::Fault;
 use zk_mem::memory::Memory;
 use zk_tables::dictionary::Dictionary;
 use zk_tables::parsing::tokenise;
 use zk_text::extra::Extra;
-
-/// Stores bytes one after the other.
-#[tactic(auto, using(crate::proofs::Lines::bytes_on, crate::proofs::Lines::bytes_end))]
-pub fn put_bytes(memory: &mut Memory, address: u32, bytes: &[u8]) -> Result<(), Fault>
-    requires address { address < 132000 }
-    requires some { length bytes.now ≤ 65536 }
-    ensures { MatchResult result (λ _. bytes_put memory.old address bytes.now ≡ Ok memory.new) (λ e. bytes_put memory.old address bytes.now ≡ Err e) }
-{
-    for i in 0..bytes.len() {
-        memory.set_byte(address + i as u32, bytes[i])?;
-    }
-    Ok(())
-}
 
 /// The letters of a line that there is room for, in lower case.
 #[tactic(auto, using(crate::proofs::Lines::taken_on, crate::proofs::Lines::taken_end))]

@@ -2,7 +2,7 @@
 
 ghost use Rattle.zk_state.specs.Frames.{bounds_of};
 ghost use Rattle.std.specs.Prelude.{◌≡◌, ◌<◌, ◌≤◌, [], ◌∷◌, ◌++◌, Ok, Err, drop, take, length, slice_get, slice_index, MatchResult};
-ghost use Rattle.zk_step.specs.Values.{first, second, third, fourth};
+ghost use Rattle.zk_step.specs.Values.{first, second, third, fourth, given_or};
 ghost use Rattle.zk_step.specs.Variables.{operand_read, operands_read};
 
 use crate::variables::read_variable;
@@ -78,6 +78,13 @@ impl Values {
         ensures { result ≡ fourth self.now }
     {
         self.get(3)
+    }
+
+    /// The value of the operand at an index, or another where there is none.
+    pub fn get_or(&self, i: usize, default: u16) -> u16
+        ensures { result ≡ given_or default i self.now }
+    {
+        self.list.get(i).copied().unwrap_or(default)
     }
 
     /// The arguments of a call: the values after the first, so many at most.

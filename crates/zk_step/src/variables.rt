@@ -7,14 +7,23 @@ ghost use Rattle.zk_step.specs.Variables.{global_address, named_read, named_writ
 
 use crate::workspace::Workspace;
 use zk_mem::fault::Fault;
+use zk_mem::memory::Memory;
 use zk_state::refusal::Refusal;
+
+/// The byte address of a global variable.
+pub fn global_of(memory: &Memory, variable: u8) -> u32
+    requires { 16 ≤ variable }
+    ensures { result ≡ global_address memory.now variable }
+{
+    memory.header().globals as u32 + 2 * (variable as u32 - 16)
+}
 
 /// The byte address of a global variable.
 pub fn global(workspace: &Workspace, variable: u8) -> u32
     requires { 16 ≤ variable }
     ensures { result ≡ global_address workspace.now.memory variable }
 {
-    workspace.memory.header().globals as u32 + 2 * (variable as u32 - 16)
+    global_of(&workspace.memory, variable)
 }
 
 /// The value of a local or global variable.

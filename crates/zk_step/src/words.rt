@@ -5,10 +5,11 @@ ghost use Rattle.zk_tables.specs.Parsing.{letters_counted};
 ghost use Rattle.zk_step.specs.TextBuffers.{own_dictionary};
 ghost use Rattle.zk_step.specs.Words.{dictionary_or_own, words_changed};
 
-use crate::text_buffers::{divide, put_bytes};
+use crate::text_buffers::divide;
 use crate::values::Values;
 use arrayvec::ArrayVec;
 use zk_code::opcode::Words;
+use zk_arrays::runs::put_bytes;
 use zk_mem::fault::Fault;
 use zk_mem::memory::Memory;
 use zk_text::key::key;
