@@ -12,3 +12,4 @@ pub mod target;
 mod tests;
 #[cfg(test)]
 mod tests_of_lines;
+pub mod windows;

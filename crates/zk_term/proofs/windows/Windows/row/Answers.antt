@@ -1,0 +1,18 @@
+use Rattle.std.proofs.Common.{◌≡◌, ◌∙◌, ◌+◌, ◌-◌, ◌≤◌, arith, ap, take, drop, map}
+use Rattle.zk_term.specs.Places.{cells_of}
+use Rattle.zk_term.specs.Windows.{row_text, without_last_blanks, columns_from}
+use Rattle.zk_term.proofs.Rows.{row_items}
+use Rattle.zk_term.proofs.windows.Windows.row.Goals as goal
+
+pub returns-clause-value : goal.returns-clause-value
+unfolding row_text
+returns-clause-value c =
+    let s = c.self.inside in
+    let start = c.place-start.result in
+    let to : c.args.row ≤ 255 = omega arith in
+    let width : start + 80 - start ≡ 80 = omega arith in
+    let items : take 80 (drop start s.cells.items) ≡ map ((cells_of s.cells.items).at c.args.row) (columns_from 1 80) =
+    row_items s.cells.items c.args.row start c.self.invariant.cells c.requires to c.place-start.ensures in
+    let slice : take (start + 80 - start) (drop start c.deref.result.now) ≡ map ((cells_of s.cells.items).at c.args.row) (columns_from 1 80) =
+    rw (width, c.deref.ensures.value) items in
+    rw (← c.self.view_is) (c.without_last_spaces.ensures.value ∙ ap without_last_blanks slice)

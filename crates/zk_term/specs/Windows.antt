@@ -1,0 +1,104 @@
+-- The upper window (Standard, sections 8.6 and 8.7): a grid of cells, of which a height of rows is shown, with a cursor;
+-- the lower window has neither.
+use Rattle.std.specs.Prelude.{Bool, true, ℕ, zero, suc, ◌+◌, List, [], ◌∷◌, map, if◌then◌else◌, ◌==◌, ◌&&◌, nat_lt, nat_le, min, max}
+use Rattle.zk_term.specs.Grid.{Cells, blank, no_cells, emptied, cell_put}
+use Rattle.zk_term.specs.declared.windows.Window.{Window}
+use Rattle.zk_term.specs.declared.windows.Window.TheVariants.{Lower, Upper}
+
+-- the cells, how many rows are shown, the row and column of the cursor, and the window that is selected
+pub record Windows : Type 0 where
+  pub cells : Cells
+  pub height : ℕ
+  pub row : ℕ
+  pub column : ℕ
+  pub selected : Window
+
+-- at the start the upper window has no row, and the lower one is selected (section 8.7.2)
+unfoldable pub first_windows : Windows
+first_windows = record { cells = no_cells; height = 0; row = 1; column = 1; selected = Lower }
+
+-- the cursor goes to the top left
+abbrev pub homed : Windows → Windows
+homed w = record w { row = 1; column = 1 }
+
+-- the cursor goes to the top left where it was below the height
+abbrev pub homed_below : ℕ → Windows → Windows
+homed_below height w = if nat_lt height w.row then homed w else w
+
+-- the rows past a height are emptied, in version 3 all (section 8.6.1.1)
+abbrev pub past : ℕ → ℕ → ℕ → ℕ → Bool
+past version height row column = if version == 3 then true else nat_lt height row
+
+-- the upper window gets a height (section 15, `split_window`)
+unfoldable pub split : ℕ → ℕ → Windows → Windows
+split version lines w = homed_below (min lines 255) (record w { cells = emptied (past version (min lines 255)) w.cells; height = min lines 255 })
+
+-- a window is selected; in the upper one the cursor goes to the top left (section 8.7.2)
+unfoldable pub window_selected : Window → Windows → Windows
+window_selected Lower w = record w { selected = Lower }
+window_selected Upper w = homed (record w { selected = Upper })
+
+-- the whole grid is emptied (section 8.7.3)
+unfoldable pub cleared : Windows → Windows
+cleared w = homed (record w { cells = no_cells })
+
+-- the grid is emptied, and the upper window has no row any more (section 8.7.3.3)
+unfoldable pub unsplit : Windows → Windows
+unsplit w = record (cleared w) { height = 0; selected = Lower }
+
+-- the rest of a row, from a column on
+abbrev pub rest_of_row : ℕ → ℕ → ℕ → ℕ → Bool
+rest_of_row at_row at_column row column = row == at_row && nat_le at_column column
+
+-- from the cursor on its row is emptied (section 15, `erase_line`)
+unfoldable pub line_erased : Windows → Windows
+line_erased w = record w { cells = emptied (rest_of_row w.row w.column) w.cells }
+
+-- the cursor goes to a row and a column on the grid (section 15, `set_cursor`)
+unfoldable pub cursor_set : ℕ → ℕ → Windows → Windows
+cursor_set row column w = record w { row = max 1 (min row 255); column = max 1 (min column 80) }
+
+-- the cursor goes to a column of the next row, past the last one at most
+unfoldable pub next_row : ℕ → Windows → Windows
+next_row column w = record w { row = min (w.row + 1) 256; column = column }
+
+-- a cell of the window's rows gets a character; what stands past column 80 or below the height is dropped
+abbrev pub character_put : ℕ → Windows → Windows
+character_put c w =
+    if nat_le w.row w.height && nat_le w.column 80
+    then record w { cells = cell_put w.cells w.row w.column c }
+    else w
+
+-- the cursor goes on to the right, past the last column at most
+abbrev pub moved_right : Windows → Windows
+moved_right w = record w { column = min (w.column + 1) 81 }
+
+-- a character is printed in the upper window; 10 is a new line
+unfoldable pub character_printed : ℕ → Windows → Windows
+character_printed c w = if c == 10 then next_row 1 w else moved_right (character_put c w)
+
+-- characters are printed, one after another
+unfoldable pub printed : List ℕ → Windows → Windows
+printed [] w = w
+printed (c ∷ cs) w = printed cs (character_printed c w)
+
+-- ---- what is shown of it
+
+-- a character before others, unless all are spaces
+abbrev pub before_blanks : ℕ → List ℕ → List ℕ
+before_blanks c [] = if c == blank then [] else c ∷ []
+before_blanks c (d ∷ ds) = c ∷ d ∷ ds
+
+-- a text without the spaces at its end
+unfoldable pub without_last_blanks : List ℕ → List ℕ
+without_last_blanks [] = []
+without_last_blanks (c ∷ cs) = before_blanks c (without_last_blanks cs)
+
+-- so many columns, from a column on
+unfoldable pub columns_from : ℕ → ℕ → List ℕ
+columns_from column zero = []
+columns_from column (suc n) = column ∷ columns_from (column + 1) n
+
+-- the characters of a row without the spaces at its end
+unfoldable pub row_text : Windows → ℕ → List ℕ
+row_text w row = without_last_blanks (map (w.cells.at row) (columns_from 1 80))

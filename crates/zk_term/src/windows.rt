@@ -1,0 +1,262 @@
+// The upper window: a grid of characters with a cursor.
+
+ghost use Rattle.std.specs.Prelude.{◌≡◌, ◌≤◌, ◌<◌, ◌&&◌, ℕ, IfOk, if◌then◌else◌, length, nat_le, nat_lt, slice_index};
+ghost use Rattle.zk_term.specs.Windows.{first_windows, homed, past, split, window_selected, cleared, unsplit, line_erased, cursor_set, next_row, character_put, character_printed, row_text, without_last_blanks};
+ghost use Rattle.zk_term.specs.Grid.{emptied};
+ghost use Rattle.zk_term.specs.Places.{place_of};
+
+use std::alloc::{AllocError, Global};
+use std::marker::Model;
+
+/// So many rows has the grid.
+pub const ROWS: usize = 255;
+/// So many columns has the grid.
+pub const COLUMNS: usize = 80;
+
+/// A window of the screen (Z-Machine Standards Document 1.1, section 8.6).
+#[derive(Clone, Copy, Debug, PartialEq, Eq, Drop)]
+pub enum Window {
+    Lower,
+    Upper,
+}
+
+/// The upper window of the screen (Z-Machine Standards Document 1.1, sections 8.6 and 8.7): a grid of 255 rows
+/// and 80 columns, numbered from 1 on, of which as many rows are shown as its height says, and a cursor, which
+/// may stand past the last column or row. Contracts see each cell by its row and column. It takes memory when
+/// it is made, and none later.
+#[derive(Drop)]
+pub struct Windows {
+    // the rows one after another
+    cells: Vec<char>,
+    height: u8,
+    row: u16,
+    column: u8,
+    selected: Window,
+}
+
+impl Model for Windows {
+    ghost use Rattle.zk_term.specs.Windows.{Windows as AllWindows};
+    ghost use Rattle.zk_term.specs.GridCode.{windows_code};
+
+    ghost Value = { AllWindows };
+
+    ghost coded = { windows_code };
+
+    ghost use Rattle.zk_term.specs.WindowsView.{windows_of, IsKept};
+
+    ghost view = { windows_of };
+
+    ghost invariant = { IsKept };
+}
+
+/// So many spaces.
+fn spaces(alloc: Global, count: usize) -> Result<Vec<char>, AllocError>
+    ensures len { IfOk result (λ v. length v.items ≡ count) }
+    ensures value { IfOk result (λ v. (k : ℕ) → k < count → slice_index v.items k ≡ 32) }
+{
+    vec![in alloc; ' '; count]
+}
+
+/// Empties cells from one place up to another, which is none of them.
+fn empty(cells: &mut Vec<char>, from: usize, to: usize)
+    ensures len { length cells.new.items ≡ length cells.old.items }
+    ensures value { (k : ℕ) → k < length cells.old.items → slice_index cells.new.items k ≡ (if nat_le from k && nat_lt k to then 32 else slice_index cells.old.items k) }
+{
+    let end = to.min(cells.len());
+    for k in from..end {
+        cells[k] = ' ';
+    }
+}
+
+/// The characters of a row without the spaces at its end.
+fn without_last_spaces(row: &[char]) -> &[char]
+    ensures value { result.now ≡ without_last_blanks row.now }
+    ensures within { length result.now ≤ length row.now }
+{
+    let mut end = row.len();
+    while end > 0 && row[end - 1] == ' ' {
+        end -= 1;
+    }
+    &row[..end]
+}
+
+/// Where a cell stands among all.
+fn place(row: u16, column: u8) -> usize
+    requires row { 1 ≤ row }
+    requires column { 1 ≤ column }
+    ensures { result ≡ place_of row column }
+{
+    (row as usize - 1) * COLUMNS + (column as usize - 1)
+}
+
+impl Windows {
+    /// No row is shown, and the lower window is selected.
+    pub fn new(alloc: Global) -> Result<Windows, AllocError>
+        ensures { IfOk result (λ w. w ≡ first_windows) }
+    {
+        let cells = spaces(alloc, ROWS * COLUMNS)?;
+        Ok(Windows {
+            cells,
+            height: 0,
+            row: 1,
+            column: 1,
+            selected: Window::Lower,
+        })
+    }
+
+    /// The cursor goes to the top left.
+    fn home(&mut self)
+        ensures { self.new ≡ homed self.old }
+    {
+        self.row = 1;
+        self.column = 1;
+    }
+
+    /// Empties the rows past a height, in version 3 all.
+    fn empty_past(&mut self, version: u8, height: u8)
+        ensures { self.new ≡ record self.old { cells = emptied (past version height) self.old.cells } }
+    {
+        let from = if version == 3 {
+            0
+        } else {
+            height as usize * COLUMNS
+        };
+        empty(&mut self.cells, from, ROWS * COLUMNS);
+    }
+
+    /// Gives the upper window so many rows, 255 at most (Standard, section 15, split_window). The rows past them
+    /// are emptied, in version 3 all rows (section 8.6.1.1); the cursor goes to the top left where it was below.
+    #[tactic(auto, unfolding(crate::specs::Windows::split))]
+    pub fn split(&mut self, version: u8, lines: u16)
+        ensures { self.new ≡ split version lines self.old }
+    {
+        let height = lines.min(255) as u8;
+        self.empty_past(version, height);
+        self.height = height;
+        if self.row > height as u16 {
+            self.home();
+        }
+    }
+
+    /// Selects a window; in the upper one the cursor goes to the top left (Standard, section 8.7.2).
+    #[tactic(auto, unfolding(crate::specs::Windows::window_selected))]
+    pub fn select(&mut self, window: Window)
+        ensures { self.new ≡ window_selected window self.old }
+    {
+        self.selected = window;
+        if window == Window::Upper {
+            self.home();
+        }
+    }
+
+    /// Empties the whole grid, and the cursor goes to the top left (Standard, section 8.7.3).
+    #[tactic(auto, unfolding(crate::specs::Windows::cleared))]
+    pub fn clear(&mut self)
+        ensures { self.new ≡ cleared self.old }
+    {
+        empty(&mut self.cells, 0, ROWS * COLUMNS);
+        self.home();
+    }
+
+    /// Clears the grid, shows no row of it any more, and selects the lower window (Standard, section 8.7.3.3).
+    #[tactic(auto, unfolding(crate::specs::Windows::unsplit))]
+    pub fn unsplit(&mut self)
+        ensures { self.new ≡ unsplit self.old }
+    {
+        self.clear();
+        self.height = 0;
+        self.selected = Window::Lower;
+    }
+
+    /// Empties the cursor's row from the cursor on (Standard, section 15, erase_line). Where the cursor stands
+    /// past the last column or row, nothing is emptied.
+    #[tactic(auto, unfolding(crate::specs::Windows::line_erased))]
+    pub fn erase_line(&mut self)
+        ensures { self.new ≡ line_erased self.old }
+    {
+        let from = place(self.row, self.column);
+        let to = self.row as usize * COLUMNS;
+        empty(&mut self.cells, from, to);
+    }
+
+    /// The cursor goes to a row and a column, or to the nearest of the grid (Standard, section 15, set_cursor).
+    #[tactic(auto, unfolding(crate::specs::Windows::cursor_set))]
+    pub fn set_cursor(&mut self, row: u16, column: u16)
+        ensures { self.new ≡ cursor_set row column self.old }
+    {
+        self.row = row.min(255).max(1);
+        self.column = column.min(80).max(1) as u8;
+    }
+
+    /// The cursor goes to a column of the next row, past the last row at most.
+    #[tactic(auto, unfolding(crate::specs::Windows::next_row))]
+    pub fn start_row(&mut self, column: u8)
+        requires from { 1 ≤ column }
+        requires to { column ≤ 81 }
+        ensures { self.new ≡ next_row column self.old }
+    {
+        self.row = (self.row + 1).min(256);
+        self.column = column;
+    }
+
+    /// Puts a character into the cursor's cell, where that is shown.
+    #[inline(always)]
+    fn put_cell(&mut self, c: char)
+        ensures { self.new ≡ character_put c self.old }
+    {
+        if self.row <= self.height as u16 && self.column <= 80 {
+            let k = place(self.row, self.column);
+            self.cells[k] = c;
+        }
+    }
+
+    /// Prints a character at the cursor, which goes on to the right, past the last column at most; a new line
+    /// ('\n') moves it to the first column of the next row. What stands past the last column or below the height
+    /// is dropped.
+    #[tactic(auto, unfolding(crate::specs::Windows::character_printed))]
+    pub fn put(&mut self, c: char)
+        ensures { self.new ≡ character_printed c self.old }
+    {
+        if c == '\n' {
+            self.start_row(1);
+            return;
+        }
+        self.put_cell(c);
+        self.column = (self.column + 1).min(81);
+    }
+
+    /// How many rows are shown.
+    pub fn height(&self) -> u8
+        ensures { result ≡ self.now.height }
+    {
+        self.height
+    }
+
+    /// The row and the column of the cursor, from 1 on; row 256 and column 81 are past the last ones.
+    pub fn cursor(&self) -> (u16, u8)
+        ensures row { result.0 ≡ self.now.row }
+        ensures column { result.1 ≡ self.now.column }
+        ensures row_within { (1 ≤ result.0) × (result.0 ≤ 256) }
+        ensures column_within { (1 ≤ result.1) × (result.1 ≤ 81) }
+    {
+        (self.row, self.column)
+    }
+
+    /// The window that is selected.
+    pub fn selected(&self) -> Window
+        ensures { result ≡ self.now.selected }
+    {
+        self.selected
+    }
+
+    /// The characters of a row, from 1 on, without the spaces at its end.
+    #[tactic(auto, unfolding(crate::specs::Windows::row_text))]
+    pub fn row(&self, row: u8) -> &[char]
+        requires { 1 ≤ row }
+        ensures value { result.now ≡ row_text self.now row }
+        ensures within { length result.now ≤ 80 }
+    {
+        let start = place(row as u16, 1);
+        without_last_spaces(&self.cells[start..start + COLUMNS])
+    }
+}
