@@ -41,12 +41,19 @@ use Rattle.zk_step.specs.Laws.{rebounded, moved_in, led_in, BoundsAreNotSeen, An
 use Rattle.zk_step.specs.Objects.{object_changed, object_answer}
 use Rattle.zk_step.specs.Printing.{printing}
 use Rattle.zk_step.specs.Routines.{called, stored, returned, thrown, routine_at, routine_effect}
-use Rattle.zk_step.specs.Routing.{Texts, table_filled, routed_by, routed, status_shown}
+use Rattle.zk_step.specs.Routing.{Texts, table_filled, routed_to, routed_by, routed, status_shown}
 use Rattle.zk_step.specs.declared.streams.OpenTable.{OpenTable}
 use Rattle.zk_step.specs.Selecting.{minus, flags_2, with_bit_0, transcript_set, table_opened, table_closed, stream_selected, stream_changed}
 use Rattle.zk_step.specs.Streams.{opened, newest_of}
 use Rattle.zk_arrays.specs.Runs.{bytes_put}
 use Rattle.zk_text.specs.declared.unit.Unit as text
+use Rattle.zk_term.specs.declared.windows.Window as pane
+use Rattle.zk_term.specs.declared.windows.Window.TheVariants.{Lower, Upper}
+use Rattle.zk_step.specs.declared.workspace.View.{View}
+use Rattle.zk_step.specs.declared.workspace.View.TheVariants as view
+use Rattle.zk_code.specs.declared.opcode.Window.{Window}
+use Rattle.zk_code.specs.declared.opcode.Window.TheVariants.{SplitWindow, SetWindow, EraseWindow, EraseLine, SetCursor, GetCursor, ShowStatus}
+use Rattle.zk_step.specs.Screens.{cursor_stored, status_by, window_effect}
 use Rattle.zk_step.specs.Status.{status_units}
 use Rattle.zk_step.specs.Tables.{rectangle_of, table_effect}
 use Rattle.zk_arrays.specs.Rectangles.{rows_of}
@@ -225,6 +232,20 @@ module _ (f m : ℕ) where
   table_same CopyTable w vs = fails
   table_same PrintTable w vs = mapped_after (rows_of w.memory (rectangle_of vs)) _ _ (λ rows. both)
 
+  status_by_same : (w : Workspace) (v : View) → Mapped (too {A = Effect}) (status_by v w) (status_by v (rebounded f m w))
+  status_by_same w view.Plain = both
+  status_by_same w view.Upper = mapped_if (w.memory.version == 3) (mapped_after (status_units w.memory) _ _ (λ units. both)) both
+
+  window_same : (o : Window) (w : Workspace) (vs : List ℕ) → Mapped (too {A = Effect}) (window_effect o w vs) (window_effect o (rebounded f m w) vs)
+  unfolding window_effect
+  window_same SplitWindow w vs = both
+  window_same SetWindow w vs = both
+  window_same EraseWindow w vs = both
+  window_same EraseLine w vs = both
+  window_same SetCursor w vs = both
+  window_same GetCursor w vs = mapped_after (cursor_stored w.memory (first vs) w.windows) _ _ (λ n. both)
+  window_same ShowStatus w vs = status_by_same w w.view
+
   beside_same : (w : Workspace) (r : Result Effect Fault) → Mapped (too {A = Effect}) (beside w r) (beside (rebounded f m w) r)
   beside_same w r = mapped_after r _ _ (λ e. both)
 
@@ -243,7 +264,7 @@ module _ (f m : ℕ) where
   effect_same (opcode.Idle o) w text vs = both
   effect_same (opcode.Reading o) w text vs = both
   effect_same (opcode.Words o) w text vs = mapped_after (words_changed o w.memory vs) _ _ (λ n. both)
-  effect_same (opcode.Window o) w text vs = fails
+  effect_same (opcode.Window o) w text vs = window_same o w vs
   effect_same (opcode.Stream o) w text vs = mapped_then _ _ _ _ (stream_same o w vs) (λ u. both)
   effect_same (opcode.Table o) w text vs = table_same o w vs
   effect_same opcode.Random w text vs = both
@@ -274,9 +295,13 @@ module _ (f m : ℕ) where
   filled_same : (w : Workspace) (t : OpenTable) (cs : List ℕ) → Mapped (rebounded f m) (table_filled w t cs) (table_filled (rebounded f m w) t cs)
   filled_same w t cs = mapped_after (bytes_put w.memory (t.address + 2 + t.count) cs) _ _ (λ n. both)
 
-  routed_tables : (found : MemoryMap) (w : Workspace) (o : Output) (ts : List OpenTable) → Mapped (too {A = Texts}) (routed_by ts found w o) (routed_by ts found (rebounded f m w) o)
-  routed_tables found w o [] = both
-  routed_tables found w o (t ∷ ts) = mapped_then _ _ _ _ (filled_same w t _) (λ u. both)
+  routed_windows : (found : MemoryMap) (w : Workspace) (o : Output) (window : pane.Window) → Mapped (too {A = Texts}) (routed_to window found w o) (routed_to window found (rebounded f m w) o)
+  routed_windows found w o Lower = both
+  routed_windows found w o Upper = both
+
+  routed_tables : (found : MemoryMap) (w : Workspace) (o : Output) (t : Option OpenTable) → Mapped (too {A = Texts}) (routed_by t found w o) (routed_by t found (rebounded f m w) o)
+  routed_tables found w o None = routed_windows found w o w.windows.selected
+  routed_tables found w o (Some t) = mapped_then _ _ _ _ (filled_same w t _) (λ u. both)
 
   status_same : (found : MemoryMap) (w : Workspace) (units : Result (List text.Unit) Fault) → Mapped (too {A = Texts}) (status_shown found w units) (status_shown found (rebounded f m w) units)
   status_same found w (Ok units) = both
@@ -285,12 +310,12 @@ module _ (f m : ℕ) where
   routed_same : (found : MemoryMap) (w : Workspace) (o : Output) → Mapped (too {A = Texts}) (routed found w o) (routed found (rebounded f m w) o)
   unfolding routed
   routed_same found w Nothing = both
-  routed_same found w (Code c) = routed_tables found w (Code c) w.streams.tables
-  routed_same found w (Character c) = routed_tables found w (Character c) w.streams.tables
-  routed_same found w (Number x) = routed_tables found w (Number x) w.streams.tables
-  routed_same found w (Text a) = routed_tables found w (Text a) w.streams.tables
-  routed_same found w (Line a) = routed_tables found w (Line a) w.streams.tables
-  routed_same found w (Rows r) = routed_tables found w (Rows r) w.streams.tables
+  routed_same found w (Code c) = routed_tables found w (Code c) (newest_of w.streams.tables)
+  routed_same found w (Character c) = routed_tables found w (Character c) (newest_of w.streams.tables)
+  routed_same found w (Number x) = routed_tables found w (Number x) (newest_of w.streams.tables)
+  routed_same found w (Text a) = routed_tables found w (Text a) (newest_of w.streams.tables)
+  routed_same found w (Line a) = routed_tables found w (Line a) (newest_of w.streams.tables)
+  routed_same found w (Rows r) = routed_tables found w (Rows r) (newest_of w.streams.tables)
   routed_same found w Status = status_same found w (status_units found)
 
   carried_same : (w : Workspace) (i : Instr) → Mapped (too {A = Next × Texts}) (carried_out w i) (carried_out (rebounded f m w) i)

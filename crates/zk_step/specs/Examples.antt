@@ -35,6 +35,7 @@ use Rattle.zk_step.specs.declared.finish.Way.TheVariants.{To, Back, Out}
 use Rattle.zk_step.specs.declared.workspace.Workspace.{Workspace}
 use Rattle.zk_step.specs.declared.workspace.View.TheVariants.{Plain}
 use Rattle.zk_step.specs.Streams.{first_streams}
+use Rattle.zk_term.specs.Windows.{first_windows}
 use Rattle.zk_step.specs.Arithmetic.{arithmetic}
 use Rattle.zk_step.specs.Arrays.{array_effect}
 use Rattle.zk_step.specs.Assignment.{assignment, pushing}
@@ -86,6 +87,7 @@ working memory current callers = record {
   memory = memory;
   frames = record { current = current; callers = callers; most_frames = 5; most_words = 20 };
   streams = first_streams;
+  windows = first_windows;
   generators = record { free = 1; predictable = None };
   at_line_start = true;
   view = Plain;

@@ -25,3 +25,4 @@ pub mod Streams
 pub mod Selecting
 pub mod Status
 pub mod Tables
+pub mod Screens

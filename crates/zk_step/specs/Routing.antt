@@ -7,15 +7,19 @@ use Rattle.zk_text.specs.declared.unit.Unit as text
 use Rattle.zk_text.specs.declared.unit.Unit.TheVariants as unit
 use Rattle.zk_text.specs.Extra.{ExtraTable, own_characters, character, code_of}
 use Rattle.zk_text.specs.Shown.{shown_all}
+use Rattle.zk_term.specs.declared.windows.Window.{Window}
+use Rattle.zk_term.specs.declared.windows.Window.TheVariants.{Lower, Upper}
+use Rattle.zk_term.specs.Windows.{Windows, printed, next_row}
+use Rattle.zk_arrays.specs.Rectangles.{rows_of, row_units}
 use Rattle.zk_arrays.specs.Runs.{bytes_put}
 use Rattle.zk_step.specs.declared.ending.Output.{Output}
-use Rattle.zk_step.specs.declared.ending.Output.TheVariants.{Nothing, Status}
+use Rattle.zk_step.specs.declared.ending.Output.TheVariants.{Nothing, Status, Rows}
 use Rattle.zk_step.specs.declared.streams.OpenTable.{OpenTable}
 use Rattle.zk_step.specs.declared.workspace.Workspace.{Workspace}
-use Rattle.zk_step.specs.Printing.{units_of, characters_of}
+use Rattle.zk_step.specs.Printing.{units_of, characters_of, rows_or_none}
 use Rattle.zk_step.specs.Selecting.{flags_2, with_streams}
 use Rattle.zk_step.specs.Status.{status_units}
-use Rattle.zk_step.specs.Streams.{counted}
+use Rattle.zk_step.specs.Streams.{counted, newest_of}
 use Rattle.zk_step.specs.Variables.{with_memory}
 
 -- characters for the screen, and for the transcript
@@ -80,6 +84,27 @@ table_filled w t codes =
     bytes_put w.memory (t.address + 2 + t.count) codes >>= λ m.
     Ok (with_streams (with_memory w m) (record w.streams { tables = counted (length codes) w.streams.tables }))
 
+-- ---- the upper window
+
+-- characters are printed there while stream 1 is on
+abbrev pub printed_if : Bool → List ℕ → Windows → Windows
+printed_if on cs w = if on then printed cs w else w
+
+-- further rows, each below the one before it and from the same column on
+unfoldable pub rows_printed : Bool → ExtraTable → ℕ → List (List ℕ) → Windows → Windows
+rows_printed on t column [] w = w
+rows_printed on t column (row ∷ rows) w = rows_printed on t column rows (printed_if on (shown_all t (row_units row)) (next_row column w))
+
+-- rows from the cursor on
+abbrev pub rectangle_printed : Bool → ExtraTable → List (List ℕ) → Windows → Windows
+rectangle_printed on t [] w = w
+rectangle_printed on t (row ∷ rows) w = rows_printed on t w.column rows (printed_if on (shown_all t (row_units row)) w)
+
+-- the upper window gets what is printed
+unfoldable pub upper_printed : Bool → MemoryMap → Output → Windows → Windows
+upper_printed on m (Rows r) w = rectangle_printed on (own_characters m) (rows_or_none (rows_of m r)) w
+upper_printed on m output w = printed_if on (characters_of m output) w
+
 -- ---- streams 1 and 2
 
 -- characters, or none
@@ -101,10 +126,15 @@ streamed found w cs = (with_shown (shown_if w.streams.screen cs) w, record { scr
 
 -- ---- the route of a text
 
+-- text of the lower window goes to the screen and the transcript, text of the upper one to its grid
+abbrev pub routed_to : Window → MemoryMap → Workspace → Output → Result (Workspace × Texts) Fault
+routed_to Lower found w output = Ok (streamed found w (characters_of found output))
+routed_to Upper found w output = Ok (record w { windows = upper_printed w.streams.screen found output w.windows }, no_text)
+
 -- while a table is open it alone gets the text
-abbrev pub routed_by : List OpenTable → MemoryMap → Workspace → Output → Result (Workspace × Texts) Fault
-routed_by [] found w output = Ok (streamed found w (characters_of found output))
-routed_by (t ∷ ts) found w output = table_filled w t (stored_all (own_characters found) (units_of found output)) >>= λ w'. Ok (w', no_text)
+abbrev pub routed_by : Option OpenTable → MemoryMap → Workspace → Output → Result (Workspace × Texts) Fault
+routed_by None found w output = routed_to w.windows.selected found w output
+routed_by (Some t) found w output = table_filled w t (stored_all (own_characters found) (units_of found output)) >>= λ w'. Ok (w', no_text)
 
 -- the status line stands on a line of its own
 abbrev pub status_shown : MemoryMap → Workspace → Result (List text.Unit) Fault → Result (Workspace × Texts) Fault
@@ -116,4 +146,4 @@ status_shown found w (Ok units) = Ok (with_line_start true w, on_screen (fresh_l
 unfoldable pub routed : MemoryMap → Workspace → Output → Result (Workspace × Texts) Fault
 routed found w Nothing = Ok (w, no_text)
 routed found w Status = status_shown found w (status_units found)
-routed found w output = routed_by w.streams.tables found w output
+routed found w output = routed_by (newest_of w.streams.tables) found w output

@@ -16,6 +16,7 @@ use crate::inputs::reading_effect;
 use crate::objects::{answer_of_object, change_object};
 use crate::printing::printing_effect;
 use crate::routines::{call_effect, routine_effect};
+use crate::screens::windows_effect;
 use crate::selecting::change_stream;
 use crate::tables::tables_effect;
 use crate::values::Values;
@@ -66,6 +67,7 @@ fn effect_by(
             change_stream(operation, workspace, values)?;
             Ok(Effect::goes_on())
         }
+        Opcode::Window(operation) => windows_effect(operation, workspace, values),
         Opcode::Table(operation) => tables_effect(operation, workspace, values),
         Opcode::Random => Ok(Effect::gives(workspace.generators.random(values.first()))),
         _ => Err(Fault::BadOpcode),

@@ -20,6 +20,7 @@ mod printing;
 pub mod random;
 mod returning;
 mod routines;
+mod screens;
 mod selecting;
 pub mod streams;
 pub mod status;

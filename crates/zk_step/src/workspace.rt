@@ -7,6 +7,7 @@ use crate::random::Generators;
 use crate::streams::Streams;
 use zk_mem::memory::Memory;
 use zk_state::frames::Frames;
+use zk_term::windows::Windows;
 
 /// What a machine shows of the upper window and the status line.
 #[derive(Clone, Copy, Debug, PartialEq, Eq, Drop)]
@@ -24,6 +25,7 @@ pub struct Workspace {
     pub memory: Memory,
     pub frames: Frames,
     pub streams: Streams,
+    pub windows: Windows,
     pub generators: Generators,
     /// Nothing was shown yet on the screen's last line.
     pub at_line_start: bool,
