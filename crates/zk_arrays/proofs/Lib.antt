@@ -3,3 +3,6 @@ pub mod Places
 pub mod Scans
 pub mod Rows
 pub mod Units
+pub mod Puts
+pub mod Copies
+pub mod Passes

@@ -34,7 +34,7 @@ read_at m a (suc n) (suc k) codes h below =
     let same : a + suc k ≡ a + 1 + k = omega arith in
     rw (same, p.4) (read_at m (a + 1) n k p.1 p.3 (omega arith))
 
-was_ok : {A : Type 0} (r : Result A Fault) → IsOk r → (x : A) × (r ≡ Ok x)
+pub was_ok : {A : Type 0} (r : Result A Fault) → IsOk r → (x : A) × (r ≡ Ok x)
 was_ok (Ok x) h = (x, refl)
 was_ok (Err e) h = cc
 

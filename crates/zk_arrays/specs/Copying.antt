@@ -9,9 +9,13 @@ use Rattle.zk_arrays.specs.Runs.{places, bytes_read, bytes_stored}
 abbrev pub copied_at_once : MemoryMap → List ℕ → List ℕ → Result MemoryMap Fault
 copied_at_once m from to = bytes_read m from >>= λ bytes. bytes_stored m to bytes
 
+-- one byte is copied to another address
+abbrev pub byte_copied : MemoryMap → ℕ → ℕ → Result MemoryMap Fault
+byte_copied m a b = byte_at m a >>= λ x. byte_put m b x
+
 -- each byte is read once those before it are stored
 unfoldable pub copied_forwards : MemoryMap → List ℕ → List ℕ → Result MemoryMap Fault
-copied_forwards m (a ∷ from) (b ∷ to) = byte_at m a >>= λ x. byte_put m b x >>= λ n. copied_forwards n from to
+copied_forwards m (a ∷ from) (b ∷ to) = byte_copied m a b >>= λ n. copied_forwards n from to
 copied_forwards m [] to = Ok m
 copied_forwards m (a ∷ from) [] = Ok m
 

@@ -1,6 +1,7 @@
 // Arrays of bytes and words in memory: copied, searched, shown as rectangles.
 #![tactic(auto)]
 
+pub mod copying;
 pub mod rectangle;
 pub mod runs;
 pub mod scanning;

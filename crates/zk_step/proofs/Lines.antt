@@ -1,6 +1,6 @@
 -- Storing a line.
-use Rattle.std.proofs.Common.{◌≡◌, ◌≤◌, ◌<◌, ℕ, ◌+◌, List, [], ◌∷◌, ◌++◌, length, take, drop, map, min, get_or, drop-cons, add-one, Ok, Err, nat_lt, refl, arith, inl, inr}
-use Rattle.std.proofs.lemmas.List.{drop_all, take_all, take_more, map-append}
+use Rattle.std.proofs.Common.{◌≡◌, ◌≤◌, ◌<◌, ℕ, ◌+◌, List, [], ◌∷◌, ◌++◌, length, take, map, min, get_or, nat_lt, refl, arith, inl, inr}
+use Rattle.std.proofs.lemmas.List.{take_all, take_more, map-append}
 use Rattle.std.proofs.lemmas.Bool.{cases_Bool}
 use Rattle.std.proofs.lemmas.Bool.Decides.{nat_tests}
 

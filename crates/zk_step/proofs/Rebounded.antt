@@ -56,6 +56,7 @@ use Rattle.zk_code.specs.declared.opcode.Window.TheVariants.{SplitWindow, SetWin
 use Rattle.zk_step.specs.Screens.{cursor_stored, status_by, window_effect}
 use Rattle.zk_step.specs.Status.{status_units}
 use Rattle.zk_step.specs.Tables.{rectangle_of, table_effect}
+use Rattle.zk_arrays.specs.Copying.{table_copied}
 use Rattle.zk_arrays.specs.Rectangles.{rows_of}
 use Rattle.zk_arrays.specs.Scanning.{scanned}
 use Rattle.zk_code.specs.declared.opcode.Table.{Table}
@@ -229,7 +230,7 @@ module _ (f m : ℕ) where
   table_same : (o : Table) (w : Workspace) (vs : List ℕ) → Mapped (too {A = Effect}) (table_effect o w vs) (table_effect o (rebounded f m w) vs)
   unfolding table_effect
   table_same ScanTable w vs = mapped_after (scanned w.memory _ _ _ _) _ _ (λ a. both)
-  table_same CopyTable w vs = fails
+  table_same CopyTable w vs = mapped_after (table_copied w.memory (first vs) (second vs) (third vs)) _ _ (λ n. both)
   table_same PrintTable w vs = mapped_after (rows_of w.memory (rectangle_of vs)) _ _ (λ rows. both)
 
   status_by_same : (w : Workspace) (v : View) → Mapped (too {A = Effect}) (status_by v w) (status_by v (rebounded f m w))

@@ -1,5 +1,5 @@
 -- Output streams are selected and deselected (Standard, sections 7.1 and 15, `output_stream` and `input_stream`).
-use Rattle.std.specs.Prelude.{Bool, true, false, ℕ, ◌-◌, List, [], ◌∷◌, slice_get, Option, Some, None, Result, Ok, Err, ◌==◌, if◌then◌else◌, bit_and, bit_or}
+use Rattle.std.specs.Prelude.{Bool, true, false, ℕ, ◌-◌, List, slice_get, Option, Some, None, Result, Ok, Err, ◌==◌, if◌then◌else◌, bit_and, bit_or}
 use Rattle.zk_mem.specs.declared.fault.Fault.{Fault}
 use Rattle.zk_mem.specs.declared.fault.Fault.TheVariants.{BadAddress}
 use Rattle.zk_mem.specs.Results.{◌>>=◌}

@@ -1,5 +1,5 @@
 -- The status line (Standard, section 8.2).
-use Rattle.std.specs.Prelude.{Bool, ℕ, ◌+◌, ◌/◌, ◌%◌, List, [], ◌∷◌, ◌++◌, map, codes, Option, Some, None, Result, Ok, Err, if◌then◌else◌, ◌==◌, nat_lt, slice_index}
+use Rattle.std.specs.Prelude.{Bool, ℕ, ◌/◌, ◌%◌, List, [], ◌∷◌, ◌++◌, map, Option, Some, None, Result, Ok, if◌then◌else◌, ◌==◌, nat_lt, slice_index}
 use Rattle.std.specs.Int.{cast_signed, w16}
 use Rattle.std.specs.Fmt.{decimal, signed_decimal}
 use Rattle.zk_mem.specs.declared.fault.Fault.{Fault}

@@ -1,6 +1,6 @@
 -- What a line of input leaves in a text buffer, and what its words leave in a parse buffer (Standard, section 15,
 -- `sread`, `aread` and `tokenise`).
-use Rattle.std.specs.Prelude.{ℕ, ◌+◌, ◌-◌, Bool, false, ◌&&◌, List, [], ◌∷◌, length, take, map, Result, Ok, nat_lt, nat_le, ◌==◌, if◌then◌else◌}
+use Rattle.std.specs.Prelude.{ℕ, ◌+◌, ◌-◌, Bool, false, ◌&&◌, List, length, take, map, Result, Ok, nat_lt, nat_le, ◌==◌, if◌then◌else◌}
 use Rattle.zk_mem.specs.declared.fault.Fault.{Fault}
 use Rattle.zk_mem.specs.Header.{header_of}
 use Rattle.zk_mem.specs.Map.{MemoryMap, byte_at, byte_put}

@@ -8,6 +8,7 @@ ghost use Rattle.zk_step.specs.Tables.{rectangle_of, scan_answer, table_effect};
 use crate::ending::{Effect, Ending, Output};
 use crate::values::Values;
 use crate::workspace::Workspace;
+use zk_arrays::copying::copy_table;
 use zk_arrays::rectangle::{Rectangle, check_rectangle};
 use zk_arrays::scanning::scan_table;
 use zk_code::opcode::Table;
@@ -59,7 +60,10 @@ pub fn tables_effect(
             let found = scan_table(&workspace.memory, values.first(), values.second(), values.third(), form)?;
             Ok(answer_by(found))
         }
-        Table::CopyTable => Err(Fault::BadOpcode),
+        Table::CopyTable => {
+            copy_table(&mut workspace.memory, values.first(), values.second(), values.third())?;
+            Ok(Effect::goes_on())
+        }
         Table::PrintTable => {
             let rectangle = rectangle_by(values);
             check_rectangle(&workspace.memory, rectangle)?;

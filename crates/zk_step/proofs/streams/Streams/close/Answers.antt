@@ -1,6 +1,5 @@
-use Rattle.std.proofs.Common.{◌≡◌, ◌<◌, ℕ, List, length, arith, ap, rules, refl}
+use Rattle.std.proofs.Common.{◌≡◌, ◌<◌, List, length, ap, rules}
 use Rattle.zk_step.specs.declared.streams.OpenTable.{OpenTable}
-use Rattle.zk_step.specs.Streams.{OutputStreams}
 use Rattle.zk_step.proofs.OpenTables.{last_closed, newest_closed}
 use Rattle.zk_step.proofs.streams.Streams.close.Goals as goal
 

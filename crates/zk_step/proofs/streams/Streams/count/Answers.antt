@@ -1,4 +1,4 @@
-use Rattle.std.proofs.Common.{◌≡◌, ◌<◌, ◌+◌, ◌^◌, List, ap, arith}
+use Rattle.std.proofs.Common.{◌<◌, ◌+◌, ◌^◌, List, ap, arith}
 use Rattle.zk_step.specs.declared.streams.OpenTable.{OpenTable}
 use Rattle.zk_step.proofs.OpenTables.{one_counted, none_counted, room_counted}
 use Rattle.zk_step.proofs.streams.Streams.count.Goals as goal
