@@ -39,6 +39,10 @@ text_joined s t = record { screen = s.screen ++ t.screen; script = s.script ++ t
 abbrev pub on_screen : List ℕ → Texts
 on_screen characters = record { screen = characters; script = [] }
 
+-- characters for the transcript alone
+abbrev pub on_script : List ℕ → Texts
+on_script characters = record { screen = []; script = characters }
+
 -- ---- the screen's last character
 
 -- whether the last character that the screen got is a new line, once it got some more

@@ -1,6 +1,6 @@
 -- What a line of input leaves in a text buffer, and what its words leave in a parse buffer (Standard, section 15,
 -- `sread`, `aread` and `tokenise`).
-use Rattle.std.specs.Prelude.{ℕ, ◌+◌, ◌-◌, Bool, false, ◌&&◌, List, length, take, map, Result, Ok, nat_lt, nat_le, ◌==◌, if◌then◌else◌}
+use Rattle.std.specs.Prelude.{ℕ, ◌+◌, ◌-◌, Bool, false, ◌&&◌, List, [], length, take, map, Result, Ok, nat_lt, nat_le, ◌==◌, if◌then◌else◌}
 use Rattle.zk_mem.specs.declared.fault.Fault.{Fault}
 use Rattle.zk_mem.specs.Header.{header_of}
 use Rattle.zk_mem.specs.Map.{MemoryMap, byte_at, byte_put}
@@ -49,3 +49,20 @@ line_put m text parse line =
     if nat_lt m.version 5
     then (early_line_put m text line >>= λ n. divided n text parse (own_dictionary n) false)
     else (later_line_put m text line >>= λ n. if parse == 0 then Ok n else divided n text parse (own_dictionary n) false)
+
+-- ---- what is kept of a line
+
+-- the letters of a line that there is room for up to version 4
+abbrev pub early_kept : ℕ → List ℕ → List ℕ
+early_kept size line = take (size - 1) line
+
+-- and from version 5 on, behind those that are there
+abbrev pub later_kept : ℕ → ℕ → List ℕ → List ℕ
+later_kept size count line = if nat_lt 0 count && nat_le size count then [] else take (size - count) line
+
+-- the letters of a line that a text buffer takes, as they were typed
+unfoldable pub kept_of : MemoryMap → ℕ → List ℕ → Result (List ℕ) Fault
+kept_of m text line =
+    if nat_lt m.version 5
+    then (byte_at m text >>= λ size. Ok (early_kept size line))
+    else (byte_at m text >>= λ size. byte_at m (text + 1) >>= λ count. Ok (later_kept size count line))

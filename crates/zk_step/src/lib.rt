@@ -25,7 +25,7 @@ mod selecting;
 pub mod streams;
 pub mod status;
 mod tables;
-mod text_buffers;
+pub mod text_buffers;
 mod values;
 mod variables;
 mod words;

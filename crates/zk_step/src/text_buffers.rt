@@ -2,7 +2,7 @@
 
 ghost use Rattle.std.specs.Prelude.{◌≡◌, ◌≤◌, ◌<◌, ◌+◌, ◌-◌, Bool, Ok, Err, MatchResult, length, take, map};
 ghost use Rattle.zk_text.specs.Extra.{own_characters, lower_code};
-ghost use Rattle.zk_step.specs.TextBuffers.{taken_letters, ended_by_zero, early_line_put, counted_letters, later_line_put, divided, own_dictionary, line_put};
+ghost use Rattle.zk_step.specs.TextBuffers.{taken_letters, ended_by_zero, early_line_put, counted_letters, later_line_put, divided, own_dictionary, line_put, later_kept, kept_of};
 
 use arrayvec::ArrayVec;
 use zk_arrays::runs::put_bytes;
@@ -91,4 +91,36 @@ pub fn put_line(memory: &mut Memory, text: u16, parse: u16, line: &[u8]) -> Resu
     }
     let dictionary = memory.header().dictionary;
     divide(memory, text, parse, dictionary, false)
+}
+
+/// The first letters of a line.
+fn first_letters(line: &[u8], most: u8) -> &[u8]
+    ensures { result.now ≡ take most line.now }
+{
+    &line[..line.len().min(most as usize)]
+}
+
+/// The letters that are kept of a line from version 5 on.
+fn later_letters(line: &[u8], size: u8, count: u8) -> &[u8]
+    ensures { result.now ≡ later_kept size count line.now }
+{
+    if count > 0 && size <= count {
+        return &[];
+    }
+    first_letters(line, size.saturating_sub(count))
+}
+
+/// The letters of a line that the text buffer at a byte address takes, as they were typed. It is `BadAddress` where
+/// the buffer's first bytes can't be read.
+#[tactic(auto, unfolding(crate::specs::TextBuffers::kept_of))]
+pub fn kept_letters<'a>(memory: &Memory, text: u16, line: &'a [u8]) -> Result<&'a [u8], Fault>
+    ensures value { MatchResult result (λ kept. kept_of memory.now text line.now ≡ Ok kept.now) (λ f. kept_of memory.now text line.now ≡ Err f) }
+{
+    let text = text as u32;
+    let size = memory.byte(text)?;
+    if memory.version() < 5 {
+        return Ok(first_letters(line, size.saturating_sub(1)));
+    }
+    let count = memory.byte(text + 1)?;
+    Ok(later_letters(line, size, count))
 }

@@ -4,6 +4,7 @@ use Rattle.std.specs.Prelude.{◌≡◌, ℕ, List, [], ◌∷◌, ◌++◌, Som
 use Rattle.zk_mem.specs.declared.fault.Fault.TheVariants.{BadAddress, DivisionByZero, BadOpcode, CodePastEnd, ReadOnly}
 use Rattle.zk_state.specs.declared.refusal.Limit.TheVariants.{Frames, Words, Steps, Reads}
 use Rattle.zk_state.specs.Frames.{first_frames}
+use Rattle.zk_step.specs.declared.workspace.View.TheVariants.{Plain}
 use Rattle.zk_vm.specs.declared.limits.Limits.{Limits}
 use Rattle.zk_vm.specs.declared.stop.Event.TheVariants as event
 use Rattle.zk_vm.specs.declared.stop.Stop.{Stop}
@@ -16,6 +17,10 @@ use Rattle.zk_vm.specs.Plays.{codes_read}
 -- a story of version 5 with its static base and its first instruction at 64, where this code stands
 abbrev pub story_of : List ℕ → List ℕ
 story_of code = 5 ∷ 0 ∷ 0 ∷ 0 ∷ 0 ∷ 0 ∷ 0 ∷ 64 ∷ 0 ∷ 0 ∷ 0 ∷ 0 ∷ 0 ∷ 0 ∷ 0 ∷ 64 ∷ [] ++ replicate 48 0 ++ code
+
+-- a story begins with the seed 1, and shows nothing of the upper window
+abbrev pub starts : List ℕ → Limits → Session
+starts story limits = begun story 1 limits Plain
 
 -- so many frames, words and instructions
 abbrev pub limits_of : ℕ → ℕ → ℕ → Limits
@@ -35,58 +40,58 @@ prints_and_quits = story_of (0xb2 ∷ 0x98 ∷ 0xe8 ∷ 0xba ∷ [])
 
 -- it shows "abc" and ends by itself (sections 5.5 and 15, `quit`)
 abbrev pub StoriesEnd : Type 0
-StoriesEnd = outcome_of (begun prints_and_quits (limits_of 1 0 10)) ≡ stops Quit (codes "abc")
+StoriesEnd = outcome_of (starts prints_and_quits (limits_of 1 0 10)) ≡ stops Quit (codes "abc")
 
 -- of two instructions, two may be made where the limit is 2, and where it is 1 the second is past it
 abbrev pub StepsAreLimited : Type 0
 StepsAreLimited =
-    (outcome_of (begun prints_and_quits (limits_of 1 0 2)) ≡ stops Quit (codes "abc"))
-    × (outcome_of (begun prints_and_quits (limits_of 1 0 1)) ≡ stops (Limit 67 Steps) (codes "abc"))
+    (outcome_of (starts prints_and_quits (limits_of 1 0 2)) ≡ stops Quit (codes "abc"))
+    × (outcome_of (starts prints_and_quits (limits_of 1 0 1)) ≡ stops (Limit 67 Steps) (codes "abc"))
 
 -- after "abc", at 67, `div` of 5 by 0: a fault there, and what was shown stays (section 2.3.1)
 abbrev pub FaultsStop : Type 0
 FaultsStop =
-    (outcome_of (begun (story_of (0xb2 ∷ 0x98 ∷ 0xe8 ∷ 0x17 ∷ 5 ∷ 0 ∷ 0 ∷ [])) (limits_of 1 9 10)) ≡ stops (Fault 67 DivisionByZero) (codes "abc"))
-    × (outcome_of (begun (story_of (0xb2 ∷ 0x98 ∷ 0xe8 ∷ [])) (limits_of 1 9 10)) ≡ stops (Fault 67 CodePastEnd) (codes "abc"))
+    (outcome_of (starts (story_of (0xb2 ∷ 0x98 ∷ 0xe8 ∷ 0x17 ∷ 5 ∷ 0 ∷ 0 ∷ [])) (limits_of 1 9 10)) ≡ stops (Fault 67 DivisionByZero) (codes "abc"))
+    × (outcome_of (starts (story_of (0xb2 ∷ 0x98 ∷ 0xe8 ∷ [])) (limits_of 1 9 10)) ≡ stops (Fault 67 CodePastEnd) (codes "abc"))
 
 -- `push` at 64 and at 67, where one word may be (section 6.3)
 abbrev pub WordsAreLimited : Type 0
 WordsAreLimited =
-    (outcome_of (begun (story_of (0xe8 ∷ 0x7f ∷ 9 ∷ 0xe8 ∷ 0x7f ∷ 9 ∷ 0xba ∷ [])) (limits_of 1 1 10)) ≡ stops (Limit 67 Words) [])
-    × (outcome_of (begun (story_of (0xe8 ∷ 0x7f ∷ 9 ∷ 0xe8 ∷ 0x7f ∷ 9 ∷ 0xba ∷ [])) (limits_of 1 2 10)) ≡ stops Quit [])
+    (outcome_of (starts (story_of (0xe8 ∷ 0x7f ∷ 9 ∷ 0xe8 ∷ 0x7f ∷ 9 ∷ 0xba ∷ [])) (limits_of 1 1 10)) ≡ stops (Limit 67 Words) [])
+    × (outcome_of (starts (story_of (0xe8 ∷ 0x7f ∷ 9 ∷ 0xe8 ∷ 0x7f ∷ 9 ∷ 0xba ∷ [])) (limits_of 1 2 10)) ≡ stops Quit [])
 
 -- `call_1n` at 64 of the routine at 68, packed address 17, which calls itself at 69: with two frames the first call
 -- is made, and the second is past the limit (section 6.4)
 abbrev pub FramesAreLimited : Type 0
 FramesAreLimited =
-    (outcome_of (begun (story_of (0x8f ∷ 0 ∷ 17 ∷ 0xba ∷ 0 ∷ 0x8f ∷ 0 ∷ 17 ∷ [])) (limits_of 2 9 10)) ≡ stops (Limit 69 Frames) [])
-    × (outcome_of (begun (story_of (0x8f ∷ 0 ∷ 17 ∷ 0xba ∷ 0 ∷ 0xb0 ∷ [])) (limits_of 2 9 10)) ≡ stops Quit [])
+    (outcome_of (starts (story_of (0x8f ∷ 0 ∷ 17 ∷ 0xba ∷ 0 ∷ 0x8f ∷ 0 ∷ 17 ∷ [])) (limits_of 2 9 10)) ≡ stops (Limit 69 Frames) [])
+    × (outcome_of (starts (story_of (0x8f ∷ 0 ∷ 17 ∷ 0xba ∷ 0 ∷ 0xb0 ∷ [])) (limits_of 2 9 10)) ≡ stops Quit [])
 
 -- `call_1s` at 64 of the routine at 72, packed address 18, whose `print_ret` at 73 gives 1 to the stack: where no word
 -- may be, it shows nothing, and where one may be, it shows "abc" and a new line (section 15, `print_ret`)
 abbrev pub RefusedStepsShowNothing : Type 0
 RefusedStepsShowNothing =
-    (outcome_of (begun (story_of (0x88 ∷ 0 ∷ 18 ∷ 0 ∷ 0xba ∷ 0 ∷ 0 ∷ 0 ∷ 0 ∷ 0xb3 ∷ 0x98 ∷ 0xe8 ∷ [])) (limits_of 2 0 10)) ≡ stops (Limit 73 Words) [])
-    × (outcome_of (begun (story_of (0x88 ∷ 0 ∷ 18 ∷ 0 ∷ 0xba ∷ 0 ∷ 0 ∷ 0 ∷ 0 ∷ 0xb3 ∷ 0x98 ∷ 0xe8 ∷ [])) (limits_of 2 1 10)) ≡ stops Quit (codes "abc" ++ 10 ∷ []))
+    (outcome_of (starts (story_of (0x88 ∷ 0 ∷ 18 ∷ 0 ∷ 0xba ∷ 0 ∷ 0 ∷ 0 ∷ 0 ∷ 0xb3 ∷ 0x98 ∷ 0xe8 ∷ [])) (limits_of 2 0 10)) ≡ stops (Limit 73 Words) [])
+    × (outcome_of (starts (story_of (0x88 ∷ 0 ∷ 18 ∷ 0 ∷ 0xba ∷ 0 ∷ 0 ∷ 0 ∷ 0 ∷ 0xb3 ∷ 0x98 ∷ 0xe8 ∷ [])) (limits_of 2 1 10)) ≡ stops Quit (codes "abc" ++ 10 ∷ []))
 
 -- `jl` of 1 and 2 at 64 branches on true over the `quit` at 68 to the text at 69, and not on false (section 4.7)
 abbrev pub BranchesLead : Type 0
 BranchesLead =
-    (outcome_of (begun (story_of (0x02 ∷ 1 ∷ 2 ∷ 0xc3 ∷ 0xba ∷ 0xb2 ∷ 0x98 ∷ 0xe8 ∷ 0xba ∷ [])) (limits_of 1 0 10)) ≡ stops Quit (codes "abc"))
-    × (outcome_of (begun (story_of (0x02 ∷ 1 ∷ 2 ∷ 0x43 ∷ 0xba ∷ 0xb2 ∷ 0x98 ∷ 0xe8 ∷ 0xba ∷ [])) (limits_of 1 0 10)) ≡ stops Quit [])
+    (outcome_of (starts (story_of (0x02 ∷ 1 ∷ 2 ∷ 0xc3 ∷ 0xba ∷ 0xb2 ∷ 0x98 ∷ 0xe8 ∷ 0xba ∷ [])) (limits_of 1 0 10)) ≡ stops Quit (codes "abc"))
+    × (outcome_of (starts (story_of (0x02 ∷ 1 ∷ 2 ∷ 0x43 ∷ 0xba ∷ 0xb2 ∷ 0x98 ∷ 0xe8 ∷ 0xba ∷ [])) (limits_of 1 0 10)) ≡ stops Quit [])
 
 -- a story begins at its first instruction, with no step made, in one frame (section 5.5)
 abbrev pub BeginsAtTheFirstInstruction : Type 0
 BeginsAtTheFirstInstruction =
-    ((begun prints_and_quits (limits_of 3 4 10)).state.place ≡ 64)
-    × ((begun prints_and_quits (limits_of 3 4 10)).state.steps ≡ 0)
-    × ((begun prints_and_quits (limits_of 3 4 10)).state.workspace.frames ≡ first_frames 3 4)
-    × ((begun prints_and_quits (limits_of 3 4 10)).stopped ≡ None)
+    ((starts prints_and_quits (limits_of 3 4 10)).state.place ≡ 64)
+    × ((starts prints_and_quits (limits_of 3 4 10)).state.steps ≡ 0)
+    × ((starts prints_and_quits (limits_of 3 4 10)).state.workspace.frames ≡ first_frames 3 4)
+    × ((starts prints_and_quits (limits_of 3 4 10)).stopped ≡ None)
 
 -- a machine that has stopped shows nothing more, and has its stop
 abbrev pub StopsForGood : Type 0
 StopsForGood =
-    outcome_of (with_stop (begun prints_and_quits (limits_of 1 0 10)) (Fault 67 BadOpcode)) ≡ stops (Fault 67 BadOpcode) []
+    outcome_of (with_stop (starts prints_and_quits (limits_of 1 0 10)) (Fault 67 BadOpcode)) ≡ stops (Fault 67 BadOpcode) []
 
 -- from 1 frame on, up to 64 undo states, and from 1 to 1,000,000,000 instructions
 abbrev pub LimitsHaveRanges : Type 0
@@ -102,18 +107,18 @@ echoes = story_of (0xf6 ∷ 0x7f ∷ 1 ∷ 0 ∷ 0xe5 ∷ 0xbf ∷ 0 ∷ 0x8c �
 -- each line answers one character: its first, and a new line where it has none; then the input has ended, or it fails
 abbrev pub LinesAnswerReads : Type 0
 LinesAnswerReads =
-    (outcome (codes "ab" ∷ [] ∷ codes "z" ∷ []) EndOfInput (begun echoes (limits_of 1 1 10)) ≡ stops EndOfInput (97 ∷ 10 ∷ 122 ∷ []))
-    × (outcome (codes "ab" ∷ []) Read (begun echoes (limits_of 1 1 10)) ≡ stops Read (codes "a"))
+    (outcome (codes "ab" ∷ [] ∷ codes "z" ∷ []) EndOfInput (starts echoes (limits_of 1 1 10)) ≡ stops EndOfInput (97 ∷ 10 ∷ 122 ∷ []))
+    × (outcome (codes "ab" ∷ []) Read (starts echoes (limits_of 1 1 10)) ≡ stops Read (codes "a"))
 
 -- a typed line is the codes of its characters, by the extra characters of the story that reads it: "aé", in UTF-8
 abbrev pub LinesAreTyped : Type 0
-LinesAreTyped = codes_read (begun echoes (limits_of 1 1 10)) (97 ∷ 195 ∷ 169 ∷ []) ≡ 97 ∷ 170 ∷ []
+LinesAreTyped = codes_read (starts echoes (limits_of 1 1 10)) (97 ∷ 195 ∷ 169 ∷ []) ≡ 97 ∷ 170 ∷ []
 
 -- steps are counted anew from an answer on, and the read itself is none of them: two lead from one to the next
 abbrev pub AnswersCountAnew : Type 0
 AnswersCountAnew =
-    (outcome (codes "a" ∷ codes "b" ∷ []) EndOfInput (begun echoes (limits_of 1 1 3)) ≡ stops EndOfInput (codes "ab"))
-    × (outcome (codes "a" ∷ codes "b" ∷ []) EndOfInput (begun echoes (limits_of 1 1 2)) ≡ stops (Limit 64 Steps) (codes "a"))
+    (outcome (codes "a" ∷ codes "b" ∷ []) EndOfInput (starts echoes (limits_of 1 1 3)) ≡ stops EndOfInput (codes "ab"))
+    × (outcome (codes "a" ∷ codes "b" ∷ []) EndOfInput (starts echoes (limits_of 1 1 2)) ≡ stops (Limit 64 Steps) (codes "a"))
 
 -- a machine of a story that has answered so many reads
 abbrev pub after_reads : ℕ → Session → Session
@@ -122,22 +127,22 @@ after_reads n s = record s { state = record s.state { reads = n } }
 -- 16,777,216 reads are answered, and the next one is past the limit, also where there is no answer to it
 abbrev pub ReadsAreLimited : Type 0
 ReadsAreLimited =
-    (outcome (codes "a" ∷ codes "b" ∷ []) EndOfInput (after_reads 16777215 (begun echoes (limits_of 1 1 10))) ≡ stops (Limit 64 Reads) (codes "a"))
-    × (outcome (codes "a" ∷ codes "b" ∷ []) EndOfInput (after_reads 16777213 (begun echoes (limits_of 1 1 10))) ≡ stops EndOfInput (codes "ab"))
+    (outcome (codes "a" ∷ codes "b" ∷ []) EndOfInput (after_reads 16777215 (starts echoes (limits_of 1 1 10))) ≡ stops (Limit 64 Reads) (codes "a"))
+    × (outcome (codes "a" ∷ codes "b" ∷ []) EndOfInput (after_reads 16777213 (starts echoes (limits_of 1 1 10))) ≡ stops EndOfInput (codes "ab"))
 
 -- `aread` at 64 with its text buffer there: byte 65 says that it holds 127 letters already, of 228. A letter would stand
 -- past the story; of an empty line the count is to be stored, above the static base. The faults have the read's address.
 abbrev pub AnswersFault : Type 0
 AnswersFault =
-    (outcome (codes "a" ∷ []) EndOfInput (begun (story_of (0xe4 ∷ 0x7f ∷ 64 ∷ 0 ∷ [])) (limits_of 1 1 10)) ≡ stops (Fault 64 BadAddress) [])
-    × (outcome ([] ∷ []) EndOfInput (begun (story_of (0xe4 ∷ 0x7f ∷ 64 ∷ 0 ∷ [])) (limits_of 1 1 10)) ≡ stops (Fault 64 ReadOnly) [])
-    × (outcome (codes "a" ∷ []) EndOfInput (begun echoes (limits_of 1 0 10)) ≡ stops (Limit 64 Words) [])
+    (outcome (codes "a" ∷ []) EndOfInput (starts (story_of (0xe4 ∷ 0x7f ∷ 64 ∷ 0 ∷ [])) (limits_of 1 1 10)) ≡ stops (Fault 64 BadAddress) [])
+    × (outcome ([] ∷ []) EndOfInput (starts (story_of (0xe4 ∷ 0x7f ∷ 64 ∷ 0 ∷ [])) (limits_of 1 1 10)) ≡ stops (Fault 64 ReadOnly) [])
+    × (outcome (codes "a" ∷ []) EndOfInput (starts echoes (limits_of 1 0 10)) ≡ stops (Limit 64 Words) [])
 
 -- a machine waits for a line or a character, and goes on from there
 abbrev pub MachinesWait : Type 0
 MachinesWait =
-    (event_waited (ran (begun echoes (limits_of 1 1 10))).waiting ≡ Some event.Char)
-    × (event_waited (ran (begun (story_of (0xe4 ∷ 0x7f ∷ 64 ∷ 0 ∷ [])) (limits_of 1 1 10))).waiting ≡ Some event.Line)
-    × ((given (ran (begun echoes (limits_of 1 1 10))) (codes "a")).state.place ≡ 68)
-    × ((given (ran (begun echoes (limits_of 1 1 10))) (codes "a")).state.reads ≡ 1)
-    × ((given (ran (begun echoes (limits_of 1 1 10))) (codes "a")).waiting ≡ None)
+    (event_waited (ran (starts echoes (limits_of 1 1 10))).waiting ≡ Some event.Char)
+    × (event_waited (ran (starts (story_of (0xe4 ∷ 0x7f ∷ 64 ∷ 0 ∷ [])) (limits_of 1 1 10))).waiting ≡ Some event.Line)
+    × ((given (ran (starts echoes (limits_of 1 1 10))) (codes "a")).state.place ≡ 68)
+    × ((given (ran (starts echoes (limits_of 1 1 10))) (codes "a")).state.reads ≡ 1)
+    × ((given (ran (starts echoes (limits_of 1 1 10))) (codes "a")).waiting ≡ None)

@@ -4,6 +4,7 @@ use Rattle.zk_state.specs.declared.refusal.Limit.{Limit}
 use Rattle.zk_state.specs.declared.refusal.Limit.TheVariants.{Frames, Words, Steps}
 use Rattle.zk_state.specs.declared.refusal.Refusal.TheVariants as refusal
 use Rattle.zk_state.specs.Frames.{frames_of, total_of, within_bounds}
+use Rattle.zk_step.specs.declared.workspace.View.{View}
 use Rattle.zk_step.specs.Laws.{rebounded}
 use Rattle.zk_step.specs.Routing.{Texts}
 use Rattle.zk_vm.specs.declared.limits.Limits.{Limits}
@@ -24,8 +25,8 @@ pub record IsWithin (l : Limits) (s : State) : Type 0 where
 
 -- every state that a run passes, from the start of a story on, is within its limits
 abbrev pub RunsStayWithin : Type 0
-RunsStayWithin = (story : List ℕ) (l : Limits) (n : ℕ) (end : State) (text : Texts) → AreInRange l → n ≤ l.steps
-    → Leads n (begun story l).state end text → IsWithin l end
+RunsStayWithin = (story : List ℕ) (seed : ℕ) (l : Limits) (view : View) (n : ℕ) (end : State) (text : Texts) → AreInRange l → n ≤ l.steps
+    → Leads n (begun story seed l view).state end text → IsWithin l end
 
 -- a stop that is not the limit on steps
 abbrev pub IsNoStepStop : Stop → Type 0

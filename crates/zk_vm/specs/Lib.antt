@@ -1,3 +1,4 @@
+pub mod View
 pub mod Answers
 pub mod Bounds
 pub mod Consoles

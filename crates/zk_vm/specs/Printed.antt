@@ -1,25 +1,85 @@
--- What a screen is shown, one unit after another.
-use Rattle.std.specs.Prelude.{◌≡◌, ℕ, List, [], ◌∷◌, ◌++◌}
+-- Where units of text go, one after another.
+use Rattle.std.specs.Prelude.{◌≡◌, ℕ, Bool, true, false, List, [], ◌∷◌, ◌++◌, length}
 use Rattle.std.proofs.Common.{refl, sym, ap, ◌∙◌, subst, append_assoc, append-nil}
 use Rattle.zk_text.specs.declared.unit.Unit.{Unit}
 use Rattle.zk_text.specs.Extra.{ExtraTable}
 use Rattle.zk_text.specs.Shown.{shown, shown_all}
+use Rattle.zk_term.specs.Windows.{Windows, printed}
+use Rattle.zk_step.specs.Routing.{stored_all, shown_if, ends_line}
+use Rattle.zk_vm.specs.declared.printer.Selected.{Selected}
 
-shown_all-append : (e : ExtraTable) (s t : List Unit) → shown_all e (s ++ t) ≡ shown_all e s ++ shown_all e t
+-- ---- on streams 1 and 2
+
+-- the streams that are on were given what units show, and the screen's last character is a new line now, or not
+abbrev pub Printed : {S : Type 0} → (S → S → List ℕ → List ℕ → Type 0) → ExtraTable → Selected → S → S → Bool → Bool → List Unit → Type 0
+Printed {S} shows e on a b start end us = (end ≡ ends_line start (shown_if on.screen (shown_all e us))) × shows a b (shown_if on.screen (shown_all e us)) (shown_if on.script (shown_all e us))
+
+pub shown_all-append : (e : ExtraTable) (s t : List Unit) → shown_all e (s ++ t) ≡ shown_all e s ++ shown_all e t
 unfolding shown_all
 shown_all-append e [] t = refl
 shown_all-append e (u ∷ s) t = ap (λ (cs : List ℕ). shown e u ++ cs) (shown_all-append e s t) ∙ sym (append_assoc (shown e u) (shown_all e s) (shown_all e t))
 
-pub printed_twice : {S : Type 0} (shows : S → S → List ℕ → List ℕ → Type 0) (e f : ExtraTable) (a b c : S) (s t : List Unit) → f ≡ e
-    → ((x y : List ℕ) → shows a b x [] → shows b c y [] → shows a c (x ++ y) []) → shows a b (shown_all e s) [] → shows b c (shown_all f t) [] → shows a c (shown_all e (s ++ t)) []
-printed_twice {S} shows e f a b c s t same twice h k =
-    let k' = subst (λ (g : ExtraTable). shows b c (shown_all g t) []) same k in
-    subst (λ (cs : List ℕ). shows a c cs []) (sym (shown_all-append e s t)) (twice (shown_all e s) (shown_all e t) h k')
+pub shown_if-append : (on : Bool) (x y : List ℕ) → shown_if on (x ++ y) ≡ shown_if on x ++ shown_if on y
+shown_if-append true x y = refl
+shown_if-append false x y = refl
 
-pub printed_nothing : {S : Type 0} (shows : S → S → List ℕ → List ℕ → Type 0) (e : ExtraTable) (a : S) → shows a a [] [] → shows a a (shown_all e []) []
-unfolding shown_all
-printed_nothing {S} shows e a h = h
+pub ends_line-append : (b : Bool) (x y : List ℕ) → ends_line b (x ++ y) ≡ ends_line (ends_line b x) y
+unfolding ends_line
+ends_line-append b [] y = refl
+ends_line-append b (c ∷ x) y = ends_line-append _ x y
 
-pub printed_one : {S : Type 0} (shows : S → S → List ℕ → List ℕ → Type 0) (e : ExtraTable) (a b : S) (u : Unit) (cs : List ℕ) → cs ≡ shown e u → shows a b cs [] → shows a b (shown_all e (u ∷ [])) []
-unfolding shown_all
-printed_one {S} shows e a b u cs same h = subst (λ (x : List ℕ). shows a b x []) (same ∙ sym (append-nil (shown e u))) h
+pub shown_apart : (on : Bool) (e : ExtraTable) (s t : List Unit) → shown_if on (shown_all e (s ++ t)) ≡ shown_if on (shown_all e s) ++ shown_if on (shown_all e t)
+shown_apart on e s t = ap (shown_if on) (shown_all-append e s t) ∙ shown_if-append on (shown_all e s) (shown_all e t)
+
+pub printed_twice : {S : Type 0} (shows : S → S → List ℕ → List ℕ → Type 0) → ((a b c : S) (s t u v : List ℕ) → shows a b s u → shows b c t v → shows a c (s ++ t) (u ++ v))
+    → (e f : ExtraTable) (on too : Selected) (a b c : S) (p q r : Bool) (s t : List Unit) → f ≡ e → too ≡ on → Printed shows e on a b p q s → Printed shows f too b c q r t → Printed shows e on a c p r (s ++ t)
+printed_twice {S} shows twice e f on too a b c p q r s t same all h k =
+    let k' = subst (λ (g : ExtraTable). Printed shows g on b c q r t) same (subst (λ (o : Selected). Printed shows f o b c q r t) all k) in
+    (k'.0 ∙ ap (λ (x : Bool). ends_line x (shown_if on.screen (shown_all e t))) h.0 ∙ sym (ap (ends_line p) (shown_apart on.screen e s t) ∙ ends_line-append p (shown_if on.screen (shown_all e s)) (shown_if on.screen (shown_all e t))),
+    subst (λ (x : List ℕ). shows a c x (shown_if on.script (shown_all e (s ++ t)))) (sym (shown_apart on.screen e s t))
+      (subst (λ (x : List ℕ). shows a c (shown_if on.screen (shown_all e s) ++ shown_if on.screen (shown_all e t)) x) (sym (shown_apart on.script e s t)) (twice a b c _ _ _ _ h.1 k'.1)))
+
+nothing_if : (on : Bool) → shown_if on [] ≡ []
+nothing_if true = refl
+nothing_if false = refl
+
+pub printed_nothing : {S : Type 0} (shows : S → S → List ℕ → List ℕ → Type 0) (e : ExtraTable) (on : Selected) (a : S) (p : Bool) → shows a a [] [] → Printed shows e on a a p p []
+unfolding shown_all ends_line
+printed_nothing {S} shows e on a p h = rw (nothing_if on.screen, nothing_if on.script) (refl, h)
+
+-- ---- in the upper window
+
+pub printed-append : (x y : List ℕ) (w : Windows) → printed (x ++ y) w ≡ printed y (printed x w)
+unfolding printed
+printed-append [] y w = refl
+printed-append (c ∷ x) y w = printed-append x y _
+
+pub upper_twice : (e f : ExtraTable) (a b c : Windows) (s t : List Unit) → f ≡ e → b ≡ printed (shown_all e s) a → c ≡ printed (shown_all f t) b → c ≡ printed (shown_all e (s ++ t)) a
+upper_twice e f a b c s t same h k = rw (shown_all-append e s t, printed-append (shown_all e s) (shown_all e t) a, ← h, ← same) k
+
+pub upper_nothing : (e : ExtraTable) (a : Windows) → a ≡ printed (shown_all e []) a
+unfolding shown_all printed
+upper_nothing e a = refl
+
+-- ---- in a table of stream 3
+
+-- codes are a first part of others, and there is no room for more
+abbrev pub FirstPart : List ℕ → List ℕ → Type 0
+FirstPart part whole = (length part ≡ 65536) × ((more : List ℕ) × (whole ≡ part ++ more))
+
+pub stored_all-append : (e : ExtraTable) (s t : List Unit) → stored_all e (s ++ t) ≡ stored_all e s ++ stored_all e t
+unfolding stored_all
+stored_all-append e [] t = refl
+stored_all-append e (u ∷ s) t = ap (λ (cs : List ℕ). _ ++ cs) (stored_all-append e s t) ∙ sym (append_assoc _ (stored_all e s) (stored_all e t))
+
+pub stored_twice : (e f : ExtraTable) (a b c : List ℕ) (s t : List Unit) → f ≡ e → b ≡ a ++ stored_all e s → c ≡ b ++ stored_all f t → c ≡ a ++ stored_all e (s ++ t)
+stored_twice e f a b c s t same h k = rw (stored_all-append e s t, ← append_assoc a (stored_all e s) (stored_all e t), ← h, ← same) k
+
+pub stored_nothing : (e : ExtraTable) (a : List ℕ) → a ≡ a ++ stored_all e []
+unfolding stored_all
+stored_nothing e a = sym (append-nil a)
+
+pub stored_late : (e f : ExtraTable) (a b c : List ℕ) (s t : List Unit) → f ≡ e → b ≡ a ++ stored_all e s → FirstPart c (b ++ stored_all f t) → FirstPart c (a ++ stored_all e (s ++ t))
+stored_late e f a b c s t same h k =
+    let whole : a ++ stored_all e (s ++ t) ≡ b ++ stored_all f t = rw (stored_all-append e s t, ← append_assoc a (stored_all e s) (stored_all e t), ← h, same) refl in
+    (k.0, (k.1.0, whole ∙ k.1.1))

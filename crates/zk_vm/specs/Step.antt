@@ -1,9 +1,10 @@
 -- A step of the Standard's machine (Standard, sections 4 to 6 and 15).
-use Rattle.std.specs.Prelude.{ℕ, ◌+◌, Result, Ok, Err, nat_lt, if◌then◌else◌}
+use Rattle.std.specs.Prelude.{ℕ, ◌+◌, List, Result, Ok, Err, nat_lt, if◌then◌else◌}
 use Rattle.zk_mem.specs.declared.fault.Fault.{Fault}
 use Rattle.zk_code.specs.declared.instr.Instr.{Instr}
 use Rattle.zk_code.specs.Reading.{instr_at}
 use Rattle.zk_step.specs.declared.ending.Next.{Next}
+use Rattle.zk_step.specs.declared.ending.Wait.{Wait}
 use Rattle.zk_step.specs.declared.ending.Next.TheVariants as next
 use Rattle.zk_state.specs.declared.refusal.Limit.TheVariants.{Reads}
 use Rattle.zk_state.specs.declared.refusal.Refusal.{Refusal}
@@ -15,14 +16,16 @@ use Rattle.zk_vm.specs.declared.waiting.Waiting.{Waiting}
 use Rattle.zk_step.specs.declared.workspace.Workspace.{Workspace}
 use Rattle.zk_step.specs.Instructions.{carried_out}
 use Rattle.zk_step.specs.Routing.{Texts, no_text}
+use Rattle.zk_vm.specs.View.{viewed}
 
 -- the state of play: the workspace, the byte address of the next instruction, how many steps were made since the last
--- read was answered, and how many reads were answered
+-- read was answered, how many reads were answered, and what the transcript is still to get of the line that was read
 pub record State : Type 0 where
   pub workspace : Workspace
   pub place : ℕ
   pub steps : ℕ
   pub reads : ℕ
+  pub due : List ℕ
 
 -- A step goes on in a state, waits in one for an answer, or ends the story, and shows some text; or it is a fault, and
 -- shows none.
@@ -32,10 +35,15 @@ pub data Step : Type 0 where
   Quits : (text : Texts) → Step
   Faults : (fault : Fault) → Step
 
--- what an instruction that was carried out leads to
+-- an instruction that waits has shown what the view shows before a read
+abbrev pub waits_by : State → Instr → Wait → Result (Workspace × Texts) Fault → Step
+waits_by s i wait (Ok v) = Waits (record s { workspace = v.0 }) (record { wait = wait; instruction = i }) v.1
+waits_by s i wait (Err f) = Faults f
+
+-- what an instruction that was carried out leads to; one that waits has printed nothing
 abbrev pub led_to : State → Instr → Workspace → Texts → Next → Step
-led_to s i w text (next.At place) = Goes (record { workspace = w; place = place; steps = s.steps + 1; reads = s.reads }) text
-led_to s i w text (next.Waits wait) = Waits (record s { workspace = w }) (record { wait = wait; instruction = i }) text
+led_to s i w text (next.At place) = Goes (record s { workspace = w; place = place; steps = s.steps + 1 }) text
+led_to s i w text (next.Waits wait) = waits_by s i wait (viewed w)
 led_to s i w text next.End = Quits text
 
 -- the step that an instruction makes

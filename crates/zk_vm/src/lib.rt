@@ -1,8 +1,10 @@
 // The machine that runs a story.
 #![tactic(auto)]
 
+mod codes;
 mod console;
 pub mod examples;
+mod giving;
 pub mod laws;
 pub mod limits;
 pub mod machine;

@@ -1,41 +1,49 @@
-// Units of text on a screen.
+// Where the units of a text go: to the screen and the transcript, to the upper window, to a table of stream 3.
 
-ghost use Rattle.std.specs.Prelude.{[], ◌∷◌, List, map, ℕ, IsOk};
+ghost use Rattle.std.specs.Prelude.{◌≡◌, [], ◌∷◌, ◌++◌, List, ℕ, Option, OnOk, OnErr, option_to_list, length};
 ghost use Rattle.zk_text.specs.declared.unit.Unit.{Unit};
-ghost use Rattle.zk_text.specs.Meaning.{text_units};
-ghost use Rattle.zk_text.specs.declared.unit.Unit.TheVariants as unit;
-ghost use Rattle.std.specs.Int.{cast_signed, w16};
-ghost use Rattle.std.specs.Fmt.{signed_decimal};
-ghost use Rattle.zk_text.specs.Shown.{characters_shown};
-ghost use Rattle.zk_step.specs.Printing.{units_of, units_or_none, characters_of, IsReady};
+ghost use Rattle.zk_text.specs.Shown.{shown, characters_shown};
+ghost use Rattle.zk_term.specs.Windows.{printed};
+ghost use Rattle.zk_step.specs.Routing.{code_stored, stored, shown_if, ends_line};
 
+use crate::codes::{Codes, Full};
 use crate::screen::Screen;
-use itoa::Buffer;
-use zk_mem::memory::Memory;
-use zk_step::ending::Output;
+use zk_term::windows::Windows;
 use zk_text::extra::Extra;
 use zk_text::shown::Shown;
 use zk_text::sink::{Sink, SinkFault};
-use zk_text::text::print_text;
 use zk_text::unit::Unit;
 
-/// Shows units of text on a screen, by the extra characters in force.
-#[derive(Drop)]
-pub struct Printer<'a, S> {
-    screen: &'a mut S,
-    extra: &'a Extra<'a>,
+/// Which of streams 1 and 2 are on.
+#[derive(Clone, Copy, Debug, PartialEq, Eq, Drop)]
+pub struct Selected {
+    pub screen: bool,
+    pub script: bool,
 }
 
-/// Shows what a unit shows.
-fn show_characters<S: Screen>(screen: &mut S, shown: Shown)
-    ensures { S.shows screen.old screen.new (characters_shown shown) [] }
-{
-    match shown {
-        Shown::Nothing => {}
-        Shown::One(c) => screen.text(c),
-        Shown::TwoSpaces => {
-            screen.text(' ');
-            screen.text(' ');
+/// Shows units of text on the streams that are on, by the extra characters in force.
+#[derive(Drop)]
+pub struct Printer<'a, S> {
+    pub screen: &'a mut S,
+    pub extra: &'a Extra<'a>,
+    pub selected: Selected,
+    /// The last character that the screen got is a new line.
+    pub at_line_start: bool,
+}
+
+impl<'a, S: Screen> Printer<'a, S> {
+    /// Shows a character.
+    fn show(&mut self, c: char)
+        ensures kept { (self.new.screen.ghost_name ≡ self.old.screen.ghost_name) × (self.new.extra.now ≡ self.old.extra.now) × (self.new.selected ≡ self.old.selected) }
+        ensures start { self.new.at_line_start ≡ ends_line self.old.at_line_start (shown_if self.old.selected.screen (c ∷ [])) }
+        ensures shown { S.shows self.old.screen.now self.new.screen.now (shown_if self.old.selected.screen (c ∷ [])) (shown_if self.old.selected.script (c ∷ [])) }
+    {
+        if self.selected.screen {
+            self.screen.text(c);
+            self.at_line_start = c == '\n';
+        }
+        if self.selected.script {
+            self.screen.script(c);
         }
     }
 }
@@ -43,97 +51,131 @@ fn show_characters<S: Screen>(screen: &mut S, shown: Shown)
 impl<'a, S: Screen> Sink for Printer<'a, S> {
     ghost use Rattle.std.specs.Prelude.{◌≡◌, List, [], refl};
     ghost use Rattle.std.proofs.Common.{◌∙◌};
-    ghost use Rattle.zk_text.specs.Shown.{shown_all};
-    ghost use Rattle.zk_vm.specs.Printed.{printed_twice, printed_nothing};
+    ghost use Rattle.zk_vm.specs.Printed.{Printed, printed_twice, printed_nothing};
 
-    ghost gave = { λ a b us. (b.screen.ghost_name ≡ a.screen.ghost_name) × (b.extra.now ≡ a.extra.now) × S.shows a.screen.now b.screen.now (shown_all a.extra.now us) [] };
+    ghost gave = { λ a b us. (b.screen.ghost_name ≡ a.screen.ghost_name) × (b.extra.now ≡ a.extra.now) × (b.selected ≡ a.selected) × Printed S.shows a.extra.now a.selected a.screen.now b.screen.now a.at_line_start b.at_line_start us };
 
     ghost refused = { λ a b us. ⊥ };
 
-    #[tactic(auto, using(crate::specs::Printed::printed_one))]
     fn put(&mut self, unit: Unit) -> Result<(), SinkFault> {
-        show_characters(self.screen, Shown::of(self.extra, unit));
-        Ok(())
+        match Shown::of(self.extra, unit) {
+            Shown::Nothing => Ok(()),
+            Shown::One(c) => {
+                self.show(c);
+                Ok(())
+            }
+            Shown::TwoSpaces => {
+                self.show(' ');
+                self.show(' ');
+                Ok(())
+            }
+        }
     }
 
-    ghost nothing = { λ a. (refl, refl, printed_nothing S.shows a.extra.now a.screen.now (S.nothing a.screen.now)) };
+    ghost nothing = { λ a. (refl, refl, refl, printed_nothing S.shows a.extra.now a.selected a.screen.now a.at_line_start (S.nothing a.screen.now)) };
 
-    ghost twice = { λ a b c s t h k. (k.0 ∙ h.0, k.1 ∙ h.1, printed_twice S.shows a.extra.now b.extra.now a.screen.now b.screen.now c.screen.now s t h.1 (λ x y p q. S.twice a.screen.now b.screen.now c.screen.now x y [] [] p q) h.2 k.2) };
+    ghost twice = { λ a b c s t h k. (k.0 ∙ h.0, k.1 ∙ h.1, k.2 ∙ h.2, printed_twice S.shows S.twice a.extra.now b.extra.now a.selected b.selected a.screen.now b.screen.now c.screen.now a.at_line_start b.at_line_start c.at_line_start s t h.1 h.2 h.3 k.3) };
 
     ghost late = { λ a b c s t h k. k };
 }
 
-/// Gives a unit to a sink that refuses none.
-fn give<K: Sink>(sink: &mut K, unit: Unit)
-    requires { (a b : K) (us : List Unit) → K.refused a b us → ⊥ }
-    ensures { K.gave sink.old sink.new (unit ∷ []) }
-{
-    match sink.put(unit) {
-        Ok(()) => {}
-        Err(SinkFault) => unreachable!(),
-    }
+/// Prints units of text in the upper window, by the extra characters in force.
+#[derive(Drop)]
+pub struct WindowPrinter<'a> {
+    pub windows: &'a mut Windows,
+    pub extra: &'a Extra<'a>,
 }
 
-/// Gives a text to a sink that refuses no unit.
-fn give_text<K: Sink>(sink: &mut K, memory: &Memory, a: u32)
-    requires sure { (a b : K) (us : List Unit) → K.refused a b us → ⊥ }
-    requires ready { IsOk (text_units memory.now a) }
-    ensures { K.gave sink.old sink.new (units_or_none (text_units memory.now a)) }
-{
-    match print_text(memory, a, sink) {
-        Ok(()) => {}
-        Err(SinkFault) => unreachable!(),
-    }
-}
+impl<'a> Sink for WindowPrinter<'a> {
+    ghost use Rattle.std.specs.Prelude.{◌≡◌, List, [], refl};
+    ghost use Rattle.std.proofs.Common.{◌∙◌};
+    ghost use Rattle.zk_text.specs.Shown.{shown_all};
+    ghost use Rattle.zk_term.specs.Windows.{printed};
+    ghost use Rattle.zk_vm.specs.Printed.{upper_twice, upper_nothing};
 
-/// Gives ZSCII codes to a sink that refuses no unit.
-fn give_codes<K: Sink>(sink: &mut K, codes: &[u8])
-    requires { (a b : K) (us : List Unit) → K.refused a b us → ⊥ }
-    ensures { K.gave sink.old sink.new (map (λ (c : ℕ). unit.Code c) codes.now) }
-{
-    for code in codes {
-        give(sink, Unit::Code(*code as u16));
-    }
-}
+    ghost gave = { λ a b us. (b.windows.ghost_name ≡ a.windows.ghost_name) × (b.extra.now ≡ a.extra.now) × (b.windows.now ≡ printed (shown_all a.extra.now us) a.windows.now) };
 
-fn give_number<K: Sink>(sink: &mut K, word: u16)
-    requires { (a b : K) (us : List Unit) → K.refused a b us → ⊥ }
-    ensures { K.gave sink.old sink.new (map (λ (c : ℕ). unit.Code c) (signed_decimal (cast_signed w16 word))) }
-{
-    let mut buffer = Buffer::new();
-    give_codes(sink, buffer.format(word.cast_signed()).as_bytes());
-}
+    ghost refused = { λ a b us. ⊥ };
 
-/// Gives what an instruction prints to a sink that refuses no unit.
-#[tactic(auto, unfolding(zk_step::specs::Printing::units_of))]
-fn give_output<K: Sink>(memory: &Memory, output: Output, sink: &mut K)
-    requires sure { (a b : K) (us : List Unit) → K.refused a b us → ⊥ }
-    requires ready { IsReady memory.now output }
-    ensures { K.gave sink.old sink.new (units_of memory.now output) }
-{
-    match output {
-        Output::Nothing => {}
-        Output::Code(code) => give(sink, Unit::Code(code)),
-        Output::Character(character) => give(sink, Unit::Character(character)),
-        Output::Number(word) => give_number(sink, word),
-        Output::Text(a) => give_text(sink, memory, a),
-        Output::Line(a) => {
-            give_text(sink, memory, a);
-            give(sink, Unit::Code(13));
+    fn put(&mut self, unit: Unit) -> Result<(), SinkFault> {
+        match Shown::of(self.extra, unit) {
+            Shown::Nothing => Ok(()),
+            Shown::One(c) => {
+                self.windows.put(c);
+                Ok(())
+            }
+            Shown::TwoSpaces => {
+                self.windows.put(' ');
+                self.windows.put(' ');
+                Ok(())
+            }
         }
     }
+
+    ghost nothing = { λ a. (refl, refl, upper_nothing a.extra.now a.windows.now) };
+
+    ghost twice = { λ a b c s t h k. (k.0 ∙ h.0, k.1 ∙ h.1, upper_twice a.extra.now b.extra.now a.windows.now b.windows.now c.windows.now s t h.1 h.2 k.2) };
+
+    ghost late = { λ a b c s t h k. k };
 }
 
-/// Shows what an instruction prints.
-#[tactic(auto, unfolding(zk_step::specs::Printing::characters_of))]
-pub fn show<S: Screen>(screen: &mut S, memory: &Memory, output: Output)
-    requires { IsReady memory.now output }
-    ensures { S.shows screen.old screen.new (characters_of memory.now output) [] }
+/// The code that a table of stream 3 gets for a ZSCII code: a question mark where it has no character.
+fn code_stored(extra: &Extra<'_>, code: u16) -> Option<u8>
+    ensures { option_to_list result ≡ code_stored extra.now code }
 {
-    let extra = Extra::of(memory);
-    let mut printer = Printer {
-        screen,
-        extra: &extra,
-    };
-    give_output(memory, output, &mut printer);
+    if code == 0 {
+        return None;
+    }
+    if code == 9 || code == 11 || code == 13 {
+        return Some(code as u8);
+    }
+    if code < 252 && extra.to_char(code).is_some() {
+        return Some(code as u8);
+    }
+    Some(b'?')
+}
+
+/// The code that a table of stream 3 gets for a unit of text.
+#[tactic(auto, unfolding(zk_step::specs::Routing::stored))]
+fn unit_stored(extra: &Extra<'_>, unit: Unit) -> Option<u8>
+    ensures { option_to_list result ≡ stored extra.now unit }
+{
+    match unit {
+        Unit::Code(code) => code_stored(extra, code),
+        Unit::Character(character) => Some(extra.from_char(character as u32).unwrap_or(b'?')),
+    }
+}
+
+/// Collects the codes that a table of stream 3 gets, as long as there is room.
+#[derive(Drop)]
+pub struct Collector<'a> {
+    pub codes: &'a mut Codes,
+    pub extra: &'a Extra<'a>,
+}
+
+impl<'a> Sink for Collector<'a> {
+    ghost use Rattle.std.specs.Prelude.{◌≡◌, ◌++◌, List, ℕ, [], refl, length};
+    ghost use Rattle.std.proofs.Common.{◌∙◌};
+    ghost use Rattle.zk_step.specs.Routing.{stored_all};
+    ghost use Rattle.zk_vm.specs.Printed.{FirstPart, stored_twice, stored_nothing, stored_late};
+
+    ghost gave = { λ a b us. (b.codes.ghost_name ≡ a.codes.ghost_name) × (b.extra.now ≡ a.extra.now) × (b.codes.now ≡ a.codes.now ++ stored_all a.extra.now us) };
+
+    ghost refused = { λ a b us. (b.codes.ghost_name ≡ a.codes.ghost_name) × FirstPart b.codes.now (a.codes.now ++ stored_all a.extra.now us) };
+
+    fn put(&mut self, unit: Unit) -> Result<(), SinkFault> {
+        match unit_stored(self.extra, unit) {
+            None => Ok(()),
+            Some(code) => match self.codes.push(code) {
+                Ok(()) => Ok(()),
+                Err(Full) => Err(SinkFault),
+            },
+        }
+    }
+
+    ghost nothing = { λ a. (refl, refl, stored_nothing a.extra.now a.codes.now) };
+
+    ghost twice = { λ a b c s t h k. (k.0 ∙ h.0, k.1 ∙ h.1, stored_twice a.extra.now b.extra.now a.codes.now b.codes.now c.codes.now s t h.1 h.2 k.2) };
+
+    ghost late = { λ a b c s t h k. (k.0 ∙ h.0, stored_late a.extra.now b.extra.now a.codes.now b.codes.now c.codes.now s t h.1 h.2 k.1) };
 }
