@@ -151,3 +151,8 @@ unfoldable pub routed : MemoryMap → Workspace → Output → Result (Workspace
 routed found w Nothing = Ok (w, no_text)
 routed found w Status = status_shown found w (status_units found)
 routed found w output = routed_by (newest_of w.streams.tables) found w output
+
+-- the texts of a route, none of one that is refused
+abbrev pub text_routed : Result (Workspace × Texts) Fault → Texts
+text_routed (Ok r) = r.1
+text_routed (Err f) = no_text

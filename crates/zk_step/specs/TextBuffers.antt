@@ -27,13 +27,17 @@ early_line_put m text line = byte_at m text >>= λ size. ended_by_zero m (text +
 abbrev pub counted_letters : MemoryMap → ℕ → ℕ → List ℕ → Result MemoryMap Fault
 counted_letters m text count letters = bytes_put m (text + 2 + count) letters >>= λ n. byte_put n (text + 1) (count + length letters)
 
+-- a text buffer is filled by the letters that it has
+abbrev pub is_filled : ℕ → ℕ → Bool
+is_filled size count = nat_lt 0 count && nat_le size count
+
 -- from version 5 on byte 0 says how many letters there may be, and byte 1 how many there are; the letters begin at
 -- byte 2. A line goes on behind those; where they fill the buffer it stays as it is.
 unfoldable pub later_line_put : MemoryMap → ℕ → List ℕ → Result MemoryMap Fault
 later_line_put m text line = do
   size ← byte_at m text
   count ← byte_at m (text + 1)
-  if nat_lt 0 count && nat_le size count then Ok m else counted_letters m text count (taken_letters m (size - count) line)
+  if is_filled size count then Ok m else counted_letters m text count (taken_letters m (size - count) line)
 
 -- the text in a text buffer is divided into words by the dictionary at an address
 unfoldable pub divided : MemoryMap → ℕ → ℕ → ℕ → Bool → Result MemoryMap Fault
@@ -58,7 +62,7 @@ early_kept size line = take (size - 1) line
 
 -- and from version 5 on, behind those that are there
 abbrev pub later_kept : ℕ → ℕ → List ℕ → List ℕ
-later_kept size count line = if nat_lt 0 count && nat_le size count then [] else take (size - count) line
+later_kept size count line = if is_filled size count then [] else take (size - count) line
 
 -- the letters of a line that a text buffer takes, as they were typed
 unfoldable pub kept_of : MemoryMap → ℕ → List ℕ → Result (List ℕ) Fault

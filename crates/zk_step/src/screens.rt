@@ -7,7 +7,7 @@ ghost use Rattle.zk_step.specs.Screens.{selected_by, erased_by, erased_line, in_
 ghost use Rattle.zk_term.specs.Windows.{cursor_set};
 
 use crate::ending::{Effect, Output};
-use crate::status::check_status;
+use crate::status::status_line;
 use crate::values::Values;
 use crate::workspace::{View, Workspace};
 use zk_code::opcode::Window as Operation;
@@ -90,8 +90,8 @@ fn show_status(workspace: &Workspace) -> Result<Effect, Fault>
             if workspace.memory.version() != 3 {
                 return Ok(Effect::goes_on());
             }
-            match check_status(&workspace.memory) {
-                Ok(()) => Ok(Effect::prints(Output::Status)),
+            match status_line(&workspace.memory) {
+                Ok(_) => Ok(Effect::prints(Output::Status)),
                 Err(fault) => Err(fault),
             }
         }

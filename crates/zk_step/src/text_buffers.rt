@@ -2,7 +2,7 @@
 
 ghost use Rattle.std.specs.Prelude.{◌≡◌, ◌≤◌, ◌<◌, ◌+◌, ◌-◌, Bool, Ok, Err, MatchResult, length, take, map};
 ghost use Rattle.zk_text.specs.Extra.{own_characters, lower_code};
-ghost use Rattle.zk_step.specs.TextBuffers.{taken_letters, ended_by_zero, early_line_put, counted_letters, later_line_put, divided, own_dictionary, line_put, later_kept, kept_of};
+ghost use Rattle.zk_step.specs.TextBuffers.{taken_letters, ended_by_zero, early_line_put, counted_letters, later_line_put, divided, own_dictionary, line_put, is_filled, later_kept, kept_of};
 
 use arrayvec::ArrayVec;
 use zk_arrays::runs::put_bytes;
@@ -38,6 +38,13 @@ fn put_early_line(memory: &mut Memory, text: u16, line: &[u8]) -> Result<(), Fau
     memory.set_byte(text + 1 + letters.len() as u32, 0)
 }
 
+/// Whether a text buffer is filled by the letters that it has.
+fn is_filled(size: u8, count: u8) -> bool
+    ensures { result ≡ is_filled size count }
+{
+    count > 0 && size <= count
+}
+
 /// Stores a line from version 5 on: letters behind those that are there, and in byte 1 how many they are.
 #[tactic(auto, unfolding(crate::specs::TextBuffers::later_line_put))]
 fn put_later_line(memory: &mut Memory, text: u16, line: &[u8]) -> Result<(), Fault>
@@ -46,7 +53,7 @@ fn put_later_line(memory: &mut Memory, text: u16, line: &[u8]) -> Result<(), Fau
     let text = text as u32;
     let size = memory.byte(text)?;
     let count = memory.byte(text + 1)?;
-    if count > 0 && size <= count {
+    if is_filled(size, count) {
         return Ok(());
     }
     let letters = take_letters(memory, size.saturating_sub(count), line);
@@ -104,7 +111,7 @@ fn first_letters(line: &[u8], most: u8) -> &[u8]
 fn later_letters(line: &[u8], size: u8, count: u8) -> &[u8]
     ensures { result.now ≡ later_kept size count line.now }
 {
-    if count > 0 && size <= count {
+    if is_filled(size, count) {
         return &[];
     }
     first_letters(line, size.saturating_sub(count))

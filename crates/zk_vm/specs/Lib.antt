@@ -9,3 +9,4 @@ pub mod Plays
 pub mod Printed
 pub mod Step
 pub mod Examples
+pub mod Routes

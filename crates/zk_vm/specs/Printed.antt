@@ -1,11 +1,11 @@
 -- Where units of text go, one after another.
-use Rattle.std.specs.Prelude.{◌≡◌, ℕ, Bool, true, false, List, [], ◌∷◌, ◌++◌, length}
+use Rattle.std.specs.Prelude.{◌≡◌, ◌⊎◌, ℕ, Bool, true, false, ◌==◌, List, [], ◌∷◌, ◌++◌, length}
 use Rattle.std.proofs.Common.{refl, sym, ap, ◌∙◌, subst, append_assoc, append-nil}
 use Rattle.zk_text.specs.declared.unit.Unit.{Unit}
 use Rattle.zk_text.specs.Extra.{ExtraTable}
 use Rattle.zk_text.specs.Shown.{shown, shown_all}
 use Rattle.zk_term.specs.Windows.{Windows, printed}
-use Rattle.zk_step.specs.Routing.{stored_all, shown_if, ends_line}
+use Rattle.zk_step.specs.Routing.{stored, stored_all, shown_if, ends_line}
 use Rattle.zk_vm.specs.declared.printer.Selected.{Selected}
 
 -- ---- on streams 1 and 2
@@ -23,10 +23,10 @@ pub shown_if-append : (on : Bool) (x y : List ℕ) → shown_if on (x ++ y) ≡ 
 shown_if-append true x y = refl
 shown_if-append false x y = refl
 
-pub ends_line-append : (b : Bool) (x y : List ℕ) → ends_line b (x ++ y) ≡ ends_line (ends_line b x) y
+pub ends_line-append : (x : List ℕ) (b : Bool) (y : List ℕ) → ends_line b (x ++ y) ≡ ends_line (ends_line b x) y
 unfolding ends_line
-ends_line-append b [] y = refl
-ends_line-append b (c ∷ x) y = ends_line-append _ x y
+ends_line-append [] b y = refl
+ends_line-append (c ∷ x) b y = ends_line-append x (c == 10) y
 
 pub shown_apart : (on : Bool) (e : ExtraTable) (s t : List Unit) → shown_if on (shown_all e (s ++ t)) ≡ shown_if on (shown_all e s) ++ shown_if on (shown_all e t)
 shown_apart on e s t = ap (shown_if on) (shown_all-append e s t) ∙ shown_if-append on (shown_all e s) (shown_all e t)
@@ -35,7 +35,7 @@ pub printed_twice : {S : Type 0} (shows : S → S → List ℕ → List ℕ → 
     → (e f : ExtraTable) (on too : Selected) (a b c : S) (p q r : Bool) (s t : List Unit) → f ≡ e → too ≡ on → Printed shows e on a b p q s → Printed shows f too b c q r t → Printed shows e on a c p r (s ++ t)
 printed_twice {S} shows twice e f on too a b c p q r s t same all h k =
     let k' = subst (λ (g : ExtraTable). Printed shows g on b c q r t) same (subst (λ (o : Selected). Printed shows f o b c q r t) all k) in
-    (k'.0 ∙ ap (λ (x : Bool). ends_line x (shown_if on.screen (shown_all e t))) h.0 ∙ sym (ap (ends_line p) (shown_apart on.screen e s t) ∙ ends_line-append p (shown_if on.screen (shown_all e s)) (shown_if on.screen (shown_all e t))),
+    (k'.0 ∙ ap (λ (x : Bool). ends_line x (shown_if on.screen (shown_all e t))) h.0 ∙ sym (ap (ends_line p) (shown_apart on.screen e s t) ∙ ends_line-append (shown_if on.screen (shown_all e s)) p (shown_if on.screen (shown_all e t))),
     subst (λ (x : List ℕ). shows a c x (shown_if on.script (shown_all e (s ++ t)))) (sym (shown_apart on.screen e s t))
       (subst (λ (x : List ℕ). shows a c (shown_if on.screen (shown_all e s) ++ shown_if on.screen (shown_all e t)) x) (sym (shown_apart on.script e s t)) (twice a b c _ _ _ _ h.1 k'.1)))
 
@@ -70,7 +70,7 @@ FirstPart part whole = (length part ≡ 65536) × ((more : List ℕ) × (whole �
 pub stored_all-append : (e : ExtraTable) (s t : List Unit) → stored_all e (s ++ t) ≡ stored_all e s ++ stored_all e t
 unfolding stored_all
 stored_all-append e [] t = refl
-stored_all-append e (u ∷ s) t = ap (λ (cs : List ℕ). _ ++ cs) (stored_all-append e s t) ∙ sym (append_assoc _ (stored_all e s) (stored_all e t))
+stored_all-append e (u ∷ s) t = ap (λ (cs : List ℕ). stored e u ++ cs) (stored_all-append e s t) ∙ sym (append_assoc (stored e u) (stored_all e s) (stored_all e t))
 
 pub stored_twice : (e f : ExtraTable) (a b c : List ℕ) (s t : List Unit) → f ≡ e → b ≡ a ++ stored_all e s → c ≡ b ++ stored_all f t → c ≡ a ++ stored_all e (s ++ t)
 stored_twice e f a b c s t same h k = rw (stored_all-append e s t, ← append_assoc a (stored_all e s) (stored_all e t), ← h, ← same) k
@@ -83,3 +83,7 @@ pub stored_late : (e f : ExtraTable) (a b c : List ℕ) (s t : List Unit) → f 
 stored_late e f a b c s t same h k =
     let whole : a ++ stored_all e (s ++ t) ≡ b ++ stored_all f t = rw (stored_all-append e s t, ← append_assoc a (stored_all e s) (stored_all e t), ← h, same) refl in
     (k.0, (k.1.0, whole ∙ k.1.1))
+
+-- all codes were collected, or a first part and there is no room for more
+abbrev pub Collected : List ℕ → List ℕ → Type 0
+Collected got all = (got ≡ all) ⊎ FirstPart got all

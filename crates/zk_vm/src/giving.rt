@@ -8,12 +8,13 @@ ghost use Rattle.std.specs.Int.{cast_signed, w16};
 ghost use Rattle.std.specs.Fmt.{signed_decimal};
 ghost use Rattle.zk_arrays.specs.Rectangles.{rows_of, joined_rows};
 ghost use Rattle.zk_step.specs.Printing.{units_of, units_or_none, rows_or_none, IsReady};
-ghost use Rattle.zk_step.specs.Status.{code_units};
+ghost use Rattle.zk_step.specs.Status.{code_units, two_digits, figures, named, line_units};
 
 use itoa::Buffer;
 use zk_arrays::rectangle::{Rectangle, give_rectangle};
 use zk_mem::memory::Memory;
 use zk_step::ending::Output;
+use zk_step::status::StatusLine;
 use zk_text::sink::{Sink, SinkFault};
 use zk_text::text::print_text;
 use zk_text::unit::Unit;
@@ -82,4 +83,72 @@ fn give_rows<K: Sink>(sink: &mut K, memory: &Memory, rectangle: Rectangle) -> Re
         Ok(()) => Ok(()),
         Err(SinkFault) => Err(SinkFault),
     }
+}
+
+/// Gives ZSCII codes to a sink that refuses no unit.
+fn give_all<K: Sink>(sink: &mut K, codes: &[u8])
+    requires { (a b : K) (us : List Unit) → K.refused a b us → ⊥ }
+    ensures { K.gave sink.old sink.new (code_units codes.now) }
+{
+    match give_codes(sink, codes) {
+        Ok(()) => {}
+        Err(_) => unreachable!(),
+    }
+}
+
+/// Gives a number with at least two digits.
+fn give_two_digits<K: Sink>(sink: &mut K, number: u16)
+    requires { (a b : K) (us : List Unit) → K.refused a b us → ⊥ }
+    ensures { K.gave sink.old sink.new (code_units (two_digits number)) }
+{
+    if number < 10 {
+        give_all(sink, b"0");
+    }
+    let mut buffer = Buffer::new();
+    give_all(sink, buffer.format(number).as_bytes());
+}
+
+/// Gives the score and the turns, or hours and minutes.
+fn give_figures<K: Sink>(sink: &mut K, time: bool, a: u16, b: u16)
+    requires { (a b : K) (us : List Unit) → K.refused a b us → ⊥ }
+    ensures { K.gave sink.old sink.new (code_units (figures time a b)) }
+{
+    if time {
+        give_two_digits(sink, a);
+        give_all(sink, b":");
+        give_two_digits(sink, b);
+        return;
+    }
+    let mut buffer = Buffer::new();
+    give_all(sink, buffer.format(a.cast_signed()).as_bytes());
+    give_all(sink, b"/");
+    let mut buffer = Buffer::new();
+    give_all(sink, buffer.format(b.cast_signed()).as_bytes());
+}
+
+/// Gives an object's short name.
+fn give_name<K: Sink>(sink: &mut K, memory: &Memory, name: Option<u32>)
+    requires sure { (a b : K) (us : List Unit) → K.refused a b us → ⊥ }
+    requires ready { IsOk (named memory.now name) }
+    ensures { (units : List Unit) → named memory.now name ≡ Ok units → K.gave sink.old sink.new units }
+{
+    match name {
+        None => {}
+        Some(a) => match give_text(sink, memory, a) {
+            Ok(()) => {}
+            Err(_) => unreachable!(),
+        },
+    }
+}
+
+/// Gives a status line to a sink that refuses no unit.
+pub fn give_status<K: Sink>(memory: &Memory, line: StatusLine, sink: &mut K)
+    requires sure { (a b : K) (us : List Unit) → K.refused a b us → ⊥ }
+    requires ready { IsOk (named memory.now line.name) }
+    ensures { (units : List Unit) → named memory.now line.name ≡ Ok units → K.gave sink.old sink.new (line_units units line.is_time line.first line.second) }
+{
+    give_all(sink, b"[");
+    give_name(sink, memory, line.name);
+    give_all(sink, b"] ");
+    give_figures(sink, line.is_time, line.first, line.second);
 }

@@ -10,6 +10,7 @@ pub mod limits;
 pub mod machine;
 pub mod play;
 mod printer;
+mod routing;
 pub mod screen;
 pub mod slot;
 mod step;
@@ -18,4 +19,6 @@ pub mod stop;
 mod tests;
 #[cfg(test)]
 mod tests_of_reads;
+mod transcript;
+mod view;
 mod waiting;

@@ -4,20 +4,23 @@ ghost use Rattle.std.specs.Prelude.{◌≡◌, ◌≤◌, ◌<◌, ◌+◌, ◌-
 ghost use Rattle.std.specs.List.{AllByRecursion};
 ghost use Rattle.zk_text.specs.Extra.{is_input_code};
 ghost use Rattle.zk_state.specs.Frames.{IsBounded};
-ghost use Rattle.zk_step.specs.Routing.{no_text};
 ghost use Rattle.zk_code.specs.Reading.{instr_at};
 ghost use Rattle.zk_vm.specs.Bounds.{AreInRange};
 ghost use Rattle.zk_vm.specs.Halts.{halt_of, halt_by, IsLeftAt, IsLeftBy, IsLeftAs, IsLed, event_by, event_of, event_waited};
 ghost use Rattle.zk_vm.specs.Laws.{IsWithin};
 ghost use Rattle.zk_vm.specs.Outcome.{begun, segment, segment_of, ran, given, with_stop};
-ghost use Rattle.zk_vm.specs.Step.{step, verdict_of, state_after, text_of};
-ghost use Rattle.zk_vm.specs.Step.Step.{Waits};
+ghost use Rattle.zk_vm.specs.Step.{step, verdict_of, state_after, text_of, waits_by};
+ghost use Rattle.zk_vm.specs.View.{viewed};
 
+use crate::codes::Codes;
 use crate::limits::Limits;
 use crate::screen::Screen;
 use crate::step::carry_out;
-use crate::stop::{Event, Stop, View};
+use crate::stop::{Event, Stop};
+use crate::transcript::{script_all, transcribe};
+use crate::view::{check_view, show_view};
 use crate::waiting::{Halt, Waiting};
+use arrayvec::ArrayVec;
 use std::alloc::{AllocError, Global};
 use std::marker::Model;
 use zk_code::decode::decode;
@@ -28,7 +31,10 @@ use zk_state::frames::Frames;
 use zk_state::refusal::{Limit, Refusal};
 use zk_step::ending::{Next, Wait};
 use zk_step::inputs::{answer_character, answer_line};
-use zk_step::workspace::Workspace;
+use zk_step::random::Generators;
+use zk_step::streams::Streams;
+use zk_step::workspace::{View, Workspace};
+use zk_term::windows::Windows;
 
 /// So many reads are answered in a run.
 pub const MOST_READS: u32 = 16_777_216;
@@ -44,6 +50,10 @@ pub struct Machine {
     limits: Limits,
     waiting: Option<Waiting>,
     stopped: Option<Stop>,
+    // what the transcript is still to get of the line that was read
+    due: ArrayVec<char, 511>,
+    // room for what a table of stream 3 gets in a step
+    codes: Codes,
 }
 
 impl Model for Machine {
@@ -52,26 +62,31 @@ impl Model for Machine {
     ghost use Rattle.zk_vm.specs.Halts.{CanAnswer};
     ghost use Rattle.zk_vm.specs.Outcome.{Session};
 
+    ghost use Rattle.std.specs.Coded.{codes};
+    ghost use Rattle.zk_step.specs.contracts.workspace.Workspace as workspace;
+
     ghost Value = { Session };
 
-    ghost view = { λ m. record { state = record { workspace = m.workspace; place = m.place; steps = m.steps; reads = m.reads }; limits = m.limits; waiting = m.waiting; stopped = m.stopped } };
+    ghost coded = { Prim.hlevel (codes, workspace.the_row.coded) };
+
+    ghost view = { λ m. record { state = record { workspace = m.workspace; place = m.place; steps = m.steps; reads = m.reads; due = m.due.items }; limits = m.limits; waiting = m.waiting; stopped = m.stopped } };
 
     ghost invariant = { λ m. (m.steps ≤ m.limits.steps) × (bounds_of m.workspace.frames ≡ (m.limits.frames, m.limits.words)) × (m.reads ≤ 16777216) × CanAnswer m.reads m.stopped m.waiting };
 }
 
 impl Machine {
-    /// A machine at the start of a story. `seed` begins its random numbers, and `view` says what of the
-    /// upper window it shows; no opcode asks for either yet.
+    /// A machine at the start of a story. `seed` begins its random numbers, and `view` says what it shows of
+    /// the status line and the upper window.
     #[tactic(auto, unfolding(crate::specs::Outcome::begun))]
     pub fn start(
         alloc: Global,
         story: Story,
-        _seed: u64,
+        seed: u64,
         limits: Limits,
-        _view: View,
+        view: View,
     ) -> Result<Machine, AllocError>
         requires { AreInRange limits }
-        ensures { IfOk result (λ m. m ≡ begun story limits) }
+        ensures { IfOk result (λ m. m ≡ begun story seed limits view) }
     {
         let place = story.header().first_instruction as u32;
         let setup = Setup {
@@ -79,14 +94,30 @@ impl Machine {
         };
         let frames = Frames::new(alloc, limits.frames, limits.words)?;
         let memory = Memory::start(alloc, story, setup)?;
+        let windows = Windows::new(alloc)?;
+        let codes = Codes::new(alloc)?;
+        let generators = Generators {
+            free: seed,
+            predictable: None,
+        };
         Ok(Machine {
-            workspace: Workspace { memory, frames },
+            workspace: Workspace {
+                memory,
+                frames,
+                streams: Streams::new(),
+                windows,
+                generators,
+                at_line_start: true,
+                view,
+            },
             place,
             steps: 0,
             reads: 0,
             limits,
             waiting: None,
             stopped: None,
+            due: ArrayVec::new(),
+            codes,
         })
     }
 
@@ -114,31 +145,42 @@ impl Machine {
         ensures counted { OnOk result (self.new.state.steps ≡ self.old.state.steps + 1) }
         ensures limits { self.new.limits ≡ self.old.limits }
     {
-        match carry_out(&mut self.workspace, &i, screen) {
+        match carry_out(&mut self.workspace, &i, &mut self.codes, screen) {
             Ok(Next::At(place)) => {
                 self.place = place;
                 self.steps += 1;
                 Ok(())
             }
-            Ok(Next::Waits(wait)) => self.wait_for(wait, i),
+            Ok(Next::Waits(wait)) => self.wait_for(wait, i, screen),
             Ok(Next::End) => Err(Halt::Stops(Stop::Quit)),
             Err(Refusal::Fault(fault)) => Err(Halt::Stops(Stop::Fault(self.place, fault))),
             Err(Refusal::Limit(limit)) => Err(Halt::Stops(Stop::Limit(self.place, limit))),
         }
     }
 
-    /// Waits for an answer, where there may be one more.
-    fn wait_for(&mut self, wait: Wait, instruction: Instr) -> Result<(), Halt>
+    /// Shows the view and waits for an answer, where there may be one more.
+    fn wait_for<S: Screen>(
+        &mut self,
+        wait: Wait,
+        instruction: Instr,
+        screen: &mut S,
+    ) -> Result<(), Halt>
         requires near { instruction.next ≤ 2 ^ 20 }
         requires free { self.old.waiting ≡ None }
         requires runs { self.old.stopped ≡ None }
-        ensures value { result ≡ halt_by (verdict_of self.old.state (Waits self.old.state (record { wait = wait; instruction = instruction }) no_text)) }
-        ensures left { IsLeftAt self.old self.new (verdict_of self.old.state (Waits self.old.state (record { wait = wait; instruction = instruction }) no_text)) self.old.state }
+        ensures value { result ≡ halt_by (verdict_of self.old.state (waits_by self.old.state instruction wait (viewed self.old.state.workspace))) }
+        ensures left { IsLeftAt self.old self.new (verdict_of self.old.state (waits_by self.old.state instruction wait (viewed self.old.state.workspace))) (state_after self.old.state (waits_by self.old.state instruction wait (viewed self.old.state.workspace))) }
+        ensures text { S.shows screen.old screen.new (text_of self.old.state (waits_by self.old.state instruction wait (viewed self.old.state.workspace))).screen (text_of self.old.state (waits_by self.old.state instruction wait (viewed self.old.state.workspace))).script }
         ensures limits { self.new.limits ≡ self.old.limits }
     {
+        match check_view(&self.workspace) {
+            Ok(()) => {}
+            Err(fault) => return Err(Halt::Stops(Stop::Fault(self.place, fault))),
+        }
         if self.reads >= MOST_READS {
             return Err(Halt::Stops(Stop::Limit(self.place, Limit::Reads)));
         }
+        show_view(&mut self.workspace, screen);
         self.waiting = Some(Waiting { wait, instruction });
         Err(Halt::Waits(wait))
     }
@@ -197,6 +239,8 @@ impl Machine {
             self.is_within();
             return Err(stop);
         }
+        script_all(screen, self.due.as_slice());
+        self.due.clear();
         match self.steps_to_halt(screen) {
             Halt::Waits(wait) => {
                 self.is_within();
@@ -255,6 +299,7 @@ impl Machine {
             return;
         };
         if let Wait::Line(text, parse) = waiting.wait {
+            self.due = transcribe(&self.workspace, text, codes);
             let i = &waiting.instruction;
             let answered = answer_line(&mut self.workspace, i, text, parse, codes);
             self.follow(answered);
@@ -275,6 +320,7 @@ impl Machine {
         let Some(waiting) = self.waiting.take() else {
             return;
         };
+        self.due.clear();
         let answered = answer_character(&mut self.workspace, &waiting.instruction, code);
         self.follow(answered);
     }

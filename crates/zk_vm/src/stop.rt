@@ -34,12 +34,3 @@ pub enum Event {
     /// A file to restore, or none.
     Restore,
 }
-
-/// What of the upper window is shown.
-#[derive(Clone, Copy, Debug, PartialEq, Eq, Drop)]
-pub enum View {
-    /// Nothing.
-    Plain,
-    /// Its rows and the status line, before each read.
-    Upper,
-}

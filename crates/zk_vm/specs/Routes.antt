@@ -1,0 +1,23 @@
+-- What is printed has found its way.
+use Rattle.std.specs.Prelude.{◌≡◌, ◌⊎◌, ℕ, List, Result, Ok, IsOk}
+use Rattle.zk_mem.specs.declared.fault.Fault.{Fault}
+use Rattle.zk_mem.specs.Results.{◌>>=◌}
+use Rattle.zk_code.specs.declared.instr.Instr.{Instr}
+use Rattle.zk_step.specs.declared.ending.Effect.{Effect}
+use Rattle.zk_step.specs.declared.ending.Ending.{Ending}
+use Rattle.zk_step.specs.declared.ending.Next.{Next}
+use Rattle.zk_step.specs.declared.workspace.Workspace.{Workspace}
+use Rattle.zk_step.specs.Finish.{finished}
+use Rattle.zk_step.specs.Limited.{limited_next}
+use Rattle.zk_step.specs.Routing.{Texts, no_text, routed, text_routed}
+
+-- an instruction is finished behind its route
+abbrev pub finished_after : Result (Workspace × Texts) Fault → Instr → List ℕ → Ending → Result (Workspace × Next) Fault
+finished_after r i vs ending = r >>= λ x. finished x.0 i vs ending
+
+-- a route has led to a workspace, and where it shows something, nothing can refuse the instruction any more
+abbrev pub IsRoutedBy : Result (Workspace × Texts) Fault → Workspace → Instr → List ℕ → Ending → Type 0
+IsRoutedBy r new i vs ending = (r ≡ Ok (new, text_routed r)) × ((text_routed r ≡ no_text) ⊎ IsOk (limited_next (finished new i vs ending)))
+
+abbrev pub IsRouted : Workspace → Workspace → Instr → List ℕ → Effect → Type 0
+IsRouted old new i vs effect = IsRoutedBy (routed old.memory old effect.output) new i vs effect.ending

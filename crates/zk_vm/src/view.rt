@@ -1,0 +1,140 @@
+// What is shown of the status line and the upper window on a screen of plain lines.
+
+ghost use Rattle.std.specs.Prelude.{◌≡◌, ◌≤◌, ◌++◌, ◌∷◌, [], ℕ, List, Bool, Ok, Err, IsOk, MatchResult};
+ghost use Rattle.zk_state.specs.Frames.{bounds_of};
+ghost use Rattle.zk_text.specs.declared.unit.Unit.{Unit};
+ghost use Rattle.zk_text.specs.Extra.{own_characters};
+ghost use Rattle.zk_text.specs.Shown.{shown_all};
+ghost use Rattle.zk_term.specs.Windows.{row_text};
+ghost use Rattle.zk_step.specs.Routing.{fresh_line};
+ghost use Rattle.zk_step.specs.Status.{status_units};
+ghost use Rattle.zk_vm.specs.View.{viewed, viewed_by, status_shown, rows_shown};
+ghost use Rattle.zk_step.specs.Routing.{text_routed};
+ghost use Rattle.zk_step.specs.declared.workspace.View.TheVariants as view;
+
+use crate::giving::give_status;
+use crate::printer::{Printer, Selected};
+use crate::screen::Screen;
+use zk_mem::fault::Fault;
+use zk_mem::memory::Memory;
+use zk_step::status::status_line;
+use zk_step::workspace::{View, Workspace};
+use zk_term::windows::Windows;
+use zk_text::extra::Extra;
+use zk_text::sink::Sink;
+use zk_text::unit::Unit;
+
+/// Shows a new line, unless the last character was one.
+pub fn start_line<S: Screen>(screen: &mut S, at_line_start: bool)
+    ensures { S.shows screen.old screen.new (fresh_line at_line_start) [] }
+{
+    if !at_line_start {
+        screen.text('\n');
+    }
+}
+
+/// Shows the status line and a new line.
+pub fn show_status_line<S: Screen>(memory: &Memory, screen: &mut S)
+    requires { IsOk (status_units memory.now) }
+    ensures { (units : List Unit) → status_units memory.now ≡ Ok units → S.shows screen.old screen.new (shown_all (own_characters memory.now) units ++ 10 ∷ []) [] }
+{
+    let Ok(line) = status_line(memory) else {
+        unreachable!()
+    };
+    let extra = Extra::of(memory);
+    let mut printer = Printer {
+        screen,
+        extra: &extra,
+        selected: Selected {
+            screen: true,
+            script: false,
+        },
+        at_line_start: true,
+    };
+    give_status(memory, line, &mut printer);
+    match printer.put(Unit::Code(13)) {
+        Ok(()) => {}
+        Err(_) => unreachable!(),
+    }
+}
+
+/// Shows characters on the screen.
+fn show_characters<S: Screen>(screen: &mut S, characters: &[char])
+    ensures { S.shows screen.old screen.new characters.now [] }
+{
+    for c in characters {
+        screen.text(*c);
+    }
+}
+
+/// Shows a row of the upper window on a line, behind a bar and a space.
+fn show_row<S: Screen>(screen: &mut S, windows: &Windows, row: u8)
+    requires { 1 ≤ row }
+    ensures { S.shows screen.old screen.new (124 ∷ 32 ∷ row_text windows.now row ++ 10 ∷ []) [] }
+{
+    screen.text('|');
+    screen.text(' ');
+    show_characters(screen, windows.row(row));
+    screen.text('\n');
+}
+
+/// Shows the rows of the upper window.
+fn show_rows<S: Screen>(screen: &mut S, windows: &Windows)
+    ensures { S.shows screen.old screen.new (rows_shown windows.now 1 windows.now.height) [] }
+{
+    for row in 0..windows.height() {
+        show_row(screen, windows, row + 1);
+    }
+}
+
+/// Whether the view of the status line and the upper window can be shown.
+#[tactic(auto, unfolding(crate::specs::View::viewed))]
+pub fn check_view(workspace: &Workspace) -> Result<(), Fault>
+    ensures { MatchResult result (λ _. IsOk (viewed workspace.now)) (λ e. viewed workspace.now ≡ Err e) }
+{
+    match workspace.view {
+        View::Plain => Ok(()),
+        View::Upper => {
+            if workspace.memory.version() != 3 {
+                return Ok(());
+            }
+            match status_line(&workspace.memory) {
+                Ok(_) => Ok(()),
+                Err(fault) => Err(fault),
+            }
+        }
+    }
+}
+
+/// Shows the status line and the rows of the upper window before a read, on lines of their own.
+#[tactic(auto, unfolding(crate::specs::View::viewed))]
+pub fn show_view<S: Screen>(workspace: &mut Workspace, screen: &mut S)
+    requires { IsOk (viewed workspace.old) }
+    ensures state { viewed workspace.old ≡ Ok (workspace.new, text_routed (viewed workspace.old)) }
+    ensures text { S.shows screen.old screen.new (text_routed (viewed workspace.old)).screen (text_routed (viewed workspace.old)).script }
+    ensures bounds { bounds_of workspace.new.frames ≡ bounds_of workspace.old.frames }
+{
+    match workspace.view {
+        View::Plain => {}
+        View::Upper => show_lines(workspace, screen),
+    }
+}
+
+/// Shows the status line in version 3, and the rows of the upper window.
+fn show_lines<S: Screen>(workspace: &mut Workspace, screen: &mut S)
+    requires { IsOk (status_shown workspace.old.memory) }
+    ensures state { viewed_by view.Upper workspace.old ≡ Ok (workspace.new, text_routed (viewed_by view.Upper workspace.old)) }
+    ensures text { S.shows screen.old screen.new (text_routed (viewed_by view.Upper workspace.old)).screen [] }
+    ensures bounds { bounds_of workspace.new.frames ≡ bounds_of workspace.old.frames }
+{
+    let has_status = workspace.memory.version() == 3;
+    if !has_status && workspace.windows.height() == 0 {
+        return;
+    }
+    start_line(screen, workspace.at_line_start);
+    if has_status {
+        show_status_line(&workspace.memory, screen);
+    }
+    show_rows(screen, &workspace.windows);
+    workspace.at_line_start = true;
+}
