@@ -1,8 +1,12 @@
+pub mod Filling
 pub mod FrameLimits
+pub mod GivenCodes
 pub mod GreaterLimits
 pub mod GreaterRoom
 pub mod Playing
+pub mod Routes
 pub mod Runs
 pub mod Showing
 pub mod Texts
 pub mod Writes
+pub mod UpperRows

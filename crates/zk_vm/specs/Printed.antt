@@ -10,9 +10,13 @@ use Rattle.zk_vm.specs.declared.printer.Selected.{Selected}
 
 -- ---- on streams 1 and 2
 
--- the streams that are on were given what units show, and the screen's last character is a new line now, or not
+-- the streams that are on were given characters, and the screen's last character is a new line now, or not
+abbrev pub ShownOn : {S : Type 0} → (S → S → List ℕ → List ℕ → Type 0) → Selected → S → S → Bool → Bool → List ℕ → Type 0
+ShownOn {S} shows on a b start end cs = (end ≡ ends_line start (shown_if on.screen cs)) × shows a b (shown_if on.screen cs) (shown_if on.script cs)
+
+-- they were given what units show
 abbrev pub Printed : {S : Type 0} → (S → S → List ℕ → List ℕ → Type 0) → ExtraTable → Selected → S → S → Bool → Bool → List Unit → Type 0
-Printed {S} shows e on a b start end us = (end ≡ ends_line start (shown_if on.screen (shown_all e us))) × shows a b (shown_if on.screen (shown_all e us)) (shown_if on.script (shown_all e us))
+Printed {S} shows e on a b start end us = ShownOn shows on a b start end (shown_all e us)
 
 pub shown_all-append : (e : ExtraTable) (s t : List Unit) → shown_all e (s ++ t) ≡ shown_all e s ++ shown_all e t
 unfolding shown_all
@@ -28,24 +32,41 @@ unfolding ends_line
 ends_line-append [] b y = refl
 ends_line-append (c ∷ x) b y = ends_line-append x (c == 10) y
 
-pub shown_apart : (on : Bool) (e : ExtraTable) (s t : List Unit) → shown_if on (shown_all e (s ++ t)) ≡ shown_if on (shown_all e s) ++ shown_if on (shown_all e t)
-shown_apart on e s t = ap (shown_if on) (shown_all-append e s t) ∙ shown_if-append on (shown_all e s) (shown_all e t)
+-- characters after others
+pub shown_twice : {S : Type 0} (shows : S → S → List ℕ → List ℕ → Type 0) → ((a b c : S) (s t u v : List ℕ) → shows a b s u → shows b c t v → shows a c (s ++ t) (u ++ v))
+    → (on too : Selected) (a b c : S) (p q r : Bool) (x y : List ℕ) → too ≡ on → ShownOn shows on a b p q x → ShownOn shows too b c q r y → ShownOn shows on a c p r (x ++ y)
+shown_twice {S} shows twice on too a b c p q r x y all h k =
+    let k' = subst (λ (o : Selected). ShownOn shows o b c q r y) all k in
+    let screen = sym (shown_if-append on.screen x y) in
+    let script = sym (shown_if-append on.script x y) in
+    (k'.0 ∙ ap (λ (z : Bool). ends_line z (shown_if on.screen y)) h.0 ∙ sym (ap (ends_line p) (shown_if-append on.screen x y) ∙ ends_line-append (shown_if on.screen x) p (shown_if on.screen y)),
+    subst (λ (z : List ℕ). shows a c z (shown_if on.script (x ++ y))) screen (subst (λ (z : List ℕ). shows a c (shown_if on.screen x ++ shown_if on.screen y) z) script (twice a b c _ _ _ _ h.1 k'.1)))
 
 pub printed_twice : {S : Type 0} (shows : S → S → List ℕ → List ℕ → Type 0) → ((a b c : S) (s t u v : List ℕ) → shows a b s u → shows b c t v → shows a c (s ++ t) (u ++ v))
     → (e f : ExtraTable) (on too : Selected) (a b c : S) (p q r : Bool) (s t : List Unit) → f ≡ e → too ≡ on → Printed shows e on a b p q s → Printed shows f too b c q r t → Printed shows e on a c p r (s ++ t)
 printed_twice {S} shows twice e f on too a b c p q r s t same all h k =
-    let k' = subst (λ (g : ExtraTable). Printed shows g on b c q r t) same (subst (λ (o : Selected). Printed shows f o b c q r t) all k) in
-    (k'.0 ∙ ap (λ (x : Bool). ends_line x (shown_if on.screen (shown_all e t))) h.0 ∙ sym (ap (ends_line p) (shown_apart on.screen e s t) ∙ ends_line-append (shown_if on.screen (shown_all e s)) p (shown_if on.screen (shown_all e t))),
-    subst (λ (x : List ℕ). shows a c x (shown_if on.script (shown_all e (s ++ t)))) (sym (shown_apart on.screen e s t))
-      (subst (λ (x : List ℕ). shows a c (shown_if on.screen (shown_all e s) ++ shown_if on.screen (shown_all e t)) x) (sym (shown_apart on.script e s t)) (twice a b c _ _ _ _ h.1 k'.1)))
+    let k' = subst (λ (g : ExtraTable). Printed shows g too b c q r t) same k in
+    subst (λ (cs : List ℕ). ShownOn shows on a c p r cs) (sym (shown_all-append e s t)) (shown_twice shows twice on too a b c p q r (shown_all e s) (shown_all e t) all h k')
 
 nothing_if : (on : Bool) → shown_if on [] ≡ []
 nothing_if true = refl
 nothing_if false = refl
 
+pub shown_nothing : {S : Type 0} (shows : S → S → List ℕ → List ℕ → Type 0) (on : Selected) (a : S) (p : Bool) → shows a a [] [] → ShownOn shows on a a p p []
+unfolding ends_line
+shown_nothing {S} shows on a p h = rw (nothing_if on.screen, nothing_if on.script) (refl, h)
+
 pub printed_nothing : {S : Type 0} (shows : S → S → List ℕ → List ℕ → Type 0) (e : ExtraTable) (on : Selected) (a : S) (p : Bool) → shows a a [] [] → Printed shows e on a a p p []
-unfolding shown_all ends_line
-printed_nothing {S} shows e on a p h = rw (nothing_if on.screen, nothing_if on.script) (refl, h)
+unfolding shown_all
+printed_nothing {S} shows e on a p h = shown_nothing shows on a p h
+
+-- a unit is what it shows
+one_unit : (e : ExtraTable) (u : Unit) → shown_all e (u ∷ []) ≡ shown e u
+unfolding shown_all
+one_unit e u = append-nil (shown e u)
+
+pub printed_unit : {S : Type 0} (shows : S → S → List ℕ → List ℕ → Type 0) (e : ExtraTable) (on : Selected) (a b : S) (p q : Bool) (u : Unit) (cs : List ℕ) → cs ≡ shown e u → ShownOn shows on a b p q cs → Printed shows e on a b p q (u ∷ [])
+printed_unit {S} shows e on a b p q u cs is h = subst (λ (x : List ℕ). ShownOn shows on a b p q x) (is ∙ sym (one_unit e u)) h
 
 -- ---- in the upper window
 
@@ -60,6 +81,9 @@ upper_twice e f a b c s t same h k = rw (shown_all-append e s t, printed-append 
 pub upper_nothing : (e : ExtraTable) (a : Windows) → a ≡ printed (shown_all e []) a
 unfolding shown_all printed
 upper_nothing e a = refl
+
+pub upper_unit : (e : ExtraTable) (a b : Windows) (u : Unit) (cs : List ℕ) → cs ≡ shown e u → b ≡ printed cs a → b ≡ printed (shown_all e (u ∷ [])) a
+upper_unit e a b u cs is h = h ∙ ap (λ (x : List ℕ). printed x a) (is ∙ sym (one_unit e u))
 
 -- ---- in a table of stream 3
 
@@ -87,3 +111,7 @@ stored_late e f a b c s t same h k =
 -- all codes were collected, or a first part and there is no room for more
 abbrev pub Collected : List ℕ → List ℕ → Type 0
 Collected got all = (got ≡ all) ⊎ FirstPart got all
+
+pub stored_unit : (e : ExtraTable) (a b : List ℕ) (u : Unit) (cs : List ℕ) → cs ≡ stored e u → b ≡ a ++ cs → b ≡ a ++ stored_all e (u ∷ [])
+unfolding stored_all
+stored_unit e a b u cs is h = h ∙ ap (λ (x : List ℕ). a ++ x) (is ∙ sym (append-nil (stored e u)))

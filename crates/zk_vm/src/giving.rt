@@ -5,7 +5,7 @@ ghost use Rattle.zk_text.specs.declared.unit.Unit.{Unit};
 ghost use Rattle.zk_text.specs.Meaning.{text_units};
 ghost use Rattle.zk_text.specs.declared.unit.Unit.TheVariants as unit;
 ghost use Rattle.std.specs.Int.{cast_signed, w16};
-ghost use Rattle.std.specs.Fmt.{signed_decimal};
+ghost use Rattle.std.specs.Fmt.{decimal, signed_decimal};
 ghost use Rattle.zk_arrays.specs.Rectangles.{rows_of, joined_rows};
 ghost use Rattle.zk_step.specs.Printing.{units_of, units_or_none, rows_or_none, IsReady};
 ghost use Rattle.zk_step.specs.Status.{code_units, two_digits, figures, named, line_units};
@@ -96,16 +96,35 @@ fn give_all<K: Sink>(sink: &mut K, codes: &[u8])
     }
 }
 
+/// Gives a number without a sign.
+fn give_decimal<K: Sink>(sink: &mut K, number: u16)
+    requires { (a b : K) (us : List Unit) → K.refused a b us → ⊥ }
+    ensures { K.gave sink.old sink.new (code_units (decimal number)) }
+{
+    let mut buffer = Buffer::new();
+    give_all(sink, buffer.format(number).as_bytes());
+}
+
 /// Gives a number with at least two digits.
 fn give_two_digits<K: Sink>(sink: &mut K, number: u16)
     requires { (a b : K) (us : List Unit) → K.refused a b us → ⊥ }
     ensures { K.gave sink.old sink.new (code_units (two_digits number)) }
 {
-    if number < 10 {
-        give_all(sink, b"0");
+    if number >= 10 {
+        give_decimal(sink, number);
+        return;
     }
+    give_all(sink, b"0");
+    give_decimal(sink, number);
+}
+
+/// Gives a signed number.
+fn give_signed<K: Sink>(sink: &mut K, number: u16)
+    requires { (a b : K) (us : List Unit) → K.refused a b us → ⊥ }
+    ensures { K.gave sink.old sink.new (code_units (signed_decimal (cast_signed w16 number))) }
+{
     let mut buffer = Buffer::new();
-    give_all(sink, buffer.format(number).as_bytes());
+    give_all(sink, buffer.format(number.cast_signed()).as_bytes());
 }
 
 /// Gives the score and the turns, or hours and minutes.
@@ -119,11 +138,9 @@ fn give_figures<K: Sink>(sink: &mut K, time: bool, a: u16, b: u16)
         give_two_digits(sink, b);
         return;
     }
-    let mut buffer = Buffer::new();
-    give_all(sink, buffer.format(a.cast_signed()).as_bytes());
+    give_signed(sink, a);
     give_all(sink, b"/");
-    let mut buffer = Buffer::new();
-    give_all(sink, buffer.format(b.cast_signed()).as_bytes());
+    give_signed(sink, b);
 }
 
 /// Gives an object's short name.

@@ -32,19 +32,42 @@ pub struct Printer<'a, S> {
 }
 
 impl<'a, S: Screen> Printer<'a, S> {
-    /// Shows a character.
+    /// Shows a character on the screen, if it is on.
+    #[tactic(auto, unfolding(zk_step::specs::Routing::ends_line))]
+    fn show_on_screen(&mut self, c: char)
+        ensures kept { (self.new.screen.ghost_name ≡ self.old.screen.ghost_name) × (self.new.extra.now ≡ self.old.extra.now) × (self.new.selected ≡ self.old.selected) }
+        ensures start { self.new.at_line_start ≡ ends_line self.old.at_line_start (shown_if self.old.selected.screen (c ∷ [])) }
+        ensures shown { S.shows self.old.screen.now self.new.screen.now (shown_if self.old.selected.screen (c ∷ [])) [] }
+    {
+        match self.selected.screen {
+            false => {}
+            true => {
+                self.screen.text(c);
+                self.at_line_start = c == '\n';
+            }
+        }
+    }
+
+    /// Adds a character to the transcript, if it is on.
+    fn show_in_script(&mut self, c: char)
+        ensures kept { (self.new.screen.ghost_name ≡ self.old.screen.ghost_name) × (self.new.extra.now ≡ self.old.extra.now) × (self.new.selected ≡ self.old.selected) }
+        ensures start { self.new.at_line_start ≡ self.old.at_line_start }
+        ensures shown { S.shows self.old.screen.now self.new.screen.now [] (shown_if self.old.selected.script (c ∷ [])) }
+    {
+        match self.selected.script {
+            false => {}
+            true => self.screen.script(c),
+        }
+    }
+
+    /// Shows a character on the streams that are on.
     fn show(&mut self, c: char)
         ensures kept { (self.new.screen.ghost_name ≡ self.old.screen.ghost_name) × (self.new.extra.now ≡ self.old.extra.now) × (self.new.selected ≡ self.old.selected) }
         ensures start { self.new.at_line_start ≡ ends_line self.old.at_line_start (shown_if self.old.selected.screen (c ∷ [])) }
         ensures shown { S.shows self.old.screen.now self.new.screen.now (shown_if self.old.selected.screen (c ∷ [])) (shown_if self.old.selected.script (c ∷ [])) }
     {
-        if self.selected.screen {
-            self.screen.text(c);
-            self.at_line_start = c == '\n';
-        }
-        if self.selected.script {
-            self.screen.script(c);
-        }
+        self.show_on_screen(c);
+        self.show_in_script(c);
     }
 }
 
@@ -120,6 +143,7 @@ impl<'a> Sink for WindowPrinter<'a> {
 }
 
 /// The code that a table of stream 3 gets for a ZSCII code: a question mark where it has no character.
+#[tactic(auto, using(crate::proofs::Filling::far_code))]
 fn code_stored(extra: &Extra<'_>, code: u16) -> Option<u8>
     ensures { option_to_list result ≡ code_stored extra.now code }
 {
@@ -129,10 +153,13 @@ fn code_stored(extra: &Extra<'_>, code: u16) -> Option<u8>
     if code == 9 || code == 11 || code == 13 {
         return Some(code as u8);
     }
-    if code < 252 && extra.to_char(code).is_some() {
-        return Some(code as u8);
+    if code >= 252 {
+        return Some(b'?');
     }
-    Some(b'?')
+    match extra.to_char(code) {
+        Some(_) => Some(code as u8),
+        None => Some(b'?'),
+    }
 }
 
 /// The code that a table of stream 3 gets for a unit of text.

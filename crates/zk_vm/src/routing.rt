@@ -136,20 +136,32 @@ fn print_row(windows: &mut Windows, memory: &Memory, rectangle: Rectangle, row: 
     }
 }
 
+/// Prints a row of a rectangle in the upper window, while stream 1 is on.
+fn print_row_if(windows: &mut Windows, memory: &Memory, rectangle: Rectangle, row: u16, on: bool)
+    requires stands { IsOk (rows_of memory.now rectangle) }
+    requires within { row < rectangle.height }
+    ensures { (codes : List ℕ) → row_at memory.now rectangle row ≡ Ok codes → windows.new ≡ printed_if on (shown_all (own_characters memory.now) (row_units codes)) windows.old }
+{
+    if on {
+        print_row(windows, memory, rectangle, row);
+        return;
+    }
+}
+
 /// Prints a rectangle in the upper window, from the cursor on: further rows begin in its column. While stream 1 is off
 /// the cursor alone moves, from row to row.
 fn print_rows(windows: &mut Windows, memory: &Memory, rectangle: Rectangle, on: bool)
     requires { IsOk (rows_of memory.now rectangle) }
     ensures { windows.new ≡ rectangle_printed on (own_characters memory.now) (rows_or_none (rows_of memory.now rectangle)) windows.old }
 {
+    if rectangle.height == 0 {
+        return;
+    }
     let (_, column) = windows.cursor();
-    for row in 0..rectangle.height {
-        if row > 0 {
-            windows.start_row(column);
-        }
-        if on {
-            print_row(windows, memory, rectangle, row);
-        }
+    print_row_if(windows, memory, rectangle, 0, on);
+    for row in 1..rectangle.height {
+        windows.start_row(column);
+        print_row_if(windows, memory, rectangle, row, on);
     }
 }
 
