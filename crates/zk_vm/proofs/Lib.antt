@@ -5,4 +5,5 @@ pub mod Playing
 pub mod Runs
 pub mod Showing
 pub mod Texts
+pub mod Transcripts
 pub mod Writes
