@@ -1,8 +1,9 @@
 -- Limits on frames and words, step by step.
-use Rattle.std.proofs.Common.{◌≡◌, ◌∙◌, ℕ, zero, suc, ◌+◌, ◌≤◌, ◌⊎◌, inl, inr, Bool, true, false, length, Result, Ok, Err, refl, ap, sym, subst, arith, nat_lt}
+use Rattle.std.proofs.Common.{◌≡◌, ◌∙◌, ℕ, zero, suc, ◌+◌, ◌≤◌, ◌⊎◌, inl, inr, Bool, true, false, List, [], ◌∷◌, ◌++◌, length, Result, Ok, Err, refl, ap, sym, subst, arith, nat_lt}
 use Rattle.std.specs.Prelude.{if◌then◌else◌}
 use Rattle.std.proofs.lemmas.Bool.Decides.{nat_tests}
 use Rattle.zk_mem.specs.declared.fault.Fault.{Fault}
+use Rattle.zk_mem.specs.Results.{◌>>=◌}
 use Rattle.zk_state.specs.declared.refusal.Limit.{Limit}
 use Rattle.zk_state.specs.declared.refusal.Limit.TheVariants.{Frames, Words, Steps, Reads}
 use Rattle.zk_state.specs.declared.refusal.Refusal.{Refusal}
@@ -13,6 +14,9 @@ use Rattle.zk_code.specs.declared.instr.Instr.{Instr}
 use Rattle.zk_code.specs.Reading.{instr_at}
 use Rattle.zk_step.specs.declared.ending.Next.{Next}
 use Rattle.zk_step.specs.declared.ending.Next.TheVariants.{At, Waits as Awaits, End}
+use Rattle.zk_step.specs.declared.ending.Wait.{Wait}
+use Rattle.zk_step.specs.declared.workspace.View.{View}
+use Rattle.zk_step.specs.declared.workspace.View.TheVariants as view
 use Rattle.zk_step.specs.declared.workspace.Workspace.{Workspace}
 use Rattle.zk_step.specs.Instructions.{carried_out}
 use Rattle.zk_step.specs.Laws.{rebounded, moved_in}
@@ -20,10 +24,11 @@ use Rattle.zk_step.specs.Routing.{Texts}
 use Rattle.zk_step.proofs.Rebounded.{bounds_are_not_seen}
 use Rattle.zk_vm.specs.declared.limits.Limits.{Limits}
 use Rattle.zk_vm.specs.declared.stop.Stop.TheVariants.{Limit as LimitAt}
-use Rattle.zk_vm.specs.Step.{State, Step, Verdict, step, fetched, settled, led_to, verdict_of, text_of, state_after, goes_by, text_within, most_reads}
+use Rattle.zk_vm.specs.Step.{State, Step, Verdict, step, fetched, settled, led_to, waits_by, verdict_of, text_of, state_after, goes_by, text_within, most_reads}
 use Rattle.zk_vm.specs.Step.Step.{Goes, Waits, Quits, Faults}
 use Rattle.zk_vm.specs.Step.Verdict.{GoesOn, WaitsFor, StopsBy}
 use Rattle.zk_vm.specs.Outcome.{Segment, segment, continued, begun, Leads}
+use Rattle.zk_vm.specs.View.{viewed, viewed_by, lines_shown, rows_shown, status_shown}
 use Rattle.zk_vm.specs.Laws.{IsWithin, RunsStayWithin, state_in, segment_in, IsNoFrameLimit, FrameLimitsOnlyCut, FrameLimitsCutThere}
 
 -- a step from a state with other bounds
@@ -33,10 +38,38 @@ step_in f w (Waits s waiting text) = Waits (state_in f w s) waiting text
 step_in f w (Quits text) = Quits text
 step_in f w (Faults e) = Faults e
 
+-- the view looks at no bounds
+abbrev viewed_in : ℕ → ℕ → Result (Workspace × Texts) Fault → Result (Workspace × Texts) Fault
+viewed_in f m (Ok v) = Ok (rebounded f m v.0, v.1)
+viewed_in f m (Err e) = Err e
+
+lines_same : (f m : ℕ) (w : Workspace) (cs : List ℕ) → ◌≡◌ {A = Result (Workspace × Texts) Fault} (Ok (lines_shown (rebounded f m w) cs)) (viewed_in f m (Ok (lines_shown w cs)))
+unfolding lines_shown
+lines_same f m w [] = refl
+lines_same f m w (c ∷ cs) = refl
+
+viewed_by_same : (f m : ℕ) (v : View) (w : Workspace) → viewed_by v (rebounded f m w) ≡ viewed_in f m (viewed_by v w)
+viewed_by_same f m view.Plain w = refl
+viewed_by_same f m view.Upper w = go (status_shown w.memory)
+  where
+    go : (r : Result (List ℕ) Fault) → (r >>= λ status. Ok (lines_shown (rebounded f m w) (status ++ rows_shown w.windows 1 w.windows.height)))
+        ≡ viewed_in f m (r >>= λ status. Ok (lines_shown w (status ++ rows_shown w.windows 1 w.windows.height)))
+    go (Ok status) = lines_same f m w (status ++ rows_shown w.windows 1 w.windows.height)
+    go (Err e) = refl
+
+viewed_same : (f m : ℕ) (w : Workspace) → viewed (rebounded f m w) ≡ viewed_in f m (viewed w)
+unfolding viewed
+viewed_same f m w = viewed_by_same f m w.view w
+
+waits_by_same : (f m : ℕ) (s : State) (i : Instr) (wait : Wait) (r : Result (Workspace × Texts) Fault) → waits_by (state_in f m s) i wait (viewed_in f m r) ≡ step_in f m (waits_by s i wait r)
+unfolding step_in
+waits_by_same f m s i wait (Ok v) = refl
+waits_by_same f m s i wait (Err e) = refl
+
 led_same : (f m : ℕ) (s : State) (i : Instr) (w : Workspace) (text : Texts) (n : Next) → led_to (state_in f m s) i (rebounded f m w) text n ≡ step_in f m (led_to s i w text n)
 unfolding step_in
 led_same f m s i w text (At place) = refl
-led_same f m s i w text (Awaits wait) = refl
+led_same f m s i w text (Awaits wait) = ap (waits_by (state_in f m s) i wait) (viewed_same f m w) ∙ waits_by_same f m s i wait (viewed w)
 led_same f m s i w text End = refl
 
 settled_same : (f m : ℕ) (s : State) (i : Instr) (r : Result (Workspace × (Next × Texts)) Fault) → settled (state_in f m s) i (moved_in f m r) ≡ step_in f m (settled s i r)
@@ -184,12 +217,17 @@ frame_limits_cut_there (suc n) k s end over text more l lead goes h =
     let rest = frame_limits_cut_there n k (state_after s (step s)) end over lead.0 more l lead.2 goes h in
     rw (e, lead.1, rest.0, rest.1, lead.3) (refl, refl)
 
+-- a step that waits does not go on
+waits_no_goes : (s t : State) (i : Instr) (wait : Wait) (more : Texts) (r : Result (Workspace × Texts) Fault) → waits_by s i wait r ≡ Goes t more → ⊥
+waits_no_goes s t i wait more (Ok v) h = absurd cc
+waits_no_goes s t i wait more (Err e) h = absurd cc
+
 -- a step counts
 led_counts : (s t : State) (i : Instr) (w : Workspace) (text more : Texts) (n : Next) → led_to s i w text n ≡ Goes t more → (t.steps ≡ s.steps + 1) × (t.reads ≡ s.reads)
 led_counts s t i w text more (At place) h =
     let same = sym (goes_same _ t text more h) in
     (ap (λ (u : State). u.steps) same, ap (λ (u : State). u.reads) same)
-led_counts s t i w text more (Awaits wait) h = absurd cc
+led_counts s t i w text more (Awaits wait) h = absurd (waits_no_goes s t i wait more (viewed w) h)
 led_counts s t i w text more End h = absurd cc
 
 fetched_counts : (s t : State) (more : Texts) (r : Result Instr Fault) → fetched s r ≡ Goes t more → (t.steps ≡ s.steps + 1) × (t.reads ≡ s.reads)
@@ -234,8 +272,8 @@ stays l (suc n) s end text b within few lead =
 
 pub runs_stay_within : RunsStayWithin
 unfolding begun bounds_of sizes_of
-runs_stay_within story l n end text range few lead =
-    stays l n (begun story l).state end text refl (record { frames = range.frames; words = omega arith; steps = omega arith; reads = omega arith }) (omega (arith, few)) lead
+runs_stay_within story seed l view n end text range few lead =
+    stays l n (begun story seed l view).state end text refl (record { frames = range.frames; words = omega arith; steps = omega arith; reads = omega arith }) (omega (arith, few)) lead
 
 -- frames of a machine with these limits
 

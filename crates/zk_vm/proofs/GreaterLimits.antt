@@ -10,11 +10,12 @@ use Rattle.zk_step.specs.declared.workspace.Workspace.{Workspace}
 use Rattle.zk_step.specs.Routing.{Texts, no_text, text_joined}
 use Rattle.zk_vm.specs.declared.stop.Stop.{Stop}
 use Rattle.zk_vm.specs.declared.waiting.Waiting.{Waiting}
-use Rattle.zk_vm.specs.Answers.{answered, answered_by, answer_settled}
+use Rattle.zk_vm.specs.Answers.{answered, answered_by, answer_settled, transcribed}
 use Rattle.zk_vm.specs.Laws.{IsNoStepLimit, IsNoStepStop, with_more_steps, StepLimitOnlyCutsRuns}
-use Rattle.zk_vm.specs.Outcome.{Outcome, Segment, Session, segment_by, segment_of, followed, outcome, ended, ran, given, given_to, resumed}
+use Rattle.zk_vm.specs.Outcome.{Outcome, Segment, Session, segment_by, segment_of, behind_due, followed, outcome, ended, ran, given, given_to, resumed}
 use Rattle.zk_vm.specs.Step.{State, Verdict, verdict_of, state_after, goes_by}
 use Rattle.zk_vm.specs.Step.Verdict.{GoesOn, WaitsFor, StopsBy}
+use Rattle.zk_vm.proofs.Playing.{ran_waiting}
 use Rattle.zk_vm.proofs.Runs.{step_limit_only_cuts}
 
 -- the limit on steps is not why a segment ends, where it is not why its run stops
@@ -30,7 +31,7 @@ segment_more_by (Some stop) k s few own = refl
 segment_more_by None k s few own =
     let least = few refl in
     let e : (s.limits.steps + k) - s.state.steps ≡ (s.limits.steps - s.state.steps) + k = omega arith in
-    rw e (step_limit_only_cuts (s.limits.steps - s.state.steps) k s.state own)
+    rw e (ap (behind_due s.state.due) (step_limit_only_cuts (s.limits.steps - s.state.steps) k (record s.state { due = [] }) own))
 
 segment_more : (k : ℕ) (s : Session) → (s.stopped ≡ None → s.state.steps ≤ s.limits.steps) → IsNoStepLimit (segment_of s).end → segment_of (with_more_steps k s) ≡ segment_of s
 unfolding segment_of
@@ -64,20 +65,16 @@ few_goes s place (Ok u) t e h = omega (arith, e)
 few_goes s place (Err (refusal.Limit l)) t e h = absurd cc
 few_goes s place (Err (refusal.Fault f)) t e h = absurd cc
 
-few_settled : (s : Session) (r : Result (Workspace × Next) Fault) → (resumed s (verdict_of s.state (answer_settled s.state r)) (state_after s.state (answer_settled s.state r))).stopped ≡ None
-    → (resumed s (verdict_of s.state (answer_settled s.state r)) (state_after s.state (answer_settled s.state r))).state.steps ≤ (resumed s (verdict_of s.state (answer_settled s.state r)) (state_after s.state (answer_settled s.state r))).limits.steps
-few_settled s (Ok (w, next.At p)) h = few_goes s s.state.place (within_bounds w.frames) _ refl h
-few_settled s (Ok (w, next.Waits x)) h = absurd cc
-few_settled s (Ok (w, next.End)) h = absurd cc
-few_settled s (Err f) h = absurd cc
+few_settled : (s : Session) (due : List ℕ) (r : Result (Workspace × Next) Fault) → (resumed s (verdict_of s.state (answer_settled s.state due r)) (state_after s.state (answer_settled s.state due r))).stopped ≡ None
+    → (resumed s (verdict_of s.state (answer_settled s.state due r)) (state_after s.state (answer_settled s.state due r))).state.steps ≤ (resumed s (verdict_of s.state (answer_settled s.state due r)) (state_after s.state (answer_settled s.state due r))).limits.steps
+few_settled s due (Ok (w, next.At p)) h = few_goes s s.state.place (within_bounds w.frames) _ refl h
+few_settled s due (Ok (w, next.Waits x)) h = absurd cc
+few_settled s due (Ok (w, next.End)) h = absurd cc
+few_settled s due (Err f) h = absurd cc
 
 few_given : (s : Session) (w : Waiting) (codes : List ℕ) → (given_to (Some w) s codes).stopped ≡ None → (given_to (Some w) s codes).state.steps ≤ (given_to (Some w) s codes).limits.steps
 unfolding answered
-few_given s w codes h = few_settled s (answered_by s.state.workspace w.instruction w.wait codes) h
-
-ran_waiting : (s : Session) (w : Waiting) → (segment_of s).end ≡ Ok w → (ran s).waiting ≡ Some w
-unfolding ran
-ran_waiting s w h = rw h refl
+few_given s w codes h = few_settled s (transcribed s.state.workspace w.wait codes) (answered_by s.state.workspace w.instruction w.wait codes) h
 
 few_by : (s : Session) (x : Option Waiting) (w : Waiting) (codes : List ℕ) → x ≡ Some w → (given_to x s codes).stopped ≡ None → (given_to x s codes).state.steps ≤ (given_to x s codes).limits.steps
 few_by s None w codes e = absurd cc

@@ -12,14 +12,14 @@ use Rattle.zk_step.proofs.Rebounded.{answers_see_no_bounds}
 use Rattle.zk_code.specs.declared.instr.Instr.{Instr}
 use Rattle.zk_vm.specs.declared.stop.Stop.{Stop}
 use Rattle.zk_vm.specs.declared.waiting.Waiting.{Waiting}
-use Rattle.zk_vm.specs.Answers.{first_code, answered, answered_by, answer_settled}
+use Rattle.zk_vm.specs.Answers.{first_code, answered, answered_by, answer_settled, transcribed}
 use Rattle.zk_vm.specs.Laws.{IsNoFrameLimit, IsNoFrameStop, state_in, segment_in, session_in, FrameLimitsOnlyCutRuns}
-use Rattle.zk_vm.specs.Outcome.{Outcome, Segment, Session, segment, segment_by, segment_of, continued, followed, outcome, ended, ran, given, given_to, resumed}
+use Rattle.zk_vm.specs.Outcome.{Outcome, Segment, Session, segment, segment_by, segment_of, behind_due, continued, followed, outcome, ended, ran, given, given_to, resumed}
 use Rattle.zk_vm.specs.Step.{State, Step, Verdict, step, verdict_of, state_after, text_of}
 use Rattle.zk_vm.specs.Step.Step.{Goes, Waits, Quits, Faults}
 use Rattle.zk_vm.specs.Step.Verdict.{GoesOn, WaitsFor, StopsBy}
 use Rattle.zk_vm.proofs.FrameLimits.{step_in, step_same, verdict_same, goes_same, frame_limits_only_cut}
-use Rattle.zk_vm.proofs.Playing.{outcome_stopped}
+use Rattle.zk_vm.proofs.Playing.{outcome_stopped, ran_waiting}
 
 -- ---- bounds stay
 
@@ -61,7 +61,7 @@ segment_bounds (suc n) s =
     continued_bounds (verdict_of s (step s)) (state_after s (step s)) (text_of s (step s)) (segment n (state_after s (step s))) (most_f s) (most_w s) here (rest.0 ∙ here.0, rest.1 ∙ here.1)
 
 by_bounds : (x : Option Stop) (s : Session) → (most_f (segment_by x s.limits s.state).state ≡ most_f s.state) × (most_w (segment_by x s.limits s.state).state ≡ most_w s.state)
-by_bounds None s = segment_bounds (s.limits.steps - s.state.steps) s.state
+by_bounds None s = segment_bounds (s.limits.steps - s.state.steps) (record s.state { due = [] })
 by_bounds (Some stop) s = (refl, refl)
 
 ended_state : (s : Session) (g : Segment) (r : Result Waiting Stop) → (ended s g r).state ≡ g.state
@@ -77,21 +77,26 @@ ran_bounds s =
 
 -- ---- an answer, with other bounds
 
-settled_same : (f m : ℕ) (s : State) (r : Result (Workspace × Next) Fault) → answer_settled (state_in f m s) (led_in f m r) ≡ step_in f m (answer_settled s r)
+settled_same : (f m : ℕ) (s : State) (due : List ℕ) (r : Result (Workspace × Next) Fault) → answer_settled (state_in f m s) due (led_in f m r) ≡ step_in f m (answer_settled s due r)
 unfolding step_in
-settled_same f m s (Ok (w, next.At p)) = refl
-settled_same f m s (Ok (w, next.Waits x)) = refl
-settled_same f m s (Ok (w, next.End)) = refl
-settled_same f m s (Err e) = refl
+settled_same f m s due (Ok (w, next.At p)) = refl
+settled_same f m s due (Ok (w, next.Waits x)) = refl
+settled_same f m s due (Ok (w, next.End)) = refl
+settled_same f m s due (Err e) = refl
 
 answered_by_same : (f m : ℕ) (w : Workspace) (i : Instr) (x : Wait) (codes : List ℕ) → answered_by (rebounded f m w) i x codes ≡ led_in f m (answered_by w i x codes)
 answered_by_same f m w i (Line text parse) codes = answers_see_no_bounds.line f m w i text parse codes
 answered_by_same f m w i Char codes = answers_see_no_bounds.character f m w i (first_code codes)
 
+transcribed_same : (f m : ℕ) (w : Workspace) (x : Wait) (codes : List ℕ) → transcribed (rebounded f m w) x codes ≡ transcribed w x codes
+transcribed_same f m w (Line text parse) codes = refl
+transcribed_same f m w Char codes = refl
+
 answered_same : (f m : ℕ) (s : State) (w : Waiting) (codes : List ℕ) → answered (state_in f m s) w codes ≡ step_in f m (answered s w codes)
 unfolding answered
 answered_same f m s w codes =
-    ap (answer_settled (state_in f m s)) (answered_by_same f m s.workspace w.instruction w.wait codes) ∙ settled_same f m s (answered_by s.workspace w.instruction w.wait codes)
+    rw (transcribed_same f m s.workspace w.wait codes, answered_by_same f m s.workspace w.instruction w.wait codes)
+    (settled_same f m s (transcribed s.workspace w.wait codes) (answered_by s.workspace w.instruction w.wait codes))
 
 answered_bounds : (s : State) (w : Waiting) (codes : List ℕ) → (most_f (state_after s (answered s w codes)) ≡ most_f s) × (most_w (state_after s (answered s w codes)) ≡ most_w s)
 answered_bounds s w codes = after_bounds s (answered s w codes) (answered_same (most_f s) (most_w s) s w codes)
@@ -109,7 +114,7 @@ goes_bounds s x f m same few short t text e =
 segment_frames_by : (x : Option Stop) (f m : ℕ) (s : Session) → most_f s.state ≤ f → most_w s.state ≤ m → IsNoFrameLimit (segment_by x s.limits s.state).end
     → segment_by x (record s.limits { frames = f; words = m }) (state_in f m s.state) ≡ segment_in f m (segment_by x s.limits s.state)
 segment_frames_by (Some stop) f m s few short own = refl
-segment_frames_by None f m s few short own = frame_limits_only_cut (s.limits.steps - s.state.steps) f m s.state few short own
+segment_frames_by None f m s few short own = ap (behind_due s.state.due) (frame_limits_only_cut (s.limits.steps - s.state.steps) f m (record s.state { due = [] }) few short own)
 
 segment_frames : (f m : ℕ) (s : Session) → most_f s.state ≤ f → most_w s.state ≤ m → IsNoFrameLimit (segment_of s).end → segment_of (session_in f m s) ≡ segment_in f m (segment_of s)
 unfolding segment_of
@@ -150,10 +155,6 @@ resumed_bounds s (StopsBy stop) t h = (refl, refl)
 
 given_bounds : (s : Session) (w : Waiting) (codes : List ℕ) → (most_f (given_to (Some w) s codes).state ≡ most_f s.state) × (most_w (given_to (Some w) s codes).state ≡ most_w s.state)
 given_bounds s w codes = resumed_bounds s (verdict_of s.state (answered s.state w codes)) (state_after s.state (answered s.state w codes)) (answered_bounds s.state w codes)
-
-ran_waiting : (s : Session) (w : Waiting) → (segment_of s).end ≡ Ok w → (ran s).waiting ≡ Some w
-unfolding ran
-ran_waiting s w h = rw h refl
 
 -- the same of what a machine waits for
 

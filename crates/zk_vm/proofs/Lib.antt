@@ -8,5 +8,6 @@ pub mod Routes
 pub mod Runs
 pub mod Showing
 pub mod Texts
+pub mod Transcripts
 pub mod Writes
 pub mod UpperRows

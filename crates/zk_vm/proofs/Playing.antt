@@ -21,17 +21,19 @@ use Rattle.zk_vm.specs.declared.stop.Event.TheVariants as event
 use Rattle.zk_vm.specs.declared.stop.Stop.{Stop}
 use Rattle.zk_vm.specs.declared.stop.Stop.TheVariants.{Write}
 use Rattle.zk_vm.specs.declared.waiting.Waiting.{Waiting}
-use Rattle.zk_vm.specs.Answers.{first_code, answered_by, answered}
+use Rattle.zk_vm.specs.Answers.{first_code, answered_by, answered, answer_settled, transcribed}
 use Rattle.zk_vm.specs.Halts.{event_by, event_of, event_waited, IsLeftAs}
 use Rattle.zk_vm.specs.Outcome.{Outcome, Session, Segment, continued, segment, followed, outcome, segment_of, segment_by, ran, given, given_to}
-use Rattle.zk_vm.specs.Step.{State, Verdict, step, fetched, settled, led_to, state_after, text_of, verdict_of}
+use Rattle.zk_vm.specs.Step.{State, Verdict, step, fetched, settled, led_to, waits_by, state_after, text_of, verdict_of}
 use Rattle.zk_vm.specs.Step.Verdict.{GoesOn, WaitsFor, StopsBy}
+use Rattle.zk_vm.specs.View.{viewed}
 use Rattle.zk_vm.specs.Plays.{codes_read, typed, stop_behind, played, IsPlayed, IsAnswered, IsPlay, turned}
 
 -- a character is a line's first code
-char_by : (w : Workspace) (i : Instr) (x : Wait) (codes : List ℕ) → event_by x ≡ event.Char → answered_by w i x (first_code codes ∷ []) ≡ answered_by w i x codes
-char_by w i (wait.Line text parse) codes h = absurd cc
-char_by w i wait.Char codes h = refl
+char_by : (s : State) (i : Instr) (x : Wait) (codes : List ℕ) → event_by x ≡ event.Char
+    → answer_settled s (transcribed s.workspace x (first_code codes ∷ [])) (answered_by s.workspace i x (first_code codes ∷ [])) ≡ answer_settled s (transcribed s.workspace x codes) (answered_by s.workspace i x codes)
+char_by s i (wait.Line text parse) codes h = absurd cc
+char_by s i wait.Char codes h = refl
 
 some_event : (x : Wait) → ◌≡◌ {A = Option Event} (Some (event_by x)) (Some event.Char) → event_by x ≡ event.Char
 some_event x h = cc
@@ -39,7 +41,7 @@ some_event x h = cc
 char_to : (w : Option Waiting) (s : Session) (codes : List ℕ) → event_waited w ≡ Some event.Char → given_to w s (first_code codes ∷ []) ≡ given_to w s codes
 unfolding answered
 char_to None s codes h = absurd cc
-char_to (Some w) s codes h = rw (char_by s.state.workspace w.instruction w.wait codes (some_event w.wait h)) refl
+char_to (Some w) s codes h = rw (char_by s.state w.instruction w.wait codes (some_event w.wait h)) refl
 
 pub char_given : (s : Session) (codes : List ℕ) → event_waited s.waiting ≡ Some event.Char → given s (first_code codes ∷ []) ≡ given s codes
 unfolding given
@@ -284,13 +286,17 @@ left_none : (m s : Session) (x : Option Stop) → x ≡ None → IsLeftAs m s x 
 left_none m s None e left = left
 left_none m s (Some stop) e left = absurd cc
 
-ran_event : (s : Session) (w : Waiting) → (segment_of s).end ≡ Ok w → (ran s).waiting ≡ Some w
+pub ran_waiting : (s : Session) (w : Waiting) → (segment_of s).end ≡ Ok w → (ran s).waiting ≡ Some w
 unfolding ran
-ran_event s w h = rw h refl
+ran_waiting s w h = rw h refl
+
+waits_reads : (s : State) (i : Instr) (x : Wait) (r : Result (Workspace × Texts) Fault) → (state_after s (waits_by s i x r)).reads ≡ s.reads
+waits_reads s i x (Ok v) = refl
+waits_reads s i x (Err f) = refl
 
 led_reads : (s : State) (i : Instr) (w : Workspace) (text : Texts) (n : Next) → (state_after s (led_to s i w text n)).reads ≡ s.reads
 led_reads s i w text (next.At place) = refl
-led_reads s i w text (next.Waits x) = refl
+led_reads s i w text (next.Waits x) = waits_reads s i x (viewed w)
 led_reads s i w text next.End = refl
 
 settled_reads : (s : State) (i : Instr) (r : Result (Workspace × (Next × Texts)) Fault) → (state_after s (settled s i r)).reads ≡ s.reads
@@ -316,7 +322,7 @@ segment_reads zero s = refl
 segment_reads (suc n) s = continued_reads (verdict_of s (step s)) (state_after s (step s)) (text_of s (step s)) (segment n (state_after s (step s))) s.reads (step_reads s) (segment_reads n (state_after s (step s)) ∙ step_reads s)
 
 by_reads : (x : Option Stop) (s : Session) → (segment_by x s.limits s.state).state.reads ≡ s.state.reads
-by_reads None s = segment_reads (s.limits.steps - s.state.steps) s.state
+by_reads None s = segment_reads (s.limits.steps - s.state.steps) (record s.state { due = [] })
 by_reads (Some stop) s = refl
 
 ran_reads : (s : Session) (w : Waiting) → (segment_of s).end ≡ Ok w → (ran s).state.reads ≡ s.state.reads
@@ -340,7 +346,7 @@ turned_on a b now mid e h left =
       script_works = works.1;
       ends = both.1;
       same = same;
-      waits = ap (λ (m : Session). event_waited m.waiting) same ∙ ap event_waited (ran_event now w.0 w.1) ∙ ap (λ (x : Event). Some x) (same_event w.0.wait e event);
+      waits = ap (λ (m : Session). event_waited m.waiting) same ∙ ap event_waited (ran_waiting now w.0 w.1) ∙ ap (λ (x : Event). Some x) (same_event w.0.wait e event);
       runs = runs_on now w.0 w.1;
       reads = ap (λ (m : Session). m.state.reads) same ∙ ran_reads now w.0 w.1;
     }

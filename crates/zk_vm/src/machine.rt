@@ -62,12 +62,12 @@ impl Model for Machine {
     ghost use Rattle.zk_vm.specs.Halts.{CanAnswer};
     ghost use Rattle.zk_vm.specs.Outcome.{Session};
 
-    ghost use Rattle.std.specs.Coded.{codes};
-    ghost use Rattle.zk_step.specs.contracts.workspace.Workspace as workspace;
+    ghost use Rattle.std.specs.Coded as coded;
+    ghost use Rattle.zk_step.specs.contracts.workspace.Workspace as play;
 
     ghost Value = { Session };
 
-    ghost coded = { Prim.hlevel (codes, workspace.the_row.coded) };
+    ghost coded = { Prim.hlevel (coded.codes, play.the_row.coded) };
 
     ghost view = { λ m. record { state = record { workspace = m.workspace; place = m.place; steps = m.steps; reads = m.reads; due = m.due.items }; limits = m.limits; waiting = m.waiting; stopped = m.stopped } };
 
