@@ -11,3 +11,4 @@ pub mod Texts
 pub mod Transcripts
 pub mod Writes
 pub mod UpperRows
+pub mod Viewing

@@ -4,6 +4,7 @@ use Rattle.std.proofs.Common.{refl, sym, ap, ◌∙◌, subst, append_assoc, app
 use Rattle.zk_text.specs.declared.unit.Unit.{Unit}
 use Rattle.zk_text.specs.Extra.{ExtraTable}
 use Rattle.zk_text.specs.Shown.{shown, shown_all}
+use Rattle.zk_text.proofs.ShownLemmas.{shown_all-append, shown_all-one}
 use Rattle.zk_term.specs.Windows.{Windows, printed}
 use Rattle.zk_step.specs.Routing.{stored, stored_all, shown_if, ends_line}
 use Rattle.zk_vm.specs.declared.printer.Selected.{Selected}
@@ -17,11 +18,6 @@ ShownOn {S} shows on a b start end cs = (end ≡ ends_line start (shown_if on.sc
 -- they were given what units show
 abbrev pub Printed : {S : Type 0} → (S → S → List ℕ → List ℕ → Type 0) → ExtraTable → Selected → S → S → Bool → Bool → List Unit → Type 0
 Printed {S} shows e on a b start end us = ShownOn shows on a b start end (shown_all e us)
-
-pub shown_all-append : (e : ExtraTable) (s t : List Unit) → shown_all e (s ++ t) ≡ shown_all e s ++ shown_all e t
-unfolding shown_all
-shown_all-append e [] t = refl
-shown_all-append e (u ∷ s) t = ap (λ (cs : List ℕ). shown e u ++ cs) (shown_all-append e s t) ∙ sym (append_assoc (shown e u) (shown_all e s) (shown_all e t))
 
 pub shown_if-append : (on : Bool) (x y : List ℕ) → shown_if on (x ++ y) ≡ shown_if on x ++ shown_if on y
 shown_if-append true x y = refl
@@ -61,12 +57,8 @@ unfolding shown_all
 printed_nothing {S} shows e on a p h = shown_nothing shows on a p h
 
 -- a unit is what it shows
-one_unit : (e : ExtraTable) (u : Unit) → shown_all e (u ∷ []) ≡ shown e u
-unfolding shown_all
-one_unit e u = append-nil (shown e u)
-
 pub printed_unit : {S : Type 0} (shows : S → S → List ℕ → List ℕ → Type 0) (e : ExtraTable) (on : Selected) (a b : S) (p q : Bool) (u : Unit) (cs : List ℕ) → cs ≡ shown e u → ShownOn shows on a b p q cs → Printed shows e on a b p q (u ∷ [])
-printed_unit {S} shows e on a b p q u cs is h = subst (λ (x : List ℕ). ShownOn shows on a b p q x) (is ∙ sym (one_unit e u)) h
+printed_unit {S} shows e on a b p q u cs is h = subst (λ (x : List ℕ). ShownOn shows on a b p q x) (is ∙ sym (shown_all-one e u)) h
 
 -- ---- in the upper window
 
@@ -83,7 +75,7 @@ unfolding shown_all printed
 upper_nothing e a = refl
 
 pub upper_unit : (e : ExtraTable) (a b : Windows) (u : Unit) (cs : List ℕ) → cs ≡ shown e u → b ≡ printed cs a → b ≡ printed (shown_all e (u ∷ [])) a
-upper_unit e a b u cs is h = h ∙ ap (λ (x : List ℕ). printed x a) (is ∙ sym (one_unit e u))
+upper_unit e a b u cs is h = h ∙ ap (λ (x : List ℕ). printed x a) (is ∙ sym (shown_all-one e u))
 
 -- ---- in a table of stream 3
 

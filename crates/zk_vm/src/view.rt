@@ -1,6 +1,6 @@
 // What is shown of the status line and the upper window on a screen of plain lines.
 
-ghost use Rattle.std.specs.Prelude.{◌≡◌, ◌≤◌, ◌++◌, ◌∷◌, [], ℕ, List, Bool, Ok, Err, IsOk, MatchResult};
+ghost use Rattle.std.specs.Prelude.{◌≡◌, ◌≤◌, ◌++◌, ◌∷◌, ◌==◌, [], ℕ, List, true, false, Ok, Err, IsOk, MatchResult};
 ghost use Rattle.zk_state.specs.Frames.{bounds_of};
 ghost use Rattle.zk_text.specs.declared.unit.Unit.{Unit};
 ghost use Rattle.zk_text.specs.Extra.{own_characters};
@@ -8,7 +8,7 @@ ghost use Rattle.zk_text.specs.Shown.{shown_all};
 ghost use Rattle.zk_term.specs.Windows.{row_text};
 ghost use Rattle.zk_step.specs.Routing.{fresh_line};
 ghost use Rattle.zk_step.specs.Status.{status_units};
-ghost use Rattle.zk_vm.specs.View.{viewed, viewed_by, status_shown, rows_shown};
+ghost use Rattle.zk_vm.specs.View.{viewed, viewed_by, rows_shown};
 ghost use Rattle.zk_step.specs.Routing.{text_routed};
 ghost use Rattle.zk_step.specs.declared.workspace.View.TheVariants as view;
 
@@ -79,6 +79,7 @@ fn show_row<S: Screen>(screen: &mut S, windows: &Windows, row: u8)
 }
 
 /// Shows the rows of the upper window.
+#[tactic(auto, using(crate::proofs::Viewing::no_rows))]
 fn show_rows<S: Screen>(screen: &mut S, windows: &Windows)
     ensures { S.shows screen.old screen.new (rows_shown windows.now 1 windows.now.height) [] }
 {
@@ -120,21 +121,45 @@ pub fn show_view<S: Screen>(workspace: &mut Workspace, screen: &mut S)
     }
 }
 
-/// Shows the status line in version 3, and the rows of the upper window.
-fn show_lines<S: Screen>(workspace: &mut Workspace, screen: &mut S)
-    requires { IsOk (status_shown workspace.old.memory) }
+/// Shows the status line and the rows of the upper window, in version 3.
+fn show_status_and_rows<S: Screen>(workspace: &mut Workspace, screen: &mut S)
+    requires third { (workspace.old.memory.version == 3) ≡ true }
+    requires ready { IsOk (status_units workspace.old.memory) }
     ensures state { viewed_by view.Upper workspace.old ≡ Ok (workspace.new, text_routed (viewed_by view.Upper workspace.old)) }
-    ensures text { S.shows screen.old screen.new (text_routed (viewed_by view.Upper workspace.old)).screen [] }
+    ensures text { S.shows screen.old screen.new (text_routed (viewed_by view.Upper workspace.old)).screen (text_routed (viewed_by view.Upper workspace.old)).script }
     ensures bounds { bounds_of workspace.new.frames ≡ bounds_of workspace.old.frames }
 {
-    let has_status = workspace.memory.version() == 3;
-    if !has_status && workspace.windows.height() == 0 {
+    start_line(screen, workspace.at_line_start);
+    show_status_line(&workspace.memory, screen);
+    show_rows(screen, &workspace.windows);
+    workspace.at_line_start = true;
+}
+
+/// Shows the rows of the upper window, in other versions.
+fn show_rows_alone<S: Screen>(workspace: &mut Workspace, screen: &mut S)
+    requires { (workspace.old.memory.version == 3) ≡ false }
+    ensures state { viewed_by view.Upper workspace.old ≡ Ok (workspace.new, text_routed (viewed_by view.Upper workspace.old)) }
+    ensures text { S.shows screen.old screen.new (text_routed (viewed_by view.Upper workspace.old)).screen (text_routed (viewed_by view.Upper workspace.old)).script }
+    ensures bounds { bounds_of workspace.new.frames ≡ bounds_of workspace.old.frames }
+{
+    if workspace.windows.height() == 0 {
         return;
     }
     start_line(screen, workspace.at_line_start);
-    if has_status {
-        show_status_line(&workspace.memory, screen);
-    }
     show_rows(screen, &workspace.windows);
     workspace.at_line_start = true;
+}
+
+/// Shows the status line in version 3, and the rows of the upper window.
+fn show_lines<S: Screen>(workspace: &mut Workspace, screen: &mut S)
+    requires { IsOk (viewed_by view.Upper workspace.old) }
+    ensures state { viewed_by view.Upper workspace.old ≡ Ok (workspace.new, text_routed (viewed_by view.Upper workspace.old)) }
+    ensures text { S.shows screen.old screen.new (text_routed (viewed_by view.Upper workspace.old)).screen (text_routed (viewed_by view.Upper workspace.old)).script }
+    ensures bounds { bounds_of workspace.new.frames ≡ bounds_of workspace.old.frames }
+{
+    if workspace.memory.version() == 3 {
+        show_status_and_rows(workspace, screen);
+        return;
+    }
+    show_rows_alone(workspace, screen);
 }
