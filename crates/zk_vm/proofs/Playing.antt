@@ -1,6 +1,8 @@
 -- Turn after turn.
 use Rattle.std.proofs.Common.{◌≡◌, ◌∙◌, ◌<◌, ◌⊎◌, ◌||◌, inl, inr, ℕ, zero, suc, ◌+◌, ◌-◌, Bool, true, false, List, [], ◌∷◌, ◌++◌, take, append_assoc, append-nil, Option, Some, None, Result, Ok, Err, refl, ap, sym, subst, arith}
 use Rattle.std.specs.Prelude.{if◌then◌else◌}
+use Rattle.std.specs.List.{AllByRecursion}
+use Rattle.zk_text.specs.Extra.{is_input_code}
 use Rattle.zk_term.specs.declared.lines.Over.{Over}
 use Rattle.zk_term.specs.declared.lines.Over.TheVariants.{Failed}
 use Rattle.zk_term.specs.Devices.{Shows}
@@ -186,12 +188,13 @@ on_played line h h' failed now mid next e codes ends same hear read left o p = g
     go (inr q) = inr (q.0, (suc q.1.0, ap (shown_before (segment_of now).text) q.1.1 ∙ on (record { lines = take q.1.0 h'.lines; over = Failed }) ∙ rw hear refl))
 
 -- what is played on answers behind one that was given
-pub on_answered : (now mid next : Session) (e : Event) (codes : List ℕ) → event_of (segment_of now).end ≡ Ok e → mid ≡ ran now → IsLeftAs next (given mid codes) (given mid codes).stopped
+pub on_answered : (now mid next : Session) (e : Event) (codes : List ℕ) → AllByRecursion (λ c. is_input_code c ≡ true) codes → event_of (segment_of now).end ≡ Ok e → mid ≡ ran now → IsLeftAs next (given mid codes) (given mid codes).stopped
     → (o : Outcome) → IsAnswered next o → IsAnswered now (shown_before (segment_of now).text o)
-on_answered now mid next e codes ends same left o p =
+on_answered now mid next e codes typed ends same left o p =
     let w = waits_for (segment_of now).end e ends in
-    let there = outcome_left p.0 p.1.0 next (given mid codes) left ∙ ap (λ (m : Session). outcome p.0 p.1.0 (given m codes)) same in
-    (codes ∷ p.0, (p.1.0, ap (shown_before (segment_of now).text) (p.1.1 ∙ there) ∙ sym (outcome_on codes p.0 p.1.0 now w.0 w.1)))
+    let end = stop_behind p.1.0 in
+    let there = outcome_left p.0 end next (given mid codes) left ∙ ap (λ (m : Session). outcome p.0 end (given m codes)) same in
+    (codes ∷ p.0, (p.1.0, ((typed, p.1.1.0), ap (shown_before (segment_of now).text) (p.1.1.1 ∙ there) ∙ sym (outcome_on codes p.0 end now w.0 w.1))))
 
 -- ---- the end of a play
 

@@ -1,6 +1,10 @@
 -- The transcript, character by character.
-use Rattle.std.proofs.Common.{◌≡◌, ◌∙◌, ℕ, ◌+◌, ◌-◌, ◌*◌, ◌<◌, ◌≤◌, List, [], ◌∷◌, ◌++◌, length, take, map, get_or, None, sym, ap, refl, subst, arith, append-nil, append_assoc, length-append}
-use Rattle.std.proofs.lemmas.List.{take_more, map-append}
+use Rattle.std.proofs.Common.{◌≡◌, ◌∙◌, ℕ, ◌+◌, ◌-◌, ◌*◌, ◌<◌, ◌≤◌, List, [], ◌∷◌, ◌++◌, length, take, get_or, Bool, true, false, None, Result, Ok, Err, nat_lt, sym, ap, subst, arith, append-nil, append_assoc, length-append}
+use Rattle.std.specs.Prelude.{if◌then◌else◌}
+use Rattle.std.proofs.lemmas.List.{take_more, map-append, length-take}
+use Rattle.zk_mem.specs.declared.fault.Fault.{Fault}
+use Rattle.zk_mem.specs.Map.{MemoryMap, byte_at}
+use Rattle.zk_mem.specs.Results.{◌>>=◌}
 use Rattle.zk_text.specs.declared.shown.Shown.{Shown}
 use Rattle.zk_text.specs.declared.shown.Shown.TheVariants.{Nothing, One, TwoSpaces}
 use Rattle.zk_text.specs.declared.unit.Unit.TheVariants.{Code}
@@ -8,6 +12,7 @@ use Rattle.zk_text.specs.Extra.{ExtraTable}
 use Rattle.zk_text.specs.Shown.{shown, shown_all, characters_shown}
 use Rattle.zk_text.proofs.ShownLemmas.{shown_all-append, shown_all-one}
 use Rattle.zk_step.specs.Status.{code_units}
+use Rattle.zk_step.specs.TextBuffers.{early_kept, later_kept, is_filled, kept_of}
 use Rattle.zk_vm.specs.Outcome.{Session, segment, segment_of}
 
 -- one more character
@@ -52,3 +57,34 @@ codes_next t codes i before after s lt value few shows grown =
     let two = at_most_two s in
     let long : length after ≡ length before + length (characters_shown s) = ap length grown ∙ length-append before (characters_shown s) in
     (grown ∙ ap (λ (x : List ℕ). x ++ characters_shown s) value ∙ ap (λ (x : List ℕ). shown_all t (code_units (take i codes)) ++ x) shows ∙ sym all, omega arith)
+
+-- what a text buffer takes of a line is no longer than the line
+taken_short : (n : ℕ) (line kept : List ℕ) → ◌≡◌ {A = Result (List ℕ) Fault} (Ok (take n line)) (Ok kept) → length kept ≤ length line
+taken_short n line kept h =
+    let same : take n line ≡ kept = cc in
+    let short : length (take n line) ≤ length line = rw length-take (omega arith) in
+    rw (← same) short
+
+kept_early : (r : Result ℕ Fault) (line kept : List ℕ) → (r >>= λ size. Ok (early_kept size line)) ≡ Ok kept → length kept ≤ length line
+kept_early (Ok size) line kept h = taken_short (size - 1) line kept h
+kept_early (Err f) line kept h = absurd cc
+
+kept_filled : (b : Bool) (n : ℕ) (line kept : List ℕ) → ◌≡◌ {A = Result (List ℕ) Fault} (Ok (if b then [] else take n line)) (Ok kept) → length kept ≤ length line
+kept_filled true n line kept h = let same : kept ≡ [] = cc in rw same (omega arith)
+kept_filled false n line kept h = taken_short n line kept h
+
+kept_count : (r : Result ℕ Fault) (size : ℕ) (line kept : List ℕ) → (r >>= λ count. Ok (later_kept size count line)) ≡ Ok kept → length kept ≤ length line
+kept_count (Ok count) size line kept h = kept_filled (is_filled size count) (size - count) line kept h
+kept_count (Err f) size line kept h = absurd cc
+
+kept_later : (r s : Result ℕ Fault) (line kept : List ℕ) → (r >>= λ size. s >>= λ count. Ok (later_kept size count line)) ≡ Ok kept → length kept ≤ length line
+kept_later (Ok size) s line kept h = kept_count s size line kept h
+kept_later (Err f) s line kept h = absurd cc
+
+pub kept_short : (m : MemoryMap) (text : ℕ) (line kept : List ℕ) → kept_of m text line ≡ Ok kept → length kept ≤ length line
+unfolding kept_of
+kept_short m text line kept h = go (nat_lt m.version 5) h
+  where
+    go : (b : Bool) → (if b then (byte_at m text >>= λ size. Ok (early_kept size line)) else (byte_at m text >>= λ size. byte_at m (text + 1) >>= λ count. Ok (later_kept size count line))) ≡ Ok kept → length kept ≤ length line
+    go true k = kept_early (byte_at m text) line kept k
+    go false k = kept_later (byte_at m text) (byte_at m (text + 1)) line kept k

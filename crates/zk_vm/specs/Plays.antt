@@ -1,6 +1,7 @@
 -- A story is played: its reads are answered by the lines of an input.
 use Rattle.std.specs.Prelude.{◌≡◌, ◌⊎◌, ℕ, Bool, true, false, List, [], ◌∷◌, take, Option, if◌then◌else◌}
-use Rattle.zk_text.specs.Extra.{own_characters}
+use Rattle.std.specs.List.{AllByRecursion}
+use Rattle.zk_text.specs.Extra.{is_input_code, own_characters}
 use Rattle.zk_term.specs.declared.lines.Over.{Over}
 use Rattle.zk_term.specs.declared.lines.Over.TheVariants.{End, Failed}
 use Rattle.zk_term.specs.Characters.{line_codes}
@@ -36,9 +37,13 @@ IsPlayed h failed s o = (o ≡ played h s) ⊎ ((failed ≡ true) × ((n : ℕ) 
 abbrev pub turned : Bool → Session → Session
 turned failed s = if failed then with_stop s Write else ran s
 
--- an outcome of a machine's run on some answers
+-- lines of codes that can be typed
+abbrev pub CanBeTyped : List (List ℕ) → Type 0
+CanBeTyped answers = AllByRecursion (λ codes. AllByRecursion (λ c. is_input_code c ≡ true) codes) answers
+
+-- an outcome of a machine's run on some answers, behind which the input has ended or a read of it has failed
 abbrev pub IsAnswered : Session → Outcome → Type 0
-IsAnswered s o = (answers : List (List ℕ)) × ((end : Stop) × (o ≡ outcome answers end s))
+IsAnswered s o = (answers : List (List ℕ)) × ((over : Over) × (CanBeTyped answers × (o ≡ outcome answers (stop_behind over) s)))
 
 -- A machine was played: there is an outcome, of a kind, that it has. Where a write has failed the stop is that, and each
 -- target took a first part of its text, else all of it.

@@ -61,7 +61,6 @@ impl Model for Machine {
     ghost use Rattle.zk_state.specs.Frames.{bounds_of};
     ghost use Rattle.zk_vm.specs.Halts.{CanAnswer};
     ghost use Rattle.zk_vm.specs.Outcome.{Session};
-
     ghost use Rattle.std.specs.Coded as coded;
     ghost use Rattle.zk_step.specs.contracts.workspace.Workspace as play;
 

@@ -27,7 +27,7 @@ returns-in-Err-clause-played g c = λ bytes told.
 
 pub returns-in-Err-clause-answered : goal.returns-in-Err-clause-answered
 returns-in-Err-clause-answered g c =
-    stops_play _ _ c.loop-event.machine (outcome [] EndOfInput c.loop-event.machine) _ _ _ _ _ _ _ _ c.loop-event.invariant.answered ([], (EndOfInput, refl)) (outcome_is [] EndOfInput c.loop-event.machine) c.in-Err.ensures.answer c.in-Err.ensures.screen c.in-Err.ensures.script
+    stops_play _ _ c.loop-event.machine (outcome [] EndOfInput c.loop-event.machine) _ _ _ _ _ _ _ _ c.loop-event.invariant.answered ([], (End, (tt, refl))) (outcome_is [] EndOfInput c.loop-event.machine) c.in-Err.ensures.answer c.in-Err.ensures.screen c.in-Err.ensures.script
 
 pub returns-in-Err-clause-stopped : goal.returns-in-Err-clause-stopped
 returns-in-Err-clause-stopped g c = turned_off _ c.loop-event.machine c.turn.new.machine c.in-Err.stop c.in-Err.ensures.answer c.in-Err.ensures.left
@@ -55,7 +55,7 @@ loop-event-preserved g c =
       limits = c.answer.ensures.limits ∙ c.in-Ok.ensures.limits ∙ c.loop-event.invariant.limits;
       slot = c.in-Ok.ensures.slot ∙ c.loop-event.invariant.slot;
       answered = so_far_on _ _ _ _ _ _ _ _ _ (segment_of c.loop-event.machine).text c.loop-event.invariant.answered (rw none at c.in-Ok.ensures.screen) (rw none at c.in-Ok.ensures.script)
-          (on_answered c.loop-event.machine c.turn.new.machine c.answer.new.machine c.in-Ok.event c.in-Line.codes.items t.ends t.same left);
+          (on_answered c.loop-event.machine c.turn.new.machine c.answer.new.machine c.in-Ok.event c.in-Line.codes.items c.in-Line.ensures.codes t.ends t.same left);
       played = λ bytes told.
           let s = c.loop-event.invariant.played bytes told in
           let h = c.in-Line.ensures.heard s.0 s.1 in (
@@ -78,7 +78,7 @@ pub returns-in-End-clause-answered : goal.returns-in-End-clause-answered
 returns-in-End-clause-answered g c =
     let t = turned_on (g.S.Target.failed c.turn.new.screen) (g.T.Target.failed c.turn.new.script) c.loop-event.machine c.turn.new.machine c.in-Ok.event c.in-Ok.ensures.answer c.in-Ok.ensures.left in
     let none : (g.S.Target.failed c.turn.new.screen || g.T.Target.failed c.turn.new.script) ≡ false = rw (t.screen_works, t.script_works) refl in
-    rw (none, c.close.ensures.value) (answers_end _ _ c.loop-event.machine (outcome [] EndOfInput c.loop-event.machine) _ _ _ _ _ _ EndOfInput c.loop-event.invariant.answered ([], (EndOfInput, refl)) (no_answer EndOfInput c.loop-event.machine c.in-Ok.event t.ends) (rw none at c.in-Ok.ensures.screen) (rw none at c.in-Ok.ensures.script))
+    rw (none, c.close.ensures.value) (answers_end _ _ c.loop-event.machine (outcome [] EndOfInput c.loop-event.machine) _ _ _ _ _ _ EndOfInput c.loop-event.invariant.answered ([], (End, (tt, refl))) (no_answer EndOfInput c.loop-event.machine c.in-Ok.event t.ends) (rw none at c.in-Ok.ensures.screen) (rw none at c.in-Ok.ensures.script))
 
 pub returns-in-Failed-clause-played : goal.returns-in-Failed-clause-played
 returns-in-Failed-clause-played g c = λ bytes told.
@@ -92,4 +92,4 @@ pub returns-in-Failed-clause-answered : goal.returns-in-Failed-clause-answered
 returns-in-Failed-clause-answered g c =
     let t = turned_on (g.S.Target.failed c.turn.new.screen) (g.T.Target.failed c.turn.new.script) c.loop-event.machine c.turn.new.machine c.in-Ok.event c.in-Ok.ensures.answer c.in-Ok.ensures.left in
     let none : (g.S.Target.failed c.turn.new.screen || g.T.Target.failed c.turn.new.script) ≡ false = rw (t.screen_works, t.script_works) refl in
-    rw (none, c.close-in-Failed.ensures.value) (answers_end _ _ c.loop-event.machine (outcome [] Read c.loop-event.machine) _ _ _ _ _ _ Read c.loop-event.invariant.answered ([], (Read, refl)) (no_answer Read c.loop-event.machine c.in-Ok.event t.ends) (rw none at c.in-Ok.ensures.screen) (rw none at c.in-Ok.ensures.script))
+    rw (none, c.close-in-Failed.ensures.value) (answers_end _ _ c.loop-event.machine (outcome [] Read c.loop-event.machine) _ _ _ _ _ _ Read c.loop-event.invariant.answered ([], (Failed, (tt, refl))) (no_answer Read c.loop-event.machine c.in-Ok.event t.ends) (rw none at c.in-Ok.ensures.screen) (rw none at c.in-Ok.ensures.script))
