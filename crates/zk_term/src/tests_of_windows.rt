@@ -248,5 +248,11 @@ fn the_last_row_and_column_are_used(rt: HostRuntime) -> Result<(), Fail> {
     windows.set_cursor(255, 80);
     windows.erase_line();
     assert_eq!(rt; windows.row(255).len(), 0);
+    windows.set_cursor(255, 1);
+    windows.put('d');
+    assert_eq!(rt; windows.row(255), ['d'].as_slice());
+    windows.clear();
+    assert_eq!(rt; windows.row(255).len(), 0);
+    assert_eq!(rt; windows.height(), 255);
     Ok(())
 }
