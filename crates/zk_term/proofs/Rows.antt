@@ -53,7 +53,7 @@ same_columns f (x ∷ xs) from (suc n) long each =
     let rest : xs ≡ map f (columns_from (from + 1) n) = same_columns f xs (from + 1) n (omega arith) (λ k low. each (suc k) (omega arith) ∙ ap f (omega arith)) in
     cc
 
-on_row : (row column : ℕ) → 1 ≤ row → row ≤ 255 → 1 ≤ column → column ≤ 80 → is_on_grid row column ≡ true
+pub on_row : (row column : ℕ) → 1 ≤ row → row ≤ 255 → 1 ≤ column → column ≤ 80 → is_on_grid row column ≡ true
 on_row row column row_from row_to column_from column_to =
     and_from _ _ (and_from _ _ (and_from _ _ (le-leb 1 row row_from) (le-leb row 255 row_to)) (le-leb 1 column column_from)) (le-leb column 80 column_to)
 

@@ -2,8 +2,10 @@
 -- and no definition made them.
 use Rattle.std.specs.Prelude.{◌≡◌, ℕ, List, [], ◌∷◌, ◌++◌, Some, None, replicate, codes}
 use Rattle.zk_term.specs.declared.lines.Over.TheVariants as over
+use Rattle.zk_term.specs.declared.windows.Window.TheVariants.{Lower, Upper}
 use Rattle.zk_term.specs.Characters.{characters_of, line_codes}
 use Rattle.zk_term.specs.Lines.{Heard, heard}
+use Rattle.zk_term.specs.Windows.{Windows, first_windows, split, window_selected, cleared, unsplit, line_erased, cursor_set, next_row, printed, row_text}
 
 -- ---- characters (Unicode Standard, table 3-7)
 
@@ -91,3 +93,166 @@ TooManyBytes =
     (heard (replicate 65535 97 ++ 10 ∷ []) ≡ lines_heard (replicate 65535 97 ∷ []))
     × (heard (replicate 65535 97) ≡ lines_heard (replicate 65535 97 ∷ []))
     × (heard (98 ∷ 10 ∷ replicate 65536 97 ++ 10 ∷ 99 ∷ []) ≡ record { lines = (98 ∷ []) ∷ []; over = over.Failed })
+
+-- ---- the upper window (sections 8.6 and 8.7)
+
+-- an upper window of so many rows, which is selected
+abbrev pub upper_window : ℕ → Windows
+upper_window lines = window_selected Upper (split 5 lines first_windows)
+
+-- the row and the column of the cursor
+abbrev pub cursor_of : Windows → ℕ × ℕ
+cursor_of w = (w.row, w.column)
+
+-- in the rows of an upper window stand an a, a b and a c, and the cursor is in the third row, at column 7
+abbrev pub three_rows : Windows
+three_rows = cursor_set 3 7 (printed (97 ∷ 10 ∷ 98 ∷ 10 ∷ 99 ∷ []) (upper_window 3))
+
+-- at the start there is no upper window, and the lower one is selected (section 8.7.2)
+abbrev pub WindowsAtTheStart : Type 0
+WindowsAtTheStart =
+    (first_windows.height ≡ 0)
+    × (first_windows.selected ≡ Lower)
+    × (cursor_of first_windows ≡ (1, 1))
+    × (first_windows.cells.at 1 1 ≡ 32)
+    × (first_windows.cells.at 255 80 ≡ 32)
+    × (row_text first_windows 1 ≡ [])
+
+-- characters stand in one cell after another, over what is there (section 8.7.2)
+abbrev pub CharactersOfARow : Type 0
+CharactersOfARow =
+    (row_text (printed (codes "hi") (upper_window 2)) 1 ≡ codes "hi")
+    × (row_text (printed (codes "hi") (upper_window 2)) 2 ≡ [])
+    × (cursor_of (printed (codes "hi") (upper_window 2)) ≡ (1, 3))
+    × (row_text (printed (codes "hi") (cursor_set 2 4 (upper_window 2))) 2 ≡ codes "   hi")
+    × (row_text (printed (codes "X") (cursor_set 1 2 (printed (codes "abcd") (upper_window 1)))) 1 ≡ codes "aXcd")
+    × (row_text (printed (codes "  ") (cursor_set 1 2 (printed (codes "abcd") (upper_window 1)))) 1 ≡ codes "a  d")
+
+-- a new line goes to the first column of the next row, past the last row at most
+abbrev pub NewLinesGoDown : Type 0
+NewLinesGoDown =
+    (row_text (printed (97 ∷ 98 ∷ 10 ∷ 99 ∷ []) (upper_window 2)) 1 ≡ codes "ab")
+    × (row_text (printed (97 ∷ 98 ∷ 10 ∷ 99 ∷ []) (upper_window 2)) 2 ≡ codes "c")
+    × (cursor_of (printed (97 ∷ 98 ∷ 10 ∷ 99 ∷ []) (upper_window 2)) ≡ (2, 2))
+    × (cursor_of (printed (10 ∷ []) (cursor_set 254 7 (upper_window 2))) ≡ (255, 1))
+    × (cursor_of (printed (10 ∷ []) (cursor_set 255 7 (upper_window 2))) ≡ (256, 1))
+    × (cursor_of (printed (10 ∷ 10 ∷ []) (cursor_set 255 7 (upper_window 2))) ≡ (256, 1))
+    × (cursor_of (next_row 5 (cursor_set 2 9 (upper_window 2))) ≡ (3, 5))
+    × (cursor_of (next_row 81 (next_row 5 (cursor_set 255 9 (upper_window 2)))) ≡ (256, 81))
+
+-- what stands past column 80 is dropped, and the cursor stays at column 81
+abbrev pub TheLastColumn : Type 0
+TheLastColumn =
+    ((printed (codes "ab") (cursor_set 1 80 (upper_window 2))).cells.at 1 80 ≡ 97)
+    × ((printed (codes "ab") (cursor_set 1 80 (upper_window 2))).cells.at 1 79 ≡ 32)
+    × ((printed (codes "ab") (cursor_set 1 80 (upper_window 2))).cells.at 2 1 ≡ 32)
+    × (cursor_of (printed (codes "a") (cursor_set 1 80 (upper_window 2))) ≡ (1, 81))
+    × (cursor_of (printed (codes "ab") (cursor_set 1 80 (upper_window 2))) ≡ (1, 81))
+    × (cursor_of (printed (97 ∷ 98 ∷ 10 ∷ []) (cursor_set 1 80 (upper_window 2))) ≡ (2, 1))
+
+-- what stands below the height is dropped, and the cursor moves all the same
+abbrev pub BelowTheHeight : Type 0
+BelowTheHeight =
+    ((printed (codes "a") (cursor_set 2 1 (upper_window 2))).cells.at 2 1 ≡ 97)
+    × ((printed (codes "a") (cursor_set 2 1 (upper_window 1))).cells.at 2 1 ≡ 32)
+    × (cursor_of (printed (codes "a") (cursor_set 2 1 (upper_window 1))) ≡ (2, 2))
+    × ((split 5 2 (printed (codes "a") (cursor_set 2 1 (upper_window 1)))).cells.at 2 1 ≡ 32)
+    × ((printed (10 ∷ 97 ∷ []) (cursor_set 255 80 (upper_window 255))).cells.at 255 1 ≡ 32)
+    × (cursor_of (printed (10 ∷ 97 ∷ []) (cursor_set 255 80 (upper_window 255))) ≡ (256, 2))
+    × ((printed (codes "a") (cursor_set 255 80 (upper_window 255))).cells.at 255 80 ≡ 97)
+
+-- a split empties the rows past the height, and in version 3 all (section 8.6.1.1)
+abbrev pub SplitsEmptyRows : Type 0
+SplitsEmptyRows =
+    (row_text (split 5 2 three_rows) 1 ≡ codes "a")
+    × (row_text (split 5 2 three_rows) 2 ≡ codes "b")
+    × (row_text (split 5 2 three_rows) 3 ≡ [])
+    × (row_text (split 5 3 (split 5 2 three_rows)) 3 ≡ [])
+    × (row_text (split 5 4 three_rows) 3 ≡ codes "c")
+    × (row_text (split 8 2 three_rows) 1 ≡ codes "a")
+    × (row_text (split 3 2 three_rows) 1 ≡ [])
+    × (row_text (split 3 4 three_rows) 3 ≡ [])
+
+-- there are 255 rows at most
+abbrev pub HeightsOfSplits : Type 0
+HeightsOfSplits =
+    ((split 5 0 three_rows).height ≡ 0)
+    × ((split 5 2 three_rows).height ≡ 2)
+    × ((split 3 255 three_rows).height ≡ 255)
+    × ((split 5 256 three_rows).height ≡ 255)
+    × ((split 5 65535 three_rows).height ≡ 255)
+    × ((split 5 2 three_rows).selected ≡ Upper)
+    × ((split 5 2 first_windows).selected ≡ Lower)
+
+-- the cursor stays where it is not below the new height
+abbrev pub SplitsAndTheCursor : Type 0
+SplitsAndTheCursor =
+    (cursor_of (split 5 3 three_rows) ≡ (3, 7))
+    × (cursor_of (split 5 4 three_rows) ≡ (3, 7))
+    × (cursor_of (split 5 2 three_rows) ≡ (1, 1))
+    × (cursor_of (split 3 3 three_rows) ≡ (3, 7))
+    × (cursor_of (split 3 2 three_rows) ≡ (1, 1))
+    × (cursor_of (split 5 0 (cursor_set 1 7 three_rows)) ≡ (1, 1))
+    × (cursor_of (split 5 65535 (next_row 7 (cursor_set 255 1 three_rows))) ≡ (1, 1))
+
+-- the upper window is selected with its cursor at the top left, the lower one leaves it alone (section 8.7.2)
+abbrev pub SelectedWindows : Type 0
+SelectedWindows =
+    ((window_selected Lower three_rows).selected ≡ Lower)
+    × (cursor_of (window_selected Lower three_rows) ≡ (3, 7))
+    × ((window_selected Upper (window_selected Lower three_rows)).selected ≡ Upper)
+    × (cursor_of (window_selected Upper three_rows) ≡ (1, 1))
+    × ((window_selected Upper three_rows).height ≡ 3)
+    × (row_text (window_selected Upper three_rows) 3 ≡ codes "c")
+
+-- the cursor is set to a cell of the grid, also to one below the height (section 15, `set_cursor`)
+abbrev pub CursorsOnTheGrid : Type 0
+CursorsOnTheGrid =
+    (cursor_of (cursor_set 2 5 three_rows) ≡ (2, 5))
+    × (cursor_of (cursor_set 0 0 three_rows) ≡ (1, 1))
+    × (cursor_of (cursor_set 1 1 three_rows) ≡ (1, 1))
+    × (cursor_of (cursor_set 255 80 three_rows) ≡ (255, 80))
+    × (cursor_of (cursor_set 256 81 three_rows) ≡ (255, 80))
+    × (cursor_of (cursor_set 300 300 three_rows) ≡ (255, 80))
+
+-- a row is emptied from the cursor on, and the cursor stays (section 15, `erase_line`)
+abbrev pub RestsOfRows : Type 0
+RestsOfRows =
+    (row_text (line_erased (cursor_set 1 3 (printed (codes "abcdef") three_rows))) 3 ≡ codes "c     abcdef")
+    × (row_text (line_erased (cursor_set 3 9 (printed (codes "abcdef") three_rows))) 3 ≡ codes "c     ab")
+    × (row_text (line_erased (cursor_set 3 1 (printed (codes "abcdef") three_rows))) 3 ≡ [])
+    × (row_text (line_erased (cursor_set 3 1 three_rows)) 2 ≡ codes "b")
+    × (row_text (line_erased (cursor_set 2 1 three_rows)) 3 ≡ codes "c")
+    × (cursor_of (line_erased three_rows) ≡ (3, 7))
+    × ((line_erased (printed (codes "z") (cursor_set 1 80 (upper_window 1)))).cells.at 1 80 ≡ 122)
+    × ((line_erased (cursor_set 1 80 (printed (codes "yz") (cursor_set 1 79 (upper_window 1))))).cells.at 1 80 ≡ 32)
+    × ((line_erased (cursor_set 1 80 (printed (codes "yz") (cursor_set 1 79 (upper_window 1))))).cells.at 1 79 ≡ 121)
+    × ((line_erased (printed (122 ∷ 10 ∷ []) (cursor_set 255 1 (upper_window 255)))).cells.at 255 1 ≡ 122)
+
+-- all cells are emptied, and the cursor goes to the top left; height and window stay (section 8.7.3)
+abbrev pub ClearedWindows : Type 0
+ClearedWindows =
+    (row_text (cleared three_rows) 1 ≡ [])
+    × (row_text (cleared three_rows) 3 ≡ [])
+    × (cursor_of (cleared three_rows) ≡ (1, 1))
+    × ((cleared three_rows).height ≡ 3)
+    × ((cleared three_rows).selected ≡ Upper)
+    × ((cleared first_windows).selected ≡ Lower)
+
+-- the same, and the upper window goes (section 8.7.3.3)
+abbrev pub UnsplitWindows : Type 0
+UnsplitWindows =
+    (row_text (unsplit three_rows) 1 ≡ [])
+    × (row_text (unsplit three_rows) 3 ≡ [])
+    × (cursor_of (unsplit three_rows) ≡ (1, 1))
+    × ((unsplit three_rows).height ≡ 0)
+    × ((unsplit three_rows).selected ≡ Lower)
+
+-- the text of a row has no spaces at its end, and all others
+abbrev pub TextsOfRows : Type 0
+TextsOfRows =
+    (row_text (printed (codes "  a b  ") (upper_window 1)) 1 ≡ codes "  a b")
+    × (row_text (printed (codes "   ") (upper_window 1)) 1 ≡ [])
+    × (row_text (printed (codes "z") (cursor_set 1 80 (upper_window 1))) 1 ≡ replicate 79 32 ++ 122 ∷ [])
+    × (row_text (printed (replicate 82 120) (upper_window 2)) 1 ≡ replicate 80 120)
+    × (row_text (printed (replicate 82 120) (upper_window 2)) 2 ≡ [])

@@ -50,6 +50,7 @@ is_on_grid-true row column on =
 row_of : Cells → ℕ → List ℕ
 row_of cells row = map (cells.at row) (range_with_len 1 80)
 
+-- all rows, each a list of its 80 characters
 pub rows_of : Cells → List (List ℕ)
 rows_of cells = map (row_of cells) (range_with_len 1 255)
 
@@ -61,12 +62,14 @@ cell_at : (cells : Cells) (row column : ℕ) → 1 ≤ column → column ≤ 80 
 unfolding row_of
 cell_at cells row column from to = get_or-map-range_with_len (cells.at row) 1 80 (column - 1) column 0 (omega arith) (omega arith)
 
+-- two grids of the same rows are the same
 pub same_rows : (a b : Cells) → rows_of a ≡ rows_of b → a ≡ b
 same_rows a b same = same_cells a b (λ row column on.
     let g = is_on_grid-true row column on in
     let rows : row_of a row ≡ row_of b row = sym (row_at a row g.row_from g.row_to) ∙ (ap (λ (rs : List (List ℕ)). get_or rs (row - 1) []) same ∙ row_at b row g.row_from g.row_to) in
     sym (cell_at a row column g.column_from g.column_to) ∙ (ap (λ (r : List ℕ). get_or r (column - 1) 0) rows ∙ cell_at b row column g.column_from g.column_to))
 
+-- a grid is stored as its rows
 abbrev pub cells_code : Coded Cells
 cells_code = coded_via (coded_list (coded_list coded_ℕ)) rows_of same_rows
 
@@ -81,6 +84,7 @@ window_back Upper = refl
 abbrev window_code : Coded Window
 window_code = code_by Bool coded_bool is_upper (λ b. cond b Upper Lower) window_back
 
+-- the windows are stored field by field
 abbrev pub windows_code : Coded Windows
 windows_code =
     code_by (Cells × (ℕ × (ℕ × (ℕ × Window)))) (coded× cells_code (coded× coded_ℕ (coded× coded_ℕ (coded× coded_ℕ window_code))))

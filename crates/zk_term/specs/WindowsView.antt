@@ -4,6 +4,7 @@ use Rattle.zk_term.specs.declared.windows.Windows.TheInside.{Inside}
 use Rattle.zk_term.specs.Places.{cells_of}
 use Rattle.zk_term.specs.Windows.{Windows}
 
+-- what contracts see
 abbrev pub windows_of : Inside → Windows
 windows_of w = record { cells = cells_of w.cells.items; height = w.height; row = w.row; column = w.column; selected = w.selected }
 

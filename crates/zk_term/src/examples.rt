@@ -1,6 +1,7 @@
 // Worked examples of the definitions, which refuse one that is turned together with its body.
 
 ghost use Rattle.zk_term.specs.Examples.{CharactersOfEachLength, StrayBytes, CodesOfALine, QuestionMarks, CodesByAnOwnTable, LongLines, NewLinesEndLines, ReturnsBeforeNewLines, TooManyBytes};
+ghost use Rattle.zk_term.specs.Examples.{WindowsAtTheStart, CharactersOfARow, NewLinesGoDown, TheLastColumn, BelowTheHeight, SplitsEmptyRows, HeightsOfSplits, SplitsAndTheCursor, SelectedWindows, CursorsOnTheGrid, RestsOfRows, ClearedWindows, UnsplitWindows, TextsOfRows};
 
 /// The characters of bytes in UTF-8, and bytes that are none.
 pub fn characters_by_example()
@@ -22,4 +23,33 @@ pub fn lines_by_example()
     ensures new_lines_end_lines { NewLinesEndLines }
     ensures returns_before_new_lines { ReturnsBeforeNewLines }
     ensures too_many_bytes { TooManyBytes }
+{}
+
+/// Characters in the upper window.
+#[tactic(auto, unfolding(crate::specs::Grid::on_grid, crate::specs::Grid::no_cells, crate::specs::Grid::emptied, crate::specs::Grid::cell_put, crate::specs::Windows::first_windows, crate::specs::Windows::split, crate::specs::Windows::window_selected, crate::specs::Windows::cursor_set, crate::specs::Windows::printed, crate::specs::Windows::character_printed, crate::specs::Windows::next_row, crate::specs::Windows::row_text, crate::specs::Windows::columns_from, crate::specs::Windows::without_last_blanks))]
+pub fn prints_by_example()
+    ensures windows_at_the_start { WindowsAtTheStart }
+    ensures characters_of_a_row { CharactersOfARow }
+    ensures new_lines_go_down { NewLinesGoDown }
+    ensures the_last_column { TheLastColumn }
+    ensures below_the_height { BelowTheHeight }
+    ensures texts_of_rows { TextsOfRows }
+{}
+
+/// Splits of the screen (Standard, section 8.6.1).
+#[tactic(auto, unfolding(crate::specs::Grid::on_grid, crate::specs::Grid::no_cells, crate::specs::Grid::emptied, crate::specs::Grid::cell_put, crate::specs::Windows::first_windows, crate::specs::Windows::split, crate::specs::Windows::window_selected, crate::specs::Windows::cursor_set, crate::specs::Windows::printed, crate::specs::Windows::character_printed, crate::specs::Windows::next_row, crate::specs::Windows::row_text, crate::specs::Windows::columns_from, crate::specs::Windows::without_last_blanks))]
+pub fn splits_by_example()
+    ensures splits_empty_rows { SplitsEmptyRows }
+    ensures heights_of_splits { HeightsOfSplits }
+    ensures splits_and_the_cursor { SplitsAndTheCursor }
+    ensures selected_windows { SelectedWindows }
+    ensures cursors_on_the_grid { CursorsOnTheGrid }
+{}
+
+/// What erases the upper window (Standard, section 8.7.3).
+#[tactic(auto, unfolding(crate::specs::Grid::on_grid, crate::specs::Grid::no_cells, crate::specs::Grid::emptied, crate::specs::Grid::cell_put, crate::specs::Windows::first_windows, crate::specs::Windows::split, crate::specs::Windows::window_selected, crate::specs::Windows::cursor_set, crate::specs::Windows::printed, crate::specs::Windows::character_printed, crate::specs::Windows::next_row, crate::specs::Windows::cleared, crate::specs::Windows::unsplit, crate::specs::Windows::line_erased, crate::specs::Windows::row_text, crate::specs::Windows::columns_from, crate::specs::Windows::without_last_blanks))]
+pub fn erasures_by_example()
+    ensures rests_of_rows { RestsOfRows }
+    ensures cleared_windows { ClearedWindows }
+    ensures unsplit_windows { UnsplitWindows }
 {}

@@ -1,7 +1,8 @@
-// Laws of the lines of an input.
+// Laws of the lines of an input and of the upper window.
 
 ghost use Rattle.zk_term.specs.Characters.{CharactersAreSpelled, CharactersAreDetermined};
 ghost use Rattle.zk_term.specs.Lines.{AreLines};
+ghost use Rattle.zk_term.specs.WindowLaws.{CharactersStandInARow, PrintsKeepTheSplit, PrintsKeepTheRowsBelow, PrintsFollowOneAnother, SplitsEmptyThePast, KeepsTheCursor, SpacesAtTheEndGo, ClearedRowsHaveNoText};
 
 /// The characters of bytes are those that the bytes spell.
 pub fn characters_are_spelled()
@@ -17,4 +18,35 @@ pub fn characters_are_determined()
 /// too many bytes for one, or with nothing.
 pub fn lines_come_one_by_one()
     ensures { AreLines }
+{}
+
+/// Characters that are printed in a row of the upper window stand in consecutive cells, and nothing else is
+/// changed (Standard, section 8.7.2).
+pub fn characters_stand_in_a_row()
+    ensures { CharactersStandInARow }
+{}
+
+/// What is printed in the upper window changes neither its height nor the selected window, nor a row below the
+/// height; and a text behind another goes on where that one ends.
+pub fn prints_keep_the_rest()
+    ensures split { PrintsKeepTheSplit }
+    ensures rows { PrintsKeepTheRowsBelow }
+    ensures together { PrintsFollowOneAnother }
+{}
+
+/// A split keeps the rows of the upper window and empties those past it, and in version 3 it empties all
+/// (Standard, section 8.6.1.1).
+pub fn splits_empty_the_past()
+    ensures { SplitsEmptyThePast }
+{}
+
+/// The cursor stands on the grid, or right past its last row or column.
+pub fn cursors_stay_near_the_grid()
+    ensures { KeepsTheCursor }
+{}
+
+/// The text of a row is what stands there, without the spaces at its end; a cleared row has none.
+pub fn rows_have_texts()
+    ensures spaces { SpacesAtTheEndGo }
+    ensures cleared { ClearedRowsHaveNoText }
 {}

@@ -12,4 +12,6 @@ pub mod target;
 mod tests;
 #[cfg(test)]
 mod tests_of_lines;
+#[cfg(test)]
+mod tests_of_windows;
 pub mod windows;
