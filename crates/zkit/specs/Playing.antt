@@ -5,6 +5,7 @@ use Rattle.zk_mem.specs.declared.story.OpenError.TheVariants.{OutOfMemory}
 use Rattle.zk_mem.specs.Story.{refusal}
 use Rattle.zk_term.specs.Devices.{Device}
 use Rattle.zk_term.specs.Lines.{heard}
+use Rattle.zk_step.specs.declared.workspace.View.TheVariants.{Plain}
 use Rattle.zk_vm.specs.declared.limits.Limits.{Limits}
 use Rattle.zk_vm.specs.declared.stop.Stop.{Stop}
 use Rattle.zk_vm.specs.declared.stop.Stop.TheVariants.{Memory}
@@ -27,8 +28,8 @@ pub record Player : Type 0 where
 -- A story was played up to its stop: on some answers to its reads, and where it is told what was typed, on its lines. The
 -- screen got the text of the outcome, or a first part of it where a write failed.
 pub record IsPlayedBy (player : Player) (story : List ℕ) (limits : Limits) (old new : Device) (stop : Stop) : Type 0 where
-  pub answered : IsPlay (IsAnswered (begun story limits)) stop new.failed old.taken new.taken None None
-  pub played : (bytes : List ℕ) → player.typed ≡ Some bytes → IsPlay (IsPlayed (heard bytes) player.unread (begun story limits)) stop new.failed old.taken new.taken None None
+  pub answered : IsPlay (IsAnswered (begun story 1 limits Plain)) stop new.failed old.taken new.taken None None
+  pub played : (bytes : List ℕ) → player.typed ≡ Some bytes → IsPlay (IsPlayed (heard bytes) player.unread (begun story 1 limits Plain)) stop new.failed old.taken new.taken None None
 
 -- there was no memory to start a story, and the screen got nothing
 pub record LacksMemory (old new : Device) (stop : Stop) : Type 0 where

@@ -16,7 +16,8 @@ use zk_vm::limits::Limits;
 use zk_vm::machine::Machine;
 use zk_vm::play::play;
 use zk_vm::slot::NoSlot;
-use zk_vm::stop::{Stop, View};
+use zk_step::workspace::View;
+use zk_vm::stop::Stop;
 
 /// One byte past the greatest length of a story: a longer file is too long by what is read of it.
 const MOST_BYTES: u64 = 524_289;
