@@ -1,4 +1,5 @@
 pub mod Runs
 pub mod Copying
+pub mod CopyLaws
 pub mod Scanning
 pub mod Rectangles

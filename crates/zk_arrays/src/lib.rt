@@ -2,6 +2,7 @@
 #![tactic(auto)]
 
 pub mod copying;
+pub mod laws;
 pub mod rectangle;
 pub mod runs;
 pub mod scanning;
