@@ -3,3 +3,4 @@ pub mod Copying
 pub mod CopyLaws
 pub mod Scanning
 pub mod Rectangles
+pub mod Examples
