@@ -56,12 +56,14 @@ fn puts_bytes(rt: HostRuntime) -> Result<(), Fail> {
 
 #[test]
 fn copies_tables(rt: HostRuntime) -> Result<(), Fail> {
-    let rows: [(u16, u16, u16, [u8; 8]); 6] = [
+    let rows: [(u16, u16, u16, [u8; 8]); 8] = [
         (0x41, 0x43, 3, [10, 11, 12, 11, 12, 13, 16, 17]),
         (0x43, 0x41, 3, [10, 13, 14, 15, 14, 15, 16, 17]),
         (0x41, 0x43, 0xfffd, [10, 11, 12, 11, 12, 11, 16, 17]),
         (0x41, 0x42, 0xfffd, [10, 11, 11, 11, 11, 15, 16, 17]),
         (0x42, 0, 3, [10, 11, 0, 0, 0, 15, 16, 17]),
+        (0x42, 0, 0xfffe, [10, 11, 0, 0, 14, 15, 16, 17]),
+        (0x40, 0x4e, 2, EIGHT),
         (0xffff, 0xfffe, 0, EIGHT),
     ];
     for (first, second, size, bytes) in rows {
@@ -117,6 +119,8 @@ fn scans_tables(rt: HostRuntime) -> Result<(), Fail> {
     let rows = [
         (0x0105, 0x40, 4, 0x82, Ok(Some(0x44))),
         (5, 0x41, 3, 0x02, Ok(Some(0x45))),
+        (5, 0x41, 3, 0x0102, Ok(Some(0x45))),
+        (7, 0, 2, 0x41, Ok(Some(0x41))),
         (7, 0x40, 8, 0x01, Ok(Some(0x41))),
         (0x0107, 0x40, 8, 0x01, Ok(None)),
         (9, 0x40, 0xffff, 0x00, Ok(None)),
@@ -180,13 +184,14 @@ fn rectangle_of(text: u16, width: u16, height: u16, skip: u16) -> Rectangle {
 
 #[test]
 fn gives_rectangles(rt: HostRuntime) -> Result<(), Fail> {
-    let rows: [(Rectangle, &[u16]); 5] = [
+    let rows: [(Rectangle, &[u16]); 6] = [
         (
             rectangle_of(0x40, 2, 3, 1),
             &[10, 11, 13, 13, 14, 13, 16, 17],
         ),
         (rectangle_of(0x41, 2, 2, 0), &[11, 12, 13, 13, 14]),
         (rectangle_of(0x40, 3, 1, 0xffff), &[10, 11, 12]),
+        (rectangle_of(0x3f, 2, 1, 0), &[0, 10]),
         (rectangle_of(0xffff, 0, 3, 5), &[13, 13]),
         (rectangle_of(0xffff, 5, 0, 0), &[]),
     ];
@@ -218,6 +223,22 @@ fn gives_rows(rt: HostRuntime) -> Result<(), Fail> {
     assert!(rt; give_row(&memory, rectangle, 2, &mut buffer).is_ok());
     assert!(rt; has_codes(buffer.as_slice(), &[13, 14, 16, 17]));
     assert!(rt; give_row(&memory, rectangle, 0, &mut buffer).is_err());
+    Ok(())
+}
+
+#[test]
+fn tests_each_row(rt: HostRuntime) -> Result<(), Fail> {
+    let memory = memory_of(rt.alloc(), 0x50, 0x40, &EIGHT)?;
+    let rows = [
+        (rectangle_of(0x4c, 2, 2, 0), Ok(())),
+        (rectangle_of(0x4c, 2, 2, 1), Err(Fault::BadAddress)),
+        (rectangle_of(0xffff, 1, 2, 0x40), Err(Fault::BadAddress)),
+        (rectangle_of(0x40, 1, 3, 0xffff), Ok(())),
+        (rectangle_of(0, 1, 2, 0xfffe), Err(Fault::BadAddress)),
+    ];
+    for (rectangle, found) in rows {
+        assert_eq!(rt; check_rectangle(&memory, rectangle), found, "{rectangle:?}");
+    }
     Ok(())
 }
 
