@@ -11,7 +11,7 @@ use Rattle.zk_arrays.proofs.Units.{parts, was_ok, read_length, read_at}
 use Rattle.zk_arrays.proofs.Puts.{end_stays}
 
 -- what was stored is in memory
-put_is : (m n : MemoryMap) (a v : ℕ) → byte_put m a v ≡ Ok n → with_byte m a v ≡ n
+pub put_is : (m n : MemoryMap) (a v : ℕ) → byte_put m a v ≡ Ok n → with_byte m a v ≡ n
 unfolding byte_put
 put_is m n a v h = (put_where (nat_lt a (readable_end m)) (nat_lt a m.static_base) (with_byte m a v) n h).2
 
@@ -111,14 +111,14 @@ abbrev pub IsReadFirst : ℕ → ℕ → ℕ → Type 0
 IsReadFirst a b n = (i j : ℕ) → i < j → j < n → (a + j) % 65536 ≢ (b + i) % 65536
 
 -- with the first byte stored, the rest is read as before
-rest_kept : (m : MemoryMap) (a b n x : ℕ) → IsReadFirst a b (suc n) → bytes_read (with_byte m (b % 65536) x) (places (a + 1) n) ≡ bytes_read m (places (a + 1) n)
+pub rest_kept : (m : MemoryMap) (a b n x : ℕ) → IsReadFirst a b (suc n) → bytes_read (with_byte m (b % 65536) x) (places (a + 1) n) ≡ bytes_read m (places (a + 1) n)
 rest_kept m a b n x first = read_kept m (b % 65536) x (a + 1) n (λ j below.
     let apart = first 0 (suc j) (omega arith) (omega arith) in
     let same : b + 0 ≡ b = omega arith in
     let next : a + 1 + j ≡ a + suc j = omega arith in
     rw next (rw same at apart))
 
-first_on : (a b n : ℕ) → IsReadFirst a b (suc n) → IsReadFirst (a + 1) (b + 1) n
+pub first_on : (a b n : ℕ) → IsReadFirst a b (suc n) → IsReadFirst (a + 1) (b + 1) n
 first_on a b n first i j lower below =
     let here : b + 1 + i ≡ b + suc i = omega arith in
     let there : a + 1 + j ≡ a + suc j = omega arith in

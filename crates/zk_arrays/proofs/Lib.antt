@@ -6,3 +6,5 @@ pub mod Units
 pub mod Puts
 pub mod Copies
 pub mod Passes
+pub mod ScanLaw
+pub mod CopyLaw

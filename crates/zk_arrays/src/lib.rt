@@ -2,6 +2,10 @@
 #![tactic(auto)]
 
 pub mod copying;
+pub mod examples;
+pub mod laws;
 pub mod rectangle;
 pub mod runs;
 pub mod scanning;
+#[cfg(test)]
+mod tests;
