@@ -26,3 +26,4 @@ pub mod Selecting
 pub mod Status
 pub mod Tables
 pub mod Screens
+pub mod OutputExamples

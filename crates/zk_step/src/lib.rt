@@ -16,6 +16,7 @@ pub mod inputs;
 pub mod instruction;
 pub mod laws;
 mod objects;
+pub mod output_examples;
 mod printing;
 pub mod random;
 mod returning;
