@@ -1,8 +1,8 @@
 // The memory of a story that runs.
 
-ghost use Rattle.std.specs.Prelude.{◌≡◌, ◌≤◌, ◌<◌, ℕ, ◌++◌, Ok, Err, IfOk, IfErr, IfSome, IsOk, OnOk, OnSome, MatchResult, length, take, drop, get_or, nat_lt, if◌then◌else◌};
+ghost use Rattle.std.specs.Prelude.{◌≡◌, ◌≤◌, ◌<◌, ℕ, ◌++◌, Ok, Err, IfOk, IfErr, IfSome, IsOk, OnOk, OnSome, MatchResult, length, take, drop, get_or, slice_index, bit_xor, nat_lt, if◌then◌else◌};
 ghost use Rattle.zk_mem.specs.Header.{header_of};
-ghost use Rattle.zk_mem.specs.Map.{readable_end, byte_at, word_at, byte_put, word_put, cell_at, code_word_at, HasBytes, KeepsFile, IsOfFile};
+ghost use Rattle.zk_mem.specs.Map.{readable_end, with_byte, byte_at, word_at, byte_put, word_put, cell_at, code_word_at, HasBytes, KeepsFile, IsOfFile};
 ghost use Rattle.zk_mem.specs.Words.{text_end_at};
 ghost use Rattle.zk_mem.specs.Again.{with_bytes, settled, restarted};
 ghost use Rattle.zk_mem.specs.Checksum.{file_sum, has_right_sum};
@@ -233,6 +233,14 @@ impl Memory {
         copy_bytes(&mut self.bytes, &self.file[..base]);
     }
 
+    /// Turns bits of a byte of dynamic memory: those that are set in `bits`.
+    pub fn flip(&mut self, address: u32, bits: u8)
+        requires { address < self.old.static_base }
+        ensures { self.new ≡ with_byte self.old address (bit_xor (slice_index self.old.bytes address) bits) }
+    {
+        self.bytes[address as usize] ^= bits;
+    }
+
     /// Gives bits 0 and 1 of Flags 2 the values that they have in `flags`, and then sets the header's
     /// fields that an interpreter sets (Standard, section 11.1).
     #[tactic(auto, unfolding(crate::specs::Again::settled))]
@@ -338,6 +346,7 @@ impl Memory {
     pub fn dynamic(&self) -> &[u8]
         ensures value { result.now ≡ take self.now.static_base self.now.bytes }
         ensures len { length result.now ≡ self.now.static_base }
+        ensures within { self.now.static_base ≤ length self.now.file }
     {
         &self.bytes.as_slice()[..self.header.static_base as usize]
     }

@@ -1,0 +1,4 @@
+pub mod Packing
+pub mod Unpacking
+pub mod Counted
+pub mod Examples
