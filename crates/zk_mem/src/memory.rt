@@ -4,7 +4,7 @@ ghost use Rattle.std.specs.Prelude.{◌≡◌, ◌≤◌, ◌<◌, ℕ, ◌++◌
 ghost use Rattle.zk_mem.specs.Header.{header_of};
 ghost use Rattle.zk_mem.specs.Map.{readable_end, with_byte, byte_at, word_at, byte_put, word_put, cell_at, code_word_at, HasBytes, KeepsFile, IsOfFile};
 ghost use Rattle.zk_mem.specs.Words.{text_end_at};
-ghost use Rattle.zk_mem.specs.Again.{with_bytes, settled, restarted};
+ghost use Rattle.zk_mem.specs.Again.{with_flags, with_bytes, settled, restarted};
 ghost use Rattle.zk_mem.specs.Checksum.{file_sum, has_right_sum};
 ghost use Rattle.zk_mem.specs.Fresh.{with_fields, with_values, standard_fields, screen_fields_3, screen_fields_4, screen_fields_5, fresh};
 
@@ -109,6 +109,14 @@ fn set_fields(bytes: &mut Vec<u8>, version: u8, undo_states: u8)
     if version >= 5 {
         set_screen_5(bytes, undo_states);
     }
+}
+
+/// Gives bits 0 and 1 of Flags 2 the values that they have in a byte.
+fn set_flags(bytes: &mut Vec<u8>, flags: u8)
+    requires { 64 ≤ length bytes.old.items }
+    ensures { bytes.new.items ≡ with_flags flags bytes.old.items }
+{
+    bytes[0x11] = bytes[0x11] & 0b1111_1100 | flags & 0b0000_0011;
 }
 
 /// Writes bytes over the first ones of a list.
@@ -241,6 +249,13 @@ impl Memory {
         self.bytes[address as usize] ^= bits;
     }
 
+    /// The low byte of Flags 2, as it stands (Standard, section 11.1).
+    pub fn flags(&self) -> u8
+        ensures { result ≡ slice_index self.now.bytes 0x11 }
+    {
+        self.bytes[0x11]
+    }
+
     /// Gives bits 0 and 1 of Flags 2 the values that they have in `flags`, and then sets the header's
     /// fields that an interpreter sets (Standard, section 11.1).
     #[tactic(auto, unfolding(crate::specs::Again::settled))]
@@ -248,8 +263,7 @@ impl Memory {
         ensures { self.new ≡ settled flags self.old }
     {
         let version = self.version();
-        let low = self.bytes[0x11];
-        self.bytes[0x11] = low & 0b1111_1100 | flags & 0b0000_0011;
+        set_flags(&mut self.bytes, flags);
         set_fields(&mut self.bytes, version, self.undo_states);
     }
 
@@ -259,7 +273,7 @@ impl Memory {
     pub fn restart(&mut self)
         ensures { self.new ≡ restarted self.old }
     {
-        let flags = self.bytes[0x11];
+        let flags = self.flags();
         self.reset();
         self.settle(flags);
     }
@@ -347,6 +361,7 @@ impl Memory {
         ensures value { result.now ≡ take self.now.static_base self.now.bytes }
         ensures len { length result.now ≡ self.now.static_base }
         ensures within { self.now.static_base ≤ length self.now.file }
+        ensures small { self.now.static_base < 65536 }
     {
         &self.bytes.as_slice()[..self.header.static_base as usize]
     }

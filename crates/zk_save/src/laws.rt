@@ -1,7 +1,8 @@
-// Laws of packed bytes.
+// Laws of packed bytes and of kept states.
 
 ghost use Rattle.zk_save.specs.Packing.{CutsIntoLongest, CutsInOneWay, DropsLastZeros, PacksShort};
 ghost use Rattle.zk_save.specs.Unpacking.{ComesBack, TurnsBack};
+ghost use Rattle.zk_save.specs.States.{OnlyBoundsCount};
 
 /// Packed bytes are cut into runs that can't be longer, which can be done in one way alone, behind the last
 /// byte that is no zero.
@@ -16,4 +17,10 @@ pub fn packed_comes_back()
     ensures comes_back { ComesBack }
     ensures packs_short { PacksShort }
     ensures turns_back { TurnsBack }
+{}
+
+/// States can be gone back to as long as the story's static base and the bounds on frames and words are the
+/// same, whatever else has changed.
+pub fn only_bounds_count()
+    ensures { OnlyBoundsCount }
 {}

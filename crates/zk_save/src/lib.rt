@@ -2,7 +2,11 @@
 #![tactic(auto)]
 
 pub mod examples;
+mod kept;
 pub mod laws;
 pub mod packing;
 #[cfg(test)]
 mod tests;
+#[cfg(test)]
+mod tests_undo;
+pub mod undo;

@@ -3,7 +3,7 @@
 ghost use Rattle.std.specs.Prelude.{◌≡◌, ℕ, ◌+◌, ◌*◌, ◌^◌, ◌<◌, ◌≤◌, List, ◌∷◌, ◌++◌, length, Some, IfOk, OnOk};
 ghost use Rattle.zk_mem.specs.Again.{with_bytes};
 ghost use Rattle.zk_save.specs.Packing.{Zeros, pairs, spelled, packed};
-ghost use Rattle.zk_save.specs.Unpacking.{given, xored};
+ghost use Rattle.zk_save.specs.Unpacking.{unpacked, xored};
 ghost use Rattle.zk_save.specs.Counted.{packed_after};
 
 use std::alloc::{AllocError, Global};
@@ -71,4 +71,30 @@ pub(crate) fn pack_difference(
         zeros = put_byte(&mut out, zeros, bytes[i] ^ file[i])?;
     }
     Ok(out)
+}
+
+/// Turns the bytes of dynamic memory by a difference, which is packed.
+pub(crate) fn turn(packed: &[u8], memory: &mut Memory)
+    ensures turned { (ds : List ℕ) → unpacked (length ds) packed.now ≡ Some ds → length ds ≡ memory.old.static_base → memory.new ≡ with_bytes memory.old (xored memory.old.bytes ds) }
+    ensures base { memory.new.static_base ≡ memory.old.static_base }
+{
+    let end = memory.dynamic().len();
+    let mut at: usize = 0;
+    let mut run = false;
+    for byte in packed {
+        if run {
+            at += (*byte as usize + 1).min(end - at);
+            run = false;
+            continue;
+        }
+        if *byte == 0 {
+            run = true;
+            continue;
+        }
+        if at >= end {
+            continue;
+        }
+        memory.flip(at as u32, *byte);
+        at += 1;
+    }
 }
