@@ -1,6 +1,6 @@
 -- Setting the header's fields twice.
 use Rattle.std.specs.Prelude.{slice_set, slice_index, if◌then◌else◌, bit_and, bit_or, ◌==◌}
-use Rattle.std.proofs.Common.{◌≡◌, ◌<◌, ◌∙◌, ℕ, Bool, true, false, List, [], ◌∷◌, length, get_or, nat_lt, nat_eq, arith, refl, sym, ap}
+use Rattle.std.proofs.Common.{◌≡◌, ◌⊎◌, inl, inr, ◌<◌, ◌∙◌, ℕ, Bool, true, false, List, [], ◌∷◌, length, get_or, nat_lt, nat_eq, arith, refl, sym, ap}
 use Rattle.std.proofs.lemmas.Bool.Decides.{nat_tests}
 use Rattle.std.proofs.lemmas.List.{get_or-set_same, get_or-set_other, set-get_or, set_past}
 use Rattle.std.proofs.lemmas.Nat.Bits.{bit_at_and, bit_at_or, same_from_bits}
@@ -152,3 +152,43 @@ set_again_stays version undo_states bytes = by_version (nat_lt version 4) (nat_l
 pub fresh_again_stays : FreshAgainStays
 unfolding fresh
 fresh_again_stays file undo_states = set_again_stays _ undo_states file
+
+length-values : (ps : List (ℕ × ℕ)) (bytes : List ℕ) → length (with_values ps bytes) ≡ length bytes
+length-values [] bytes = refl
+length-values (p ∷ ps) bytes = length-values ps (slice_set bytes p.0 p.1) ∙ length-set bytes p.0 p.1
+
+-- of Flags 2 the low byte stays as it is, or loses bits other than 0 and 1
+abbrev pub KeepsFlags : List ℕ → List ℕ → Type 0
+KeepsFlags xs ys = 0x11 < length ys → (get_or ys 0x11 0 ≡ get_or xs 0x11 0) ⊎ ((k : ℕ) × (bit_and k 0b11 ≡ 0b11) × (get_or ys 0x11 0 ≡ bit_and (get_or xs 0x11 0) k))
+
+flags_3 : (bytes : List ℕ) → KeepsFlags bytes (with_group screen_fields_3 (with_values standard_fields bytes))
+flags_3 bytes inside =
+    let one = with_values standard_fields bytes in
+    inl (put_all (screen_fields_3 one) one 0x11 (slice_index bytes 0x11) (put_in standard_fields bytes 0x11) inside)
+
+flags_4 : (bytes : List ℕ) → KeepsFlags bytes (with_group screen_fields_4 (with_values standard_fields bytes))
+flags_4 bytes inside =
+    let one = with_values standard_fields bytes in
+    inl (put_all (screen_fields_4 one) one 0x11 (slice_index bytes 0x11) (put_in standard_fields bytes 0x11) inside)
+
+undo_bits : (b : Bool) → bit_and (if b then 0b00000111 else 0b00010111) 0b11 ≡ 0b11
+undo_bits true = refl
+undo_bits false = refl
+
+flags_5 : (undo_states : ℕ) (bytes : List ℕ) → KeepsFlags bytes (with_group (screen_fields_5 undo_states) (with_group screen_fields_4 (with_values standard_fields bytes)))
+flags_5 undo_states bytes inside =
+    let one = with_values standard_fields bytes in
+    let two = with_values (screen_fields_4 one) one in
+    let kept : ℕ = if undo_states == 0 then 0b00000111 else 0b00010111 in
+    let before : Stands two 0x11 (slice_index bytes 0x11) = put_all (screen_fields_4 one) one 0x11 (slice_index bytes 0x11) (put_in standard_fields bytes 0x11) in
+    let long : 0x11 < length two = omega (arith, inside, length-values (screen_fields_5 undo_states two) two) in
+    inr (kept, undo_bits (undo_states == 0), put_in (screen_fields_5 undo_states two) two 0x11 inside ∙ ap (λ (v : ℕ). bit_and v kept) (before long))
+
+flags_by : (b c : Bool) (undo_states : ℕ) (bytes : List ℕ) → KeepsFlags bytes (if b then with_group screen_fields_3 (with_values standard_fields bytes) else if c then with_group screen_fields_4 (with_values standard_fields bytes) else with_group (screen_fields_5 undo_states) (with_group screen_fields_4 (with_values standard_fields bytes)))
+flags_by true c undo_states bytes = flags_3 bytes
+flags_by false true undo_states bytes = flags_4 bytes
+flags_by false false undo_states bytes = flags_5 undo_states bytes
+
+pub keeps_flags : (version undo_states : ℕ) (bytes : List ℕ) → KeepsFlags bytes (with_fields version undo_states bytes)
+unfolding with_fields
+keeps_flags version undo_states bytes = flags_by (nat_lt version 4) (nat_lt version 5) undo_states bytes

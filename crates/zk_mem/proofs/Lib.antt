@@ -1,6 +1,10 @@
 pub mod Again
 pub mod Bounds
+pub mod Copies
 pub mod Fields
+pub mod Restarts
+pub mod Settling
 pub mod Starts
+pub mod Sums
 pub mod TextWords
 pub mod Writes

@@ -1,8 +1,10 @@
 -- Worked examples of this crate's definitions. Their values come from the Standard by hand, and no definition made
 -- them.
-use Rattle.std.specs.Prelude.{◌≡◌, ℕ, List, [], ◌∷◌, ◌++◌, length, Some, None, Ok, Err, true, false, replicate, slice_index}
+use Rattle.std.specs.Prelude.{◌≡◌, ℕ, ◌+◌, ◌/◌, ◌%◌, List, [], ◌∷◌, ◌++◌, length, Some, None, Ok, Err, true, false, replicate, slice_index}
 use Rattle.zk_mem.specs.declared.fault.Fault.TheVariants.{CodePastEnd, BadOpcode, MissingOperand, StackEmpty, NoSuchLocal, BadAddress, ReadOnly, DivisionByZero, BadObject, BadProperty, BadTree, TextPastEnd, NestedAbbreviation, StreamDepth, BadFrame, ReturnFromMain, BadTarget, BadDictionary}
 use Rattle.zk_mem.specs.declared.story.OpenError.TheVariants.{TooShort, Version, TooLong, StaticBase, FirstInstruction, OutOfMemory}
+use Rattle.zk_mem.specs.Again.{settled, again, restarted}
+use Rattle.zk_mem.specs.Checksum.{file_sum, has_right_sum}
 use Rattle.zk_mem.specs.Faults.{fault_number}
 use Rattle.zk_mem.specs.Fresh.{with_fields, fresh}
 use Rattle.zk_mem.specs.Header.{header_of, unpacked}
@@ -249,3 +251,77 @@ MemoryStartsSo =
       file = file_with 3 0 64;
       undo_states = 2;
     }
+
+-- ---- the checksum (section 11.1.6, and section 15, `verify`)
+
+-- a file of a version that states a length in units and a sum, with these bytes behind the header
+abbrev pub summed : ℕ → ℕ → ℕ → List ℕ → List ℕ
+summed version length sum code =
+    version ∷ [] ++ replicate 25 0 ++ 0 ∷ length ∷ sum / 256 ∷ sum % 256 ∷ [] ++ replicate 34 0 ++ code
+
+-- six bytes whose sum is 0x046c
+abbrev pub six : List ℕ
+six = 0xbd ∷ 0xc4 ∷ 0xbb ∷ 0xbb ∷ 0xbb ∷ 0xba ∷ []
+
+-- the bytes behind the header up to the stated length, which counts units of 2, 4 or 8 bytes; all where none is stated
+-- or more than there is; none where it ends inside the header
+abbrev pub SumsGoToTheStatedLength : Type 0
+SumsGoToTheStatedLength =
+    (file_sum (summed 3 33 0 six) ≡ 0xbd + 0xc4)
+    × (file_sum (summed 5 17 0 six) ≡ 0xbd + 0xc4 + 0xbb + 0xbb)
+    × (file_sum (summed 8 8 0 six) ≡ 0)
+    × (file_sum (summed 3 35 0 six) ≡ 0x046c)
+    × (file_sum (summed 3 0 0 six) ≡ 0x046c)
+    × (file_sum (summed 3 36 0 six) ≡ 0x046c)
+    × (file_sum (summed 3 31 0 six) ≡ 0)
+
+-- the sum is modulo 65,536: 300 bytes of 255 are 76,500
+abbrev pub SumsAreModulo65536 : Type 0
+SumsAreModulo65536 = file_sum (summed 3 0 0 (replicate 300 255)) ≡ 10964
+
+-- it is compared with the word at 0x1c, and a stated length past the file is wrong
+abbrev pub SumsAreCompared : Type 0
+SumsAreCompared =
+    (has_right_sum (summed 3 35 0x046c six) ≡ true)
+    × (has_right_sum (summed 3 0 0x046c six) ≡ true)
+    × (has_right_sum (summed 3 35 0x046d six) ≡ false)
+    × (has_right_sum (summed 3 35 0x6c04 six) ≡ false)
+    × (has_right_sum (summed 3 36 0x046c six) ≡ false)
+    × (has_right_sum (summed 3 33 0x0181 six) ≡ true)
+
+-- ---- memory that is put back (section 6.1)
+
+-- memory of version 3 whose bytes are all 9, over a file of 64 bytes
+abbrev pub written_over : MemoryMap
+written_over = record { version = 3; static_base = 64; bytes = replicate 64 9; file = file_with 3 0 64; undo_states = 2 }
+
+-- a restart puts the file's bytes back, but for bits 0 and 1 of Flags 2, which were 1 and 0, and sets the header's
+-- fields (section 6.1.3)
+abbrev pub RestartsSo : Type 0
+RestartsSo =
+    restarted written_over ≡ record written_over {
+      bytes = 3 ∷ 0x20 ∷ 0 ∷ 0 ∷ 0 ∷ 0 ∷ 0 ∷ 0 ∷ 0 ∷ 0 ∷ 0 ∷ 0 ∷ 0 ∷ 0 ∷ 0 ∷ 64 ∷ 0 ∷ 1 ∷ [] ++ replicate 32 0 ++ 1 ∷ 1 ∷ [] ++ replicate 12 0;
+    }
+
+-- other bytes are put back in the same way: of 0xfd bit 0 stays set and bit 1 stays clear, of 0xfe the other way round
+-- (section 6.1)
+abbrev pub BytesArePutBack : Type 0
+BytesArePutBack =
+    (again written_over (replicate 64 0xfe) ≡ record written_over {
+      bytes = 0xfe ∷ 0xae ∷ [] ++ replicate 15 0xfe ++ 0xfd ∷ [] ++ replicate 32 0xfe ++ 1 ∷ 1 ∷ [] ++ replicate 12 0xfe;
+    })
+    × (slice_index (again (record written_over { bytes = replicate 64 0xfe }) (replicate 64 0xfd)).bytes 0x11 ≡ 0xfe)
+
+-- settled with the bits of a byte (section 11.1)
+abbrev pub SettlesSo : Type 0
+SettlesSo =
+    settled 0xfe written_over ≡ record written_over {
+      bytes = 9 ∷ 0x29 ∷ [] ++ replicate 15 9 ++ 10 ∷ [] ++ replicate 32 9 ++ 1 ∷ 1 ∷ [] ++ replicate 12 9;
+    }
+
+-- in version 5 the bits of what is not there are cleared behind that, and the bit of undo where no state is kept (section
+-- 11.1)
+abbrev pub SettlesLaterVersions : Type 0
+SettlesLaterVersions =
+    (slice_index (settled 1 (record written_over { version = 5; undo_states = 0; bytes = replicate 64 0xff })).bytes 0x11 ≡ 0x05)
+    × (slice_index (settled 2 (record written_over { version = 5; undo_states = 1; bytes = replicate 64 0xff })).bytes 0x11 ≡ 0x16)

@@ -1,7 +1,8 @@
 -- What writes to memory, and setting the header's fields again, leave as it was.
-use Rattle.std.specs.Prelude.{◌≡◌, ℕ, ◌+◌, ◌*◌, ◌<◌, ◌≤◌, ◌⊎◌, List, length, Some, Ok}
+use Rattle.std.specs.Prelude.{◌≡◌, ℕ, ◌+◌, ◌*◌, ◌<◌, ◌≤◌, ◌⊎◌, List, length, drop, slice_index, bit_and, Some, Ok}
 use Rattle.zk_mem.specs.Map.{MemoryMap, byte_at, word_at, byte_put, word_put, cell_at}
 use Rattle.zk_mem.specs.Fresh.{with_fields, fresh}
+use Rattle.zk_mem.specs.Again.{settled, again, restarted}
 use Rattle.zk_mem.specs.Words.{words_at}
 
 -- the map n is m but for the bytes from a on and below b
@@ -47,3 +48,26 @@ FreshAgainStays = (file : List ℕ) (undo_states : ℕ) →
 abbrev pub TextLiesInside : Type 0
 TextLiesInside = (m : MemoryMap) (a : ℕ) (ws : List ℕ) → words_at m a ≡ Some ws →
     (1 ≤ length ws) × (a + 2 * length ws ≤ length m.bytes)
+
+-- what put bytes back leaves alone: all but bytes, their number where the new ones are as many, and those from an
+-- address behind the header on; and of Flags 2 the bits 0 and 1 (section 6.1)
+pub record IsAgain (old new : MemoryMap) (bytes : List ℕ) : Type 0 where
+  pub version : new.version ≡ old.version
+  pub static_base : new.static_base ≡ old.static_base
+  pub file : new.file ≡ old.file
+  pub undo_states : new.undo_states ≡ old.undo_states
+  pub size : length new.bytes ≡ length bytes
+  pub others : (a : ℕ) → 64 ≤ a → drop a new.bytes ≡ drop a bytes
+  pub flags : 64 ≤ length bytes → bit_and (slice_index new.bytes 0x11) 0b11 ≡ bit_and (slice_index old.bytes 0x11) 0b11
+
+-- bytes are put back so (section 6.1)
+abbrev pub PutsBack : Type 0
+PutsBack = (old : MemoryMap) (bytes : List ℕ) → IsAgain old (again old bytes) bytes
+
+-- a restart behind a restart changes nothing (section 6.1.3)
+abbrev pub RestartsOnce : Type 0
+RestartsOnce = (m : MemoryMap) → restarted (restarted m) ≡ restarted m
+
+-- memory that is settled stays where it is settled again
+abbrev pub SettlesOnce : Type 0
+SettlesOnce = (flags : ℕ) (m : MemoryMap) → settled flags (settled flags m) ≡ settled flags m

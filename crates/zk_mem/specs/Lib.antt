@@ -5,5 +5,7 @@ pub mod Story
 pub mod Map
 pub mod Words
 pub mod Fresh
+pub mod Again
+pub mod Checksum
 pub mod Laws
 pub mod Examples

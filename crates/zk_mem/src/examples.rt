@@ -1,6 +1,6 @@
 // Worked examples of the definitions, which refuse one that is turned together with its body.
 
-ghost use Rattle.zk_mem.specs.Examples.{FieldsStand, LateFields, PackedByVersion, DataIsRead, CodeIsRead, BytesArePut, WordsArePut, DataEndsAt65536, DataEndsWithTheStory, WordAt65535IsOutside, TextsEndAtTheMark, TextsHaveAnEnd, GreatestLengths, StoriesAreOpened, ReasonsInOrder, RefusalsHaveNumbers, FaultsHaveNumbers, FieldsOfVersion3, FieldsOfVersion3SetABit, FieldsOfVersion4, FieldsOfVersion5, FieldsOfVersion8, MemoryStartsSo};
+ghost use Rattle.zk_mem.specs.Examples.{FieldsStand, LateFields, PackedByVersion, DataIsRead, CodeIsRead, BytesArePut, WordsArePut, DataEndsAt65536, DataEndsWithTheStory, WordAt65535IsOutside, TextsEndAtTheMark, TextsHaveAnEnd, GreatestLengths, StoriesAreOpened, ReasonsInOrder, RefusalsHaveNumbers, FaultsHaveNumbers, FieldsOfVersion3, FieldsOfVersion3SetABit, FieldsOfVersion4, FieldsOfVersion5, FieldsOfVersion8, MemoryStartsSo, SumsGoToTheStatedLength, SumsAreModulo65536, SumsAreCompared, RestartsSo, BytesArePutBack, SettlesSo, SettlesLaterVersions};
 
 /// The header, and packed addresses (Standard, sections 1.2.3 and 11.1).
 #[tactic(auto, unfolding(crate::specs::Header::header_of, crate::specs::Header::unit_length))]
@@ -52,4 +52,21 @@ pub fn fresh_by_example()
     ensures fields_of_version5 { FieldsOfVersion5 }
     ensures fields_of_version8 { FieldsOfVersion8 }
     ensures memory_starts_so { MemoryStartsSo }
+{}
+
+/// The sum of a file's bytes (Standard, section 15, `verify`).
+#[tactic(auto, unfolding(crate::specs::Checksum::file_sum, crate::specs::Checksum::has_right_sum, crate::specs::Header::header_of, crate::specs::Header::unit_length))]
+pub fn sums_by_example()
+    ensures sums_go_to_the_stated_length { SumsGoToTheStatedLength }
+    ensures sums_are_modulo65536 { SumsAreModulo65536 }
+    ensures sums_are_compared { SumsAreCompared }
+{}
+
+/// Memory that is put back (Standard, section 6.1).
+#[tactic(auto, unfolding(crate::specs::Again::settled, crate::specs::Again::again, crate::specs::Again::restarted, crate::specs::Fresh::with_fields))]
+pub fn restarts_by_example()
+    ensures restarts_so { RestartsSo }
+    ensures bytes_are_put_back { BytesArePutBack }
+    ensures settles_so { SettlesSo }
+    ensures settles_later_versions { SettlesLaterVersions }
 {}

@@ -1,6 +1,7 @@
 // A story file in memory: what may be opened, read and written.
 #![tactic(auto)]
 
+mod checksum;
 pub mod examples;
 pub mod fault;
 pub mod header;

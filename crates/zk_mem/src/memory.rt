@@ -1,11 +1,14 @@
 // The memory of a story that runs.
 
-ghost use Rattle.std.specs.Prelude.{◌≡◌, ◌≤◌, ◌<◌, ℕ, Ok, Err, IfOk, IfErr, IfSome, IsOk, OnOk, OnSome, MatchResult, length, take, get_or, nat_lt, if◌then◌else◌};
+ghost use Rattle.std.specs.Prelude.{◌≡◌, ◌≤◌, ◌<◌, ℕ, ◌++◌, Ok, Err, IfOk, IfErr, IfSome, IsOk, OnOk, OnSome, MatchResult, length, take, drop, get_or, slice_index, bit_xor, nat_lt, if◌then◌else◌};
 ghost use Rattle.zk_mem.specs.Header.{header_of};
-ghost use Rattle.zk_mem.specs.Map.{readable_end, byte_at, word_at, byte_put, word_put, cell_at, code_word_at, HasBytes, KeepsFile, IsOfFile};
+ghost use Rattle.zk_mem.specs.Map.{readable_end, with_byte, byte_at, word_at, byte_put, word_put, cell_at, code_word_at, HasBytes, KeepsFile, IsOfFile};
 ghost use Rattle.zk_mem.specs.Words.{text_end_at};
+ghost use Rattle.zk_mem.specs.Again.{with_flags, with_bytes, settled, restarted};
+ghost use Rattle.zk_mem.specs.Checksum.{file_sum, has_right_sum};
 ghost use Rattle.zk_mem.specs.Fresh.{with_fields, with_values, standard_fields, screen_fields_3, screen_fields_4, screen_fields_5, fresh};
 
+use crate::checksum::{is_right, sum_of};
 use crate::fault::Fault;
 use crate::header::{Header, header_at_front, word_of};
 use crate::story::Story;
@@ -105,6 +108,24 @@ fn set_fields(bytes: &mut Vec<u8>, version: u8, undo_states: u8)
     set_screen_4(bytes);
     if version >= 5 {
         set_screen_5(bytes, undo_states);
+    }
+}
+
+/// Gives bits 0 and 1 of Flags 2 the values that they have in a byte.
+fn set_flags(bytes: &mut Vec<u8>, flags: u8)
+    requires { 64 ≤ length bytes.old.items }
+    ensures { bytes.new.items ≡ with_flags flags bytes.old.items }
+{
+    bytes[0x11] = bytes[0x11] & 0b1111_1100 | flags & 0b0000_0011;
+}
+
+/// Writes bytes over the first ones of a list.
+fn copy_bytes(bytes: &mut Vec<u8>, from: &[u8])
+    requires { length from.now ≤ length bytes.old.items }
+    ensures { bytes.new.items ≡ from.now ++ drop (length from.now) bytes.old.items }
+{
+    for i in 0..from.len() {
+        bytes[i] = from[i];
     }
 }
 
@@ -212,6 +233,51 @@ impl Memory {
         }
     }
 
+    /// Gives dynamic memory the bytes of the file, as they stand there: no field of the header is set.
+    pub fn reset(&mut self)
+        ensures { self.new ≡ with_bytes self.old self.old.file }
+    {
+        let base = self.header.static_base as usize;
+        copy_bytes(&mut self.bytes, &self.file[..base]);
+    }
+
+    /// Turns bits of a byte of dynamic memory: those that are set in `bits`.
+    pub fn flip(&mut self, address: u32, bits: u8)
+        requires { address < self.old.static_base }
+        ensures { self.new ≡ with_byte self.old address (bit_xor (slice_index self.old.bytes address) bits) }
+    {
+        self.bytes[address as usize] ^= bits;
+    }
+
+    /// The low byte of Flags 2, as it stands (Standard, section 11.1).
+    pub fn flags(&self) -> u8
+        ensures { result ≡ slice_index self.now.bytes 0x11 }
+    {
+        self.bytes[0x11]
+    }
+
+    /// Gives bits 0 and 1 of Flags 2 the values that they have in `flags`, and then sets the header's
+    /// fields that an interpreter sets (Standard, section 11.1).
+    #[tactic(auto, unfolding(crate::specs::Again::settled))]
+    pub fn settle(&mut self, flags: u8)
+        ensures { self.new ≡ settled flags self.old }
+    {
+        let version = self.version();
+        set_flags(&mut self.bytes, flags);
+        set_fields(&mut self.bytes, version, self.undo_states);
+    }
+
+    /// Puts the file's bytes back into dynamic memory, but for bits 0 and 1 of Flags 2, and sets the
+    /// header's fields again (Standard, section 6.1.3).
+    #[tactic(auto, unfolding(crate::specs::Again::restarted, crate::specs::Again::again))]
+    pub fn restart(&mut self)
+        ensures { self.new ≡ restarted self.old }
+    {
+        let flags = self.flags();
+        self.reset();
+        self.settle(flags);
+    }
+
     /// The length of the story, in bytes.
     pub fn len(&self) -> u32
         ensures value { result ≡ length self.now.bytes }
@@ -294,6 +360,8 @@ impl Memory {
     pub fn dynamic(&self) -> &[u8]
         ensures value { result.now ≡ take self.now.static_base self.now.bytes }
         ensures len { length result.now ≡ self.now.static_base }
+        ensures within { self.now.static_base ≤ length self.now.file }
+        ensures small { self.now.static_base < 65536 }
     {
         &self.bytes.as_slice()[..self.header.static_base as usize]
     }
@@ -303,6 +371,23 @@ impl Memory {
         ensures { result.now ≡ self.now.file }
     {
         self.file.as_slice()
+    }
+
+    /// The sum of the file's bytes behind the header, up to the length that its header states, modulo
+    /// 65,536 (Standard, section 15, `verify`). It goes up to the file's end where no length is stated,
+    /// or more than there is.
+    pub fn sum(&self) -> u16
+        ensures { result ≡ file_sum self.now.file }
+    {
+        sum_of(self.original(), &self.header)
+    }
+
+    /// Whether the file's stated length lies in it, and its sum is the one that its header states
+    /// (Standard, section 15, `verify`).
+    pub fn checksum_ok(&self) -> bool
+        ensures { result ≡ has_right_sum self.now.file }
+    {
+        is_right(self.original(), &self.header)
     }
 
     /// What stands at an address is a byte.

@@ -3,7 +3,9 @@
 ghost use Rattle.std.specs.Prelude.{◌≡◌, ◌⊎◌, IfOk, IfErr, Some, None};
 ghost use Rattle.zk_mem.specs.Story.{greatest_length, refusal, refusal_number};
 ghost use Rattle.zk_mem.specs.Header.{header_of};
+ghost use Rattle.zk_mem.specs.Checksum.{has_right_sum};
 
+use crate::checksum::is_right;
 use crate::header::{Header, header_at_front, word_of};
 use std::alloc::Global;
 use std::marker::Model;
@@ -89,6 +91,16 @@ impl Story {
         ensures { result ≡ header_of self.now }
     {
         header_at_front(self.bytes.as_slice())
+    }
+
+    /// Whether the stated length lies in the file, and the sum of its bytes behind the header is the one
+    /// that the header states (Standard, section 15, `verify`).
+    #[tactic(auto, using(crate::proofs::Bounds::none_bounds))]
+    pub fn checksum_ok(&self) -> bool
+        ensures { result ≡ has_right_sum self.now }
+    {
+        let file = self.bytes.as_slice();
+        is_right(file, &header_at_front(file))
     }
 }
 

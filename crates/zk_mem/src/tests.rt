@@ -170,3 +170,87 @@ fn faults_have_numbers(rt: HostRuntime) {
     assert_eq!(rt; Fault::BadDictionary.number(), 18);
     assert_eq!(rt; OpenError::OutOfMemory.number(), 6);
 }
+
+// The bytes behind the header are added up to the stated length, and compared with the stated sum.
+#[test]
+fn checksums_are_compared(rt: HostRuntime) -> Result<(), Fail> {
+    // units of two bytes, the stated sum, what the sum is, and whether it is the right one
+    for (units, stated, sum, right) in [
+        (0, 0x12, 0x12, true),
+        (0, 0x13, 0x12, false),
+        (128, 0x12, 0x12, true),
+        (127, 0x12, 0, false),
+        (127, 0, 0, true),
+        (129, 0x12, 0x12, false),
+        (31, 0, 0, true),
+    ] {
+        let mut bytes = story_bytes(rt.alloc(), 3, 0x80)?;
+        assert_eq!(rt; bytes.len(), 256);
+        bytes[0x1b] = units;
+        bytes[0x1d] = stated;
+        let story = Story::open(rt.alloc(), bytes.as_slice())?;
+        assert_eq!(rt; story.checksum_ok(), right, "{units} {stated}");
+        let memory = Memory::start(rt.alloc(), story, Setup { undo_states: 1 })?;
+        assert_eq!(rt; memory.checksum_ok(), right, "{units} {stated}");
+        assert_eq!(rt; memory.sum(), sum, "{units} {stated}");
+    }
+    Ok(())
+}
+
+// The sum is the file's, whatever is written.
+#[test]
+fn checksums_are_of_the_file(rt: HostRuntime) -> Result<(), Fail> {
+    let mut memory = started(&rt, 3, 0x80, 1)?;
+    assert_eq!(rt; memory.set_byte(0x50, 9), Ok(()));
+    assert_eq!(rt; memory.set_byte(0x1d, 9), Ok(()));
+    assert_eq!(rt; memory.sum(), 0x12);
+    assert!(rt; !memory.checksum_ok());
+    Ok(())
+}
+
+// A restart leaves static memory, the file, and bits 0 and 1 of Flags 2, and sets the fields of the start.
+#[test]
+fn restarts_keep_two_bits(rt: HostRuntime) -> Result<(), Fail> {
+    for (version, written, kept) in [
+        (3, 0x01, 0xfd),
+        (3, 0xfe, 0xfe),
+        (5, 0x01, 0x15),
+        (5, 0xfe, 0x16),
+    ] {
+        let mut memory = started(&rt, version, 0x80, 1)?;
+        for address in [0x00, 0x01, 0x11, 0x32, 0x40, 0x7f] {
+            assert_eq!(rt; memory.set_byte(address, written), Ok(()));
+        }
+        memory.restart();
+        assert_eq!(rt; memory.byte(0x11), Ok(kept), "{version}");
+        let fresh = started(&rt, version, 0x80, 1)?;
+        for address in [0x00, 0x01, 0x10, 0x32, 0x40, 0x7f, 0x80, 0xff] {
+            assert_eq!(rt; memory.byte(address), fresh.byte(address), "{address}");
+        }
+        memory.restart();
+        assert_eq!(rt; memory.byte(0x11), Ok(kept), "{version}");
+    }
+    Ok(())
+}
+
+// Reset gives dynamic memory the file's bytes as they are; settle then takes the two bits from a byte.
+#[test]
+fn memory_is_reset_and_settled(rt: HostRuntime) -> Result<(), Fail> {
+    let mut memory = started(&rt, 5, 0x80, 0)?;
+    assert_eq!(rt; memory.set_byte(0x7f, 3), Ok(()));
+    memory.reset();
+    for (address, byte) in [
+        (0x01, 0xff),
+        (0x10, 0xff),
+        (0x11, 0xff),
+        (0x1e, 0),
+        (0x7f, 0),
+    ] {
+        assert_eq!(rt; memory.byte(address), Ok(byte), "{address}");
+    }
+    memory.settle(0xfd);
+    for (address, byte) in [(0x01, 0x50), (0x10, 0xfe), (0x11, 0x05), (0x1e, 6)] {
+        assert_eq!(rt; memory.byte(address), Ok(byte), "{address}");
+    }
+    Ok(())
+}

@@ -1,4 +1,5 @@
 pub mod Calls
 pub mod Unwinding
 pub mod Kept
+pub mod Oldest
 pub mod Returning

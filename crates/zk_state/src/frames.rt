@@ -1,7 +1,7 @@
 // Frames: one list of all words, and a record for each frame that says which of them are its own.
 
-ghost use Rattle.std.specs.Prelude.{ℕ, ◌≡◌, ◌+◌, ◌<◌, ◌≤◌, ◌^◌, ◌++◌, length, take, MatchResult, IfOk};
-ghost use Rattle.zk_state.specs.Frames.{first_frames, total_of, pushed, popped, top_of, with_top, local_of, with_local, called, left, unwound, IsBounded, GivesBack, RefusesBack};
+ghost use Rattle.std.specs.Prelude.{ℕ, ◌≡◌, ◌+◌, ◌<◌, ◌≤◌, ◌^◌, ◌++◌, nat_le, ◌&&◌, length, take, MatchResult, IfOk};
+ghost use Rattle.zk_state.specs.Frames.{frames_of, first_frames, with_frames, sizes_of, BeginsFirst, total_of, pushed, popped, top_of, with_top, local_of, with_local, called, left, unwound, IsBounded, GivesBack, RefusesBack};
 
 use crate::refusal::{Limit, Refusal};
 use std::alloc::{AllocError, Global};
@@ -25,6 +25,15 @@ struct FrameRecord {
     result: Option<u8>,
     supplied: u8,
 }
+
+/// The record of the first frame (Standard, section 5.5).
+const FIRST: FrameRecord = FrameRecord {
+    base: 0,
+    floor: 0,
+    place: 0,
+    result: None,
+    supplied: 0,
+};
 
 /// The frames of the routines that have called one another (Standard, section 6.1), within bounds
 /// on their number and on the words that they hold together: local variables and evaluation
@@ -51,6 +60,27 @@ impl Model for Frames {
     ghost invariant = { IsKept };
 }
 
+/// A copy of all frames, which takes as much memory as they fill.
+#[derive(Drop)]
+pub struct FramesCopy {
+    current: FrameRecord,
+    callers: Vec<FrameRecord>,
+    words: Vec<u16>,
+}
+
+impl Model for FramesCopy {
+    ghost use Rattle.std.specs.Prelude.{List};
+    ghost use Rattle.zk_state.specs.Frames.{Frame};
+
+    ghost Value = { List Frame };
+
+    ghost use Rattle.zk_state.specs.Flat.{copied, IsCopied};
+
+    ghost view = { copied };
+
+    ghost invariant = { IsCopied };
+}
+
 /// Copies words over others, from an index on.
 #[inline(always)]
 fn copy_words(words: &mut Vec<u16>, at: usize, from: &[u16])
@@ -73,13 +103,7 @@ impl Frames {
         let callers = Vec::with_capacity(alloc, most_frames as usize)?;
         let words = vec![in alloc; 0; most_words as usize]?;
         Ok(Frames {
-            current: FrameRecord {
-                base: 0,
-                floor: 0,
-                place: 0,
-                result: None,
-                supplied: 0,
-            },
+            current: FIRST,
             callers,
             words,
             top: 0,
@@ -103,6 +127,57 @@ impl Frames {
         ensures { IsBounded self.now }
     {
         let _ = self.depth();
+    }
+
+    /// The oldest frame is the first one, which has no local variables and returns nowhere.
+    pub fn begins_first(&self)
+        ensures { BeginsFirst self.now }
+    {
+        let _ = &self.callers;
+    }
+
+    /// Leaves a first frame alone, without words, as at the start (Standard, section 6.1.3).
+    pub fn restart(&mut self)
+        ensures { self.new ≡ first_frames self.old.most_frames self.old.most_words }
+    {
+        self.callers.clear();
+        self.current = FIRST;
+        self.top = 0;
+    }
+
+    /// A copy of all frames.
+    pub fn copy(&self, alloc: Global) -> Result<FramesCopy, AllocError>
+        ensures { IfOk result (λ c. c ≡ frames_of self.now) }
+    {
+        let callers = Vec::from_slice(alloc, self.callers.as_slice())?;
+        let words = Vec::from_slice(alloc, &self.words.as_slice()[..self.top])?;
+        Ok(FramesCopy {
+            current: self.current,
+            callers,
+            words,
+        })
+    }
+
+    /// Whether there may be as many frames and words as a copy has.
+    pub fn can_hold(&self, copy: &FramesCopy) -> bool
+        ensures { result ≡ (nat_le (length copy.now) self.now.most_frames && nat_le (sizes_of copy.now) self.now.most_words) }
+    {
+        copy.callers.len() < self.most_frames && copy.words.len() <= self.most_words
+    }
+
+    /// Puts the frames of a copy in the place of all. There may be as many of them, and of their words.
+    pub fn put_back(&mut self, copy: &FramesCopy)
+        requires frames { length copy.now ≤ self.old.most_frames }
+        requires words { sizes_of copy.now ≤ self.old.most_words }
+        ensures { self.new ≡ with_frames self.old copy.now }
+    {
+        self.callers.clear();
+        self.callers
+            .extend_from_slice(copy.callers.as_slice())
+            .unwrap();
+        copy_words(&mut self.words, 0, copy.words.as_slice());
+        self.top = copy.words.len();
+        self.current = copy.current;
     }
 
     /// How many words all frames hold together, local variables included.

@@ -198,3 +198,41 @@ fn local_variables_count_from_1(rt: HostRuntime) -> Result<(), Fail> {
     assert_eq!(rt; (frames.local(1), frames.local(2)), (Ok(5), Ok(6)));
     Ok(())
 }
+
+// A copy is all frames, and stays as it was when they go on.
+#[test]
+fn frames_are_copied_and_put_back(rt: HostRuntime) -> Result<(), Fail> {
+    let mut frames = Frames::new(rt.alloc(), 3, 6)?;
+    assert_eq!(rt; frames.push(7), Ok(()));
+    assert_eq!(rt; frames.call(&[1, 2], 0x12345, Some(16), 2), Ok(()));
+    assert_eq!(rt; frames.push(9), Ok(()));
+    let copy = frames.copy(rt.alloc())?;
+    assert_eq!(rt; frames.set_local(1, 5), Ok(()));
+    assert_eq!(rt; frames.call(&[3, 4], 99, None, 0), Ok(()));
+    frames.restart();
+    assert_eq!(rt; (frames.depth(), frames.words()), (0, 0));
+    assert_eq!(rt; frames.leave(), Err(Fault::ReturnFromMain));
+    assert_eq!(rt; frames.push(8), Ok(()));
+    let mut others = Frames::new(rt.alloc(), 2, 4)?;
+    if others.can_hold(&copy) {
+        others.put_back(&copy);
+    }
+    assert_eq!(rt;
+        (others.depth(), others.words(), others.supplied()),
+        (1, 4, 2)
+    );
+    assert_eq!(rt; (others.local(1), others.local(2)), (Ok(1), Ok(2)));
+    assert_eq!(rt; others.pop(), Ok(9));
+    let back = Return {
+        place: 0x12345,
+        result: Some(16),
+    };
+    assert_eq!(rt; others.leave(), Ok(back));
+    assert_eq!(rt; others.pop(), Ok(7));
+    assert_eq!(rt; others.pop(), Err(Fault::StackEmpty));
+    let small = Frames::new(rt.alloc(), 2, 3)?;
+    assert!(rt; !small.can_hold(&copy));
+    let few = Frames::new(rt.alloc(), 1, 9)?;
+    assert!(rt; !few.can_hold(&copy));
+    Ok(())
+}

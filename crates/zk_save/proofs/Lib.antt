@@ -1,0 +1,7 @@
+pub mod Runs
+pub mod Packs
+pub mod RoundTrip
+pub mod Turns
+pub mod Rings
+pub mod Wholes
+pub mod Changes

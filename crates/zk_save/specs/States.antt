@@ -1,0 +1,57 @@
+-- States to go back to (Standard, section 6.1, and section 15, `save_undo` and `restore_undo`).
+use Rattle.std.specs.Prelude.{◌≡◌, ℕ, ◌≤◌, List, [], ◌∷◌, ◌++◌, All, length, take, drop, map, Option, Some, None}
+use Rattle.zk_mem.specs.Map.{MemoryMap}
+use Rattle.zk_mem.specs.Again.{again}
+use Rattle.zk_state.specs.Frames.{Frame, FrameList, frames_of, sizes_of, bounds_of, with_frames}
+use Rattle.zk_save.specs.Unpacking.{xored}
+
+-- a whole state: dynamic memory, all frames with the newest first, and the place where the run goes on (section 6.1)
+pub record WholeState : Type 0 where
+  pub dynamic : List ℕ
+  pub frames : List Frame
+  pub place : ℕ
+
+-- the state that a memory and frames are in
+abbrev pub state_of : MemoryMap → FrameList → ℕ → WholeState
+state_of m f place = record { dynamic = take m.static_base m.bytes; frames = frames_of f; place = place }
+
+-- a state that is kept: what its dynamic memory differs in from the story file, its frames and its place
+pub record KeptState : Type 0 where
+  pub difference : List ℕ
+  pub frames : List Frame
+  pub place : ℕ
+
+-- the states that are kept, newest first, and how many there may be
+pub record UndoStates : Type 0 where
+  pub states : List KeptState
+  pub most : ℕ
+
+-- the whole state that is kept over a story file
+abbrev pub whole_state : List ℕ → KeptState → WholeState
+whole_state file k = record { dynamic = xored (take (length k.difference) file) k.difference; frames = k.frames; place = k.place }
+
+-- the whole states that are kept over a story file, newest first
+unfoldable pub states_in : List ℕ → UndoStates → List WholeState
+states_in file u = map (whole_state file) u.states
+
+-- the newest state is gone back to, where there is one: its dynamic memory is put back with the file's bytes behind it,
+-- its frames are put in the place of all, and the others are left (section 15, `restore_undo`)
+unfoldable pub gone_back : List WholeState → MemoryMap → FrameList → Option (MemoryMap × FrameList × ℕ × List WholeState)
+gone_back [] m f = None
+gone_back (w ∷ ws) m f = Some (again m (w.dynamic ++ drop (length w.dynamic) m.file), with_frames f w.frames, w.place, ws)
+
+-- a kept state of a story with its static base here, and within bounds on frames and words
+pub record IsOf (base most_frames most_words : ℕ) (k : KeptState) : Type 0 where
+  pub dynamic : length k.difference ≡ base
+  pub frames : length k.frames ≤ most_frames
+  pub words : sizes_of k.frames ≤ most_words
+
+-- all kept states are of a story and within bounds as those of a memory and frames
+unfoldable pub AreOf : MemoryMap → FrameList → UndoStates → Type 0
+AreOf m f u = All (IsOf m.static_base f.most_frames f.most_words) u.states
+
+-- ---- laws
+
+-- the story's static base and the bounds alone count for that
+abbrev pub OnlyBoundsCount : Type 0
+OnlyBoundsCount = (m n : MemoryMap) (f g : FrameList) (u : UndoStates) → n.static_base ≡ m.static_base → bounds_of g ≡ bounds_of f → AreOf m f u → AreOf n g u

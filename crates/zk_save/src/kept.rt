@@ -1,0 +1,74 @@
+// A state that is kept.
+
+ghost use Rattle.std.specs.Prelude.{◌≡◌, List, ◌∷◌, Some, IfOk};
+ghost use Rattle.zk_state.specs.Frames.{bounds_of};
+ghost use Rattle.zk_save.specs.States.{WholeState, state_of, whole_state, gone_back, IsOf};
+
+use crate::packing::{pack_difference, turn};
+use std::alloc::{AllocError, Global};
+use std::marker::Model;
+use zk_mem::memory::Memory;
+use zk_state::frames::{Frames, FramesCopy};
+
+/// A state that is kept: what dynamic memory differs in from the story file, packed, a copy of all frames,
+/// and the place where the run goes on.
+#[derive(Drop)]
+pub(crate) struct Kept {
+    packed: Vec<u8>,
+    // how many bytes are packed
+    length: usize,
+    frames: FramesCopy,
+    place: u32,
+}
+
+impl Model for Kept {
+    ghost use Rattle.zk_save.specs.States.{KeptState};
+
+    ghost Value = { KeptState };
+
+    ghost use Rattle.zk_save.specs.Ring.{kept_seen, IsPacked};
+
+    ghost view = { kept_seen };
+
+    ghost invariant = { IsPacked };
+}
+
+impl Kept {
+    /// The state of a memory and frames, to be kept.
+    pub(crate) fn new(
+        alloc: Global,
+        memory: &Memory,
+        frames: &Frames,
+        place: u32,
+    ) -> Result<Kept, AllocError>
+        ensures state { IfOk result (λ k. whole_state memory.now.file k ≡ state_of memory.now frames.now place) }
+        ensures is_of { IfOk result (IsOf memory.now.static_base frames.now.most_frames frames.now.most_words) }
+    {
+        frames.is_bounded();
+        let dynamic = memory.dynamic();
+        let packed = pack_difference(alloc, dynamic, memory.original())?;
+        let frames = frames.copy(alloc)?;
+        Ok(Kept {
+            packed,
+            length: dynamic.len(),
+            frames,
+            place,
+        })
+    }
+
+    /// Puts the state's memory and frames in the place of these, and tells where the run goes on.
+    pub(crate) fn put_back(&self, memory: &mut Memory, frames: &mut Frames) -> u32
+        requires { IsOf memory.old.static_base frames.old.most_frames frames.old.most_words self.now }
+        ensures state { (others : List WholeState) → gone_back (whole_state memory.old.file self.now ∷ others) memory.old frames.old ≡ Some (memory.new, frames.new, result, others) }
+        ensures base { memory.new.static_base ≡ memory.old.static_base }
+        ensures bounds { bounds_of frames.new ≡ bounds_of frames.old }
+    {
+        let _ = memory.dynamic();
+        let flags = memory.flags();
+        memory.reset();
+        turn(self.packed.as_slice(), memory);
+        memory.settle(flags);
+        frames.put_back(&self.frames);
+        self.place
+    }
+}

@@ -1,0 +1,100 @@
+// Bytes with their runs of zeros written short.
+
+ghost use Rattle.std.specs.Prelude.{◌≡◌, ℕ, ◌+◌, ◌*◌, ◌^◌, ◌<◌, ◌≤◌, List, ◌∷◌, ◌++◌, length, Some, IfOk, OnOk};
+ghost use Rattle.zk_mem.specs.Again.{with_bytes};
+ghost use Rattle.zk_save.specs.Packing.{Zeros, pairs, spelled, packed};
+ghost use Rattle.zk_save.specs.Unpacking.{unpacked, xored};
+ghost use Rattle.zk_save.specs.Counted.{packed_after};
+
+use std::alloc::{AllocError, Global};
+use zk_mem::memory::Memory;
+
+/// Writes so many zeros: pairs of a zero and how many come behind it, of 256 zeros as long as these fit.
+#[tactic(auto, using(crate::proofs::Packs::pairs_start, crate::proofs::Packs::pairs_step, crate::proofs::Packs::zeros_rest, crate::proofs::Packs::zeros_even))]
+fn put_zeros(out: &mut Vec<u8>, zeros: usize) -> Result<(), AllocError>
+    ensures { OnOk result (out.new.items ≡ out.old.items ++ spelled (Zeros zeros)) }
+{
+    for _i in 0..zeros / 256 {
+        out.push(0)?;
+        out.push(255)?;
+    }
+    let rest = (zeros % 256) as u8;
+    if rest > 0 {
+        out.push(0)?;
+        out.push(rest - 1)?;
+    }
+    Ok(())
+}
+
+/// Takes a byte behind so many zeros that wait, and tells how many wait then. A zero is counted; another
+/// byte is written behind those that waited.
+fn put_byte(out: &mut Vec<u8>, zeros: usize, byte: u8) -> Result<usize, AllocError>
+    requires { zeros < 2 ^ 63 }
+    ensures value { IfOk result (λ z. (rest : List ℕ) → out.new.items ++ packed_after z rest ≡ out.old.items ++ packed_after zeros (byte ∷ rest)) }
+    ensures few { IfOk result (λ z. z ≤ zeros + 1) }
+{
+    if byte == 0 {
+        return Ok(zeros + 1);
+    }
+    put_zeros(out, zeros)?;
+    out.push(byte)?;
+    Ok(0)
+}
+
+/// Bytes, packed: without the zeros at their end, each other run of zeros in pairs of a zero and how many
+/// come behind it, at most 255, and each other byte as it is (Quetzal 1.4, section 3).
+pub fn pack(alloc: Global, bytes: &[u8]) -> Result<Vec<u8>, AllocError>
+    ensures value { IfOk result (λ v. v.items ≡ packed bytes.now) }
+    ensures short { IfOk result (λ v. 2 * length v.items ≤ 3 * length bytes.now) }
+{
+    let mut out = Vec::new(alloc);
+    let mut zeros: usize = 0;
+    for byte in bytes {
+        zeros = put_byte(&mut out, zeros, *byte)?;
+    }
+    Ok(out)
+}
+
+/// What bytes differ in from those of a file, packed.
+pub(crate) fn pack_difference(
+    alloc: Global,
+    bytes: &[u8],
+    file: &[u8],
+) -> Result<Vec<u8>, AllocError>
+    requires { length bytes.now ≤ length file.now }
+    ensures value { IfOk result (λ v. v.items ≡ packed (xored bytes.now file.now)) }
+    ensures short { IfOk result (λ v. 2 * length v.items ≤ 3 * length bytes.now) }
+{
+    let mut out = Vec::new(alloc);
+    let mut zeros: usize = 0;
+    for i in 0..bytes.len() {
+        zeros = put_byte(&mut out, zeros, bytes[i] ^ file[i])?;
+    }
+    Ok(out)
+}
+
+/// Turns the bytes of dynamic memory by a difference, which is packed.
+pub(crate) fn turn(packed: &[u8], memory: &mut Memory)
+    ensures turned { (ds : List ℕ) → unpacked (length ds) packed.now ≡ Some ds → length ds ≡ memory.old.static_base → memory.new ≡ with_bytes memory.old (xored memory.old.bytes ds) }
+    ensures base { memory.new.static_base ≡ memory.old.static_base }
+{
+    let end = memory.dynamic().len();
+    let mut at: usize = 0;
+    let mut run = false;
+    for byte in packed {
+        if run {
+            at += (*byte as usize + 1).min(end - at);
+            run = false;
+            continue;
+        }
+        if *byte == 0 {
+            run = true;
+            continue;
+        }
+        if at >= end {
+            continue;
+        }
+        memory.flip(at as u32, *byte);
+        at += 1;
+    }
+}

@@ -1,0 +1,125 @@
+// The newest states, to go back to.
+
+ghost use Rattle.std.specs.Prelude.{◌≡◌, ◌<◌, ◌≤◌, [], ◌∷◌, take, length, Some, None, MatchOption, IfOk, OnOk, OnErr};
+ghost use Rattle.zk_mem.specs.Map.{MemoryMap};
+ghost use Rattle.zk_state.specs.Frames.{FrameList};
+ghost use Rattle.zk_save.specs.States.{state_of, states_in, gone_back, AreOf};
+
+use crate::kept::Kept;
+use circular_buffer::HeapCircularBuffer;
+use std::alloc::{AllocError, Global};
+use std::marker::Model;
+use zk_mem::memory::Memory;
+use zk_state::frames::Frames;
+
+/// The newest states of a run, as many as are wanted, at most 64 (Standard, section 15, `save_undo`).
+#[derive(Drop)]
+pub struct Undo {
+    ring: Option<HeapCircularBuffer<Kept>>,
+    most: usize,
+    alloc: Global,
+}
+
+impl Model for Undo {
+    ghost use Rattle.zk_mem.specs.Map.{MemoryMap};
+    ghost use Rattle.zk_state.specs.Frames.{FrameList};
+    ghost use Rattle.zk_save.specs.States.{UndoStates};
+
+    ghost Value = { UndoStates };
+
+    ghost use Rattle.zk_save.specs.Ring.{undo_seen, IsRing};
+
+    ghost view = { undo_seen };
+
+    ghost invariant = { IsRing };
+}
+
+/// Lets a state go.
+fn forget(_oldest: Option<Kept>) {}
+
+impl Undo {
+    /// No state so far, and room for the newest `most`. For none at all no memory is asked for.
+    #[tactic(auto, using(crate::proofs::Wholes::none_of))]
+    pub fn new(alloc: Global, most: u8) -> Result<Undo, AllocError>
+        requires { most ≤ 64 }
+        ensures value { IfOk result (λ u. u ≡ record { states = []; most = most }) }
+        ensures are_of { IfOk result (λ u. (m : MemoryMap) (f : FrameList) → AreOf m f u) }
+    {
+        let most = most as usize;
+        if most == 0 {
+            return Ok(Undo {
+                ring: None,
+                most,
+                alloc,
+            });
+        }
+        let ring = HeapCircularBuffer::with_capacity(alloc, most)?;
+        Ok(Undo {
+            ring: Some(ring),
+            most,
+            alloc,
+        })
+    }
+
+    /// How many states there are.
+    pub fn len(&self) -> u8
+        ensures value { result ≡ length self.now.states }
+        ensures few { result ≤ self.now.most }
+        ensures most { self.now.most ≤ 64 }
+    {
+        match &self.ring {
+            Some(ring) => ring.len() as u8,
+            None => 0,
+        }
+    }
+
+    /// Keeps the state of a memory and frames that goes on at a place, and drops the oldest state where
+    /// there are too many. Where none is wanted, none is kept, and no memory is asked for. Where there is
+    /// no memory, all states stay.
+    pub fn put(&mut self, memory: &Memory, frames: &Frames, place: u32) -> Result<(), AllocError>
+        ensures ok { OnOk result (states_in memory.now.file self.new ≡ take self.old.most (state_of memory.now frames.now place ∷ states_in memory.now.file self.old)) }
+        ensures err { OnErr result (self.new ≡ self.old) }
+        ensures most { self.new.most ≡ self.old.most }
+        ensures are_of { AreOf memory.now frames.now self.old → AreOf memory.now frames.now self.new }
+    {
+        let alloc = self.alloc;
+        let ring = match &mut self.ring {
+            Some(ring) => ring,
+            None => return Ok(()),
+        };
+        let kept = Kept::new(alloc, memory, frames, place)?;
+        forget(ring.push_back(kept));
+        Ok(())
+    }
+
+    /// The newest state, which is no longer kept.
+    fn pop(&mut self) -> Option<Kept>
+        ensures { MatchOption result ((self.old.states ≡ []) × (self.new ≡ self.old)) (λ k. self.old ≡ record { states = k ∷ self.new.states; most = self.new.most }) }
+    {
+        let ring = match &mut self.ring {
+            Some(ring) => ring,
+            None => return None,
+        };
+        match ring.pop_back() {
+            Some(kept) => return Some(kept),
+            None => return None,
+        }
+    }
+
+    /// Goes back to the newest state: memory and frames are put back, the place is told, and the state is no
+    /// longer kept. Where there is none, nothing changes. No memory is asked for. The states have to be of
+    /// the same story and bounds.
+    pub fn take(&mut self, memory: &mut Memory, frames: &mut Frames) -> Option<u32>
+        requires { AreOf memory.old frames.old self.old }
+        ensures value { MatchOption result
+            ((gone_back (states_in memory.old.file self.old) memory.old frames.old ≡ None) × (self.new ≡ self.old) × (memory.new ≡ memory.old) × (frames.new ≡ frames.old))
+            (λ place. gone_back (states_in memory.old.file self.old) memory.old frames.old ≡ Some (memory.new, frames.new, place, states_in memory.old.file self.new)) }
+        ensures most { self.new.most ≡ self.old.most }
+        ensures are_of { AreOf memory.new frames.new self.new }
+    {
+        match self.pop() {
+            Some(kept) => Some(kept.put_back(memory, frames)),
+            None => None,
+        }
+    }
+}

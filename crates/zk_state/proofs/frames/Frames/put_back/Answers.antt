@@ -1,0 +1,45 @@
+use Rattle.std.proofs.Common.{◌≡◌, ◌∙◌, length, arith, ap, rules}
+use Rattle.std.proofs.lemmas.List.Elements.{All-same}
+use Rattle.zk_state.specs.Flat.{IsRecord}
+use Rattle.zk_state.proofs.Oldest.{copy_length, copy_size}
+use Rattle.zk_state.proofs.frames.Frames.put_back.Goals as goal
+
+pub unwrap-requires : goal.unwrap-requires
+unwrap-requires c =
+    let s = c.self.inside in
+    let k = c.copy.inside in
+    let few = rw (← c.self.view_is, ← c.copy.view_is) at c.requires.frames in
+    c.extend_from_slice.ensures.succeeds (omega (arith, few, copy_length k.current k.callers.items k.words.items, c.clear.ensures.len, c.clear.ensures.capacity, c.as_slice.ensures.len, k.callers.ok.0, c.self.invariant.frame_room))
+
+pub copy_words-requires : goal.copy_words-requires
+copy_words-requires c =
+    let s = c.self.inside in
+    let k = c.copy.inside in
+    let i = c.copy.invariant in
+    let short = rw (← c.self.view_is, ← c.copy.view_is) at c.requires.words in
+    omega (arith, short, copy_size k.current k.callers.items k.words.items i.base i.floor i.below, ap length c.as_slice-2.ensures.value, c.self.invariant.size)
+
+pub invariant_of-self : goal.invariant_of-self
+invariant_of-self c =
+    let s = c.self.inside in
+    let k = c.copy.inside in
+    let i = c.self.invariant in
+    let j = c.copy.invariant in
+    let few = rw (← c.self.view_is, ← c.copy.view_is) at c.requires.frames in
+    let short = rw (← c.self.view_is, ← c.copy.view_is) at c.requires.words in
+    let callers : c.extend_from_slice.new.self.items ≡ k.callers.items = search rules in
+    let words : c.len-self-inside.result ≡ length k.words.items = c.len-self-inside.ensures ∙ k.words.ok.0 in
+    record {
+      base = j.base;
+      floor = omega (arith, j.floor, words);
+      below = rw callers j.below;
+      top = omega (arith, short, copy_size k.current k.callers.items k.words.items j.base j.floor j.below, words);
+      size = c.copy_words.ensures.len ∙ i.size;
+      frames = omega (arith, few, copy_length k.current k.callers.items k.words.items, ap length callers);
+      frame_room = omega (arith, c.extend_from_slice.ensures.capacity, c.clear.ensures.capacity, i.frame_room);
+      current = j.current;
+      callers = All-same IsRecord c.extend_from_slice.new.self.items k.callers.items callers j.callers;
+      first = rw callers j.first;
+      few_frames = i.few_frames;
+      few_words = i.few_words;
+    }
