@@ -25,11 +25,13 @@ pub record IsCleared (m n : MemoryMap) (table size : ℕ) : Type 0 where
 
 -- as if at once: what the bytes held before is copied, also where the tables overlap, and no other byte changes
 abbrev pub CopiesAreWhole : Type 0
-CopiesAreWhole = (m n : MemoryMap) (first second size : ℕ) → second ≢ 0 → size < 32768 → table_copied m first second size ≡ Ok n → IsCopied m n first second size
+CopiesAreWhole = (m n : MemoryMap) (first second size : ℕ) → second ≢ 0 → size < 32768 →
+    table_copied m first second size ≡ Ok n → IsCopied m n first second size
 
 -- with no second table the first becomes zero, and no other byte changes
 abbrev pub ClearsAreWhole : Type 0
-ClearsAreWhole = (m n : MemoryMap) (first size : ℕ) → size < 65536 → table_copied m first 0 size ≡ Ok n → IsCleared m n first (magnitude size)
+ClearsAreWhole = (m n : MemoryMap) (first size : ℕ) → size < 65536 →
+    table_copied m first 0 size ≡ Ok n → IsCleared m n first (magnitude size)
 
 -- no byte of the second table is one of the first
 abbrev pub Apart : ℕ → ℕ → ℕ → Type 0
@@ -38,4 +40,5 @@ Apart first second size = (j k : ℕ) → j < size → k < size → (first + j) 
 -- where tables do not overlap, forwards is as if at once
 abbrev pub ForwardsIsAtOnce : Type 0
 ForwardsIsAtOnce = (m n : MemoryMap) (first second size : ℕ) → Apart first second size →
-    (copied_forwards m (places first size) (places second size) ≡ Ok n) ↔ (copied_at_once m (places first size) (places second size) ≡ Ok n)
+    (copied_forwards m (places first size) (places second size) ≡ Ok n)
+    ↔ (copied_at_once m (places first size) (places second size) ≡ Ok n)

@@ -44,10 +44,14 @@ pub record IsCutOff (m : MemoryMap) (x table form n k : ℕ) (f : Fault) : Type 
 unfoldable pub scanned : MemoryMap → ℕ → ℕ → ℕ → ℕ → Result (Option ℕ) Fault
 scanned m x a form zero = Ok None
 scanned m x a form (suc n) =
-    field_at m form (a % 65536) >>= λ v. if v == x then Ok (Some (a % 65536)) else scanned m x (a + entry_length form) form n
+    field_at m form (a % 65536) >>= λ v.
+    if v == x then Ok (Some (a % 65536)) else scanned m x (a + entry_length form) form n
 
 -- what is found is the first entry; where none is found each begins with another value; what is refused can't be read
 pub record ScansAreFirst : Type 0 where
-  pub found : (m : MemoryMap) (x table form n a : ℕ) → scanned m x table form n ≡ Ok (Some a) → (k : ℕ) × (a ≡ entry_at table form k) × IsFirst m x table form n k
-  pub nowhere : (m : MemoryMap) (x table form n : ℕ) → scanned m x table form n ≡ Ok None → IsNowhere m x table form n
-  pub refused : (m : MemoryMap) (x table form n : ℕ) (f : Fault) → scanned m x table form n ≡ Err f → (k : ℕ) × IsCutOff m x table form n k f
+  pub found : (m : MemoryMap) (x table form n a : ℕ) → scanned m x table form n ≡ Ok (Some a) →
+      (k : ℕ) × (a ≡ entry_at table form k) × IsFirst m x table form n k
+  pub nowhere : (m : MemoryMap) (x table form n : ℕ) → scanned m x table form n ≡ Ok None →
+      IsNowhere m x table form n
+  pub refused : (m : MemoryMap) (x table form n : ℕ) (f : Fault) → scanned m x table form n ≡ Err f →
+      (k : ℕ) × IsCutOff m x table form n k f

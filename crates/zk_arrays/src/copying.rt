@@ -8,7 +8,7 @@ use crate::runs::{check_bytes, place};
 use zk_mem::fault::Fault;
 use zk_mem::memory::Memory;
 
-/// Whether so many bytes can be stored in a table, one after the other: the refusal is that of the first that can't be.
+/// Whether so many bytes can be stored in a table, one after the other: the refusal is that of the first that can't.
 #[tactic(auto, using(crate::proofs::Puts::stores_none, crate::proofs::Puts::stores_inside))]
 fn check_stores(memory: &Memory, table: u16, size: u16) -> Result<(), Fault>
     ensures ok { OnOk result ((bytes : List ℕ) → length bytes ≡ size → IsOk (bytes_stored memory.now (places table size) bytes)) }
@@ -49,7 +49,8 @@ fn copy_forwards(memory: &mut Memory, first: u16, second: u16, size: u16) -> Res
     Ok(())
 }
 
-/// Copies a table that can be copied from its last byte to its first, where that stores no byte before it is read.
+/// Copies a table that can be copied, from its last byte to its first, where that stores over no byte before it is
+/// read.
 fn copy_backwards(memory: &mut Memory, first: u16, second: u16, size: u16)
     requires can { IsOk (copied_at_once memory.old (places first size) (places second size)) }
     requires above { (second + (65536 - first)) % 65536 < size }
@@ -61,8 +62,8 @@ fn copy_backwards(memory: &mut Memory, first: u16, second: u16, size: u16)
     }
 }
 
-/// Copies a table as if at once: all bytes are tested first, and then they are copied in the direction that stores no
-/// byte before it is read.
+/// Copies a table as if at once: all bytes are tested first, and then they are copied in the direction that stores over
+/// no byte before it is read.
 fn copy_at_once(memory: &mut Memory, first: u16, second: u16, size: u16) -> Result<(), Fault>
     requires { size < 32768 }
     ensures { MatchResult result (λ _. copied_at_once memory.old (places first size) (places second size) ≡ Ok memory.new) (λ e. copied_at_once memory.old (places first size) (places second size) ≡ Err e) }
@@ -98,13 +99,13 @@ fn without_sign(size: u16) -> u16
     }
 }
 
-/// Copies so many bytes of a table to another (Z-Machine Standards Document 1.1, section 15, `copy_table`): as if at once
-/// where the size is positive, and byte by byte from the first on where it is negative. Where the address of the second
-/// table is 0, bytes of the first become 0. Addresses are sums of 16 bits.
+/// Copies so many bytes of a table to another (Z-Machine Standards Document 1.1, section 15, `copy_table`): as if at
+/// once where the size is positive, and byte by byte from the first on where it is negative. Where the address of the
+/// second table is 0, bytes of the first become 0. Addresses are sums of 16 bits.
 ///
-/// As if at once, it is `BadAddress` where a byte can't be read, before anything is stored, and then the first byte that
-/// can't be stored decides: `BadAddress` outside readable data, `ReadOnly` inside. Byte by byte, and where bytes become 0,
-/// the first that can't be read or stored decides. It takes no memory.
+/// As if at once, it is `BadAddress` where a byte can't be read, before anything is stored; then the first byte that
+/// can't be stored decides, `BadAddress` outside readable data, `ReadOnly` inside. Byte by byte, and where bytes become
+/// 0, the first that can't be read or stored decides, and what was stored before it stands. It takes no memory.
 #[tactic(auto, unfolding(crate::specs::Copying::table_copied))]
 pub fn copy_table(memory: &mut Memory, first: u16, second: u16, size: u16) -> Result<(), Fault>
     ensures { MatchResult result (λ _. table_copied memory.old first second size ≡ Ok memory.new) (λ e. table_copied memory.old first second size ≡ Err e) }

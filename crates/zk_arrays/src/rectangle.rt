@@ -12,7 +12,7 @@ use zk_text::sink::{Sink, SinkFault};
 use zk_text::unit::Unit;
 
 /// Rows of bytes in memory: the first begins at a byte address, each has so many bytes, and so many are skipped between
-/// two of them (Z-Machine Standards Document 1.1, section 15, `print_table`).
+/// two of them (Z-Machine Standards Document 1.1, section 15, `print_table`). Addresses are sums of 16 bits.
 #[derive(Clone, Copy, Debug, PartialEq, Eq, Drop)]
 pub struct Rectangle {
     /// The byte address of the first row.
@@ -42,7 +42,8 @@ fn check_row(memory: &Memory, rectangle: Rectangle, row: u16) -> Result<(), Faul
     check_bytes(memory, row_address(rectangle, row), rectangle.width)
 }
 
-/// Whether all bytes of a rectangle can be read; else it is `BadAddress`. It takes one test for each row.
+/// Whether all bytes of a rectangle can be read; else it is `BadAddress`. Skipped bytes do not count, and where there
+/// is no row, or rows have no byte, nothing is read. It takes one test for each row.
 #[tactic(auto, unfolding(crate::specs::Rectangles::rows_of), using(crate::proofs::Rows::rows_end))]
 pub fn check_rectangle(memory: &Memory, rectangle: Rectangle) -> Result<(), Fault>
     ensures { MatchResult result (λ _. IsOk (rows_of memory.now rectangle)) (λ e. rows_of memory.now rectangle ≡ Err e) }
@@ -74,8 +75,8 @@ fn give_bytes<S: Sink>(
     Ok(())
 }
 
-/// Gives a sink the codes of a row of a rectangle that can be read (see `check_rectangle`). Where the sink refuses, it was
-/// given a first part of them, and takes no more of what begins with the row.
+/// Gives a sink the codes of a row of a rectangle that can be read (see `check_rectangle`). Where the sink refuses, it
+/// was given a first part of them, and takes no more of what begins with the row.
 #[tactic(auto, unfolding(crate::specs::Rectangles::row_at), using(crate::proofs::Rows::row_places, crate::proofs::Rows::row_readable))]
 pub fn give_row<S: Sink>(
     memory: &Memory,
@@ -113,8 +114,8 @@ fn give_line<S: Sink>(
     give_row(memory, rectangle, row, sink)
 }
 
-/// Gives a sink the codes of a rectangle that can be read (see `check_rectangle`), row by row, with a new line between two
-/// rows. Where the sink refuses, it was given a first part of them.
+/// Gives a sink the codes of a rectangle that can be read (see `check_rectangle`), row by row, with a new line between
+/// two rows. Where the sink refuses, it was given a first part of them, and is asked no more.
 pub fn give_rectangle<S: Sink>(
     memory: &Memory,
     rectangle: Rectangle,

@@ -19,8 +19,8 @@ fn field(memory: &Memory, form: u16, address: u16) -> Result<u16, Fault>
 }
 
 /// The byte address of the first of `length` entries of a table that begins with a value (Z-Machine Standards Document
-/// 1.1, section 15, `scan_table`). Bit 7 of the form says that words are compared, else bytes, and its low seven bits how
-/// many bytes an entry has. Addresses are sums of 16 bits.
+/// 1.1, section 15, `scan_table`). Bit 7 of the form says that words are compared, else bytes, and its low seven bits
+/// how many bytes an entry has. Addresses are sums of 16 bits.
 ///
 /// `BadAddress` where the beginning of an entry can't be read and no entry before it was found.
 #[tactic(auto, using(crate::proofs::Scans::scan_on))]
