@@ -4,7 +4,7 @@ use Rattle.std.specs.Prelude.{◌≡◌, ℕ, List, [], ◌∷◌, ◌++◌, Som
 use Rattle.zk_mem.specs.declared.fault.Fault.TheVariants.{BadAddress, DivisionByZero, BadOpcode, CodePastEnd, ReadOnly}
 use Rattle.zk_state.specs.declared.refusal.Limit.TheVariants.{Frames, Words, Steps, Reads}
 use Rattle.zk_state.specs.Frames.{first_frames}
-use Rattle.zk_step.specs.declared.workspace.View.TheVariants.{Plain}
+use Rattle.zk_step.specs.declared.workspace.View.TheVariants.{Plain, Upper}
 use Rattle.zk_vm.specs.declared.limits.Limits.{Limits}
 use Rattle.zk_vm.specs.declared.stop.Event.TheVariants as event
 use Rattle.zk_vm.specs.declared.stop.Stop.{Stop}
@@ -146,3 +146,26 @@ MachinesWait =
     × ((given (ran (starts echoes (limits_of 1 1 10))) (codes "a")).state.place ≡ 68)
     × ((given (ran (starts echoes (limits_of 1 1 10))) (codes "a")).state.reads ≡ 1)
     × ((given (ran (starts echoes (limits_of 1 1 10))) (codes "a")).waiting ≡ None)
+
+-- ---- the upper window and the transcript
+
+-- at 64 `split_window` to one row, at 67 `set_window` to the upper one, at 70 `print` of "hi", at 73 `set_window` to the
+-- lower one, at 76 `read_char` to the stack, at 80 `quit`
+abbrev pub shows_a_row : List ℕ
+shows_a_row = story_of (0xea ∷ 0x7f ∷ 1 ∷ 0xeb ∷ 0x7f ∷ 1 ∷ 0xb2 ∷ 0xb5 ∷ 0xc5 ∷ 0xeb ∷ 0x7f ∷ 0 ∷ 0xf6 ∷ 0x7f ∷ 1 ∷ 0 ∷ 0xba ∷ [])
+
+-- where the view has the upper window its row stands on a line before the read, else nothing of it is shown
+abbrev pub ViewsShowRows : Type 0
+ViewsShowRows =
+    (outcome (codes "x" ∷ []) EndOfInput (begun shows_a_row 1 (limits_of 1 1 10) Upper) ≡ stops Quit (codes "| hi" ++ 10 ∷ []))
+    × (outcome (codes "x" ∷ []) EndOfInput (begun shows_a_row 1 (limits_of 1 1 10) Plain) ≡ stops Quit [])
+
+-- past the most reads no row is shown either
+abbrev pub NoViewPastTheMostReads : Type 0
+NoViewPastTheMostReads = outcome (codes "x" ∷ []) EndOfInput (after_reads 16777216 (begun shows_a_row 1 (limits_of 1 1 10) Upper)) ≡ stops (Limit 76 Reads) []
+
+-- at 64 `output_stream` 2, at 67 `print` of "hi", at 70 `output_stream` -2, at 74 `print` of "hi", at 77 `quit`
+abbrev pub ScriptsGetText : Type 0
+ScriptsGetText =
+    outcome_of (starts (story_of (0xf3 ∷ 0x7f ∷ 2 ∷ 0xb2 ∷ 0xb5 ∷ 0xc5 ∷ 0xf3 ∷ 0x3f ∷ 0xff ∷ 0xfe ∷ 0xb2 ∷ 0xb5 ∷ 0xc5 ∷ 0xba ∷ [])) (limits_of 1 1 10))
+    ≡ record { stop = Quit; text = record { screen = codes "hihi"; script = codes "hi" } }
