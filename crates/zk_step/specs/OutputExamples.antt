@@ -1,22 +1,21 @@
 -- Worked examples of streams, windows, tables and random numbers: what the Standard says of small cases, worked out by
 -- hand.
-use Rattle.std.specs.Prelude.{◌≡◌, ℕ, ◌*◌, Bool, true, false, List, [], ◌∷◌, ◌++◌, Option, Some, None, Result, Ok, Err, replicate, codes, map}
-use Rattle.zk_mem.specs.declared.fault.Fault.TheVariants.{BadAddress, ReadOnly, StreamDepth}
+use Rattle.std.specs.Prelude.{◌≡◌, ℕ, Bool, true, false, List, [], ◌∷◌, ◌++◌, Option, Some, None, Ok, Err, replicate, codes}
+use Rattle.zk_mem.specs.declared.fault.Fault.TheVariants.{BadAddress, StreamDepth}
 use Rattle.zk_mem.specs.Map.{MemoryMap}
 use Rattle.zk_text.specs.declared.unit.Unit.TheVariants as unit
-use Rattle.zk_term.specs.declared.windows.Window.TheVariants.{Lower, Upper}
+use Rattle.zk_term.specs.declared.windows.Window.TheVariants.{Upper}
 use Rattle.zk_term.specs.Windows.{Windows, first_windows, printed, split, window_selected}
 use Rattle.zk_code.specs.declared.opcode.Table.TheVariants.{ScanTable, PrintTable}
-use Rattle.zk_code.specs.declared.opcode.Window.TheVariants.{SplitWindow, SetWindow, EraseWindow, EraseLine, SetCursor, GetCursor, ShowStatus}
-use Rattle.zk_step.specs.declared.ending.Effect.{Effect}
+use Rattle.zk_code.specs.declared.opcode.Window.TheVariants.{SplitWindow, SetWindow, EraseLine, SetCursor, GetCursor, ShowStatus}
 use Rattle.zk_step.specs.declared.ending.Ending.TheVariants.{GoOn}
-use Rattle.zk_step.specs.declared.ending.Output.TheVariants.{Nothing, Code, Rows, Status}
+use Rattle.zk_step.specs.declared.ending.Output.TheVariants.{Code, Rows}
 use Rattle.zk_step.specs.declared.random.Generators.{Generators}
 use Rattle.zk_step.specs.declared.streams.OpenTable.{OpenTable}
 use Rattle.zk_step.specs.declared.workspace.View.TheVariants as view
 use Rattle.zk_step.specs.declared.workspace.Workspace.{Workspace}
 use Rattle.zk_step.specs.Endings.{ends, goes_on, prints}
-use Rattle.zk_step.specs.Examples.{memory_of, in_routine, working, routine_with}
+use Rattle.zk_step.specs.Examples.{memory_of, working, routine_with}
 use Rattle.zk_step.specs.Random.{randomised}
 use Rattle.zk_step.specs.Routing.{routed, no_text, stored_all, ends_line, with_line_start}
 use Rattle.zk_step.specs.Screens.{window_effect}
@@ -171,7 +170,7 @@ WindowsAreChanged =
 abbrev pub CursorsAreTold : Type 0
 CursorsAreTold =
     (window_effect GetCursor (with_windows (record upper_selected { row = 256; column = 81 })) (2 ∷ [])
-        ≡ Ok (with_memory (with_windows (record upper_selected { row = 256; column = 81 })) (memory_of 5 (0 ∷ 0 ∷ 1 ∷ 0 ∷ 0 ∷ 81 ∷ replicate 11 0 ++ 1 ∷ 0 ∷ 0 ∷ [])), goes_on))
+    ≡ Ok (with_memory (with_windows (record upper_selected { row = 256; column = 81 })) (memory_of 5 (0 ∷ 0 ∷ 1 ∷ 0 ∷ 0 ∷ 81 ∷ replicate 11 0 ++ 1 ∷ 0 ∷ 0 ∷ [])), goes_on))
     × (window_effect GetCursor (with_windows first_windows) (18 ∷ []) ≡ Err BadAddress)
 
 -- without the view no status line is shown, nor in version 5

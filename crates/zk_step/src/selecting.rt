@@ -50,7 +50,9 @@ fn close_table(workspace: &mut Workspace) -> Result<(), Fault>
     match workspace.streams.newest() {
         None => Ok(()),
         Some(table) => {
-            workspace.memory.set_word(table.address as u32, table.count)?;
+            workspace
+                .memory
+                .set_word(table.address as u32, table.count)?;
             workspace.streams.close();
             Ok(())
         }

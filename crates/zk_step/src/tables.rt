@@ -57,11 +57,22 @@ pub fn tables_effect(
     match operation {
         Table::ScanTable => {
             let form = values.get_or(3, WORDS);
-            let found = scan_table(&workspace.memory, values.first(), values.second(), values.third(), form)?;
+            let found = scan_table(
+                &workspace.memory,
+                values.first(),
+                values.second(),
+                values.third(),
+                form,
+            )?;
             Ok(answer_by(found))
         }
         Table::CopyTable => {
-            copy_table(&mut workspace.memory, values.first(), values.second(), values.third())?;
+            copy_table(
+                &mut workspace.memory,
+                values.first(),
+                values.second(),
+                values.third(),
+            )?;
             Ok(Effect::goes_on())
         }
         Table::PrintTable => {

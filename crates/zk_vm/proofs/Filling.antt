@@ -1,15 +1,15 @@
 -- Codes for a table of stream 3.
-use Rattle.std.proofs.Common.{◌≡◌, ◌∙◌, ◌≤◌, ◌<◌, ◌⊎◌, inl, inr, ℕ, ◌+◌, ◌-◌, Bool, true, false, List, [], ◌∷◌, ◌++◌, length, take, min, Option, Some, None, Result, Ok, Err, refl, ap, sym, subst, arith, append_assoc, nat_lt, nat_le}
-use Rattle.std.specs.Prelude.{◌==◌, ◌||◌, if◌then◌else◌, slice_get, is_some}
+use Rattle.std.proofs.Common.{◌≡◌, ◌∙◌, ◌≤◌, ◌<◌, ◌⊎◌, inl, inr, ℕ, ◌+◌, ◌-◌, Bool, true, false, List, [], ◌∷◌, ◌++◌, length, Some, None, Result, Ok, Err, refl, ap, sym, arith, append_assoc, nat_lt, nat_le}
+use Rattle.std.specs.Prelude.{◌==◌, if◌then◌else◌}
 use Rattle.std.proofs.lemmas.Bool.Decides.{nat_tests}
-use Rattle.std.proofs.lemmas.List.{length-take, length-append}
+use Rattle.std.proofs.lemmas.List.{length-take}
 use Rattle.std.proofs.lemmas.Option.{slice_get_past}
 use Rattle.zk_mem.specs.declared.fault.Fault.{Fault}
 use Rattle.zk_mem.specs.declared.fault.Fault.TheVariants.{BadAddress, ReadOnly}
 use Rattle.zk_mem.specs.Map.{MemoryMap, readable_end, byte_put, with_byte}
 use Rattle.zk_mem.specs.Results.{◌>>=◌}
 use Rattle.zk_text.specs.declared.unit.Unit.{Unit}
-use Rattle.zk_text.specs.Extra.{ExtraTable, character, characters, is_ascii}
+use Rattle.zk_text.specs.Extra.{ExtraTable, character, characters}
 use Rattle.zk_text.specs.Standard.{standard_characters}
 use Rattle.zk_arrays.specs.Runs.{bytes_put}
 use Rattle.zk_step.specs.Routing.{code_stored, stored_all}

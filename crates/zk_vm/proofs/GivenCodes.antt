@@ -1,5 +1,5 @@
 -- Codes given one after the other.
-use Rattle.std.proofs.Common.{◌≡◌, ℕ, List, [], ◌∷◌, ◌++◌, sym, subst, map}
+use Rattle.std.proofs.Common.{ℕ, List, ◌++◌, sym, subst}
 use Rattle.std.proofs.lemmas.List.{map-append}
 use Rattle.zk_text.specs.declared.unit.Unit.{Unit}
 use Rattle.zk_text.specs.declared.unit.Unit.TheVariants.{Code}

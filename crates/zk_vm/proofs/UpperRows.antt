@@ -1,5 +1,5 @@
 -- Rows of a rectangle, printed in the upper window.
-use Rattle.std.proofs.Common.{◌≡◌, ◌∙◌, ◌≤◌, ◌<◌, ℕ, ◌+◌, Bool, List, [], ◌∷◌, length, drop, get_or, Result, Ok, Err, IsOk, refl, sym, ap, subst, arith, drop-cons, add-one}
+use Rattle.std.proofs.Common.{◌≡◌, ◌≤◌, ◌<◌, ℕ, ◌+◌, Bool, List, [], ◌∷◌, length, drop, get_or, Result, Ok, Err, IsOk, refl, arith, drop-cons, add-one}
 use Rattle.std.proofs.lemmas.List.{drop_all}
 use Rattle.zk_mem.specs.declared.fault.Fault.{Fault}
 use Rattle.zk_text.specs.Extra.{ExtraTable}

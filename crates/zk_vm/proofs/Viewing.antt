@@ -1,9 +1,9 @@
 -- The rows of the upper window and the status line, line by line.
-use Rattle.std.proofs.Common.{◌≡◌, ◌∙◌, ◌≤◌, ◌<◌, ℕ, zero, suc, ◌+◌, Bool, true, false, List, [], ◌∷◌, ◌++◌, length, take, get_or, Result, Ok, Err, IsOk, refl, sym, ap, subst, arith, append_assoc, append-nil}
+use Rattle.std.proofs.Common.{◌≡◌, ◌∙◌, ◌<◌, ℕ, zero, suc, ◌+◌, true, List, [], ◌∷◌, ◌++◌, length, take, get_or, refl, sym, ap, subst, arith, append_assoc, append-nil}
 use Rattle.std.proofs.lemmas.List.{take_more}
 use Rattle.zk_term.specs.Windows.{Windows, row_text}
 use Rattle.zk_step.specs.declared.workspace.Workspace.{Workspace}
-use Rattle.zk_step.specs.Routing.{Texts, on_screen, fresh_line, with_line_start}
+use Rattle.zk_step.specs.Routing.{on_screen, fresh_line, with_line_start}
 use Rattle.zk_vm.specs.View.{rows_shown, lines_shown}
 
 -- one more character

@@ -34,9 +34,10 @@ pub shown_twice : {S : Type 0} (shows : S → S → List ℕ → List ℕ → Ty
 shown_twice {S} shows twice on too a b c p q r x y all h k =
     let k' = subst (λ (o : Selected). ShownOn shows o b c q r y) all k in
     let screen = sym (shown_if-append on.screen x y) in
-    let script = sym (shown_if-append on.script x y) in
-    (k'.0 ∙ ap (λ (z : Bool). ends_line z (shown_if on.screen y)) h.0 ∙ sym (ap (ends_line p) (shown_if-append on.screen x y) ∙ ends_line-append (shown_if on.screen x) p (shown_if on.screen y)),
-    subst (λ (z : List ℕ). shows a c z (shown_if on.script (x ++ y))) screen (subst (λ (z : List ℕ). shows a c (shown_if on.screen x ++ shown_if on.screen y) z) script (twice a b c _ _ _ _ h.1 k'.1)))
+    let script = sym (shown_if-append on.script x y) in (
+      k'.0 ∙ ap (λ (z : Bool). ends_line z (shown_if on.screen y)) h.0 ∙ sym (ap (ends_line p) (shown_if-append on.screen x y) ∙ ends_line-append (shown_if on.screen x) p (shown_if on.screen y)),
+      subst (λ (z : List ℕ). shows a c z (shown_if on.script (x ++ y))) screen (subst (λ (z : List ℕ). shows a c (shown_if on.screen x ++ shown_if on.screen y) z) script (twice a b c _ _ _ _ h.1 k'.1)),
+    )
 
 pub printed_twice : {S : Type 0} (shows : S → S → List ℕ → List ℕ → Type 0) → ((a b c : S) (s t u v : List ℕ) → shows a b s u → shows b c t v → shows a c (s ++ t) (u ++ v))
     → (e f : ExtraTable) (on too : Selected) (a b c : S) (p q r : Bool) (s t : List Unit) → f ≡ e → too ≡ on → Printed shows e on a b p q s → Printed shows f too b c q r t → Printed shows e on a c p r (s ++ t)

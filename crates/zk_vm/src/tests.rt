@@ -8,12 +8,12 @@ use crate::machine::Machine;
 use crate::screen::Screen;
 use crate::slot::{NoSlot, SaveSlot};
 use crate::stop::Stop;
-use zk_step::workspace::View;
 use std::io::{self, Write};
 use std::process::Abort;
 use std::test::Fail;
 use zk_mem::story::Story;
 use zk_state::refusal::Limit;
+use zk_step::workspace::View;
 use zk_term::nothing::Nothing;
 use zk_term::over::Over;
 

@@ -7,13 +7,13 @@ use crate::machine::Machine;
 use crate::play::{play, turn};
 use crate::slot::NoSlot;
 use crate::stop::{Event, Stop};
-use zk_step::workspace::View;
 use std::cell::Cell;
 use std::io::{self, Read, Write};
 use std::process::Abort;
 use std::test::Fail;
 use zk_mem::fault::Fault;
 use zk_mem::story::Story;
+use zk_step::workspace::View;
 use zk_term::nothing::Nothing;
 use zk_term::over::Over;
 

@@ -1,4 +1,4 @@
-use Rattle.std.proofs.Common.{[], ◌∷◌, ◌++◌}
+use Rattle.std.proofs.Common.{[], ◌∷◌}
 use Rattle.std.specs.Int.{cast_signed, w16}
 use Rattle.std.specs.Fmt.{signed_decimal}
 use Rattle.zk_step.specs.Status.{two_digits}

@@ -1,4 +1,4 @@
-use Rattle.std.proofs.Common.{◌≡◌, [], ◌∷◌, false, true, arith, nat_lt}
+use Rattle.std.proofs.Common.{◌≡◌, [], ◌∷◌, true, arith, nat_lt}
 use Rattle.std.specs.Fmt.{decimal}
 use Rattle.std.proofs.lemmas.Bool.Decides.{nat_tests}
 use Rattle.zk_vm.proofs.GivenCodes.{codes_twice}

@@ -1,4 +1,4 @@
-use Rattle.std.proofs.Common.{◌≡◌, ◌<◌, ◌+◌, ℕ, List, Ok, Err, length, arith, refl, ap}
+use Rattle.std.proofs.Common.{◌≡◌, ◌+◌, length, arith, refl, ap}
 use Rattle.zk_text.specs.Extra.{own_characters}
 use Rattle.zk_step.specs.Printing.{units_of}
 use Rattle.zk_step.specs.Routing.{stored_all}

@@ -1,7 +1,6 @@
-use Rattle.std.proofs.Common.{◌≡◌, ◌∙◌, ◌<◌, ◌≤◌, ◌+◌, ℕ, List, [], length, get_or, arith, sym, rules, ap}
+use Rattle.std.proofs.Common.{◌≡◌, ◌∙◌, ◌<◌, [], length, get_or, arith, sym, rules, ap}
 use Rattle.zk_text.specs.Extra.{own_characters}
 use Rattle.zk_text.specs.Shown.{shown_all}
-use Rattle.zk_term.specs.Windows.{Windows}
 use Rattle.zk_arrays.specs.Rectangles.{rows_of, row_units}
 use Rattle.zk_arrays.proofs.Rows.{rows_length, row_is}
 use Rattle.zk_step.specs.Routing.{printed_if}
@@ -23,7 +22,7 @@ loop-row-init c =
           let long = rows_length c.args.memory.now c.args.rectangle rows h in
           let some : 0 < c.args.rectangle.height = search rules in
           rw c.cursor-column.ensures.column (rows_begin c.args.on (own_characters c.args.memory.now) rows c.args.windows.now c.print_row_if.new.windows (omega (arith, long, some))
-            (c.print_row_if.ensures (get_or rows 0 []) (row_is c.args.memory.now c.args.rectangle 0 rows h some)));
+          (c.print_row_if.ensures (get_or rows 0 []) (row_is c.args.memory.now c.args.rectangle 0 rows h some)));
     }
 
 pub loop-row-preserved : goal.loop-row-preserved

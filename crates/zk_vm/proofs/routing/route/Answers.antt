@@ -1,4 +1,4 @@
-use Rattle.std.proofs.Common.{◌≡◌, refl, inl, inr, true, rules}
+use Rattle.std.proofs.Common.{refl, inl, inr, true}
 use Rattle.zk_step.specs.Routing.{routed}
 use Rattle.zk_step.specs.Status.{status_units}
 use Rattle.zk_arrays.proofs.Units.{was_ok}

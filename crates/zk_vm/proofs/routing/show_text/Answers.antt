@@ -1,4 +1,4 @@
-use Rattle.std.proofs.Common.{◌≡◌, ap, Bool, rules}
+use Rattle.std.proofs.Common.{ap, Bool, rules}
 use Rattle.zk_step.specs.Printing.{characters_of}
 use Rattle.zk_step.specs.Routing.{with_line_start}
 use Rattle.zk_vm.proofs.routing.show_text.Goals as goal

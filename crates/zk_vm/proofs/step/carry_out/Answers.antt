@@ -1,4 +1,4 @@
-use Rattle.std.proofs.Common.{◌≡◌, ◌∙◌}
+use Rattle.std.proofs.Common.{◌∙◌}
 use Rattle.zk_step.proofs.Steps.{carried_ok, finish_refused}
 use Rattle.zk_vm.proofs.Showing.{quiet_wait, told, shown_text, refused_text, printable_after, same_route, stopped_there, shown_nothing}
 use Rattle.zk_vm.proofs.step.carry_out.Goals as goal

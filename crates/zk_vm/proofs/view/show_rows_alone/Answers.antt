@@ -1,7 +1,7 @@
-use Rattle.std.proofs.Common.{◌≡◌, ◌<◌, [], ◌++◌, List, ℕ, refl, arith, rules}
+use Rattle.std.proofs.Common.{◌≡◌, ◌<◌, [], refl, rules}
 use Rattle.zk_step.specs.Routing.{fresh_line}
 use Rattle.zk_vm.specs.View.{rows_shown, lines_shown}
-use Rattle.zk_vm.proofs.Viewing.{some_lines, some_rows, no_rows}
+use Rattle.zk_vm.proofs.Viewing.{some_lines, some_rows}
 use Rattle.zk_vm.proofs.view.show_rows_alone.Goals as goal
 
 pub returns-then-height-eq0-clause-state : goal.returns-then-height-eq0-clause-state

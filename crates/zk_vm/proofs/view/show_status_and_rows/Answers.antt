@@ -1,4 +1,4 @@
-use Rattle.std.proofs.Common.{◌≡◌, [], ◌∷◌, ◌++◌, List, ℕ, refl, append_assoc}
+use Rattle.std.proofs.Common.{[], ◌∷◌, ◌++◌, List, ℕ, refl}
 use Rattle.zk_text.specs.Extra.{own_characters}
 use Rattle.zk_text.specs.Shown.{shown_all}
 use Rattle.zk_step.specs.Routing.{fresh_line}

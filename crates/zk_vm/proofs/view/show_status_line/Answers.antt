@@ -1,4 +1,4 @@
-use Rattle.std.proofs.Common.{◌≡◌, ◌∙◌, [], ◌∷◌, List, Result, Ok, sym, rules}
+use Rattle.std.proofs.Common.{◌≡◌, ◌∙◌, [], List, Result, Ok, sym, rules}
 use Rattle.zk_mem.specs.declared.fault.Fault.{Fault}
 use Rattle.zk_text.specs.declared.unit.Unit.{Unit}
 use Rattle.zk_text.specs.Shown.{shown, shown_all}

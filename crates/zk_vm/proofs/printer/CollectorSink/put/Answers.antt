@@ -1,4 +1,4 @@
-use Rattle.std.proofs.Common.{◌≡◌, ◌∙◌, [], ◌∷◌, refl, sym, append-nil}
+use Rattle.std.proofs.Common.{[], ◌∷◌, refl, sym, append-nil}
 use Rattle.zk_vm.specs.Printed.{stored_unit}
 use Rattle.zk_vm.proofs.printer.CollectorSink.put.Goals as goal
 

@@ -1,4 +1,4 @@
-use Rattle.std.proofs.Common.{◌≡◌, [], ◌∷◌, ◌++◌, List, ℕ, append-nil}
+use Rattle.std.proofs.Common.{[], ◌∷◌, List, ℕ, append-nil}
 use Rattle.zk_step.specs.Routing.{shown_if}
 use Rattle.zk_vm.proofs.printer.Printer.show.Goals as goal
 

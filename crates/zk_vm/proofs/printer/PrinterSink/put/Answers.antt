@@ -1,4 +1,4 @@
-use Rattle.std.proofs.Common.{◌≡◌, ◌∙◌, [], ◌∷◌, List, ℕ, refl, sym}
+use Rattle.std.proofs.Common.{◌∙◌, [], ◌∷◌, refl}
 use Rattle.zk_vm.specs.Printed.{printed_unit, shown_nothing, shown_twice}
 use Rattle.zk_vm.proofs.printer.PrinterSink.put.Goals as goal
 
@@ -22,8 +22,11 @@ returns-in-TwoSpaces-clause-ok g c =
     let one = c.show-in-TwoSpaces.new.self in
     let two = c.show-in-TwoSpaces-2.new.self in
     let k = c.show-in-TwoSpaces.ensures.kept in
-    let l = c.show-in-TwoSpaces-2.ensures.kept in
-    (l.0 ∙ k.0, l.1 ∙ k.1, l.2 ∙ k.2,
-    printed_unit g.S.Screen.shows s.extra.now s.selected s.screen.now two.screen.now s.at_line_start two.at_line_start c.args.unit (32 ∷ 32 ∷ []) is
-      (shown_twice g.S.Screen.shows g.met.S.Screen.twice s.selected one.selected s.screen.now one.screen.now two.screen.now s.at_line_start one.at_line_start two.at_line_start (32 ∷ []) (32 ∷ []) k.2
-        (c.show-in-TwoSpaces.ensures.start, c.show-in-TwoSpaces.ensures.shown) (c.show-in-TwoSpaces-2.ensures.start, c.show-in-TwoSpaces-2.ensures.shown)))
+    let l = c.show-in-TwoSpaces-2.ensures.kept in (
+      l.0 ∙ k.0,
+      l.1 ∙ k.1,
+      l.2 ∙ k.2,
+      printed_unit g.S.Screen.shows s.extra.now s.selected s.screen.now two.screen.now s.at_line_start two.at_line_start c.args.unit (32 ∷ 32 ∷ []) is
+          (shown_twice g.S.Screen.shows g.met.S.Screen.twice s.selected one.selected s.screen.now one.screen.now two.screen.now s.at_line_start one.at_line_start two.at_line_start (32 ∷ []) (32 ∷ []) k.2
+          (c.show-in-TwoSpaces.ensures.start, c.show-in-TwoSpaces.ensures.shown) (c.show-in-TwoSpaces-2.ensures.start, c.show-in-TwoSpaces-2.ensures.shown)),
+    )

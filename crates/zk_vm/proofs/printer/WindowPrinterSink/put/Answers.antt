@@ -1,5 +1,5 @@
-use Rattle.std.proofs.Common.{◌≡◌, ◌∙◌, [], ◌∷◌, refl, rules, ap}
-use Rattle.zk_term.specs.Windows.{Windows, printed, character_printed}
+use Rattle.std.proofs.Common.{◌∙◌, [], ◌∷◌, refl, ap}
+use Rattle.zk_term.specs.Windows.{printed, character_printed}
 use Rattle.zk_vm.specs.Printed.{upper_unit}
 use Rattle.zk_vm.proofs.printer.WindowPrinterSink.put.Goals as goal
 
