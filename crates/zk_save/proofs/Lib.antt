@@ -5,3 +5,4 @@ pub mod Turns
 pub mod Rings
 pub mod Wholes
 pub mod Changes
+pub mod Saves

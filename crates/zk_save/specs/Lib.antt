@@ -4,3 +4,4 @@ pub mod Counted
 pub mod States
 pub mod Ring
 pub mod Examples
+pub mod Quetzal

@@ -49,8 +49,8 @@ abbrev pub last_pair : ℕ → List ℕ
 last_pair zero = []
 last_pair (suc n) = pair (suc n)
 
--- a run as it is written: zeros as pairs for 256 of them as often as these fit, and then one for the rest; another byte
--- as it is
+-- a run as it is written: zeros as pairs for 256 of them as often as these fit, and then one for the rest; another
+-- byte as it is
 unfoldable pub spelled : Run → List ℕ
 spelled (Zeros n) = pairs (n / 256) ++ last_pair (n % 256)
 spelled (Byte b) = b ∷ []

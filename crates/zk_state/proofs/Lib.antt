@@ -3,3 +3,4 @@ pub mod Unwinding
 pub mod Kept
 pub mod Oldest
 pub mod Returning
+pub mod Views

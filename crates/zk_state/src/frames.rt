@@ -1,7 +1,8 @@
 // Frames: one list of all words, and a record for each frame that says which of them are its own.
 
-ghost use Rattle.std.specs.Prelude.{ℕ, ◌≡◌, ◌+◌, ◌<◌, ◌≤◌, ◌^◌, ◌++◌, nat_le, ◌&&◌, length, take, MatchResult, IfOk};
-ghost use Rattle.zk_state.specs.Frames.{frames_of, first_frames, with_frames, sizes_of, BeginsFirst, total_of, pushed, popped, top_of, with_top, local_of, with_local, called, left, unwound, IsBounded, GivesBack, RefusesBack};
+ghost use Rattle.std.specs.Prelude.{ℕ, ◌≡◌, ◌+◌, ◌<◌, ◌≤◌, ◌^◌, ◌++◌, ◌∷◌, [], ◌==◌, if◌then◌else◌, nat_le, ◌&&◌, length, take, reverse, slice_get, slice_index_or, Some, MatchResult, IfOk};
+ghost use Rattle.zk_state.specs.Flat.{frame_of};
+ghost use Rattle.zk_state.specs.Frames.{frames_of, first_frames, with_frames, sizes_of, BeginsFirst, IsFrame, total_of, pushed, popped, top_of, with_top, local_of, with_local, called, left, unwound, IsBounded, GivesBack, RefusesBack};
 
 use crate::refusal::{Limit, Refusal};
 use std::alloc::{AllocError, Global};
@@ -81,6 +82,59 @@ impl Model for FramesCopy {
     ghost invariant = { IsCopied };
 }
 
+/// A frame as it stands: its local variables, its evaluation stack with the newest word last, the byte
+/// address that it returns to, the variable that takes its result, and how many arguments it was given.
+#[derive(Clone, Copy, Debug, Drop)]
+pub struct FrameView<'a> {
+    pub locals: &'a [u16],
+    pub words: &'a [u16],
+    pub place: u32,
+    pub result: Option<u8>,
+    pub supplied: u8,
+}
+
+/// The record of a number, where the current one comes behind those of its callers.
+fn record_at(callers: &[FrameRecord], current: FrameRecord, at: usize) -> FrameRecord
+    requires { at ≤ length callers.now }
+    ensures { result ≡ slice_index_or (callers.now ++ current ∷ []) at current }
+{
+    if at == callers.len() {
+        current
+    } else {
+        callers[at]
+    }
+}
+
+/// Where the words of a frame end: where those of the next one begin, and at the top for the current one.
+fn end_of(callers: &[FrameRecord], current: FrameRecord, top: usize, at: usize) -> usize
+    requires { at ≤ length callers.now }
+    ensures { result ≡ (if at == length callers.now then top else (slice_index_or (callers.now ++ current ∷ []) (at + 1) current).base) }
+{
+    if at == callers.len() {
+        top
+    } else {
+        record_at(callers, current, at + 1).base
+    }
+}
+
+/// The frame of a record, whose words end at an index.
+#[tactic(auto, using(crate::proofs::Views::locals_are, crate::proofs::Views::words_are))]
+fn view_of<'a>(words: &'a [u16], own: FrameRecord, end: usize) -> FrameView<'a>
+    requires base { own.base ≤ own.floor }
+    requires floor { own.floor ≤ end }
+    requires end { end ≤ length words.now }
+    ensures words { length result.words.now ≤ end }
+    ensures value { frame_of own (take end words.now) ≡ record { locals = result.locals.now; words = result.words.now; place = result.place; result = result.result; supplied = result.supplied } }
+{
+    FrameView {
+        locals: &words[own.base..own.floor],
+        words: &words[own.floor..end],
+        place: own.place,
+        result: own.result,
+        supplied: own.supplied,
+    }
+}
+
 /// Copies words over others, from an index on.
 #[inline(always)]
 fn copy_words(words: &mut Vec<u16>, at: usize, from: &[u16])
@@ -117,6 +171,7 @@ impl Frames {
     pub fn depth(&self) -> u16
         ensures value { result ≡ length self.now.callers }
         ensures bounded { IsBounded self.now }
+        ensures few { self.now.most_frames ≤ 65535 }
     {
         self.callers.len() as u16
     }
@@ -134,6 +189,20 @@ impl Frames {
         ensures { BeginsFirst self.now }
     {
         let _ = &self.callers;
+    }
+
+    /// The frame of a number, where the first has number 0.
+    pub fn frame(&self, number: u16) -> FrameView<'_>
+        requires { number ≤ length self.now.callers }
+        ensures value { slice_get (reverse (frames_of self.now)) number ≡ Some (record { locals = result.locals.now; words = result.words.now; place = result.place; result = result.result; supplied = result.supplied }) }
+        ensures is_frame { IsFrame (record { locals = result.locals.now; words = result.words.now; place = result.place; result = result.result; supplied = result.supplied }) }
+        ensures words { length result.words.now ≤ 65535 }
+    {
+        let at = number as usize;
+        let callers = self.callers.as_slice();
+        let own = record_at(callers, self.current, at);
+        let end = end_of(callers, self.current, self.top, at);
+        view_of(self.words.as_slice(), own, end)
     }
 
     /// Leaves a first frame alone, without words, as at the start (Standard, section 6.1.3).
@@ -182,7 +251,8 @@ impl Frames {
 
     /// How many words all frames hold together, local variables included.
     pub fn words(&self) -> u32
-        ensures { result ≡ total_of self.now }
+        ensures value { result ≡ total_of self.now }
+        ensures few { result ≤ 65535 }
     {
         self.top as u32
     }
