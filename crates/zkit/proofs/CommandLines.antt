@@ -1,11 +1,13 @@
 -- What clap finds in the words of the command line.
-use Rattle.std.proofs.Common.{◌≡◌, ◌∙◌, ℕ, List, Option, Some, None, IfNone, IfSome, codes, refl, sym, ap, ap₂, subst, true}
-use Rattle.std.specs.Prelude.{SomeIff, IsSomeAnd, option_map, unwrap_or}
+use Rattle.std.proofs.Common.{◌≡◌, ◌∙◌, ℕ, List, Option, Some, None, IfNone, IfSome, codes, refl, sym, ap, ap₂, subst, Bool, true, false}
+use Rattle.std.specs.Prelude.{SomeIff, IsSomeAnd, if◌then◌else◌, option_map, unwrap_or}
+use Rattle.std.specs.Str.{bytes_eq}
 use Rattle.clap.specs.Words.{App, HasMatchesOf, Row, Text, first_of, is_simple, is_simple_and_free, subcommand_name_of, subcommand_of, subcommand_rows_of}
 use Rattle.clap.proofs.OnLiterals.{clap_on_literals}
 use Rattle.clap.specs.declared.ArgMatches.{ArgMatches}
-use Rattle.zk_vm.specs.declared.limits.Limits.{Limits}
-use Rattle.zkit.specs.CommandLine.{AsksToPlay, IsNumberIn, SaysLimits, SaysNumber, command_line, number_in}
+use Rattle.zkit.specs.declared.manner.Manner.{Manner}
+use Rattle.zkit.specs.CommandLine.{AsksToPlay, IsNumberIn, SaysManner, SaysNumber, command_line, number_in, view_said}
+use Rattle.zk_step.specs.declared.workspace.View.TheVariants.{Plain, Upper}
 
 -- the command line is simple in clap's sense
 pub command_line_is_simple : is_simple command_line ≡ true
@@ -50,17 +52,28 @@ number_not_said rows option least most word None e h =
     λ n said. h (subst (λ (o : Option Text). IsSomeAnd o (λ w. IsNumberIn least most w × (number_in w ≡ n))) e said).0
 number_not_said rows option least most word (Some n) e h = tt
 
+-- the view by the text of its flag
+pub upper_said : (rows : List Row) (word : Text) → first_of (codes "upper") rows ≡ Some word → bytes_eq word (codes "true") ≡ true → Upper ≡ view_said (first_of (codes "upper") rows)
+upper_said rows word e is = sym (ap view_said e ∙ ap (λ (b : Bool). if b then Upper else Plain) is)
+
+pub plain_said : (rows : List Row) (word : Text) → first_of (codes "upper") rows ≡ Some word → bytes_eq word (codes "true") ≡ false → Plain ≡ view_said (first_of (codes "upper") rows)
+plain_said rows word e is = sym (ap view_said e ∙ ap (λ (b : Bool). if b then Upper else Plain) is)
+
+pub no_view_said : (rows : List Row) → first_of (codes "upper") rows ≡ None → Plain ≡ view_said (first_of (codes "upper") rows)
+no_view_said rows e = sym (ap view_said e)
+
 -- the rows that words ask to play by are those that clap finds
-same_rows : (words : List Text) (rows : List Row) (story : Text) (l : Limits) (h : AsksToPlay words story l) → subcommand_of command_line words ≡ Some (codes "play", rows) → h.rows ≡ rows
-same_rows words rows story l h e = ap (λ (o : Option (Text × List Row)). unwrap_or (option_map (λ p. p.1) o) rows) (sym h.command ∙ e)
+same_rows : (words : List Text) (rows : List Row) (story : Text) (script : Option Text) (m : Manner) (h : AsksToPlay words story script m)
+    → subcommand_of command_line words ≡ Some (codes "play", rows) → h.rows ≡ rows
+same_rows words rows story script m h e = ap (λ (o : Option (Text × List Row)). unwrap_or (option_map (λ p. p.1) o) rows) (sym h.command ∙ e)
 
 pub no_story : (words : List Text) (rows : List Row) → subcommand_of command_line words ≡ Some (codes "play", rows) → first_of (codes "STORY") rows ≡ None
-    → (story : Text) (l : Limits) → AsksToPlay words story l → ⊥
-no_story words rows e none story l h =
-    let path = subst (λ (r : List Row). first_of (codes "STORY") r ≡ Some story) (same_rows words rows story l h e) h.path in
+    → (story : Text) (script : Option Text) (m : Manner) → AsksToPlay words story script m → ⊥
+no_story words rows e none story script m h =
+    let path = subst (λ (r : List Row). first_of (codes "STORY") r ≡ Some story) (same_rows words rows story script m h e) h.path in
     let both : None ≡ Some story = sym none ∙ path in
     absurd cc
 
-pub no_limits : (words : List Text) (rows : List Row) → subcommand_of command_line words ≡ Some (codes "play", rows) → ((l : Limits) → SaysLimits rows l → ⊥)
-    → (story : Text) (l : Limits) → AsksToPlay words story l → ⊥
-no_limits words rows e none story l h = none l (subst (λ (r : List Row). SaysLimits r l) (same_rows words rows story l h e) h.limits)
+pub no_manner : (words : List Text) (rows : List Row) → subcommand_of command_line words ≡ Some (codes "play", rows) → ((m : Manner) → SaysManner rows m → ⊥)
+    → (story : Text) (script : Option Text) (m : Manner) → AsksToPlay words story script m → ⊥
+no_manner words rows e none story script m h = none m (subst (λ (r : List Row). SaysManner r m) (same_rows words rows story script m h e) h.manner)

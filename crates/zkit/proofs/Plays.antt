@@ -1,10 +1,75 @@
--- A play without a transcript.
-use Rattle.std.proofs.Common.{◌||◌, ℕ, Bool, true, false, List, Option, None}
+-- A play whose script is given no bytes first.
+use Rattle.std.proofs.Common.{◌≡◌, ◌||◌, ℕ, Bool, true, false, List, [], Option, Some, None, zero, suc, refl, sym, ◌∙◌, append-nil}
+use Rattle.std.specs.Prelude.{take, encode_utf8_all}
+use Rattle.std.specs.Io.KnownBytes.{Appends, Keeps}
+use Rattle.std.proofs.KnownBytes.{Appends-nil}
+use Rattle.zk_term.specs.Devices.{Shows}
+use Rattle.zk_term.proofs.Shown.{shows_twice}
 use Rattle.zk_vm.specs.declared.stop.Stop.{Stop}
+use Rattle.zk_vm.specs.declared.stop.Stop.TheVariants.{Write}
 use Rattle.zk_vm.specs.Outcome.{Outcome}
 use Rattle.zk_vm.specs.Plays.{IsPlay}
 
--- the transcript goes where no write fails
-pub play_alone : (Is : Outcome → Type 0) (stop : Stop) (failed : Bool) (old new : Option (List ℕ)) → IsPlay Is stop (failed || false) old new None None → IsPlay Is stop failed old new None None
-play_alone Is stop true old new h = h
-play_alone Is stop false old new h = h
+-- what a write took of no bytes
+pub took_none : (n : ℕ) (old new : Option (List ℕ)) → Appends old new (take n []) → Appends old new []
+took_none zero old new h = h
+took_none (suc n) old new h = h
+
+-- so did one that failed
+pub failed_none : (old new : Option (List ℕ)) → Keeps old new → Appends old new []
+failed_none None new h = tt
+failed_none (Some xs) None h = absurd h
+failed_none (Some xs) (Some ys) h = h ∙ sym (append-nil xs)
+
+shows_none : (old new : Option (List ℕ)) → Appends old new [] → Shows (record { taken = old; failed = false }) (record { taken = new; failed = false }) []
+unfolding Shows
+shows_none old new h = record {
+  part = [];
+  rest = [];
+  whole = refl;
+  takes = h;
+  all = λ f. (refl, refl);
+  none = λ f. refl;
+}
+
+-- a device that failed at once
+shows_failed : (old new : Option (List ℕ)) (text : List ℕ) → Appends old new [] → Shows (record { taken = old; failed = false }) (record { taken = new; failed = true }) text
+unfolding Shows
+shows_failed old new text h = record {
+  part = [];
+  rest = encode_utf8_all text;
+  whole = refl;
+  takes = h;
+  all = λ f. absurd cc;
+  none = λ f. refl;
+}
+
+-- a play behind a write of no bytes to the script
+pub after_none : (Is : Outcome → Type 0) (stop : Stop) (unwritten : Bool) (screen0 screen1 script0 between script1 : Option (List ℕ)) → Appends script0 between []
+    → IsPlay Is stop unwritten screen0 screen1 between script1 → IsPlay Is stop unwritten screen0 screen1 script0 script1
+after_none Is stop unwritten screen0 screen1 script0 between script1 h p = record {
+  outcome = p.outcome;
+  is = p.is;
+  stops = p.stops;
+  screen = p.screen;
+  script = shows_twice (record { taken = script0; failed = false }) (record { taken = between; failed = false }) (record { taken = script1; failed = unwritten }) [] p.outcome.text.script (shows_none script0 between h) p.script;
+}
+
+-- a play whose script failed at that write
+pub unwritten : (Is : Outcome → Type 0) (o : Outcome) (a b : Bool) (screen script0 script1 : Option (List ℕ)) → Is o → b ≡ true → Appends script0 script1 []
+    → IsPlay Is Write (a || b) screen screen script0 script1
+unwritten Is o a false screen script0 script1 is e h = absurd cc
+unwritten Is o true true screen script0 script1 is e h = record {
+  outcome = o;
+  is = is;
+  stops = refl;
+  screen = shows_failed screen screen o.text.screen (Appends-nil screen);
+  script = shows_failed script0 script1 o.text.script h;
+}
+unwritten Is o false true screen script0 script1 is e h = record {
+  outcome = o;
+  is = is;
+  stops = refl;
+  screen = shows_failed screen screen o.text.screen (Appends-nil screen);
+  script = shows_failed script0 script1 o.text.script h;
+}

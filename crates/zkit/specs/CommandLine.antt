@@ -1,13 +1,18 @@
 -- What the words of the command line ask for, by clap's function of the words for a simple command.
-use Rattle.std.specs.Prelude.{◌≡◌, ◌⊎◌, ◌≤◌, ℕ, true, List, [], ◌∷◌, Some, codes, IsSomeAnd}
+use Rattle.std.specs.Prelude.{◌≡◌, ◌⊎◌, ◌≤◌, ℕ, true, List, [], ◌∷◌, Option, Some, None, codes, option_map, if◌then◌else◌, IsSomeAnd}
 use Rattle.std.specs.Str.Parse.{IsNumeral, digits_value, without_leading_plus}
 use Rattle.clap.specs.Words.{App, HasKind, Row, Rule, Text, fault_of, first_of, kind_of, new_app, new_rule, subcommand_of, with_rule, with_subcommand}
+use Rattle.std.specs.Str.{bytes_eq}
 use Rattle.clap.specs.Simple.{on_top}
+use Rattle.clap.specs.declared.builder.action.ArgAction.TheVariants.{SetTrue}
 use Rattle.clap.specs.declared.Error.{Error}
 use Rattle.clap.specs.declared.error.ErrorKind.{ErrorKind}
 use Rattle.clap.specs.declared.error.ErrorKind.TheVariants as kind
 use Rattle.zk_vm.specs.declared.limits.Limits.{Limits}
 use Rattle.zk_vm.specs.Bounds.{AreInRange}
+use Rattle.zk_step.specs.declared.workspace.View.{View}
+use Rattle.zk_step.specs.declared.workspace.View.TheVariants.{Plain, Upper}
+use Rattle.zkit.specs.declared.manner.Manner.{Manner}
 use Rattle.zkit.specs.declared.choice.Choice.{Choice}
 use Rattle.zkit.specs.declared.choice.Choice.TheVariants.{Play}
 
@@ -19,10 +24,19 @@ number_option name default = record (new_rule name) { long = Some name; value_na
 abbrev pub story_word : Rule
 story_word = record (new_rule (codes "STORY")) { required = true }
 
--- `play [--frames n] [--words n] [--steps n] STORY`
+-- the option `--script FILE`
+abbrev pub script_option : Rule
+script_option = record (new_rule (codes "script")) { long = Some (codes "script"); value_names = 1 }
+
+-- the flag `--upper`
+abbrev pub upper_flag : Rule
+upper_flag = record (new_rule (codes "upper")) { long = Some (codes "upper"); action = Some SetTrue }
+
+-- `play [--frames n] [--words n] [--steps n] [--seed n] [--script FILE] [--upper] STORY`
 abbrev pub play_command : App
-play_command = with_rule (with_rule (with_rule (with_rule (new_app (codes "play")) (number_option (codes "frames") (codes "1024")))
-    (number_option (codes "words") (codes "16384"))) (number_option (codes "steps") (codes "10000000"))) story_word
+play_command = with_rule (with_rule (with_rule (with_rule (with_rule (with_rule (with_rule (new_app (codes "play")) (number_option (codes "frames") (codes "1024")))
+    (number_option (codes "words") (codes "16384"))) (number_option (codes "steps") (codes "10000000"))) (number_option (codes "seed") (codes "1")))
+    script_option) upper_flag) story_word
 
 -- zkit's command line: the command `play`; help and the version are clap's
 abbrev pub command_line : App
@@ -49,12 +63,24 @@ pub record SaysLimits (rows : List Row) (l : Limits) : Type 0 where
   pub steps : SaysNumber rows (codes "steps") 1 1000000000 l.steps
   pub undo : l.undo ≡ 16
 
--- clap finds `play` in the words, with a story's path and limits
-pub record AsksToPlay (words : List Text) (story : Text) (l : Limits) : Type 0 where
+-- what is shown, by the text that clap has for `--upper`: `true` where it is given
+abbrev pub view_said : Option Text → View
+view_said None = Plain
+view_said (Some word) = if bytes_eq word (codes "true") then Upper else Plain
+
+-- what clap found says the manner of a run: its limits, its seed, which is any number of 64 bits, and its view
+pub record SaysManner (rows : List Row) (m : Manner) : Type 0 where
+  pub limits : SaysLimits rows m.limits
+  pub seed : SaysNumber rows (codes "seed") 0 18446744073709551615 m.seed
+  pub view : m.view ≡ view_said (first_of (codes "upper") rows)
+
+-- clap finds `play` in the words, with a story's path, a transcript's path, if one is given, and a manner
+pub record AsksToPlay (words : List Text) (story : Text) (script : Option Text) (m : Manner) : Type 0 where
   pub rows : List Row
   pub command : subcommand_of command_line words ≡ Some (codes "play", rows)
   pub path : first_of (codes "STORY") rows ≡ Some story
-  pub limits : SaysLimits rows l
+  pub script_path : script ≡ first_of (codes "script") rows
+  pub manner : SaysManner rows m
 
 -- the status after words that are not understood, or that ask for help
 abbrev pub usage_status : ErrorKind → ℕ
@@ -67,12 +93,12 @@ usage_status _ = 1
 -- and the error is no help
 abbrev pub IsRefusedWith : List Text → Error → Type 0
 IsRefusedWith words e =
-    HasKind (fault_of command_line words) e ⊎ ((1 ≤ usage_status (kind_of e)) × ((story : Text) (l : Limits) → AsksToPlay words story l → ⊥))
+    HasKind (fault_of command_line words) e ⊎ ((1 ≤ usage_status (kind_of e)) × ((story : Text) (script : Option Text) (m : Manner) → AsksToPlay words story script m → ⊥))
 
 -- the words ask for a choice
 abbrev pub Asks : List Text → Choice → Type 0
-Asks words (Play story l) = AsksToPlay words story.now l
+Asks words (Play story script m) = AsksToPlay words story.now (option_map (λ s. s.now) script) m
 
 -- the limits of a choice lie in their ranges
 abbrev pub HasLimits : Choice → Type 0
-HasLimits (Play story l) = AreInRange l
+HasLimits (Play story script m) = AreInRange m.limits

@@ -1,20 +1,19 @@
 -- How a file is played.
-use Rattle.std.specs.Prelude.{◌≡◌, ◌⊎◌, ℕ, Bool, List, take, Option, Some, None, IfSome}
+use Rattle.std.specs.Prelude.{◌≡◌, ◌⊎◌, ◌||◌, ℕ, Bool, List, take, Option, Some, None, IfSome}
 use Rattle.zk_mem.specs.declared.story.OpenError.{OpenError}
 use Rattle.zk_mem.specs.declared.story.OpenError.TheVariants.{OutOfMemory}
 use Rattle.zk_mem.specs.Story.{refusal}
 use Rattle.zk_term.specs.Devices.{Device}
 use Rattle.zk_term.specs.Lines.{heard}
-use Rattle.zk_step.specs.declared.workspace.View.TheVariants.{Plain}
-use Rattle.zk_vm.specs.declared.limits.Limits.{Limits}
 use Rattle.zk_vm.specs.declared.stop.Stop.{Stop}
 use Rattle.zk_vm.specs.declared.stop.Stop.TheVariants.{Memory}
-use Rattle.zk_vm.specs.Outcome.{begun}
+use Rattle.zk_vm.specs.Outcome.{Session, begun}
 use Rattle.zk_vm.specs.Plays.{IsPlay, IsPlayed, IsAnswered}
 use Rattle.zkit.specs.LastLine.{TookExplained, last_line}
 use Rattle.zkit.specs.Status.{ending_status}
 use Rattle.zkit.specs.declared.ending.Ending.{Ending}
 use Rattle.zkit.specs.declared.ending.Ending.TheVariants.{Unread, Refused, Stopped}
+use Rattle.zkit.specs.declared.manner.Manner.{Manner}
 
 -- what is read of a file: all of its bytes, or one byte more than the longest story has
 abbrev pub bytes_read : List ℕ → List ℕ
@@ -25,39 +24,45 @@ pub record Player : Type 0 where
   pub typed : Option (List ℕ)
   pub unread : Bool
 
--- A story was played up to its stop: on some answers to its reads, and where it is told what was typed, on its lines. The
--- screen got the text of the outcome, or a first part of it where a write failed.
-pub record IsPlayedBy (player : Player) (story : List ℕ) (limits : Limits) (old new : Device) (stop : Stop) : Type 0 where
-  pub answered : IsPlay (IsAnswered (begun story 1 limits Plain)) stop new.failed old.taken new.taken None None
-  pub played : (bytes : List ℕ) → player.typed ≡ Some bytes → IsPlay (IsPlayed (heard bytes) player.unread (begun story 1 limits Plain)) stop new.failed old.taken new.taken None None
+-- the screen, and what the transcript goes to
+pub record Outputs : Type 0 where
+  pub screen : Device
+  pub script : Device
 
--- there was no memory to start a story, and the screen got nothing
-pub record LacksMemory (old new : Device) (stop : Stop) : Type 0 where
+-- A machine was played up to its stop: on some answers to its reads, and where it is told what was typed, on its lines. The
+-- screen and the script got their texts of the outcome, or first parts of them where a write to one of them failed.
+pub record IsPlayedBy (player : Player) (machine : Session) (old new : Outputs) (stop : Stop) : Type 0 where
+  pub answered : IsPlay (IsAnswered machine) stop (new.screen.failed || new.script.failed) old.screen.taken new.screen.taken old.script.taken new.script.taken
+  pub played : (bytes : List ℕ) → player.typed ≡ Some bytes
+      → IsPlay (IsPlayed (heard bytes) player.unread machine) stop (new.screen.failed || new.script.failed) old.screen.taken new.screen.taken old.script.taken new.script.taken
+
+-- there was no memory to start a story, and the screen and the script got nothing
+pub record LacksMemory (old new : Outputs) (stop : Stop) : Type 0 where
   pub stopped : stop ≡ Memory
   pub same : new ≡ old
 
--- a story was played, or there was no memory to start it
-abbrev pub IsRun : Player → List ℕ → Limits → Device → Device → Stop → Type 0
-IsRun player story limits old new stop = IsPlayedBy player story limits old new stop ⊎ LacksMemory old new stop
+-- a story was played with its seed, limits and view, or there was no memory to start it
+abbrev pub IsRun : Player → List ℕ → Manner → Outputs → Outputs → Stop → Type 0
+IsRun player story manner old new stop = IsPlayedBy player (begun story manner.seed manner.limits manner.view) old new stop ⊎ LacksMemory old new stop
 
 -- the first reason why bytes are no story, or that there is no memory for them
 abbrev pub IsRefusedFor : List ℕ → OpenError → Type 0
 IsRefusedFor bytes e = (refusal bytes ≡ Some e) ⊎ ((e ≡ OutOfMemory) × (refusal bytes ≡ None))
 
--- bytes end a play: they are refused and the screen gets nothing, or they are a story that is run
-abbrev pub EndsBy : Player → List ℕ → Limits → Device → Device → Ending → Type 0
-EndsBy player bytes limits old new (Unread e) = ⊥
-EndsBy player bytes limits old new (Refused e) = IsRefusedFor bytes e × (new ≡ old)
-EndsBy player bytes limits old new (Stopped stop) = (refusal bytes ≡ None) × IsRun player bytes limits old new stop
+-- bytes end a play: they are refused and the screen and the script get nothing, or they are a story that is run
+abbrev pub EndsBy : Player → List ℕ → Manner → Outputs → Outputs → Ending → Type 0
+EndsBy player bytes manner old new (Unread e) = ⊥
+EndsBy player bytes manner old new (Refused e) = IsRefusedFor bytes e × (new ≡ old)
+EndsBy player bytes manner old new (Stopped stop) = (refusal bytes ≡ None) × IsRun player bytes manner old new stop
 
--- a reader's bytes, where it tells them, end a play; or it can't be read, and the screen gets nothing
-abbrev pub EndsFrom : Player → Option (List ℕ) → Limits → Device → Device → Ending → Type 0
-EndsFrom player file limits old new (Unread e) = new ≡ old
-EndsFrom player file limits old new ending = (bytes : List ℕ) × IfSome file (λ all. bytes ≡ bytes_read all) × EndsBy player bytes limits old new ending
+-- a reader's bytes, where it tells them, end a play; or it can't be read, and the screen and the script get nothing
+abbrev pub EndsFrom : Player → Option (List ℕ) → Manner → Outputs → Outputs → Ending → Type 0
+EndsFrom player file manner old new (Unread e) = new ≡ old
+EndsFrom player file manner old new ending = (bytes : List ℕ) × IfSome file (λ all. bytes ≡ bytes_read all) × EndsBy player bytes manner old new ending
 
--- a reader's story was played by a player, with a screen and a device for errors before and after it, and with the program's status
-pub record IsPlayedFrom (player : Player) (file : Option (List ℕ)) (limits : Limits) (screen_old screen_new errors_old errors_new : Device) (status : ℕ) : Type 0 where
+-- a reader's story was played by a player, with a screen, a script and a device for errors before and after it, and with the program's status
+pub record IsPlayedFrom (player : Player) (file : Option (List ℕ)) (manner : Manner) (old new : Outputs) (errors_old errors_new : Device) (status : ℕ) : Type 0 where
   pub ending : Ending
-  pub ends : EndsFrom player file limits screen_old screen_new ending
+  pub ends : EndsFrom player file manner old new ending
   pub status_is : status ≡ ending_status ending
   pub lines : TookExplained ending (last_line ending) errors_old errors_new

@@ -1,22 +1,29 @@
 // What the words of the command line ask for.
 
-ghost use Rattle.std.specs.Prelude.{◌≡◌, ◌≤◌, ℕ, IfErr, IfNone, IfOk, IfSome, OnErr, SomeIff, false, map};
-ghost use Rattle.clap.specs.Words.{app_of, found_of, kind_of, rows_of, rule_of};
+ghost use Rattle.std.specs.Prelude.{◌≡◌, ◌≤◌, ℕ, codes, IfErr, IfNone, IfOk, IfSome, OnErr, SomeIff, false, map};
+ghost use Rattle.clap.specs.Words.{app_of, first_of, found_of, kind_of, rows_of, rule_of};
 ghost use Rattle.clap.specs.declared.Command.TheViews.{out-Command as fields_of};
 ghost use Rattle.zk_vm.specs.Bounds.{AreInRange};
 ghost use Rattle.zk_vm.specs.declared.limits.Limits.{Limits};
-ghost use Rattle.zkit.specs.CommandLine.{Asks, HasLimits, IsNumberIn, IsRefusedWith, SaysLimits, SaysNumber, command_line, number_in, number_option, play_command, usage_status};
+ghost use Rattle.zkit.specs.declared.manner.Manner.{Manner};
+ghost use Rattle.zkit.specs.CommandLine.{Asks, HasLimits, IsNumberIn, IsRefusedWith, SaysLimits, SaysManner, SaysNumber, command_line, number_in, number_option, play_command, script_option, story_word, upper_flag, usage_status, view_said};
 
+use crate::manner::Manner;
 use clap::error::ErrorKind;
-use clap::{Arg, ArgMatches, Command, Error};
+use clap::{Arg, ArgAction, ArgMatches, Command, Error};
 use std::alloc::{AllocError, Global};
+use zk_step::workspace::View;
 use zk_vm::limits::Limits;
 
 /// What the program is asked to do.
 #[derive(Drop)]
 pub enum Choice<'a> {
-    /// To play the story in a file, within limits.
-    Play { story: &'a str, limits: Limits },
+    /// To play the story in a file, in a manner, with its transcript in the file of `script`, if there is one.
+    Play {
+        story: &'a str,
+        script: Option<&'a str>,
+        manner: Manner,
+    },
 }
 
 /// An option that takes a number.
@@ -29,6 +36,38 @@ fn number_option_of<'a>(alloc: Global, name: &'a str, default: &'a str, help: &'
         .value_name("n")
         .default_value(default)
         .help(help)
+}
+
+/// The option for the transcript's file.
+fn script_option_of<'a>(alloc: Global) -> Arg<'a>
+    ensures rule { rule_of result ≡ script_option }
+    ensures local { result.global ≡ false }
+{
+    Arg::new(alloc, "script")
+        .long("script")
+        .value_name("FILE")
+        .help("The file that the transcript is written to; what it held goes")
+}
+
+/// The flag for the status line and the upper window.
+fn upper_flag_of<'a>(alloc: Global) -> Arg<'a>
+    ensures rule { rule_of result ≡ upper_flag }
+    ensures local { result.global ≡ false }
+{
+    Arg::new(alloc, "upper")
+        .long("upper")
+        .action(ArgAction::SetTrue)
+        .help("Shows the status line and the upper window, on lines of their own")
+}
+
+/// The path of the story.
+fn story_word_of<'a>(alloc: Global) -> Arg<'a>
+    ensures rule { rule_of result ≡ story_word }
+    ensures local { result.global ≡ false }
+{
+    Arg::new(alloc, "STORY")
+        .required(true)
+        .help("The story's file, of version 3, 5 or 8")
 }
 
 /// The command `play`.
@@ -54,16 +93,22 @@ fn play_command_of<'a>(alloc: Global) -> Result<Command<'a>, AllocError>
         "10000000",
         "The most instructions without reading, 1 to 1000000000",
     );
-    let story = Arg::new(alloc, "STORY")
-        .required(true)
-        .help("The story's file, of version 3, 5 or 8");
+    let seed = number_option_of(
+        alloc,
+        "seed",
+        "1",
+        "What begins the random numbers, 0 to 18446744073709551615",
+    );
     Command::new(alloc, "play")
         .about("Plays a story")
         .after_help("Example: zkit play --steps 50000000 story.z5")
         .arg(frames)?
         .arg(words)?
         .arg(steps)?
-        .arg(story)
+        .arg(seed)?
+        .arg(script_option_of(alloc))?
+        .arg(upper_flag_of(alloc))?
+        .arg(story_word_of(alloc))
 }
 
 /// zkit's command line.
@@ -80,17 +125,17 @@ fn command_line_of<'a>(alloc: Global) -> Result<Command<'a>, AllocError>
 }
 
 /// The number that a word says, if it lies in a range.
-fn number_from(word: &str, least: u32, most: u32) -> Option<u32>
+fn number_from(word: &str, least: u64, most: u64) -> Option<u64>
     ensures { SomeIff result (IsNumberIn least most word.now) (number_in word.now) }
 {
     match word.parse::<u64>() {
-        Ok(n) if n >= least as u64 && n <= most as u64 => Some(n as u32),
+        Ok(n) if n >= least && n <= most => Some(n),
         _ => None,
     }
 }
 
 /// The number of an option, if it lies in a range.
-fn number_of(matches: &ArgMatches<'_>, option: &str, least: u32, most: u32) -> Option<u32>
+fn number_of(matches: &ArgMatches<'_>, option: &str, least: u64, most: u64) -> Option<u64>
     ensures says { IfSome result (λ n. SaysNumber (rows_of (found_of matches.now)) option.now least most n) }
     ensures least { IfSome result (λ n. least ≤ n) }
     ensures most { IfSome result (λ n. n ≤ most) }
@@ -118,8 +163,8 @@ fn out_of_range(
     alloc: Global,
     command: &mut Command<'_>,
     option: &str,
-    least: u32,
-    most: u32,
+    least: u64,
+    most: u64,
 ) -> Error
     ensures { 1 ≤ usage_status (kind_of result) }
 {
@@ -153,8 +198,46 @@ fn limits_of(
         frames: frames as u16,
         words: words as u16,
         undo: 16,
-        steps,
+        steps: steps as u32,
     })
+}
+
+/// The view that the options of `play` say.
+fn view_of(play: &ArgMatches<'_>) -> View
+    ensures { result ≡ view_said (first_of (codes "upper") (rows_of (found_of play.now))) }
+{
+    match play.get_str("upper") {
+        Some(word) => {
+            if word == "true" {
+                View::Upper
+            } else {
+                View::Plain
+            }
+        }
+        None => View::Plain,
+    }
+}
+
+/// The manner of a run that the options of `play` say.
+fn manner_of(
+    alloc: Global,
+    command: &mut Command<'_>,
+    play: &ArgMatches<'_>,
+) -> Result<Manner, Error>
+    ensures says { IfOk result (λ m. SaysManner (rows_of (found_of play.now)) m) }
+    ensures in_range { IfOk result (λ m. AreInRange m.limits) }
+    ensures mistake { IfErr result (λ e. 1 ≤ usage_status (kind_of e)) }
+    ensures says_none { OnErr result ((m : Manner) → SaysManner (rows_of (found_of play.now)) m → ⊥) }
+{
+    let limits = match limits_of(alloc, command, play) {
+        Ok(limits) => limits,
+        Err(error) => return Err(error),
+    };
+    let Some(seed) = number_of(play, "seed", 0, 18_446_744_073_709_551_615) else {
+        return Err(out_of_range(alloc, command, "seed", 0, 18_446_744_073_709_551_615));
+    };
+    let view = view_of(play);
+    Ok(Manner { limits, seed, view })
 }
 
 /// What the words ask for, the first of which is the program's name.
@@ -173,8 +256,13 @@ pub fn choose<'a>(alloc: Global, words: &'a [&'a str]) -> Result<Choice<'a>, Err
         let text = "the story's path is missing";
         return Err(usage_error(&mut command, ErrorKind::MissingRequiredArgument, text));
     };
-    let limits = limits_of(alloc, &mut command, play)?;
-    Ok(Choice::Play { story, limits })
+    let manner = manner_of(alloc, &mut command, play)?;
+    let script = play.get_str("script");
+    Ok(Choice::Play {
+        story,
+        script,
+        manner,
+    })
 }
 
 /// The program's status after an error of the command line: 0 for help and the version, 5 for want of memory, and

@@ -1,46 +1,68 @@
 // Plays Z-machine stories.
 #![tactic(auto)]
 
-ghost use Rattle.std.specs.Prelude.{◌≡◌, ◌⊎◌};
+ghost use Rattle.std.specs.Prelude.{◌≡◌, ◌⊎◌, false};
 ghost use Rattle.clap.specs.Words.{kind_of};
 ghost use Rattle.zk_vm.specs.Bounds.{AreInRange};
 ghost use Rattle.zkit.specs.CommandLine.{usage_status};
 
 mod choice;
 mod ending;
+mod manner;
 mod playing;
 mod report;
+mod script;
 #[cfg(test)]
 mod tests;
 
 use crate::choice::{Choice, choose, usage_status_of};
 use crate::ending::Ending;
+use crate::manner::Manner;
 use crate::playing::play_and_report;
 use crate::report::{report, report_briefly};
+use crate::script::ScriptFile;
 use clap::Error;
 use clap::error::ErrorKind;
 use std::fs::File;
 use std::process::ExitCode;
 use std::{env, io};
+use zk_term::nothing::Nothing;
 use zk_term::over::Over;
-use zk_vm::limits::Limits;
+use zk_term::target::Target;
 use zk_vm::stop::Stop;
 
-/// Plays the story in a file, and answers the program's status.
-fn play_file(rt: &HostRuntime, path: &str, limits: Limits) -> u8
-    requires { AreInRange limits }
+/// Plays the story in a file, with its transcript in a script, and answers the program's status.
+fn play_with<T: Target>(rt: &HostRuntime, path: &str, manner: Manner, script: &mut T) -> u8
+    requires in_range { AreInRange manner.limits }
+    requires script_works { T.failed script.old ≡ false }
 {
     let mut errors = Over::new(rt.stderr());
     match File::open(rt, path) {
-        Err(error) => report(rt.alloc(), &Ending::Unread(error), &limits, &mut errors),
+        Err(error) => report(
+            rt.alloc(),
+            &Ending::Unread(error),
+            &manner.limits,
+            &mut errors,
+        ),
         Ok(file) => play_and_report(
             rt.alloc(),
             file,
-            limits,
+            manner,
             &mut Over::new(rt.stdin()),
             &mut Over::new(io::writer(rt)),
+            script,
             &mut errors,
         ),
+    }
+}
+
+/// Plays the story in a file, with its transcript in another where one is named, and answers the program's status.
+fn play_file(rt: &HostRuntime, path: &str, script: Option<&str>, manner: Manner) -> u8
+    requires { AreInRange manner.limits }
+{
+    match script {
+        None => play_with(rt, path, manner, &mut Nothing),
+        Some(script) => play_with(rt, path, manner, &mut ScriptFile::new(rt, script)),
     }
 }
 
@@ -75,7 +97,13 @@ fn answer(rt: &HostRuntime, words: &[String]) -> u8 {
         return out_of_memory(rt);
     };
     match choose(rt.alloc(), words.as_slice()) {
-        Ok(Choice::Play { story, limits }) => play_file(rt, story, limits),
+        Ok(
+            Choice::Play {
+                story,
+                script,
+                manner,
+            },
+        ) => play_file(rt, story, script, manner),
         Err(error) => tell_usage(rt, &error),
     }
 }

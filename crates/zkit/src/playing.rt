@@ -1,29 +1,24 @@
 // A story, from the bytes of its file to the screen.
 
-ghost use Rattle.std.specs.Prelude.{◌≡◌, false, IfOk, IfSome};
+ghost use Rattle.std.specs.Prelude.{◌≡◌, false, IfOk, IfSome, None};
 ghost use Rattle.zk_vm.specs.Bounds.{AreInRange};
-ghost use Rattle.zkit.specs.Playing.{EndsBy, EndsFrom, IsPlayedFrom, IsRun, bytes_read};
+ghost use Rattle.zkit.specs.Playing.{EndsBy, EndsFrom, IsPlayedBy, IsPlayedFrom, IsRun, bytes_read};
 
 use crate::ending::Ending;
+use crate::manner::Manner;
 use crate::report::report;
 use std::alloc::Global;
 use std::io::{self, Read};
 use zk_mem::story::Story;
-use zk_term::nothing::Nothing;
 use zk_term::source::Source;
-use zk_term::target::Target;
-use zk_vm::limits::Limits;
+use zk_term::target::{Failed, Target};
 use zk_vm::machine::Machine;
 use zk_vm::play::play;
 use zk_vm::slot::NoSlot;
-use zk_step::workspace::View;
 use zk_vm::stop::Stop;
 
 /// One byte past the greatest length of a story: a longer file is too long by what is read of it.
 const MOST_BYTES: u64 = 524_289;
-
-/// What begins the random numbers of a run.
-const SEED: u64 = 1;
 
 /// The bytes of a story's file, as many as a story may have and one more.
 pub fn read_story<R: Read + Drop>(alloc: Global, reader: R) -> io::Result<Vec<u8>>
@@ -34,86 +29,107 @@ pub fn read_story<R: Read + Drop>(alloc: Global, reader: R) -> io::Result<Vec<u8
     Ok(bytes)
 }
 
-/// Plays a story up to its stop.
-fn play_story<I: Source, S: Target>(
+/// Plays a machine up to its stop. First the script is given no bytes, so that a file is made of it before the run.
+fn play_machine<I: Source, S: Target, T: Target>(
     alloc: Global,
-    story: Story,
-    limits: Limits,
+    machine: &mut Machine,
     input: &mut I,
     screen: &mut S,
+    script: &mut T,
 ) -> Stop
-    requires in_range { AreInRange limits }
+    requires free { machine.old.waiting ≡ None }
     requires input_works { I.failed input.old ≡ false }
     requires works { S.failed screen.old ≡ false }
-    ensures { IsRun (record { typed = I.left input.old; unread = I.failed input.new }) story limits (record { taken = S.taken screen.old; failed = S.failed screen.old }) (record { taken = S.taken screen.new; failed = S.failed screen.new }) result }
+    requires script_works { T.failed script.old ≡ false }
+    ensures { IsPlayedBy (record { typed = I.left input.old; unread = I.failed input.new }) machine.old (record { screen = record { taken = S.taken screen.old; failed = S.failed screen.old }; script = record { taken = T.taken script.old; failed = T.failed script.old } }) (record { screen = record { taken = S.taken screen.new; failed = S.failed screen.new }; script = record { taken = T.taken script.new; failed = T.failed script.new } }) result }
 {
-    match Machine::start(alloc, story, SEED, limits, View::Plain) {
+    match script.write(&[]) {
+        Err(Failed) => Stop::Write,
+        Ok(_) => play(alloc, input, screen, script, &mut NoSlot, machine),
+    }
+}
+
+/// Plays a story up to its stop.
+fn play_story<I: Source, S: Target, T: Target>(
+    alloc: Global,
+    story: Story,
+    manner: Manner,
+    input: &mut I,
+    screen: &mut S,
+    script: &mut T,
+) -> Stop
+    requires in_range { AreInRange manner.limits }
+    requires input_works { I.failed input.old ≡ false }
+    requires works { S.failed screen.old ≡ false }
+    requires script_works { T.failed script.old ≡ false }
+    ensures { IsRun (record { typed = I.left input.old; unread = I.failed input.new }) story manner (record { screen = record { taken = S.taken screen.old; failed = S.failed screen.old }; script = record { taken = T.taken script.old; failed = T.failed script.old } }) (record { screen = record { taken = S.taken screen.new; failed = S.failed screen.new }; script = record { taken = T.taken script.new; failed = T.failed script.new } }) result }
+{
+    match Machine::start(alloc, story, manner.seed, manner.limits, manner.view) {
         Err(_) => Stop::Memory,
-        Ok(mut machine) => play(
-            alloc,
-            input,
-            screen,
-            &mut Nothing,
-            &mut NoSlot,
-            &mut machine,
-        ),
+        Ok(mut machine) => play_machine(alloc, &mut machine, input, screen, script),
     }
 }
 
 /// Plays the bytes of a file, if they are a story.
-pub fn play_bytes<I: Source, S: Target>(
+pub fn play_bytes<I: Source, S: Target, T: Target>(
     alloc: Global,
     bytes: &[u8],
-    limits: Limits,
+    manner: Manner,
     input: &mut I,
     screen: &mut S,
+    script: &mut T,
 ) -> Ending
-    requires in_range { AreInRange limits }
+    requires in_range { AreInRange manner.limits }
     requires input_works { I.failed input.old ≡ false }
     requires works { S.failed screen.old ≡ false }
-    ensures { EndsBy (record { typed = I.left input.old; unread = I.failed input.new }) bytes.now limits (record { taken = S.taken screen.old; failed = S.failed screen.old }) (record { taken = S.taken screen.new; failed = S.failed screen.new }) result }
+    requires script_works { T.failed script.old ≡ false }
+    ensures { EndsBy (record { typed = I.left input.old; unread = I.failed input.new }) bytes.now manner (record { screen = record { taken = S.taken screen.old; failed = S.failed screen.old }; script = record { taken = T.taken script.old; failed = T.failed script.old } }) (record { screen = record { taken = S.taken screen.new; failed = S.failed screen.new }; script = record { taken = T.taken script.new; failed = T.failed script.new } }) result }
 {
     match Story::open(alloc, bytes) {
         Err(error) => Ending::Refused(error),
-        Ok(story) => Ending::Stopped(play_story(alloc, story, limits, input, screen)),
+        Ok(story) => Ending::Stopped(play_story(alloc, story, manner, input, screen, script)),
     }
 }
 
 /// Plays the story that a reader gives.
-pub fn play_from<R: Read + Drop, I: Source, S: Target>(
+pub fn play_from<R: Read + Drop, I: Source, S: Target, T: Target>(
     alloc: Global,
     reader: R,
-    limits: Limits,
+    manner: Manner,
     input: &mut I,
     screen: &mut S,
+    script: &mut T,
 ) -> Ending
-    requires in_range { AreInRange limits }
+    requires in_range { AreInRange manner.limits }
     requires input_works { I.failed input.old ≡ false }
     requires works { S.failed screen.old ≡ false }
-    ensures { EndsFrom (record { typed = I.left input.old; unread = I.failed input.new }) (R.remaining reader) limits (record { taken = S.taken screen.old; failed = S.failed screen.old }) (record { taken = S.taken screen.new; failed = S.failed screen.new }) result }
+    requires script_works { T.failed script.old ≡ false }
+    ensures { EndsFrom (record { typed = I.left input.old; unread = I.failed input.new }) (R.remaining reader) manner (record { screen = record { taken = S.taken screen.old; failed = S.failed screen.old }; script = record { taken = T.taken script.old; failed = T.failed script.old } }) (record { screen = record { taken = S.taken screen.new; failed = S.failed screen.new }; script = record { taken = T.taken script.new; failed = T.failed script.new } }) result }
 {
     match read_story(alloc, reader) {
         Err(error) => Ending::Unread(error),
-        Ok(bytes) => play_bytes(alloc, bytes.as_slice(), limits, input, screen),
+        Ok(bytes) => play_bytes(alloc, bytes.as_slice(), manner, input, screen, script),
     }
 }
 
 /// Plays the story that a reader gives, whose reads the lines of `input` answer, reports how that ends, and answers the program's status.
-pub fn play_and_report<R: Read + Drop, I: Source, S: Target, E: Target>(
+pub fn play_and_report<R: Read + Drop, I: Source, S: Target, T: Target, E: Target>(
     alloc: Global,
     reader: R,
-    limits: Limits,
+    manner: Manner,
     input: &mut I,
     screen: &mut S,
+    script: &mut T,
     errors: &mut E,
 ) -> u8
-    requires in_range { AreInRange limits }
+    requires in_range { AreInRange manner.limits }
     requires input_works { I.failed input.old ≡ false }
     requires works { S.failed screen.old ≡ false }
+    requires script_works { T.failed script.old ≡ false }
     requires errors_work { E.failed errors.old ≡ false }
-    ensures { IsPlayedFrom (record { typed = I.left input.old; unread = I.failed input.new }) (R.remaining reader) limits (record { taken = S.taken screen.old; failed = S.failed screen.old }) (record { taken = S.taken screen.new; failed = S.failed screen.new })
+    ensures { IsPlayedFrom (record { typed = I.left input.old; unread = I.failed input.new }) (R.remaining reader) manner (record { screen = record { taken = S.taken screen.old; failed = S.failed screen.old }; script = record { taken = T.taken script.old; failed = T.failed script.old } }) (record { screen = record { taken = S.taken screen.new; failed = S.failed screen.new }; script = record { taken = T.taken script.new; failed = T.failed script.new } })
         (record { taken = E.taken errors.old; failed = E.failed errors.old }) (record { taken = E.taken errors.new; failed = E.failed errors.new }) result }
 {
-    let ending = play_from(alloc, reader, limits, input, screen);
-    report(alloc, &ending, &limits, errors)
+    let ending = play_from(alloc, reader, manner, input, screen, script);
+    report(alloc, &ending, &manner.limits, errors)
 }

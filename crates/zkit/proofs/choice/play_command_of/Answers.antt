@@ -1,20 +1,21 @@
 use Rattle.std.proofs.Common.{rules, ◌≡◌, ◌∙◌, ap, ap₂, codes, false}
 use Rattle.std.specs.Prelude.{◌||◌, Bool}
 use Rattle.std.proofs.lemmas.Result.{IfOk-weaker}
-use Rattle.clap.specs.Words.{app_of, new_app, rule_of, with_rule}
+use Rattle.clap.specs.Words.{app_of, new_app, with_rule}
 use Rattle.clap.specs.Simple.{app_of_fields}
 use Rattle.clap.specs.declared.Command.TheViews.{out-Command as fields_of}
-use Rattle.zkit.specs.CommandLine.{story_word}
 use Rattle.zkit.proofs.choice.play_command_of.Goals as goal
 
 pub returns-clause-shape : goal.returns-clause-shape
 returns-clause-shape c =
-    let story_is : rule_of c.help-story.result ≡ story_word = search rules in
-    let base : app_of c.after_help.result ≡ new_app (codes "play") = ap app_of_fields c.after_help.ensures ∙ ap app_of_fields c.about.ensures ∙ c.new-2.ensures.app in
+    let base : app_of c.after_help.result ≡ new_app (codes "play") = ap app_of_fields c.after_help.ensures ∙ ap app_of_fields c.about.ensures ∙ c.new.ensures.app in
     let one = c.in_ok-arg.ensures.shape c.number_option_of-frames.ensures.local ∙ ap₂ with_rule base c.number_option_of-frames.ensures.rule in
     let two = c.in_ok-arg-2.ensures.shape c.number_option_of-words.ensures.local ∙ ap₂ with_rule one c.number_option_of-words.ensures.rule in
     let three = c.in_ok-arg-3.ensures.shape c.number_option_of-steps.ensures.local ∙ ap₂ with_rule two c.number_option_of-steps.ensures.rule in
-    IfOk-weaker c.arg-4.result _ _ (λ r h. h.shape (search rules) ∙ ap₂ with_rule three story_is) c.arg-4.ensures
+    let four = c.in_ok-arg-4.ensures.shape c.number_option_of-seed.ensures.local ∙ ap₂ with_rule three c.number_option_of-seed.ensures.rule in
+    let five = c.in_ok-arg-5.ensures.shape c.script_option_of.ensures.local ∙ ap₂ with_rule four c.script_option_of.ensures.rule in
+    let six = c.in_ok-arg-6.ensures.shape c.upper_flag_of.ensures.local ∙ ap₂ with_rule five c.upper_flag_of.ensures.rule in
+    IfOk-weaker c.arg-7.result _ _ (λ r h. h.shape c.story_word_of.ensures.local ∙ ap₂ with_rule six c.story_word_of.ensures.rule) c.arg-7.ensures
 
 pub returns-clause-local : goal.returns-clause-local
 returns-clause-local c =
@@ -22,4 +23,7 @@ returns-clause-local c =
     let one = c.in_ok-arg.ensures.globals ∙ ap₂ (λ (a b : Bool). a || b) base c.number_option_of-frames.ensures.local in
     let two = c.in_ok-arg-2.ensures.globals ∙ ap₂ (λ (a b : Bool). a || b) one c.number_option_of-words.ensures.local in
     let three = c.in_ok-arg-3.ensures.globals ∙ ap₂ (λ (a b : Bool). a || b) two c.number_option_of-steps.ensures.local in
-    IfOk-weaker c.arg-4.result _ _ (λ r h. h.globals ∙ ap₂ (λ (a b : Bool). a || b) three (search rules)) c.arg-4.ensures
+    let four = c.in_ok-arg-4.ensures.globals ∙ ap₂ (λ (a b : Bool). a || b) three c.number_option_of-seed.ensures.local in
+    let five = c.in_ok-arg-5.ensures.globals ∙ ap₂ (λ (a b : Bool). a || b) four c.script_option_of.ensures.local in
+    let six = c.in_ok-arg-6.ensures.globals ∙ ap₂ (λ (a b : Bool). a || b) five c.upper_flag_of.ensures.local in
+    IfOk-weaker c.arg-7.result _ _ (λ r h. h.globals ∙ ap₂ (λ (a b : Bool). a || b) six c.story_word_of.ensures.local) c.arg-7.ensures

@@ -1,0 +1,15 @@
+// What a run is asked for.
+
+use zk_step::workspace::View;
+use zk_vm::limits::Limits;
+
+/// The manner in which a story is played.
+#[derive(Clone, Copy, Debug, PartialEq, Eq, Drop)]
+pub struct Manner {
+    /// What a run holds and runs at most.
+    pub limits: Limits,
+    /// What begins the random numbers.
+    pub seed: u64,
+    /// What is shown of the status line and the upper window.
+    pub view: View,
+}

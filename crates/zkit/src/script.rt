@@ -1,0 +1,69 @@
+// The file of a transcript.
+
+ghost use Rattle.std.specs.Prelude.{◌≡◌, ◌≤◌, ◌<◌, false, length, IfOk};
+
+use std::fs::File;
+use zk_term::over::Over;
+use zk_term::target::{Failed, Target};
+
+/// A file that the first write makes or empties, even a write of no bytes.
+#[derive(Drop)]
+pub struct ScriptFile<'a> {
+    rt: &'a HostRuntime,
+    path: &'a str,
+    file: Option<Over<File>>,
+    failed: bool,
+}
+
+impl<'a> ScriptFile<'a> {
+    pub fn new(rt: &'a HostRuntime, path: &'a str) -> ScriptFile<'a>
+        ensures { result.failed ≡ false }
+    {
+        ScriptFile {
+            rt,
+            path,
+            file: None,
+            failed: false,
+        }
+    }
+}
+
+/// Writes to a file, which is made or emptied where it is not open yet.
+fn write_to(
+    rt: &HostRuntime,
+    path: &str,
+    file: &mut Option<Over<File>>,
+    bytes: &[u8],
+) -> Result<usize, Failed>
+    ensures count { IfOk result (λ n. n ≤ length bytes.now) }
+    ensures progress { 0 < length bytes.now → IfOk result (λ n. 0 < n) }
+{
+    if let Some(open) = file {
+        return open.write(bytes);
+    }
+    let Ok(made) = File::create(rt, path) else {
+        return Err(Failed);
+    };
+    let mut open = Over::new(made);
+    let written = open.write(bytes);
+    *file = Some(open);
+    written
+}
+
+impl Target for ScriptFile<'_> {
+    ghost use Rattle.std.specs.Prelude.{None};
+
+    ghost taken = { λ _. None };
+
+    ghost failed = { λ s. s.failed };
+
+    fn write(&mut self, bytes: &[u8]) -> Result<usize, Failed> {
+        match write_to(self.rt, self.path, &mut self.file, bytes) {
+            Ok(count) => Ok(count),
+            Err(Failed) => {
+                self.failed = true;
+                Err(Failed)
+            }
+        }
+    }
+}
