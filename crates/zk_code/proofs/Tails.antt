@@ -17,7 +17,7 @@ use Rattle.zk_code.specs.declared.table.Follows.{Follows}
 use Rattle.zk_code.specs.Table.{stores, branches, has_text}
 use Rattle.zk_code.specs.Operands.{type_of, is_omitted}
 use Rattle.zk_code.specs.Targets.{branch_target}
-use Rattle.zk_code.specs.Reading.{code_byte, operand_at, operands_at, store_at, branch_by, branch_at, text_at}
+use Rattle.zk_code.specs.Reading.{code_byte, operand_at, operands_at, store_at, branch_by, branch_here, branch_at, text_at}
 use Rattle.zk_code.specs.Grammar.{Stands, IsEnd, AreOf, operand_bytes, store_bytes, BranchData, NoBranch, OneByte, TwoBytes, IsBranchData, on_bit, branch_bytes, branch_of, IsTextAt, word}
 use Rattle.zk_code.proofs.Texts.{text_end_takes, text_end_again}
 use Rattle.zk_code.proofs.Standing.{stands_join, stands_split, stands_long, byte_again, word_again}
@@ -148,13 +148,19 @@ branch_by_read m a b fits c lack =
     let first : b ≡ on_bit (nat_le 128 b) + 64 + b % 64 = omega arith in
     read_ok (record { branch_data = OneByte (nat_le 128 b) (b % 64); is_branch_data = omega arith; branch = refl; bytes = (c ∙ ap Some first, refl) })))
 
+-- a branch that is read is spelled so, from its first byte on
+branch_here_read : {F : Fault → Type 0} (m : MemoryMap) (a : ℕ) → HasBytes m → (length m.bytes ≤ a + 1 → F CodePastEnd) →
+    Reads (λ (x : Branch × ℕ). Branched m a (Some x.0) x.1) F (branch_here m a)
+unfolding branch_here
+branch_here_read m a fits lack = read_then _ _ (read_byte m a (λ le. lack (omega arith))) (λ b c. branch_by_read m a b fits c lack)
+
 -- a branch that is read is spelled so
 pub branch_read : {F : Fault → Type 0} (m : MemoryMap) (f : Follows) (a : ℕ) → HasBytes m → (length m.bytes ≤ a + 1 → F CodePastEnd) →
     Reads (λ (x : Option Branch × ℕ). (is_some x.0 ≡ branches f) × Branched m a x.0 x.1) F (branch_at m f a)
 unfolding branch_at
 branch_read m f a fits lack =
     read_if (branches f) _ _
-    (λ t. read_then _ _ (read_byte m a (λ le. lack (omega arith))) (λ b c. read_then _ _ (branch_by_read m a b fits c lack) (λ r s. read_ok (sym t, s))))
+    (λ t. read_then _ _ (branch_here_read m a fits lack) (λ r s. read_ok (sym t, s)))
     (λ t. read_ok (sym t, record { branch_data = NoBranch; is_branch_data = tt; branch = refl; bytes = refl }))
 
 -- its data has two bytes at most
@@ -194,7 +200,7 @@ two_bytes_again m a on offset b w h =
 
 -- a branch is read where one follows
 some_again : (m : MemoryMap) (f : Follows) (a : ℕ) (v : Branch) (b : ℕ) → branches f ≡ true → ReadBy m a v b → branch_at m f a ≡ Ok (Some v, b)
-unfolding branch_at
+unfolding branch_at branch_here
 some_again m f a v b e s = rw (e, s.1, s.2) refl
 
 -- no branch is read where none follows

@@ -4,7 +4,7 @@ ghost use Rattle.std.specs.Prelude.{ℕ, Ok, Err, IfErr, ◌≡◌, ◌≤◌, �
 ghost use Rattle.zk_mem.specs.declared.fault.Fault.{Fault};
 ghost use Rattle.zk_code.specs.declared.instr.Instr.{Instr};
 ghost use Rattle.zk_code.specs.Grammar.{IsInstruction, IsRefusal};
-ghost use Rattle.zk_code.specs.Reading.{operand_at, operands_at, store_at, branch_by, branch_at, text_at, instr_at};
+ghost use Rattle.zk_code.specs.Reading.{operand_at, operands_at, store_at, branch_by, branch_here, branch_at, text_at, instr_at};
 
 use crate::branch::{Branch, target_of_branch};
 use crate::bytes::{read_byte, read_word};
@@ -98,6 +98,17 @@ fn read_branch_by(memory: &Memory, address: u32, first: u8) -> Result<(Branch, u
     }
 }
 
+/// The branch whose bytes begin at a byte address, and the address after it (Z-Machine Standards Document 1.1,
+/// section 4.7). Where one of its bytes lies outside the story this is `CodePastEnd`.
+#[tactic(auto, unfolding(crate::specs::Reading::branch_here))]
+pub fn decode_branch(memory: &Memory, address: u32) -> Result<(Branch, u32), Fault>
+    ensures value { result ≡ branch_here memory.now address }
+    ensures near { IfOk result (λ x. x.1 ≤ 2 ^ 20) }
+{
+    let first = read_byte(memory, address)?;
+    read_branch_by(memory, address, first)
+}
+
 #[tactic(auto, unfolding(crate::specs::Reading::branch_at))]
 fn read_branch(
     memory: &Memory,
@@ -109,8 +120,7 @@ fn read_branch(
     ensures near { IfOk result (λ x. x.1 ≤ 2 ^ 20) }
 {
     if follows.branches() {
-        let first = read_byte(memory, address)?;
-        let (branch, next) = read_branch_by(memory, address, first)?;
+        let (branch, next) = decode_branch(memory, address)?;
         Ok((Some(branch), next))
     } else {
         Ok((None, address))

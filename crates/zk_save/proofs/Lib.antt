@@ -6,3 +6,13 @@ pub mod Rings
 pub mod Wholes
 pub mod Changes
 pub mod Saves
+pub mod Numbers
+pub mod Cuts
+pub mod Chunks
+pub mod Forms
+pub mod FrameRuns
+pub mod Stories
+pub mod Filling
+pub mod Loads
+pub mod SavedLoads
+pub mod Spellings

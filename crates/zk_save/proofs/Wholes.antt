@@ -55,6 +55,10 @@ pub settled_base : (m n : MemoryMap) (flags : ℕ) → n ≡ settled flags m →
 unfolding settled
 settled_base m n flags e = ap (λ (x : MemoryMap). x.static_base) e
 
+pub settled_story : (m n : MemoryMap) (flags : ℕ) → n ≡ settled flags m → (n.file ≡ m.file) × (n.undo_states ≡ m.undo_states)
+unfolding settled
+settled_story m n flags e = (ap (λ (x : MemoryMap). x.file) e, ap (λ (x : MemoryMap). x.undo_states) e)
+
 -- memory that was reset, turned and settled is put back
 pub turned_again : (m reset turned n : MemoryMap) (flags : ℕ) (ds : List ℕ) → length ds ≤ length m.file → flags ≡ slice_index m.bytes 0x11 → reset ≡ with_bytes m m.file → turned ≡ with_bytes reset (xored reset.bytes ds) → n ≡ settled flags turned
     → n ≡ again m (xored (take (length ds) m.file) ds ++ drop (length (xored (take (length ds) m.file) ds)) m.file)
@@ -84,3 +88,8 @@ same_of m n f g u base bounds are =
     let frames = ap (λ (p : ℕ × ℕ). p.0) bounds in
     let words = ap (λ (p : ℕ × ℕ). p.1) bounds in
     rw (base, frames, words) are
+
+-- memory that is put back is the same story's
+pub again_same : (m n : MemoryMap) (bytes : List ℕ) → n ≡ again m bytes → (n.static_base ≡ m.static_base) × (n.file ≡ m.file) × (n.undo_states ≡ m.undo_states)
+unfolding again settled
+again_same m n bytes e = (ap (λ (x : MemoryMap). x.static_base) e, ap (λ (x : MemoryMap). x.file) e, ap (λ (x : MemoryMap). x.undo_states) e)

@@ -1,10 +1,15 @@
 -- Worked examples of this crate's definitions. Their values come from Quetzal 1.4 by hand, and no definition made
 -- them.
-use Rattle.std.specs.Prelude.{◌≡◌, ℕ, List, [], ◌∷◌, ◌++◌, Some, None, replicate, drop, codes}
+use Rattle.std.specs.Prelude.{◌≡◌, ℕ, true, false, List, [], ◌∷◌, ◌++◌, Some, None, Result, Ok, Err, replicate, take, drop, codes}
 use Rattle.zk_save.specs.Packing.{Zeros, Byte, runs_of, without_last_zeros, packed}
 use Rattle.zk_save.specs.Unpacking.{unpacked, xored}
-use Rattle.zk_save.specs.Quetzal.{bytes_2, bytes_3, bytes_4, chunk_bytes, frame_bytes, stack_content, story_content, saved}
-use Rattle.zk_save.specs.States.{state_of, states_in, gone_back}
+use Rattle.zk_save.specs.declared.restore.RestoreError.{RestoreError}
+use Rattle.zk_save.specs.declared.restore.RestoreError.TheVariants.{NotQuetzal, Truncated, OtherStory, BadMemory, BadStack, Limit}
+use Rattle.zk_state.specs.declared.refusal.Limit.TheVariants.{Frames, Words}
+use Rattle.zk_save.specs.Reading.{number_of, words_of, chunks_in, content_of, first_of_frames, frames_read}
+use Rattle.zk_save.specs.Loading.{memory_chunk, parts_of, is_of_story, dynamic_in, loaded, put_in_place}
+use Rattle.zk_save.specs.Quetzal.{Chunk, bytes_2, bytes_3, bytes_4, chunk_bytes, frame_bytes, stack_content, story_content, saved}
+use Rattle.zk_save.specs.States.{WholeState, state_of, states_in, gone_back}
 use Rattle.zk_state.specs.Frames.{Frame, FrameList}
 use Rattle.zk_mem.specs.Map.{MemoryMap}
 use Rattle.zk_mem.specs.Again.{again}
@@ -128,3 +133,150 @@ GamesAreSaved =
     ∷ 0x49 ∷ 0x46 ∷ 0x68 ∷ 0x64 ∷ 0 ∷ 0 ∷ 0 ∷ 13 ∷ 0 ∷ 9 ∷ 48 ∷ 49 ∷ 50 ∷ 51 ∷ 52 ∷ 53 ∷ 0 ∷ 7 ∷ 0 ∷ 0 ∷ 65 ∷ 0
     ∷ 0x43 ∷ 0x4d ∷ 0x65 ∷ 0x6d ∷ 0 ∷ 0 ∷ 0 ∷ 3 ∷ 0 ∷ 0 ∷ 0x20 ∷ 0
     ∷ 0x53 ∷ 0x74 ∷ 0x6b ∷ 0x73 ∷ 0 ∷ 0 ∷ 0 ∷ 8 ∷ [] ++ replicate 8 0
+
+-- ---- saved games that are read
+
+-- numbers have their high byte first
+abbrev pub NumbersAreRead : Type 0
+NumbersAreRead =
+    (number_of (0x12 ∷ 0x34 ∷ []) ≡ 0x1234)
+    × (number_of (0x12 ∷ 0x34 ∷ 0x56 ∷ []) ≡ 0x123456)
+    × (words_of (1 ∷ 2 ∷ 3 ∷ 4 ∷ []) ≡ 0x0102 ∷ 0x0304 ∷ [])
+
+-- the first eight bytes of a chunk
+abbrev pub head : List ℕ → ℕ → List ℕ
+head name size = name ++ 0 ∷ 0 ∷ 0 ∷ size ∷ []
+
+-- a chunk
+abbrev pub chunk : List ℕ → List ℕ → Chunk
+chunk name content = record { name = name; content = content }
+
+-- behind an odd length stands one byte, whatever it is, which may be missing at the end; bytes that are too few for a chunk,
+-- or a chunk that passes the end, refuse all
+abbrev pub ChunksAreRead : Type 0
+ChunksAreRead =
+    (chunks_in (head (codes "abcd") 3 ++ 7 ∷ 8 ∷ 9 ∷ 0 ∷ head (codes "efgh") 0) ≡ Some (chunk (codes "abcd") (7 ∷ 8 ∷ 9 ∷ []) ∷ chunk (codes "efgh") [] ∷ []))
+    × (chunks_in (head (codes "abcd") 3 ++ 7 ∷ 8 ∷ 9 ∷ 5 ∷ []) ≡ Some (chunk (codes "abcd") (7 ∷ 8 ∷ 9 ∷ []) ∷ []))
+    × (chunks_in (head (codes "abcd") 3 ++ 7 ∷ 8 ∷ 9 ∷ []) ≡ Some (chunk (codes "abcd") (7 ∷ 8 ∷ 9 ∷ []) ∷ []))
+    × (chunks_in (head (codes "abcd") 3 ++ 7 ∷ 8 ∷ []) ≡ None)
+    × (chunks_in (head (codes "abcd") 2 ++ 7 ∷ 8 ∷ 0 ∷ []) ≡ None)
+    × (chunks_in (head (codes "abcd") 2 ++ 7 ∷ 8 ∷ replicate 7 0) ≡ None)
+    × (chunks_in (head (codes "abcd") 3 ++ 7 ∷ 8 ∷ 9 ∷ 0 ∷ 0 ∷ []) ≡ None)
+    × (chunks_in (head (codes "abcd") 2 ++ 7 ∷ 8 ∷ head (codes "efgh") 1) ≡ None)
+    × (chunks_in [] ≡ Some [])
+
+-- the bytes that say the story, and the place
+abbrev pub story_bytes : ℕ → ℕ → List ℕ
+story_bytes high low = 0 ∷ 9 ∷ 48 ∷ 49 ∷ 50 ∷ 51 ∷ 52 ∷ 53 ∷ high ∷ low ∷ 0 ∷ 0 ∷ 65 ∷ []
+
+-- other chunks are passed over; the first chunk of a name counts alone, and the first of the two kinds of memory
+abbrev pub FirstsCount : Type 0
+FirstsCount =
+    (content_of (codes "Stks") (chunk (codes "abcd") (1 ∷ []) ∷ chunk (codes "Stks") (2 ∷ []) ∷ chunk (codes "Stks") (3 ∷ []) ∷ []) ≡ Some (2 ∷ []))
+    × (memory_chunk (chunk (codes "abcd") [] ∷ chunk (codes "UMem") (2 ∷ []) ∷ chunk (codes "CMem") (3 ∷ []) ∷ []) ≡ Some (chunk (codes "UMem") (2 ∷ [])))
+    × (memory_chunk (chunk (codes "CMem") (3 ∷ []) ∷ chunk (codes "UMem") (2 ∷ []) ∷ []) ≡ Some (chunk (codes "CMem") (3 ∷ [])))
+    × (parts_of (chunk (codes "Stks") (1 ∷ []) ∷ chunk (codes "CMem") [] ∷ chunk (codes "IFhd") (story_bytes 0 7 ++ 1 ∷ []) ∷ []) ≡ Ok (record { story = story_bytes 0 7 ++ 1 ∷ []; memory = chunk (codes "CMem") []; stack = 1 ∷ [] }))
+    × (parts_of (chunk (codes "Stks") (1 ∷ []) ∷ chunk (codes "CMem") [] ∷ chunk (codes "IFhd") (take 12 (story_bytes 0 7)) ∷ chunk (codes "IFhd") (story_bytes 0 7) ∷ []) ≡ Err Truncated)
+    × (parts_of (chunk (codes "Stks") (1 ∷ []) ∷ chunk (codes "IFhd") (story_bytes 0 7) ∷ []) ≡ Err Truncated)
+
+-- a dropped result has no variable, whatever stands there; the arguments are those below the first bit that is clear; bits
+-- without a meaning and a frame that is cut off are refused
+abbrev pub FramesAreRead : Type 0
+FramesAreRead =
+    (first_of_frames (0x01 ∷ 0x23 ∷ 0x45 ∷ 0x12 ∷ 17 ∷ 0b101 ∷ 0 ∷ 1 ∷ 1 ∷ 2 ∷ 3 ∷ 4 ∷ 5 ∷ 6 ∷ 7 ∷ [])
+    ≡ Some (record { locals = 0x0102 ∷ 0x0304 ∷ []; words = 0x0506 ∷ []; place = 0x012345; result = None; supplied = 1 }, 7 ∷ []))
+    × (first_of_frames (0 ∷ 0 ∷ 66 ∷ 0x00 ∷ 17 ∷ 0b1111111 ∷ 0 ∷ 0 ∷ []) ≡ Some (record { locals = []; words = []; place = 66; result = Some 17; supplied = 7 }, []))
+    × (first_of_frames (0 ∷ 0 ∷ 66 ∷ 0x00 ∷ 0 ∷ 0b1111110 ∷ 0 ∷ 0 ∷ []) ≡ Some (record { locals = []; words = []; place = 66; result = Some 0; supplied = 0 }, []))
+    × (first_of_frames (0 ∷ 0 ∷ 66 ∷ 0x20 ∷ 0 ∷ 0 ∷ 0 ∷ 0 ∷ []) ≡ None)
+    × (first_of_frames (0 ∷ 0 ∷ 66 ∷ 0x00 ∷ 0 ∷ 0x80 ∷ 0 ∷ 0 ∷ []) ≡ None)
+    × (first_of_frames (0 ∷ 0 ∷ 66 ∷ 0x00 ∷ 0 ∷ 0 ∷ 0 ∷ []) ≡ None)
+    × (first_of_frames (0 ∷ 0 ∷ 66 ∷ 0x01 ∷ 0 ∷ 0 ∷ 0 ∷ 1 ∷ 0 ∷ 1 ∷ 0 ∷ []) ≡ None)
+
+-- the first frame has six zeros before its words, and comes before the others
+abbrev pub TheFirstIsRead : Type 0
+TheFirstIsRead =
+    (frames_read (0 ∷ 0 ∷ 0 ∷ 0 ∷ 0 ∷ 0 ∷ 0 ∷ 1 ∷ 0 ∷ 8 ∷ 0 ∷ 0 ∷ 66 ∷ 0 ∷ 0 ∷ 0 ∷ 0 ∷ 0 ∷ [])
+    ≡ Some (record { locals = []; words = 8 ∷ []; place = 0; result = None; supplied = 0 } ∷ record { locals = []; words = []; place = 66; result = Some 0; supplied = 0 } ∷ []))
+    × (frames_read (0 ∷ 0 ∷ 0 ∷ 0 ∷ 1 ∷ 0 ∷ 0 ∷ 0 ∷ []) ≡ None)
+    × (frames_read (0 ∷ 0 ∷ 0 ∷ 0x10 ∷ 0 ∷ 0 ∷ 0 ∷ 0 ∷ []) ≡ None)
+    × (frames_read (replicate 8 0 ++ 0 ∷ []) ≡ None)
+    × (frames_read [] ≡ None)
+
+-- a saved game is of a story by all three; where the header has no checksum, the file's sum and none are taken
+abbrev pub StoriesAreMatched : Type 0
+StoriesAreMatched =
+    (is_of_story (story_file 7) (story_bytes 0 7) ≡ true)
+    × (is_of_story (story_file 7) (story_bytes 0 8) ≡ false)
+    × (is_of_story (story_file 7) (story_bytes 0 0) ≡ false)
+    × (is_of_story (story_file 7) (1 ∷ drop 1 (story_bytes 0 7)) ≡ false)
+    × (is_of_story (story_file 7) (take 7 (story_bytes 0 7) ++ 54 ∷ drop 8 (story_bytes 0 7)) ≡ false)
+    × (is_of_story (story_file 0) (story_bytes 0x02 0x31) ≡ true)
+    × (is_of_story (story_file 0) (story_bytes 0 0) ≡ true)
+    × (is_of_story (story_file 0) (story_bytes 0x02 0x32) ≡ false)
+
+-- plain memory has all bytes and no more; packed memory is turned over the story's file
+abbrev pub MemoryIsRead : Type 0
+MemoryIsRead =
+    (dynamic_in (memory_with (9 ∷ 9 ∷ 3 ∷ [])) (chunk (codes "UMem") (5 ∷ 6 ∷ [])) ≡ Some (5 ∷ 6 ∷ []))
+    × (dynamic_in (memory_with (9 ∷ 9 ∷ 3 ∷ [])) (chunk (codes "UMem") (5 ∷ [])) ≡ None)
+    × (dynamic_in (memory_with (9 ∷ 9 ∷ 3 ∷ [])) (chunk (codes "UMem") (5 ∷ 6 ∷ 7 ∷ [])) ≡ None)
+    × (dynamic_in (memory_with (9 ∷ 9 ∷ 3 ∷ [])) (chunk (codes "CMem") (0 ∷ 0 ∷ 6 ∷ [])) ≡ Some (1 ∷ 4 ∷ []))
+    × (dynamic_in (memory_with (9 ∷ 9 ∷ 3 ∷ [])) (chunk (codes "CMem") []) ≡ Some (1 ∷ 2 ∷ []))
+    × (dynamic_in (memory_with (9 ∷ 9 ∷ 3 ∷ [])) (chunk (codes "CMem") (1 ∷ 0 ∷ [])) ≡ None)
+    × (dynamic_in (memory_with (9 ∷ 9 ∷ 3 ∷ [])) (chunk (codes "CMem") (1 ∷ 1 ∷ 1 ∷ [])) ≡ None)
+
+-- a form of so many bytes
+abbrev pub form_with : ℕ → List ℕ → List ℕ
+form_with size chunks = codes "FORM" ++ 0 ∷ 0 ∷ 0 ∷ size ∷ codes "IFZS" ++ chunks
+
+-- the chunk of a story, with a low byte of the checksum
+abbrev pub story_chunk : ℕ → List ℕ
+story_chunk low = head (codes "IFhd") 13 ++ story_bytes 0 low ++ 0 ∷ []
+
+-- a chunk of packed memory, with a last byte
+abbrev pub memory_chunk_of : ℕ → List ℕ
+memory_chunk_of last = head (codes "CMem") 3 ++ 0 ∷ 0 ∷ last ∷ 0 ∷ []
+
+-- a chunk of the first frame alone, with a byte of flags
+abbrev pub stack_chunk : ℕ → List ℕ
+stack_chunk flags = head (codes "Stks") 8 ++ 0 ∷ 0 ∷ 0 ∷ flags ∷ 0 ∷ 0 ∷ 0 ∷ 0 ∷ []
+
+-- memory of a story with three bytes of dynamic memory
+abbrev pub memory_of_story : MemoryMap
+memory_of_story = record { version = 3; static_base = 3; bytes = story_file 7; file = story_file 7; undo_states = 0 }
+
+-- what is loaded from a game
+abbrev pub loaded_from : List ℕ → Result WholeState RestoreError
+loaded_from file = loaded memory_of_story file
+
+-- the state of the game
+abbrev pub game_state : WholeState
+game_state = record { dynamic = 3 ∷ 0x20 ∷ 0 ∷ []; frames = record { locals = []; words = []; place = 0; result = None; supplied = 0 } ∷ []; place = 65 }
+
+-- chunks come in any order, and bytes behind the form don't count; of two reasons to refuse the earlier one is told
+abbrev pub GamesAreLoaded : Type 0
+GamesAreLoaded =
+    (loaded_from (form_with 54 (story_chunk 7 ++ memory_chunk_of 0x20 ++ stack_chunk 0)) ≡ Ok game_state)
+    × (loaded_from (form_with 54 (stack_chunk 0 ++ memory_chunk_of 0x20 ++ story_chunk 7) ++ 1 ∷ 2 ∷ []) ≡ Ok game_state)
+    × (loaded_from (replicate 11 0) ≡ Err Truncated)
+    × (loaded_from (replicate 12 0) ≡ Err NotQuetzal)
+    × (loaded_from (codes "FORM" ++ 0 ∷ 0 ∷ 0 ∷ 255 ∷ codes "IFZX") ≡ Err NotQuetzal)
+    × (loaded_from (form_with 55 (story_chunk 7 ++ memory_chunk_of 0x20 ++ stack_chunk 0)) ≡ Err Truncated)
+    × (loaded_from (form_with 3 (story_chunk 7 ++ memory_chunk_of 0x20 ++ stack_chunk 0)) ≡ Err Truncated)
+    × (loaded_from (form_with 62 (story_chunk 7 ++ memory_chunk_of 0x20 ++ stack_chunk 0 ++ head (codes "abcd") 1)) ≡ Err Truncated)
+    × (loaded_from (form_with 38 (story_chunk 8 ++ memory_chunk_of 0)) ≡ Err Truncated)
+    × (loaded_from (form_with 54 (story_chunk 8 ++ memory_chunk_of 0 ++ stack_chunk 0x20)) ≡ Err OtherStory)
+    × (loaded_from (form_with 54 (story_chunk 7 ++ memory_chunk_of 0 ++ stack_chunk 0x20)) ≡ Err BadMemory)
+    × (loaded_from (form_with 54 (story_chunk 7 ++ memory_chunk_of 0x20 ++ stack_chunk 0x20)) ≡ Err BadStack)
+
+-- bounds on frames and words
+abbrev pub within : ℕ → ℕ → FrameList
+within most_frames most_words = record { current = frame 1; callers = []; most_frames = most_frames; most_words = most_words }
+
+-- frames past the bounds are refused, and that there are too many is told first
+abbrev pub BoundsAreKept : Type 0
+BoundsAreKept =
+    (put_in_place (record { dynamic = 4 ∷ 2 ∷ []; frames = frame 7 ∷ frame 8 ∷ []; place = 9 }) (memory_with (6 ∷ 6 ∷ 3 ∷ [])) (within 2 2)
+    ≡ Ok (again (memory_with (6 ∷ 6 ∷ 3 ∷ [])) (4 ∷ 2 ∷ 3 ∷ []), record { current = frame 7; callers = frame 8 ∷ []; most_frames = 2; most_words = 2 }, 9))
+    × (put_in_place (record { dynamic = 4 ∷ 2 ∷ []; frames = frame 7 ∷ frame 8 ∷ []; place = 9 }) (memory_with (6 ∷ 6 ∷ 3 ∷ [])) (within 1 1) ≡ Err (Limit Frames))
+    × (put_in_place (record { dynamic = 4 ∷ 2 ∷ []; frames = frame 7 ∷ frame 8 ∷ []; place = 9 }) (memory_with (6 ∷ 6 ∷ 3 ∷ [])) (within 2 1) ≡ Err (Limit Words))

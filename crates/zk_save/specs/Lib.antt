@@ -5,3 +5,6 @@ pub mod States
 pub mod Ring
 pub mod Examples
 pub mod Quetzal
+pub mod Reading
+pub mod Loading
+pub mod Spelling

@@ -34,11 +34,15 @@ whole_state file k = record { dynamic = xored (take (length k.difference) file) 
 unfoldable pub states_in : List ℕ → UndoStates → List WholeState
 states_in file u = map (whole_state file) u.states
 
--- the newest state is gone back to, where there is one: its dynamic memory is put back with the file's bytes behind it,
--- its frames are put in the place of all, and the others are left (section 15, `restore_undo`)
+-- the dynamic memory of a state is put back, with the file's bytes behind it
+abbrev pub memory_back : WholeState → MemoryMap → MemoryMap
+memory_back w m = again m (w.dynamic ++ drop (length w.dynamic) m.file)
+
+-- the newest state is gone back to, where there is one: its dynamic memory is put back, its frames are put in the place
+-- of all, and the others are left (section 15, `restore_undo`)
 unfoldable pub gone_back : List WholeState → MemoryMap → FrameList → Option (MemoryMap × FrameList × ℕ × List WholeState)
 gone_back [] m f = None
-gone_back (w ∷ ws) m f = Some (again m (w.dynamic ++ drop (length w.dynamic) m.file), with_frames f w.frames, w.place, ws)
+gone_back (w ∷ ws) m f = Some (memory_back w m, with_frames f w.frames, w.place, ws)
 
 -- a kept state of a story with its static base here, and within bounds on frames and words
 pub record IsOf (base most_frames most_words : ℕ) (k : KeptState) : Type 0 where

@@ -62,6 +62,7 @@ impl Kept {
         ensures state { (others : List WholeState) → gone_back (whole_state memory.old.file self.now ∷ others) memory.old frames.old ≡ Some (memory.new, frames.new, result, others) }
         ensures base { memory.new.static_base ≡ memory.old.static_base }
         ensures bounds { bounds_of frames.new ≡ bounds_of frames.old }
+        ensures story { (memory.new.file ≡ memory.old.file) × (memory.new.undo_states ≡ memory.old.undo_states) }
     {
         let _ = memory.dynamic();
         let flags = memory.flags();

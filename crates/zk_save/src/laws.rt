@@ -1,8 +1,15 @@
-// Laws of packed bytes and of kept states.
+// Laws of packed bytes, of kept states and of saved games.
 
+ghost use Rattle.std.specs.Prelude.{◌≡◌, ℕ, length};
 ghost use Rattle.zk_save.specs.Packing.{CutsIntoLongest, CutsInOneWay, DropsLastZeros, PacksShort};
 ghost use Rattle.zk_save.specs.Unpacking.{ComesBack, TurnsBack};
 ghost use Rattle.zk_save.specs.States.{OnlyBoundsCount};
+ghost use Rattle.zk_save.specs.Quetzal.{saved};
+ghost use Rattle.zk_save.specs.Loading.{IsLoadedAgain};
+ghost use Rattle.zk_save.specs.Spelling.{ReadsWhatIsSpelled, ReadsAllThatIsSpelled, ReadsWhatIsWritten};
+
+use zk_mem::memory::Memory;
+use zk_state::frames::Frames;
 
 /// Packed bytes are cut into runs that can't be longer, which can be done in one way alone, behind the last
 /// byte that is no zero.
@@ -23,4 +30,27 @@ pub fn packed_comes_back()
 /// same, whatever else has changed.
 pub fn only_bounds_count()
     ensures { OnlyBoundsCount }
+{}
+
+/// A serial number has six bytes.
+fn has_six(serial: &[u8; 6])
+    ensures { length serial.now ≡ 6 }
+{}
+
+/// What was saved is loaded again: the same dynamic memory, frames and place.
+pub fn saved_is_loaded(memory: &Memory, frames: &Frames)
+    ensures { (place : ℕ) → IsLoadedAgain memory.now frames.now place (saved memory.now frames.now place) }
+{
+    let header = memory.header();
+    has_six(&header.serial);
+    let _ = memory.dynamic();
+    frames.is_bounded();
+    frames.begins_first();
+}
+
+/// The chunks that are read are those that the bytes spell, and the written ones are among these.
+pub fn chunks_are_spelled()
+    ensures written { ReadsWhatIsWritten }
+    ensures all { ReadsAllThatIsSpelled }
+    ensures spelled { ReadsWhatIsSpelled }
 {}

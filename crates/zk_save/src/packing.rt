@@ -77,6 +77,7 @@ pub(crate) fn pack_difference(
 pub(crate) fn turn(packed: &[u8], memory: &mut Memory)
     ensures turned { (ds : List ℕ) → unpacked (length ds) packed.now ≡ Some ds → length ds ≡ memory.old.static_base → memory.new ≡ with_bytes memory.old (xored memory.old.bytes ds) }
     ensures base { memory.new.static_base ≡ memory.old.static_base }
+    ensures story { (memory.new.file ≡ memory.old.file) × (memory.new.undo_states ≡ memory.old.undo_states) }
 {
     let end = memory.dynamic().len();
     let mut at: usize = 0;

@@ -92,6 +92,19 @@ impl Undo {
         Ok(())
     }
 
+    /// Lets all states go.
+    #[tactic(auto, using(crate::proofs::Wholes::none_of))]
+    pub fn clear(&mut self)
+        ensures value { self.new ≡ record { states = []; most = self.old.most } }
+        ensures are_of { (m : MemoryMap) (f : FrameList) → AreOf m f self.new }
+    {
+        let ring = match &mut self.ring {
+            Some(ring) => ring,
+            None => return,
+        };
+        ring.clear();
+    }
+
     /// The newest state, which is no longer kept.
     fn pop(&mut self) -> Option<Kept>
         ensures { MatchOption result ((self.old.states ≡ []) × (self.new ≡ self.old)) (λ k. self.old ≡ record { states = k ∷ self.new.states; most = self.new.most }) }
@@ -116,6 +129,7 @@ impl Undo {
             (λ place. gone_back (states_in memory.old.file self.old) memory.old frames.old ≡ Some (memory.new, frames.new, place, states_in memory.old.file self.new)) }
         ensures most { self.new.most ≡ self.old.most }
         ensures are_of { AreOf memory.new frames.new self.new }
+        ensures story { (memory.new.file ≡ memory.old.file) × (memory.new.undo_states ≡ memory.old.undo_states) }
     {
         match self.pop() {
             Some(kept) => Some(kept.put_back(memory, frames)),

@@ -249,6 +249,20 @@ impl Frames {
         self.current = copy.current;
     }
 
+    /// How many frames there may be, the first among them.
+    pub fn most_frames(&self) -> u16
+        ensures { result ≡ self.now.most_frames }
+    {
+        self.most_frames as u16
+    }
+
+    /// How many words all frames may hold together, local variables included.
+    pub fn most_words(&self) -> u16
+        ensures { result ≡ self.now.most_words }
+    {
+        self.most_words as u16
+    }
+
     /// How many words all frames hold together, local variables included.
     pub fn words(&self) -> u32
         ensures value { result ≡ total_of self.now }

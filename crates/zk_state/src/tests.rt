@@ -29,6 +29,8 @@ fn words_go_up_to_the_bound(rt: HostRuntime) -> Result<(), Fail> {
 #[test]
 fn frames_go_up_to_the_bound(rt: HostRuntime) -> Result<(), Fail> {
     let mut frames = Frames::new(rt.alloc(), 3, 4)?;
+    assert_eq!(rt; frames.most_frames(), 3);
+    assert_eq!(rt; frames.most_words(), 4);
     assert_eq!(rt; frames.depth(), 0);
     assert_eq!(rt; frames.supplied(), 0);
     assert_eq!(rt; frames.leave(), Err(Fault::ReturnFromMain));

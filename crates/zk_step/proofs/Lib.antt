@@ -1,5 +1,6 @@
 pub mod Arguments
 pub mod Buffers
+pub mod FixedParts
 pub mod Keys
 pub mod Lines
 pub mod OpenTables
@@ -9,6 +10,7 @@ pub mod Pushes
 pub mod Rebounded
 pub mod Returns
 pub mod Steps
+pub mod Stories
 pub mod Waits
 pub mod Ways
 pub mod WithinBounds

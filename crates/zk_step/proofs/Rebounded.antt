@@ -3,7 +3,7 @@ use Rattle.std.proofs.Common.{◌≡◌, ℕ, ◌+◌, ◌-◌, ◌%◌, Bool, t
 use Rattle.std.specs.Prelude.{◌==◌, slice_get, if◌then◌else◌}
 use Rattle.zk_mem.specs.declared.fault.Fault.{Fault}
 use Rattle.zk_mem.specs.Results.{◌>>=◌}
-use Rattle.zk_mem.specs.Map.{MemoryMap, word_put, byte_put, word_at, byte_at}
+use Rattle.zk_mem.specs.Map.{MemoryMap, word_put, byte_put, word_at, byte_at, cell_at}
 use Rattle.zk_mem.specs.Header.{unpacked}
 use Rattle.zk_state.specs.declared.frames.Return.{Return}
 use Rattle.zk_state.specs.Frames.{Frame, FrameList, with_bounds, has_local, frames_of, popped, top_of, with_top, local_of, with_local, left, unwound}
@@ -35,7 +35,11 @@ use Rattle.zk_step.specs.Arrays.{array_effect, byte_of, word_of}
 use Rattle.zk_step.specs.Assignment.{assignment, moved}
 use Rattle.zk_step.specs.Effects.{effect_by, effect_of, beside}
 use Rattle.zk_step.specs.Finish.{led, gone, gone_on, finished, way_on}
-use Rattle.zk_step.specs.Inputs.{line_ending, line_answered, character_answered}
+use Rattle.zk_step.specs.Inputs.{line_ending, line_answered, character_answered, result_answered}
+use Rattle.zk_step.specs.Restarts.{begun_again, renewed}
+use Rattle.zk_step.specs.Resuming.{resumed, two_stored, branch_taken}
+use Rattle.zk_code.specs.declared.branch.Branch.{Branch}
+use Rattle.zk_code.specs.Reading.{Read, branch_here}
 use Rattle.zk_step.specs.Instructions.{carried_out}
 use Rattle.zk_step.specs.Laws.{rebounded, moved_in, led_in, BoundsAreNotSeen, AnswersSeeNoBounds}
 use Rattle.zk_step.specs.Objects.{object_changed, object_answer}
@@ -269,7 +273,7 @@ module _ (f m : ℕ) where
   effect_same (opcode.Stream o) w text vs = mapped_then _ _ _ _ (stream_same o w vs) (λ u. both)
   effect_same (opcode.Table o) w text vs = table_same o w vs
   effect_same opcode.Random w text vs = both
-  effect_same (opcode.Saving o) w text vs = fails
+  effect_same (opcode.Saving o) w text vs = both
 
   -- the finish
 
@@ -284,12 +288,15 @@ module _ (f m : ℕ) where
   gone_same w v x way = mapped_then _ _ _ _ (stored_same w v x) (λ u. led_same u way)
 
   finished_same : (w : Workspace) (i : Instr) (vs : List ℕ) (e : Ending) → Mapped (too {A = Next}) (finished w i vs e) (finished (rebounded f m w) i vs e)
-  unfolding finished gone_on
+  unfolding finished gone_on begun_again renewed
   finished_same w i vs (ending.GoOn x truth) = gone_same w i.store x (way_on i.branch i.next truth)
   finished_same w i vs (ending.Jump offset) = led_same w _
   finished_same w i vs (ending.Call p most) = called_same w i p (take most (drop 1 vs))
   finished_same w i vs (ending.Return x) = returned_same w x
   finished_same w i vs (ending.Throw x n) = thrown_same w x n
+  finished_same w i vs ending.Restart = both
+  finished_same w i vs ending.Keep = both
+  finished_same w i vs ending.Resume = both
   finished_same w i vs (ending.Wait for) = both
   finished_same w i vs ending.Quit = both
 
@@ -331,6 +338,22 @@ module _ (f m : ℕ) where
   unfolding character_answered
   character_same w i code = finished_same w i [] (ending.GoOn (Some code) None)
 
+  result_same : (w : Workspace) (i : Instr) (x : ℕ) (truth : Bool) → Mapped (too {A = Next}) (result_answered w i x truth) (result_answered (rebounded f m w) i x truth)
+  unfolding result_answered
+  result_same w i x truth = finished_same w i [] (ending.GoOn (Some x) (Some truth))
+
+  two_same : (w : Workspace) (place : ℕ) (v : Option ℕ) → Mapped (too {A = Next}) (two_stored w place v) (two_stored (rebounded f m w) place v)
+  two_same w place (Some v) = gone_same w (Some v) (Some 2) (To (place + 1))
+  two_same w place None = fails
+
+  taken_same : (w : Workspace) (r : Read Branch) → Mapped (too {A = Next}) (branch_taken w r) (branch_taken (rebounded f m w) r)
+  taken_same w (Ok b) = led_same w (way_on (Some b.0) b.1 (Some true))
+  taken_same w (Err e) = fails
+
+  back_same : (w : Workspace) (place : ℕ) → Mapped (too {A = Next}) (resumed w place) (resumed (rebounded f m w) place)
+  unfolding resumed
+  back_same w place = mapped_if (nat_lt w.memory.version 4) (taken_same w (branch_here w.memory place)) (two_same w place (cell_at w.memory place))
+
   led_is : (r s : Result (Workspace × Next) Fault) → Mapped (too {A = Next}) r s → s ≡ led_in f m r
   led_is _ _ both = refl
   led_is _ _ fails = refl
@@ -346,4 +369,6 @@ pub answers_see_no_bounds : AnswersSeeNoBounds
 answers_see_no_bounds = record {
   line = λ f m w i text parse codes. led_is f m _ _ (line_same f m w i text parse codes);
   character = λ f m w i code. led_is f m _ _ (character_same f m w i code);
+  result = λ f m w i x truth. led_is f m _ _ (result_same f m w i x truth);
+  back = λ f m w place. led_is f m _ _ (back_same f m w place);
 }

@@ -1,7 +1,7 @@
 -- Worked examples of this crate's definitions. Their values come from the Standard by hand, and no definition made
 -- them. A word from 32768 on is negative: 65535 is -1 (Standard, section 2.2).
 use Rattle.std.specs.Prelude.{◌≡◌, ℕ, List, [], ◌∷◌, ◌++◌, Option, Some, None, Ok, Err, true, false, codes, replicate, ◌+◌, ◌*◌, ◌-◌, ◌/◌, ◌%◌, ◌<◌, ◌==◌, if◌then◌else◌}
-use Rattle.zk_mem.specs.declared.fault.Fault.TheVariants.{BadAddress, ReadOnly, BadDictionary, DivisionByZero, StackEmpty, NoSuchLocal, BadTarget, ReturnFromMain, BadFrame, BadOpcode}
+use Rattle.zk_mem.specs.declared.fault.Fault.TheVariants.{BadAddress, ReadOnly, BadDictionary, DivisionByZero, StackEmpty, NoSuchLocal, BadTarget, ReturnFromMain, BadFrame}
 use Rattle.zk_mem.specs.Map.{MemoryMap}
 use Rattle.zk_state.specs.declared.refusal.Limit.TheVariants.{Frames, Words}
 use Rattle.zk_state.specs.declared.refusal.Refusal.TheVariants.{Limit}
@@ -11,7 +11,6 @@ use Rattle.zk_code.specs.declared.branch.Target.TheVariants as target
 use Rattle.zk_code.specs.declared.instr.Instr.{Instr}
 use Rattle.zk_code.specs.declared.opcode.Opcode.{Opcode}
 use Rattle.zk_code.specs.declared.opcode.Opcode.TheVariants as opcode
-use Rattle.zk_code.specs.declared.opcode.Saving.TheVariants.{Verify}
 use Rattle.zk_code.specs.declared.opcode.Arithmetic.TheVariants.{Or, And, Not, Add, Sub, Mul, Div, Mod, LogShift, ArtShift}
 use Rattle.zk_code.specs.declared.opcode.Array.TheVariants.{Loadw, Loadb, Storew, Storeb}
 use Rattle.zk_code.specs.declared.opcode.Assignment.TheVariants.{Store, Load, Inc, Dec, IncChk, DecChk, Pull, Pop}
@@ -950,12 +949,6 @@ CarriesOutInput =
     ≡ Ok (in_routine [] (44 ∷ []), (Waits (Line 55 8), silent)))
     × (carried_out (with_bytes (105 ∷ 9 ∷ 9 ∷ 9 ∷ 9 ∷ 9 ∷ 9 ∷ [])) (instruction (opcode.Words EncodeText) (Small 0 ∷ Small 1 ∷ Small 0 ∷ Small 1 ∷ []) None None)
     ≡ Ok (with_bytes (105 ∷ 0x38 ∷ 0xa5 ∷ 0x14 ∷ 0xa5 ∷ 0x94 ∷ 0xa5 ∷ []), (At 9, silent)))
-
--- an opcode that is not played is the fault of an unknown one, after its operands (a choice of zkit)
-abbrev pub UnplayedIsFault : Type 0
-UnplayedIsFault =
-    (carried_out (in_routine [] (44 ∷ [])) (instruction (opcode.Saving Verify) (Variable 0 ∷ []) None None) ≡ Err BadOpcode)
-    × (carried_out (in_routine [] []) (instruction (opcode.Saving Verify) (Variable 0 ∷ []) None None) ≡ Err StackEmpty)
 
 -- ---- the bounds (5 frames and 20 words here)
 

@@ -1,5 +1,5 @@
 -- Reads: what they wait for, and what an answer does (Standard, section 15, `sread`, `aread` and `read_char`).
-use Rattle.std.specs.Prelude.{ℕ, List, [], Some, None, Result, nat_lt, if◌then◌else◌}
+use Rattle.std.specs.Prelude.{ℕ, Bool, List, [], Some, None, Result, nat_lt, if◌then◌else◌}
 use Rattle.zk_mem.specs.declared.fault.Fault.{Fault}
 use Rattle.zk_mem.specs.Results.{◌>>=◌}
 use Rattle.zk_code.specs.declared.instr.Instr.{Instr}
@@ -30,6 +30,11 @@ line_ending version = if nat_lt version 5 then GoOn None None else GoOn (Some 13
 -- a read is answered by a line's codes: it is stored and divided into words, and the instruction is finished
 unfoldable pub line_answered : Workspace → Instr → ℕ → ℕ → List ℕ → Result (Workspace × Next) Fault
 line_answered w i text parse line = line_put w.memory text parse line >>= λ m. finished (with_memory w m) i [] (line_ending m.version)
+
+-- an instruction is finished by a result and a truth, once these are known: where it stores the one, where it branches by
+-- the other
+unfoldable pub result_answered : Workspace → Instr → ℕ → Bool → Result (Workspace × Next) Fault
+result_answered w i x truth = finished w i [] (GoOn (Some x) (Some truth))
 
 -- a read is answered by a character's code
 unfoldable pub character_answered : Workspace → Instr → ℕ → Result (Workspace × Next) Fault

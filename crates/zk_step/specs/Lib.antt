@@ -6,7 +6,11 @@ pub mod Control
 pub mod Effects
 pub mod Endings
 pub mod Examples
+pub mod Restarts
 pub mod Finish
+pub mod Resuming
+pub mod Saving
+pub mod SavingExamples
 pub mod Idle
 pub mod Inputs
 pub mod Instructions

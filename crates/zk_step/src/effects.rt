@@ -16,6 +16,7 @@ use crate::inputs::reading_effect;
 use crate::objects::{answer_of_object, change_object};
 use crate::printing::printing_effect;
 use crate::routines::{call_effect, routine_effect};
+use crate::saving::saving_effect;
 use crate::screens::windows_effect;
 use crate::selecting::change_stream;
 use crate::tables::tables_effect;
@@ -70,12 +71,13 @@ fn effect_by(
         Opcode::Window(operation) => windows_effect(operation, workspace, values),
         Opcode::Table(operation) => tables_effect(operation, workspace, values),
         Opcode::Random => Ok(Effect::gives(workspace.generators.random(values.first()))),
-        _ => Err(Fault::BadOpcode),
+        Opcode::Saving(operation) => Ok(saving_effect(operation, &workspace.memory, values)),
+        // the caller takes it
+        Opcode::Push => Err(Fault::BadOpcode),
     }
 }
 
-/// What an instruction does, but for its result and the next place. An opcode that is not played is
-/// `BadOpcode`.
+/// What an instruction does, but for its result and the next place.
 #[tactic(auto, unfolding(crate::specs::Effects::effect_of))]
 pub fn effect(workspace: &mut Workspace, i: &Instr, values: &Values) -> Result<Effect, Refusal>
     ensures ok { IfOk result (λ e. effect_of workspace.old i.now values.now ≡ Ok (workspace.new, e)) }

@@ -15,6 +15,12 @@ pub enum Ending {
     Return(u16),
     /// Returns a value from the frame of a number, where the first frame has number 0.
     Throw(u16, u16),
+    /// Begins the story again.
+    Restart,
+    /// Keeps the state that the instruction found.
+    Keep,
+    /// Goes back to the newest state that is kept.
+    Resume,
     /// Waits for an answer.
     Wait(Wait),
     /// The story has ended.
@@ -28,6 +34,10 @@ pub enum Wait {
     Line(u16, u16),
     /// A character.
     Char,
+    /// Whether the saved game is kept.
+    Save,
+    /// A saved game, or none.
+    Restore,
 }
 
 /// What an instruction prints.
@@ -64,6 +74,10 @@ pub enum Next {
     At(u32),
     /// Nowhere, until there is an answer.
     Waits(Wait),
+    /// Nowhere, until the state is kept.
+    Keeps,
+    /// Nowhere, until the newest state that is kept is back.
+    Resumes,
     /// Nowhere: the story has ended.
     End,
 }

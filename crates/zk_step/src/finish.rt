@@ -1,12 +1,14 @@
 // Where an instruction leads.
 
-ghost use Rattle.zk_state.specs.Frames.{bounds_of};
+ghost use Rattle.zk_state.specs.Frames.{bounds_of, within_bounds};
 ghost use Rattle.std.specs.Prelude.{◌≡◌, ◌≤◌, ◌^◌, Bool, Ok, Err, IfErr, IsOk, OnOk, MatchResult, true};
 ghost use Rattle.zk_step.specs.Finish.{way_of, way_on, led, gone, gone_on, finished, beside_stack, leads_away};
 ghost use Rattle.zk_step.specs.Limited.{limited_next};
 ghost use Rattle.zk_step.specs.Printing.{IsPlainEnd};
 ghost use Rattle.zk_step.specs.Routing.{with_line_start};
+ghost use Rattle.zk_step.specs.Restarts.{begun_again};
 ghost use Rattle.zk_step.specs.Routines.{stored};
+ghost use Rattle.zk_mem.specs.Header.{header_of};
 
 use crate::call::call_routine;
 use crate::ending::{Ending, Next};
@@ -43,7 +45,7 @@ fn way_to(target: Target) -> Way
 
 /// The way on from an instruction, by its branch and the truth that it has tested.
 #[tactic(auto, unfolding(crate::specs::Finish::way_on))]
-fn way_after(branch: Option<Branch>, next: u32, truth: Option<bool>) -> Way
+pub(crate) fn way_after(branch: Option<Branch>, next: u32, truth: Option<bool>) -> Way
     ensures { result ≡ way_on branch next truth }
 {
     match (branch, truth) {
@@ -53,7 +55,7 @@ fn way_after(branch: Option<Branch>, next: u32, truth: Option<bool>) -> Way
 }
 
 #[tactic(auto, unfolding(crate::specs::Finish::led))]
-fn lead(workspace: &mut Workspace, way: Way) -> Result<Next, Refusal>
+pub(crate) fn lead(workspace: &mut Workspace, way: Way) -> Result<Next, Refusal>
     ensures value { MatchResult result
         (λ n. limited_next (led workspace.old way) ≡ Ok (workspace.new, n))
         (λ e. limited_next (led workspace.old way) ≡ Err e) }
@@ -91,7 +93,7 @@ fn store_beside(
 
 /// Stores a result, and goes on to a place in the story.
 #[tactic(auto, unfolding(crate::specs::Finish::gone, crate::specs::Finish::led), using(crate::proofs::Ways::to_refused, crate::proofs::Ways::to_kept))]
-fn go_to(
+pub(crate) fn go_to(
     workspace: &mut Workspace,
     variable: Option<u8>,
     value: Option<u16>,
@@ -147,6 +149,19 @@ fn go_on(
     }
 }
 
+/// Begins the story again at its first instruction.
+fn begin_again(workspace: &mut Workspace) -> Next
+    ensures next { result ≡ Next.At (header_of workspace.old.memory.file).first_instruction }
+    ensures value { workspace.new ≡ begun_again workspace.old }
+    ensures within { within_bounds workspace.new.frames ≡ Ok workspace.new.frames }
+    ensures bounds { bounds_of workspace.new.frames ≡ bounds_of workspace.old.frames }
+{
+    let start = workspace.memory.header().first_instruction;
+    workspace.restart();
+    workspace.is_bounded();
+    Next::At(start as u32)
+}
+
 /// Stores an instruction's result and finds where the machine goes on.
 #[tactic(auto, unfolding(crate::specs::Finish::finished))]
 #[inline(always)]
@@ -173,6 +188,9 @@ pub fn finish(
         }
         Ending::Return(value) => return_value(workspace, value),
         Ending::Throw(value, frame) => throw_value(workspace, value, frame),
+        Ending::Restart => Ok(begin_again(workspace)),
+        Ending::Keep => Ok(Next::Keeps),
+        Ending::Resume => Ok(Next::Resumes),
         Ending::Wait(wait) => Ok(Next::Waits(wait)),
         Ending::Quit => Ok(Next::End),
     }

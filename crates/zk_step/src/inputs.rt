@@ -2,7 +2,7 @@
 
 ghost use Rattle.zk_state.specs.Frames.{bounds_of};
 ghost use Rattle.std.specs.Prelude.{◌≡◌, ◌≤◌, ◌^◌, Ok, Err, MatchResult};
-ghost use Rattle.zk_step.specs.Inputs.{reading, line_ending, line_answered, character_answered};
+ghost use Rattle.zk_step.specs.Inputs.{reading, line_ending, line_answered, result_answered, character_answered};
 ghost use Rattle.zk_step.specs.Limited.{limited_next};
 
 use crate::ending::{Effect, Ending, Next, Output, Wait};
@@ -60,6 +60,29 @@ pub fn answer_line(
     }
     let ending = ending_of_line(workspace.memory.version());
     finish(workspace, i, &Values::new(), ending)
+}
+
+/// Finishes an instruction that has waited, by a result and a truth: where it stores the one, where it branches
+/// by the other.
+#[tactic(auto, unfolding(crate::specs::Inputs::result_answered))]
+pub fn answer_result(
+    workspace: &mut Workspace,
+    i: &Instr,
+    word: u16,
+    truth: bool,
+) -> Result<Next, Refusal>
+    requires { i.now.next ≤ 2 ^ 20 }
+    ensures value { MatchResult result
+        (λ n. limited_next (result_answered workspace.old i.now word truth) ≡ Ok (workspace.new, n))
+        (λ e. limited_next (result_answered workspace.old i.now word truth) ≡ Err e) }
+    ensures bounds { bounds_of workspace.new.frames ≡ bounds_of workspace.old.frames }
+{
+    finish(
+        workspace,
+        i,
+        &Values::new(),
+        Ending::GoOn(Some(word), Some(truth)),
+    )
 }
 
 /// Answers a read by a character.

@@ -1,6 +1,6 @@
 // Laws of instructions.
 
-ghost use Rattle.zk_step.specs.Laws.{BoundsAreNotSeen, AnswersSeeNoBounds, LinesChangeTextBuffers};
+ghost use Rattle.zk_step.specs.Laws.{BoundsAreNotSeen, AnswersSeeNoBounds, StoriesStay, AnswersLeaveStories, LinesChangeTextBuffers};
 
 /// Bounds on frames and words change nothing of what an instruction does: in a workspace with other bounds
 /// it leads to the same workspace, with those bounds, to the same place, and shows the same.
@@ -11,6 +11,16 @@ pub fn bounds_are_not_seen()
 /// Nor do they change what an answer to a read does.
 pub fn answers_see_no_bounds()
     ensures { AnswersSeeNoBounds }
+{}
+
+/// No instruction changes the story's file, its version, its static base, and how many states are kept.
+pub fn stories_stay()
+    ensures { StoriesStay }
+{}
+
+/// Nor does what finishes an instruction that has waited.
+pub fn answers_leave_stories()
+    ensures { AnswersLeaveStories }
 {}
 
 /// A line that is stored changes no byte beside those of its text buffer behind the first, which says how many

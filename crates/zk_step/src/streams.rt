@@ -97,6 +97,14 @@ impl Streams {
         }
     }
 
+    /// Forgets all open tables.
+    pub fn close_all(&mut self)
+        ensures { self.new ≡ record self.old { tables = [] } }
+    {
+        self.newest = None;
+        self.below.clear();
+    }
+
     /// Forgets the newest table.
     pub fn close(&mut self)
         ensures { self.new ≡ closed self.old }

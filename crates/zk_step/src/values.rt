@@ -1,7 +1,7 @@
 // The values of operands.
 
 ghost use Rattle.zk_state.specs.Frames.{bounds_of};
-ghost use Rattle.std.specs.Prelude.{◌≡◌, ◌<◌, ◌≤◌, [], ◌∷◌, ◌++◌, Ok, Err, drop, take, length, slice_get, slice_index, MatchResult};
+ghost use Rattle.std.specs.Prelude.{◌≡◌, ◌<◌, ◌≤◌, [], ◌∷◌, ◌++◌, ◌==◌, Ok, Err, drop, take, length, slice_get, slice_index, MatchResult};
 ghost use Rattle.zk_step.specs.Values.{first, second, third, fourth, given_or};
 ghost use Rattle.zk_step.specs.Variables.{operand_read, operands_read};
 
@@ -47,6 +47,13 @@ impl Values {
         ensures { result ≡ slice_index self.now i }
     {
         self.list.get(i).copied().unwrap_or(0)
+    }
+
+    /// Whether there is no operand.
+    pub fn is_empty(&self) -> bool
+        ensures { result ≡ (length self.now == 0) }
+    {
+        self.list.is_empty()
     }
 
     pub fn first(&self) -> u16

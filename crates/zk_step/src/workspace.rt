@@ -1,7 +1,8 @@
 // What the effects of instructions read and change.
 
 ghost use Rattle.std.specs.Prelude.{◌≡◌, Ok};
-ghost use Rattle.zk_state.specs.Frames.{within_bounds};
+ghost use Rattle.zk_state.specs.Frames.{within_bounds, bounds_of};
+ghost use Rattle.zk_step.specs.Restarts.{renewed, begun_again};
 
 use crate::random::Generators;
 use crate::streams::Streams;
@@ -33,6 +34,27 @@ pub struct Workspace {
 }
 
 impl Workspace {
+    /// Takes the upper window away and forgets the open tables of stream 3, without their counts: at a restart,
+    /// and where a saved game is back.
+    #[tactic(auto, unfolding(crate::specs::Restarts::renewed))]
+    pub fn renew(&mut self)
+        ensures { self.new ≡ renewed self.old }
+    {
+        self.windows.unsplit();
+        self.streams.close_all();
+    }
+
+    /// Puts memory back and leaves the first frame alone (Z-Machine Standards Document 1.1, section 6.1.3).
+    #[tactic(auto, unfolding(crate::specs::Restarts::begun_again, crate::specs::Restarts::renewed, zk_state::specs::Frames::bounds_of))]
+    pub(crate) fn restart(&mut self)
+        ensures value { self.new ≡ begun_again self.old }
+        ensures bounds { bounds_of self.new.frames ≡ bounds_of self.old.frames }
+    {
+        self.memory.restart();
+        self.frames.restart();
+        self.renew();
+    }
+
     /// The frames and words are no more than there may be.
     #[tactic(auto, using(crate::proofs::WithinBounds::bounded_within))]
     #[inline(always)]

@@ -2,33 +2,42 @@
 use Rattle.std.proofs.Common.{◌≡◌, ◌∙◌, ℕ, zero, suc, ◌+◌, ◌≤◌, ◌⊎◌, inl, inr, Bool, true, false, List, [], ◌∷◌, ◌++◌, length, Result, Ok, Err, refl, ap, sym, subst, arith, nat_lt}
 use Rattle.std.specs.Prelude.{if◌then◌else◌}
 use Rattle.std.proofs.lemmas.Bool.Decides.{nat_tests}
+use Rattle.std.proofs.lemmas.List.{length-take}
 use Rattle.zk_mem.specs.declared.fault.Fault.{Fault}
 use Rattle.zk_mem.specs.Results.{◌>>=◌}
 use Rattle.zk_state.specs.declared.refusal.Limit.{Limit}
 use Rattle.zk_state.specs.declared.refusal.Limit.TheVariants.{Frames, Words, Steps, Reads}
 use Rattle.zk_state.specs.declared.refusal.Refusal.{Refusal}
 use Rattle.zk_state.specs.declared.refusal.Refusal.TheVariants as refusal
-use Rattle.zk_state.specs.Frames.{FrameList, frames_of, total_of, sizes_of, first_frames, with_bounds, bounds_of, within_bounds, IsBounded}
+use Rattle.zk_state.specs.Frames.{Frame, FrameList, with_frames, frames_of, total_of, sizes_of, with_bounds, bounds_of, within_bounds}
 use Rattle.zk_state.proofs.Calls.{within_bounds_ok}
 use Rattle.zk_code.specs.declared.instr.Instr.{Instr}
 use Rattle.zk_code.specs.Reading.{instr_at}
 use Rattle.zk_step.specs.declared.ending.Next.{Next}
-use Rattle.zk_step.specs.declared.ending.Next.TheVariants.{At, Waits as Awaits, End}
+use Rattle.zk_step.specs.declared.ending.Next.TheVariants.{At, Waits as Awaits, Keeps, Resumes, End}
 use Rattle.zk_step.specs.declared.ending.Wait.{Wait}
+use Rattle.zk_step.specs.declared.ending.Wait.TheVariants as wait
 use Rattle.zk_step.specs.declared.workspace.View.{View}
 use Rattle.zk_step.specs.declared.workspace.View.TheVariants as view
 use Rattle.zk_step.specs.declared.workspace.Workspace.{Workspace}
 use Rattle.zk_step.specs.Instructions.{carried_out}
-use Rattle.zk_step.specs.Laws.{rebounded, moved_in}
-use Rattle.zk_step.specs.Routing.{Texts}
-use Rattle.zk_step.proofs.Rebounded.{bounds_are_not_seen}
+use Rattle.zk_mem.specs.Map.{MemoryMap}
+use Rattle.zk_save.specs.States.{WholeState, gone_back, memory_back, state_of}
+use Rattle.zk_step.specs.Inputs.{result_answered}
+use Rattle.zk_step.specs.Laws.{fixed_parts, rebounded, led_in, moved_in}
+use Rattle.zk_step.specs.Resuming.{resumed}
+use Rattle.zk_step.specs.Routing.{Texts, no_text}
+use Rattle.zk_step.proofs.Rebounded.{bounds_are_not_seen, answers_see_no_bounds}
+use Rattle.zk_step.proofs.Stories.{stories_stay, answers_leave_stories}
 use Rattle.zk_vm.specs.declared.limits.Limits.{Limits}
+use Rattle.zk_vm.specs.declared.waiting.Waiting.{Waiting}
 use Rattle.zk_vm.specs.declared.stop.Stop.TheVariants.{Limit as LimitAt}
-use Rattle.zk_vm.specs.Step.{State, Step, Verdict, step, fetched, settled, led_to, waits_by, verdict_of, text_of, state_after, goes_by, text_within, most_reads}
-use Rattle.zk_vm.specs.Step.Step.{Goes, Waits, Quits, Faults}
+use Rattle.zk_vm.specs.Step.{State, Step, Verdict, step, fetched, settled, led_to, waits_by, verdict_of, text_of, state_after, back_to, goes_by, goes_to, is_past_reads, kept_answer, text_within, most_reads, view_before, with_kept}
+use Rattle.zk_vm.specs.Step.Step.{Goes, Waits, Quits, Faults, Exceeds}
 use Rattle.zk_vm.specs.Step.Verdict.{GoesOn, WaitsFor, StopsBy}
 use Rattle.zk_vm.specs.Outcome.{Segment, segment, continued, begun, Leads}
 use Rattle.zk_vm.specs.View.{viewed, viewed_by, lines_shown, rows_shown, status_shown}
+use Rattle.zk_vm.proofs.Sounds.{back_fixed, first_undo}
 use Rattle.zk_vm.specs.Laws.{IsWithin, RunsStayWithin, state_in, segment_in, IsNoFrameLimit, FrameLimitsOnlyCut, FrameLimitsCutThere}
 
 -- a step from a state with other bounds
@@ -37,6 +46,7 @@ step_in f w (Goes s text) = Goes (state_in f w s) text
 step_in f w (Waits s waiting text) = Waits (state_in f w s) waiting text
 step_in f w (Quits text) = Quits text
 step_in f w (Faults e) = Faults e
+step_in f w (Exceeds l) = Exceeds l
 
 -- the view looks at no bounds
 abbrev viewed_in : ℕ → ℕ → Result (Workspace × Texts) Fault → Result (Workspace × Texts) Fault
@@ -66,10 +76,42 @@ unfolding step_in
 waits_by_same f m s i wait (Ok v) = refl
 waits_by_same f m s i wait (Err e) = refl
 
+view_before_same : (f m : ℕ) (x : Wait) (w : Workspace) → view_before x (rebounded f m w) ≡ viewed_in f m (view_before x w)
+view_before_same f m (wait.Line text parse) w = viewed_same f m w
+view_before_same f m wait.Char w = viewed_same f m w
+view_before_same f m wait.Save w = refl
+view_before_same f m wait.Restore w = refl
+
+-- what was finished in silence leads to the same
+pub goes_to_same : (f m : ℕ) (s : State) (undo : List WholeState) (r : Result (Workspace × Next) Fault) → goes_to (state_in f m s) undo (led_in f m r) ≡ step_in f m (goes_to s undo r)
+unfolding step_in
+goes_to_same f m s undo (Ok (w, At place)) = refl
+goes_to_same f m s undo (Ok (w, Awaits x)) = refl
+goes_to_same f m s undo (Ok (w, Keeps)) = refl
+goes_to_same f m s undo (Ok (w, Resumes)) = refl
+goes_to_same f m s undo (Ok (w, End)) = refl
+goes_to_same f m s undo (Err e) = refl
+
+-- so does a state that is back
+pub frames_same : (f m : ℕ) (s : FrameList) (fs : List Frame) → with_frames (with_bounds f m s) fs ≡ with_bounds f m (with_frames s fs)
+frames_same f m s [] = refl
+frames_same f m s (x ∷ fs) = refl
+
+back_same : (f m : ℕ) (s : State) (i : Instr) (w : Workspace) (ws : List WholeState) → back_to (state_in f m s) i (rebounded f m w) (gone_back ws w.memory (with_bounds f m w.frames)) ≡ step_in f m (back_to s i w (gone_back ws w.memory w.frames))
+unfolding gone_back
+back_same f m s i w [] = ap (goes_to (state_in f m s) s.undo) (answers_see_no_bounds.result f m w i 0 false) ∙ goes_to_same f m s s.undo (result_answered w i 0 false)
+back_same f m s i w (x ∷ ws) =
+    let v : Workspace = record w { memory = memory_back x w.memory; frames = with_frames w.frames x.frames } in
+    ap (λ (g : FrameList). goes_to (state_in f m s) ws (resumed (record w { memory = memory_back x w.memory; frames = g }) x.place)) (frames_same f m w.frames x.frames)
+    ∙ ap (goes_to (state_in f m s) ws) (answers_see_no_bounds.back f m v x.place) ∙ goes_to_same f m s ws (resumed v x.place)
+
 led_same : (f m : ℕ) (s : State) (i : Instr) (w : Workspace) (text : Texts) (n : Next) → led_to (state_in f m s) i (rebounded f m w) text n ≡ step_in f m (led_to s i w text n)
 unfolding step_in
 led_same f m s i w text (At place) = refl
-led_same f m s i w text (Awaits wait) = ap (waits_by (state_in f m s) i wait) (viewed_same f m w) ∙ waits_by_same f m s i wait (viewed w)
+led_same f m s i w text (Awaits x) = ap (waits_by (state_in f m s) i x) (view_before_same f m x w) ∙ waits_by_same f m s i x (view_before x w)
+led_same f m s i w text Keeps =
+    ap (goes_to (state_in f m s) (with_kept s i w)) (answers_see_no_bounds.result f m w i (kept_answer w.memory.undo_states) true) ∙ goes_to_same f m s (with_kept s i w) (result_answered w i (kept_answer w.memory.undo_states) true)
+led_same f m s i w text Resumes = back_same f m s i w s.undo
 led_same f m s i w text End = refl
 
 settled_same : (f m : ℕ) (s : State) (i : Instr) (r : Result (Workspace × (Next × Texts)) Fault) → settled (state_in f m s) i (moved_in f m r) ≡ step_in f m (settled s i r)
@@ -87,7 +129,7 @@ unfolding step
 step_same f m s = fetched_same f m s (instr_at s.workspace.memory s.place)
 
 -- frames that pass the test are within their bounds
-within_is : (s t : FrameList) → within_bounds s ≡ Ok t → (length (frames_of s) ≤ s.most_frames) × (total_of s ≤ s.most_words)
+pub within_is : (s t : FrameList) → within_bounds s ≡ Ok t → (length (frames_of s) ≤ s.most_frames) × (total_of s ≤ s.most_words)
 unfolding within_bounds
 within_is s t h = go (nat_lt s.most_frames (length (frames_of s))) (nat_lt s.most_words (total_of s)) refl refl h
   where
@@ -97,13 +139,13 @@ within_is s t h = go (nat_lt s.most_frames (length (frames_of s))) (nat_lt s.mos
     go false true d e k = absurd cc
     go false false d e k = (grind (arith, nat_tests, d), grind (arith, nat_tests, e))
 
-within_more : (s t : FrameList) (f m : ℕ) → s.most_frames ≤ f → s.most_words ≤ m → within_bounds s ≡ Ok t → within_bounds (with_bounds f m s) ≡ Ok (with_bounds f m s)
+pub within_more : (s t : FrameList) (f m : ℕ) → s.most_frames ≤ f → s.most_words ≤ m → within_bounds s ≡ Ok t → within_bounds (with_bounds f m s) ≡ Ok (with_bounds f m s)
 within_more s t f m few short h =
     let both = within_is s t h in
     within_bounds_ok (with_bounds f m s) (omega (arith, both.0)) (omega (arith, both.1))
 
 -- what is over the bounds is over one of the two
-over_is : (s : FrameList) (e : Refusal) → within_bounds s ≡ Err e → (e ≡ refusal.Limit Frames) ⊎ (e ≡ refusal.Limit Words)
+pub over_is : (s : FrameList) (e : Refusal) → within_bounds s ≡ Err e → (e ≡ refusal.Limit Frames) ⊎ (e ≡ refusal.Limit Words)
 unfolding within_bounds
 over_is s e h = go (nat_lt s.most_frames (length (frames_of s))) (nat_lt s.most_words (total_of s)) h
   where
@@ -137,14 +179,14 @@ continued_same f m (WaitsFor w) s text few more same own = refl
 continued_same f m (StopsBy stop) s text few more same own = refl
 
 -- a step within the bounds is within greater ones
-no_fault : (s : FrameList) (g : Fault) → within_bounds s ≡ Err (refusal.Fault g) → ⊥
+pub no_fault : (s : FrameList) (g : Fault) → within_bounds s ≡ Err (refusal.Fault g) → ⊥
 no_fault s g e = go (over_is s (refusal.Fault g) e)
   where
     go : ((refusal.Fault g ≡ refusal.Limit Frames) ⊎ (refusal.Fault g ≡ refusal.Limit Words)) → ⊥
     go (inl d) = absurd cc
     go (inr d) = absurd cc
 
-by_limit : (place : ℕ) (j : Limit) → ((refusal.Limit j ≡ refusal.Limit Frames) ⊎ (refusal.Limit j ≡ refusal.Limit Words)) → IsNoFrameLimit (Err (LimitAt place j)) → ⊥
+pub by_limit : (place : ℕ) (j : Limit) → ((refusal.Limit j ≡ refusal.Limit Frames) ⊎ (refusal.Limit j ≡ refusal.Limit Words)) → IsNoFrameLimit (Err (LimitAt place j)) → ⊥
 by_limit place Frames d own = own
 by_limit place Words d own = own
 by_limit place Steps (inl d) own = absurd cc
@@ -171,6 +213,7 @@ verdict_same f m s (Goes t text) bounds rest own = go (within_bounds t.workspace
 verdict_same f m s (Waits t waiting text) bounds rest own = (refl, refl, refl)
 verdict_same f m s (Quits text) bounds rest own = (refl, refl, refl)
 verdict_same f m s (Faults e) bounds rest own = (refl, refl, refl)
+verdict_same f m s (Exceeds l) bounds rest own = (refl, refl, refl)
 
 -- the rest of a run that goes on ends as the run does
 same_here : (f m : ℕ) (s : State) (v : Verdict) (t : State) (text : Texts) (few more : Segment) → (v ≡ GoesOn → IsNoFrameLimit few.end → more ≡ segment_in f m few) → IsNoFrameLimit (continued v t text few).end
@@ -180,15 +223,16 @@ same_here f m s (WaitsFor w) t text few more same own = refl
 same_here f m s (StopsBy stop) t text few more same own = refl
 
 -- a step that goes on leads to a state
-goes_to : (s : State) (x : Step) → verdict_of s x ≡ GoesOn → (t : State) × ((text : Texts) × (x ≡ Goes t text))
-goes_to s (Goes t text) h = (t, (text, refl))
-goes_to s (Waits t waiting text) h = absurd (by_reads (nat_lt s.reads most_reads) h)
-  where
-    by_reads : (b : Bool) → (if b then WaitsFor waiting else StopsBy (LimitAt s.place Reads)) ≡ GoesOn → ⊥
-    by_reads true k = absurd cc
-    by_reads false k = absurd cc
-goes_to s (Quits text) h = absurd cc
-goes_to s (Faults e) h = absurd cc
+past_or_waits : (b : Bool) (place : ℕ) (waiting : Waiting) → (if b then StopsBy (LimitAt place Reads) else WaitsFor waiting) ≡ GoesOn → ⊥
+past_or_waits true place waiting h = absurd cc
+past_or_waits false place waiting h = absurd cc
+
+pub goes_on_to : (s : State) (x : Step) → verdict_of s x ≡ GoesOn → (t : State) × ((text : Texts) × (x ≡ Goes t text))
+goes_on_to s (Goes t text) h = (t, (text, refl))
+goes_on_to s (Waits t waiting text) h = absurd (past_or_waits (is_past_reads s.reads waiting.wait) s.place waiting h)
+goes_on_to s (Quits text) h = absurd cc
+goes_on_to s (Faults e) h = absurd cc
+goes_on_to s (Exceeds l) h = absurd cc
 
 pub frame_limits_only_cut : FrameLimitsOnlyCut
 unfolding segment
@@ -198,7 +242,7 @@ frame_limits_only_cut (suc n) f m s few short own =
     = (λ t text e. let same = frames_kept s t text e in (omega (arith, same.0), omega (arith, same.1))) in
     let parts = verdict_same f m s (step s) bounds (segment n (state_after s (step s))) own in
     let more : verdict_of s (step s) ≡ GoesOn → IsNoFrameLimit (segment n (state_after s (step s))).end → segment n (state_in f m (state_after s (step s))) ≡ segment_in f m (segment n (state_after s (step s)))
-    = (λ on free. let to = goes_to s (step s) on in
+    = (λ on free. let to = goes_on_to s (step s) on in
     let least = bounds to.0 to.1.0 to.1.1 in
     let there : state_after s (step s) ≡ to.0 = ap (state_after s) to.1.1 in
     let here : (state_after s (step s)).workspace.frames.most_frames ≤ f = rw there least.0 in
@@ -222,23 +266,66 @@ waits_no_goes : (s t : State) (i : Instr) (wait : Wait) (more : Texts) (r : Resu
 waits_no_goes s t i wait more (Ok v) h = absurd cc
 waits_no_goes s t i wait more (Err e) h = absurd cc
 
--- a step counts
-led_counts : (s t : State) (i : Instr) (w : Workspace) (text more : Texts) (n : Next) → led_to s i w text n ≡ Goes t more → (t.steps ≡ s.steps + 1) × (t.reads ≡ s.reads)
-led_counts s t i w text more (At place) h =
-    let same = sym (goes_same _ t text more h) in
-    (ap (λ (u : State). u.steps) same, ap (λ (u : State). u.reads) same)
-led_counts s t i w text more (Awaits wait) h = absurd (waits_no_goes s t i wait more (viewed w) h)
-led_counts s t i w text more End h = absurd cc
+-- a step counts, and keeps no more states than memory says
+pub record Counts (s t : State) : Type 0 where
+  pub steps : t.steps ≡ s.steps + 1
+  pub reads : t.reads ≡ s.reads
+  pub most : t.workspace.memory.undo_states ≡ s.workspace.memory.undo_states
+  pub undo : length s.undo ≤ s.workspace.memory.undo_states → length t.undo ≤ s.workspace.memory.undo_states
 
-fetched_counts : (s t : State) (more : Texts) (r : Result Instr Fault) → fetched s r ≡ Goes t more → (t.steps ≡ s.steps + 1) × (t.reads ≡ s.reads)
-fetched_counts s t more (Ok i) h = go (carried_out s.workspace i) h
+same_most : (m n : MemoryMap) → fixed_parts n ≡ fixed_parts m → n.undo_states ≡ m.undo_states
+unfolding fixed_parts
+same_most m n e = ap (λ (p : (ℕ × ℕ) × (List ℕ × ℕ)). p.1.1) e
+
+goes_counts : (s t : State) (undo : List WholeState) (r : Result (Workspace × Next) Fault) (more : Texts) → ((w : Workspace) (n : Next) → r ≡ Ok (w, n) → w.memory.undo_states ≡ s.workspace.memory.undo_states)
+    → (length s.undo ≤ s.workspace.memory.undo_states → length undo ≤ s.workspace.memory.undo_states) → goes_to s undo r ≡ Goes t more → Counts s t
+goes_counts s t undo (Ok (w, At place)) more most few h =
+    let same = sym (goes_same _ t no_text more h) in
+    record {
+      steps = ap (λ (u : State). u.steps) same;
+      reads = ap (λ (u : State). u.reads) same;
+      most = ap (λ (u : State). u.workspace.memory.undo_states) same ∙ most w (At place) refl;
+      undo = λ k. let here = few k in let length_is = ap (λ (u : State). length u.undo) same in omega (arith, here, length_is);
+    }
+goes_counts s t undo (Ok (w, Awaits x)) more most few h = absurd cc
+goes_counts s t undo (Ok (w, Keeps)) more most few h = absurd cc
+goes_counts s t undo (Ok (w, Resumes)) more most few h = absurd cc
+goes_counts s t undo (Ok (w, End)) more most few h = absurd cc
+goes_counts s t undo (Err e) more most few h = absurd cc
+
+back_counts : (s t : State) (i : Instr) (w : Workspace) (ws : List WholeState) (more : Texts) → w.memory.undo_states ≡ s.workspace.memory.undo_states → length ws ≤ length s.undo → back_to s i w (gone_back ws w.memory w.frames) ≡ Goes t more → Counts s t
+unfolding gone_back
+back_counts s t i w [] more most few h =
+    goes_counts s t s.undo (result_answered w i 0 false) more (λ v n e. same_most w.memory v.memory (answers_leave_stories.result w i 0 false (v, n) e) ∙ most) (λ k. k) h
+back_counts s t i w (x ∷ ws) more most few h =
+    let u : Workspace = record w { memory = memory_back x w.memory; frames = with_frames w.frames x.frames } in
+    goes_counts s t ws (resumed u x.place) more (λ v n e. same_most u.memory v.memory (answers_leave_stories.back u x.place (v, n) e) ∙ same_most w.memory u.memory (back_fixed x w.memory) ∙ most) (λ k. omega (arith, k, few)) h
+
+led_counts : (s t : State) (i : Instr) (w : Workspace) (text more : Texts) (n : Next) → w.memory.undo_states ≡ s.workspace.memory.undo_states → led_to s i w text n ≡ Goes t more → Counts s t
+led_counts s t i w text more (At place) most h =
+    let same = sym (goes_same _ t text more h) in
+    record {
+      steps = ap (λ (u : State). u.steps) same;
+      reads = ap (λ (u : State). u.reads) same;
+      most = ap (λ (u : State). u.workspace.memory.undo_states) same ∙ most;
+      undo = λ k. let length_is = ap (λ (u : State). length u.undo) same in omega (arith, k, length_is);
+    }
+led_counts s t i w text more (Awaits x) most h = absurd (waits_no_goes s t i x more (view_before x w) h)
+led_counts s t i w text more Keeps most h =
+    let short : length (with_kept s i w) ≤ s.workspace.memory.undo_states = rw (← most, length-take) (omega arith) in
+    goes_counts s t (with_kept s i w) (result_answered w i (kept_answer w.memory.undo_states) true) more (λ v n e. same_most w.memory v.memory (answers_leave_stories.result w i (kept_answer w.memory.undo_states) true (v, n) e) ∙ most) (λ k. short) h
+led_counts s t i w text more Resumes most h = back_counts s t i w s.undo more most (omega arith) h
+led_counts s t i w text more End most h = absurd cc
+
+fetched_counts : (s t : State) (more : Texts) (r : Result Instr Fault) → fetched s r ≡ Goes t more → Counts s t
+fetched_counts s t more (Ok i) h = go (carried_out s.workspace i) refl h
   where
-    go : (r : Result (Workspace × (Next × Texts)) Fault) → settled s i r ≡ Goes t more → (t.steps ≡ s.steps + 1) × (t.reads ≡ s.reads)
-    go (Ok r) k = led_counts s t i r.0 r.1.1 more r.1.0 k
-    go (Err e) k = absurd cc
+    go : (r : Result (Workspace × (Next × Texts)) Fault) → carried_out s.workspace i ≡ r → settled s i r ≡ Goes t more → Counts s t
+    go (Ok r) e k = led_counts s t i r.0 r.1.1 more r.1.0 (same_most s.workspace.memory r.0.memory (stories_stay s.workspace i r e)) k
+    go (Err f) e k = absurd cc
 fetched_counts s t more (Err e) h = absurd cc
 
-counts : (s t : State) (text : Texts) → step s ≡ Goes t text → (t.steps ≡ s.steps + 1) × (t.reads ≡ s.reads)
+pub counts : (s t : State) (text : Texts) → step s ≡ Goes t text → Counts s t
 unfolding step
 counts s t text h = fetched_counts s t text (instr_at s.workspace.memory s.place) h
 
@@ -248,42 +335,31 @@ goes_within place (Ok u) h = (u, refl)
 goes_within place (Err (refusal.Limit l)) h = absurd cc
 goes_within place (Err (refusal.Fault e)) h = absurd cc
 
-after_goes : (l : Limits) (s t : State) (text : Texts) → step s ≡ Goes t text → bounds_of s.workspace.frames ≡ (l.frames, l.words) → s.steps + 1 ≤ l.steps → s.reads ≤ most_reads → goes_by s.place (within_bounds t.workspace.frames) ≡ GoesOn
-    → IsWithin l t × (bounds_of t.workspace.frames ≡ (l.frames, l.words)) × (t.steps ≡ s.steps + 1)
+after_goes : (l : Limits) (s t : State) (text : Texts) → step s ≡ Goes t text → bounds_of s.workspace.frames ≡ (l.frames, l.words) → s.workspace.memory.undo_states ≡ l.undo → s.steps + 1 ≤ l.steps → s.reads ≤ most_reads → length s.undo ≤ l.undo
+    → goes_by s.place (within_bounds t.workspace.frames) ≡ GoesOn → IsWithin l t × (bounds_of t.workspace.frames ≡ (l.frames, l.words)) × (t.workspace.memory.undo_states ≡ l.undo) × (t.steps ≡ s.steps + 1)
 unfolding bounds_of
-after_goes l s t text e b few read h =
+after_goes l s t text e b most few read kept h =
     let within = goes_within s.place (within_bounds t.workspace.frames) h in
-    let most = within_is t.workspace.frames within.0 within.1 in
+    let most_of = within_is t.workspace.frames within.0 within.1 in
     let same = keeps s t text e ∙ b in
     let more = counts s t text e in
     let f : t.workspace.frames.most_frames ≡ l.frames = ap (λ (p : ℕ × ℕ). p.0) same in
     let w : t.workspace.frames.most_words ≡ l.words = ap (λ (p : ℕ × ℕ). p.1) same in
-    (record { frames = omega (arith, most.0, f); words = omega (arith, most.1, w); steps = omega (arith, more.0); reads = omega (arith, more.1) }, same, more.0)
+    let before : length s.undo ≤ s.workspace.memory.undo_states = omega (arith, kept, most) in
+    let after = more.undo before in
+    (record { frames = omega (arith, most_of.0, f); words = omega (arith, most_of.1, w); steps = omega (arith, more.steps); reads = omega (arith, more.reads); undo = omega (arith, after, most) }, same, more.most ∙ most, more.steps)
 
-stays : (l : Limits) (n : ℕ) (s end : State) (text : Texts) → bounds_of s.workspace.frames ≡ (l.frames, l.words) → IsWithin l s → s.steps + n ≤ l.steps → Leads n s end text → IsWithin l end
-stays l zero s end text b within few lead = subst (λ (u : State). IsWithin l u) lead.0 within
-stays l (suc n) s end text b within few lead =
-    let to = goes_to s (step s) lead.1 in
+stays : (l : Limits) (n : ℕ) (s end : State) (text : Texts) → bounds_of s.workspace.frames ≡ (l.frames, l.words) → s.workspace.memory.undo_states ≡ l.undo → IsWithin l s → s.steps + n ≤ l.steps → Leads n s end text → IsWithin l end
+stays l zero s end text b most within few lead = subst (λ (u : State). IsWithin l u) lead.0 within
+stays l (suc n) s end text b most within few lead =
+    let to = goes_on_to s (step s) lead.1 in
     let there : state_after s (step s) ≡ to.0 = ap (state_after s) to.1.1 in
     let verdict : goes_by s.place (within_bounds to.0.workspace.frames) ≡ GoesOn = sym (ap (verdict_of s) to.1.1) ∙ lead.1 in
-    let next = after_goes l s to.0 to.1.0 to.1.1 b (omega arith) within.reads verdict in
+    let next = after_goes l s to.0 to.1.0 to.1.1 b most (omega arith) within.reads within.undo verdict in
     let rest : Leads n to.0 end lead.0 = subst (λ (u : State). Leads n u end lead.0) there lead.2 in
-    stays l n to.0 end lead.0 next.1 next.0 (omega (arith, next.2)) rest
+    stays l n to.0 end lead.0 next.1 next.2 next.0 (omega (arith, next.3)) rest
 
 pub runs_stay_within : RunsStayWithin
 unfolding begun bounds_of sizes_of
 runs_stay_within story seed l view n end text range few lead =
-    stays l n (begun story seed l view).state end text refl (record { frames = range.frames; words = omega arith; steps = omega arith; reads = omega arith }) (omega (arith, few)) lead
-
--- frames of a machine with these limits
-
-pub first_bounds : (s : FrameList) (f w : ℕ) → s ≡ first_frames f w → bounds_of s ≡ (f, w)
-unfolding bounds_of
-first_bounds s f w e = ap bounds_of e
-
-pub within_limits : (l : Limits) (s : State) → s.steps ≤ l.steps → s.reads ≤ most_reads → bounds_of s.workspace.frames ≡ (l.frames, l.words) → IsBounded s.workspace.frames → IsWithin l s
-unfolding bounds_of
-within_limits l s few read b is =
-    let f : s.workspace.frames.most_frames ≡ l.frames = ap (λ (p : ℕ × ℕ). p.0) b in
-    let w : s.workspace.frames.most_words ≡ l.words = ap (λ (p : ℕ × ℕ). p.1) b in
-    record { frames = omega (arith, is.frames, f); words = omega (arith, is.words, w); steps = few; reads = read }
+    stays l n (begun story seed l view).state end text refl (first_undo story l.undo) (record { frames = range.frames; words = omega arith; steps = omega arith; reads = omega arith; undo = omega arith }) (omega (arith, few)) lead

@@ -1,21 +1,36 @@
 -- Whole runs under greater limits.
-use Rattle.std.proofs.Common.{◌≡◌, ◌≤◌, ℕ, ◌+◌, ◌-◌, List, [], ◌∷◌, Option, Some, None, Result, Ok, Err, refl, ap, arith}
+use Rattle.std.specs.Prelude.{if◌then◌else◌}
+use Rattle.std.proofs.Common.{◌≡◌, ◌≤◌, ◌<◌, ℕ, ◌+◌, ◌-◌, Bool, true, false, List, [], ◌∷◌, Option, Some, None, Result, Ok, Err, refl, ap, arith}
 use Rattle.zk_mem.specs.declared.fault.Fault.{Fault}
 use Rattle.zk_state.specs.declared.refusal.Refusal.{Refusal}
 use Rattle.zk_state.specs.declared.refusal.Refusal.TheVariants as refusal
 use Rattle.zk_state.specs.Frames.{FrameList, within_bounds}
 use Rattle.zk_step.specs.declared.ending.Next.{Next}
 use Rattle.zk_step.specs.declared.ending.Next.TheVariants as next
+use Rattle.zk_step.specs.declared.ending.Wait.{Wait}
+use Rattle.zk_step.specs.declared.ending.Wait.TheVariants as wait
 use Rattle.zk_step.specs.declared.workspace.Workspace.{Workspace}
+use Rattle.zk_step.specs.Inputs.{character_answered, line_answered, result_answered}
+use Rattle.zk_step.specs.Restarts.{renewed}
+use Rattle.zk_step.specs.Resuming.{resumed as back}
+use Rattle.zk_code.specs.declared.instr.Instr.{Instr}
+use Rattle.zk_mem.specs.Map.{MemoryMap}
+use Rattle.zk_save.specs.declared.restore.RestoreError.{RestoreError}
+use Rattle.zk_save.specs.declared.restore.RestoreError.TheVariants as restore_error
+use Rattle.zk_save.specs.Loading.{restored}
+use Rattle.zk_save.specs.States.{WholeState}
+use Rattle.zk_state.specs.declared.refusal.Limit.TheVariants.{Reads}
+use Rattle.zk_vm.specs.declared.stop.Stop.TheVariants.{Limit}
 use Rattle.zk_step.specs.Routing.{Texts, no_text, text_joined}
 use Rattle.zk_vm.specs.declared.stop.Stop.{Stop}
 use Rattle.zk_vm.specs.declared.waiting.Waiting.{Waiting}
-use Rattle.zk_vm.specs.Answers.{answered, answered_by, answer_settled, transcribed}
+use Rattle.zk_vm.specs.Answers.{Answer, answered, answered_by, answer_settled, codes_of, file_of, first_code, is_kept, restored_from, restored_to, transcribed, truth_word}
 use Rattle.zk_vm.specs.Laws.{IsNoStepLimit, IsNoStepStop, with_more_steps, StepLimitOnlyCutsRuns}
 use Rattle.zk_vm.specs.Outcome.{Outcome, Segment, Session, segment_by, segment_of, behind_due, followed, outcome, ended, ran, given, given_to, resumed}
-use Rattle.zk_vm.specs.Step.{State, Verdict, verdict_of, state_after, goes_by}
+use Rattle.zk_vm.specs.Step.{State, Step, Verdict, verdict_of, state_after, goes_by, goes_to, is_past_reads}
+use Rattle.zk_vm.specs.Step.Step.{Goes, Waits, Quits, Faults, Exceeds}
 use Rattle.zk_vm.specs.Step.Verdict.{GoesOn, WaitsFor, StopsBy}
-use Rattle.zk_vm.proofs.Playing.{ran_waiting}
+use Rattle.zk_vm.proofs.Outcomes.{ran_few, ran_waiting}
 use Rattle.zk_vm.proofs.Runs.{step_limit_only_cuts}
 
 -- the limit on steps is not why a segment ends, where it is not why its run stops
@@ -50,52 +65,99 @@ resumed_more k s GoesOn t = refl
 resumed_more k s (WaitsFor w) t = refl
 resumed_more k s (StopsBy stop) t = refl
 
-given_more_by : (x : Option Waiting) (k : ℕ) (s : Session) (codes : List ℕ) → given_to x (with_more_steps k s) codes ≡ with_more_steps k (given_to x s codes)
-given_more_by None k s codes = refl
-given_more_by (Some w) k s codes = resumed_more k s (verdict_of s.state (answered s.state w codes)) (state_after s.state (answered s.state w codes))
+given_more_by : (x : Option Waiting) (k : ℕ) (s : Session) (a : Answer) → given_to x (with_more_steps k s) a ≡ with_more_steps k (given_to x s a)
+given_more_by None k s a = refl
+given_more_by (Some w) k s a = resumed_more k s (verdict_of s.state (answered s.state w a)) (state_after s.state (answered s.state w a))
 
-given_more : (k : ℕ) (s : Session) (codes : List ℕ) → given (with_more_steps k s) codes ≡ with_more_steps k (given s codes)
+given_more : (k : ℕ) (s : Session) (a : Answer) → given (with_more_steps k s) a ≡ with_more_steps k (given s a)
 unfolding given
-given_more k s codes = given_more_by s.waiting k s codes
+given_more k s a = given_more_by s.waiting k s a
 
--- no steps were made since an answer
+-- an answer makes no step, or one
 
-few_goes : (s : Session) (place : ℕ) (r : Result FrameList Refusal) (t : State) → t.steps ≡ 0 → (resumed s (goes_by place r) t).stopped ≡ None → (resumed s (goes_by place r) t).state.steps ≤ (resumed s (goes_by place r) t).limits.steps
-few_goes s place (Ok u) t e h = omega (arith, e)
+settled_goes : (s t : State) (due : List ℕ) (text : Texts) (r : Result (Workspace × Next) Fault) → answer_settled s due r ≡ Goes t text → t.steps ≤ s.steps + 1
+settled_goes s t due text (Ok (w, next.At p)) h =
+    let same : record s { workspace = w; place = p; steps = 0; reads = s.reads + 1; due = due } ≡ t = cc in
+    let none : 0 ≡ t.steps = ap (λ (u : State). u.steps) same in omega (arith, none)
+settled_goes s t due text (Ok (w, next.Waits x)) h = absurd cc
+settled_goes s t due text (Ok (w, next.Keeps)) h = absurd cc
+settled_goes s t due text (Ok (w, next.Resumes)) h = absurd cc
+settled_goes s t due text (Ok (w, next.End)) h = absurd cc
+settled_goes s t due text (Err f) h = absurd cc
+
+goes_goes : (s t : State) (undo : List WholeState) (text : Texts) (r : Result (Workspace × Next) Fault) → goes_to s undo r ≡ Goes t text → t.steps ≤ s.steps + 1
+goes_goes s t undo text (Ok (w, next.At p)) h =
+    let same : record s { workspace = w; place = p; steps = s.steps + 1; undo = undo } ≡ t = cc in
+    let one : s.steps + 1 ≡ t.steps = ap (λ (u : State). u.steps) same in omega (arith, one)
+goes_goes s t undo text (Ok (w, next.Waits x)) h = absurd cc
+goes_goes s t undo text (Ok (w, next.Keeps)) h = absurd cc
+goes_goes s t undo text (Ok (w, next.Resumes)) h = absurd cc
+goes_goes s t undo text (Ok (w, next.End)) h = absurd cc
+goes_goes s t undo text (Err f) h = absurd cc
+
+restored_goes : (s t : State) (i : Instr) (text : Texts) (q : Result (MemoryMap × FrameList × ℕ) RestoreError) → restored_to s i q ≡ Goes t text → t.steps ≤ s.steps + 1
+restored_goes s t i text (Ok (m, f, p)) h = goes_goes s t s.undo text (back (renewed (record s.workspace { memory = m; frames = f })) p) h
+restored_goes s t i text (Err (restore_error.Limit l)) h = absurd cc
+restored_goes s t i text (Err restore_error.NotQuetzal) h = goes_goes s t s.undo text (result_answered s.workspace i 0 false) h
+restored_goes s t i text (Err restore_error.Truncated) h = goes_goes s t s.undo text (result_answered s.workspace i 0 false) h
+restored_goes s t i text (Err restore_error.OtherStory) h = goes_goes s t s.undo text (result_answered s.workspace i 0 false) h
+restored_goes s t i text (Err restore_error.BadMemory) h = goes_goes s t s.undo text (result_answered s.workspace i 0 false) h
+restored_goes s t i text (Err restore_error.BadStack) h = goes_goes s t s.undo text (result_answered s.workspace i 0 false) h
+
+from_goes : (s t : State) (i : Instr) (text : Texts) (file : Option (List ℕ)) → restored_from s i file ≡ Goes t text → t.steps ≤ s.steps + 1
+from_goes s t i text None h = goes_goes s t s.undo text (result_answered s.workspace i 0 false) h
+from_goes s t i text (Some file) h = restored_goes s t i text (restored file s.workspace.memory s.workspace.frames) h
+
+by_goes : (s t : State) (i : Instr) (x : Wait) (a : Answer) (text : Texts) → answered_by s i x a ≡ Goes t text → t.steps ≤ s.steps + 1
+by_goes s t i (wait.Line buffer parse) a text h = settled_goes s t (transcribed s.workspace (wait.Line buffer parse) (codes_of a)) text (line_answered s.workspace i buffer parse (codes_of a)) h
+by_goes s t i wait.Char a text h = settled_goes s t [] text (character_answered s.workspace i (first_code (codes_of a))) h
+by_goes s t i wait.Save a text h = goes_goes s t s.undo text (result_answered s.workspace i (truth_word (is_kept a)) (is_kept a)) h
+by_goes s t i wait.Restore a text h = from_goes s t i text (file_of a) h
+
+answered_goes : (s t : State) (w : Waiting) (a : Answer) (text : Texts) → answered s w a ≡ Goes t text → t.steps ≤ s.steps + 1
+unfolding answered
+answered_goes s t w a text h = by_goes s t w.instruction w.wait a text h
+
+few_goes : (s : Session) (place : ℕ) (r : Result FrameList Refusal) (t : State) → t.steps ≤ s.limits.steps → (resumed s (goes_by place r) t).stopped ≡ None → (resumed s (goes_by place r) t).state.steps ≤ (resumed s (goes_by place r) t).limits.steps
+few_goes s place (Ok u) t e h = e
 few_goes s place (Err (refusal.Limit l)) t e h = absurd cc
 few_goes s place (Err (refusal.Fault f)) t e h = absurd cc
 
-few_settled : (s : Session) (due : List ℕ) (r : Result (Workspace × Next) Fault) → (resumed s (verdict_of s.state (answer_settled s.state due r)) (state_after s.state (answer_settled s.state due r))).stopped ≡ None
-    → (resumed s (verdict_of s.state (answer_settled s.state due r)) (state_after s.state (answer_settled s.state due r))).state.steps ≤ (resumed s (verdict_of s.state (answer_settled s.state due r)) (state_after s.state (answer_settled s.state due r))).limits.steps
-few_settled s due (Ok (w, next.At p)) h = few_goes s s.state.place (within_bounds w.frames) _ refl h
-few_settled s due (Ok (w, next.Waits x)) h = absurd cc
-few_settled s due (Ok (w, next.End)) h = absurd cc
-few_settled s due (Err f) h = absurd cc
+few_step : (s : Session) (x : Step) → s.state.steps ≤ s.limits.steps → ((t : State) (text : Texts) → x ≡ Goes t text → t.steps ≤ s.limits.steps) → (resumed s (verdict_of s.state x) (state_after s.state x)).stopped ≡ None
+    → (resumed s (verdict_of s.state x) (state_after s.state x)).state.steps ≤ (resumed s (verdict_of s.state x) (state_after s.state x)).limits.steps
+few_step s (Goes t text) few goes h = few_goes s s.state.place (within_bounds t.workspace.frames) t (goes t text refl) h
+few_step s (Waits t w text) few goes h = go (is_past_reads s.state.reads w.wait) h
+  where
+    go : (b : Bool) → (resumed s (if b then StopsBy (Limit s.state.place Reads) else WaitsFor w) t).stopped ≡ None → (resumed s (if b then StopsBy (Limit s.state.place Reads) else WaitsFor w) t).state.steps ≤ (resumed s (if b then StopsBy (Limit s.state.place Reads) else WaitsFor w) t).limits.steps
+    go true k = absurd cc
+    go false k = few
+few_step s (Quits text) few goes h = absurd cc
+few_step s (Faults f) few goes h = absurd cc
+few_step s (Exceeds l) few goes h = absurd cc
 
-few_given : (s : Session) (w : Waiting) (codes : List ℕ) → (given_to (Some w) s codes).stopped ≡ None → (given_to (Some w) s codes).state.steps ≤ (given_to (Some w) s codes).limits.steps
-unfolding answered
-few_given s w codes h = few_settled s (transcribed s.state.workspace w.wait codes) (answered_by s.state.workspace w.instruction w.wait codes) h
+few_given : (s : Session) (w : Waiting) (a : Answer) → s.state.steps < s.limits.steps → (given_to (Some w) s a).stopped ≡ None → (given_to (Some w) s a).state.steps ≤ (given_to (Some w) s a).limits.steps
+few_given s w a less h = few_step s (answered s.state w a) (omega (arith, less)) (λ t text e. let one = answered_goes s.state t w a text e in omega (arith, one, less)) h
 
-few_by : (s : Session) (x : Option Waiting) (w : Waiting) (codes : List ℕ) → x ≡ Some w → (given_to x s codes).stopped ≡ None → (given_to x s codes).state.steps ≤ (given_to x s codes).limits.steps
-few_by s None w codes e = absurd cc
-few_by s (Some v) w codes e = few_given s v codes
+few_by : (s : Session) (x : Option Waiting) (w : Waiting) (a : Answer) → x ≡ Some w → s.state.steps < s.limits.steps → (given_to x s a).stopped ≡ None → (given_to x s a).state.steps ≤ (given_to x s a).limits.steps
+few_by s None w a e less = absurd cc
+few_by s (Some v) w a e less = few_given s v a less
 
-few_after : (s : Session) (w : Waiting) (codes : List ℕ) → (ran s).waiting ≡ Some w → (given (ran s) codes).stopped ≡ None → (given (ran s) codes).state.steps ≤ (given (ran s) codes).limits.steps
+few_after : (s : Session) (w : Waiting) (a : Answer) → (ran s).waiting ≡ Some w → (ran s).state.steps < (ran s).limits.steps → (given (ran s) a).stopped ≡ None → (given (ran s) a).state.steps ≤ (given (ran s) a).limits.steps
 unfolding given
-few_after s w codes e = few_by (ran s) (ran s).waiting w codes e
+few_after s w a e less = few_by (ran s) (ran s).waiting w a e less
 
 pub step_limit_only_cuts_runs : StepLimitOnlyCutsRuns
 unfolding outcome
 step_limit_only_cuts_runs [] end k s few own =
     rw (segment_more k s few (ends_otherwise (segment_of s).end (segment_of s).text (record { stop = end; text = no_text }) own)) refl
-step_limit_only_cuts_runs (codes ∷ answers) end k s few own =
-    let e = segment_more k s few (ends_otherwise (segment_of s).end (segment_of s).text (outcome answers end (given (ran s) codes)) own) in
-    rw (e, ran_more k s e, given_more k (ran s) codes) (go (segment_of s).end refl own (λ few' free. step_limit_only_cuts_runs answers end k (given (ran s) codes) few' free))
+step_limit_only_cuts_runs (a ∷ answers) end k s few own =
+    let e = segment_more k s few (ends_otherwise (segment_of s).end (segment_of s).text (outcome answers end (given (ran s) a)) own) in
+    rw (e, ran_more k s e, given_more k (ran s) a) (go (segment_of s).end refl own (λ few' free. step_limit_only_cuts_runs answers end k (given (ran s) a) few' free))
   where
-    go : (r : Result Waiting Stop) → (segment_of s).end ≡ r → IsNoStepStop (followed r (segment_of s).text (outcome answers end (given (ran s) codes))).stop
-        → (((given (ran s) codes).stopped ≡ None → (given (ran s) codes).state.steps ≤ (given (ran s) codes).limits.steps) → IsNoStepStop (outcome answers end (given (ran s) codes)).stop → outcome answers end (with_more_steps k (given (ran s) codes)) ≡ outcome answers end (given (ran s) codes))
-        → followed r (segment_of s).text (outcome answers end (with_more_steps k (given (ran s) codes))) ≡ followed r (segment_of s).text (outcome answers end (given (ran s) codes))
+    go : (r : Result Waiting Stop) → (segment_of s).end ≡ r → IsNoStepStop (followed r (segment_of s).text (outcome answers end (given (ran s) a))).stop
+        → (((given (ran s) a).stopped ≡ None → (given (ran s) a).state.steps ≤ (given (ran s) a).limits.steps) → IsNoStepStop (outcome answers end (given (ran s) a)).stop → outcome answers end (with_more_steps k (given (ran s) a)) ≡ outcome answers end (given (ran s) a))
+        → followed r (segment_of s).text (outcome answers end (with_more_steps k (given (ran s) a))) ≡ followed r (segment_of s).text (outcome answers end (given (ran s) a))
     go (Err stop) h free same = refl
     go (Ok w) h free same =
-        let few' = few_after s w codes (ran_waiting s w h) in
+        let few' = few_after s w a (ran_waiting s w h) (ran_few s w few h) in
         ap (λ (o : Outcome). let all : Outcome = record { stop = o.stop; text = text_joined (segment_of s).text o.text } in all) (same few' free)

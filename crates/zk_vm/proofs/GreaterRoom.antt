@@ -1,10 +1,11 @@
 -- Whole runs under greater limits on frames and words.
-use Rattle.std.proofs.Common.{◌≡◌, ◌∙◌, ◌≤◌, ℕ, zero, suc, ◌-◌, List, [], ◌∷◌, Option, Some, None, Result, Ok, Err, refl, ap, sym, subst, arith}
+use Rattle.std.specs.Prelude.{if◌then◌else◌}
+use Rattle.std.proofs.Common.{Bool, true, false, length, nat_lt, ◌≡◌, ◌∙◌, ◌≤◌, ℕ, zero, suc, ◌-◌, List, [], ◌∷◌, Option, Some, None, Result, Ok, Err, refl, ap, sym, subst, arith}
 use Rattle.zk_mem.specs.declared.fault.Fault.{Fault}
 use Rattle.zk_step.specs.declared.ending.Next.{Next}
 use Rattle.zk_step.specs.declared.ending.Next.TheVariants as next
 use Rattle.zk_step.specs.declared.ending.Wait.{Wait}
-use Rattle.zk_step.specs.declared.ending.Wait.TheVariants.{Line, Char}
+use Rattle.zk_step.specs.declared.ending.Wait.TheVariants.{Line, Char, Save, Restore}
 use Rattle.zk_step.specs.declared.workspace.Workspace.{Workspace}
 use Rattle.zk_step.specs.Laws.{rebounded, led_in}
 use Rattle.zk_step.specs.Routing.{Texts, no_text}
@@ -12,14 +13,28 @@ use Rattle.zk_step.proofs.Rebounded.{answers_see_no_bounds}
 use Rattle.zk_code.specs.declared.instr.Instr.{Instr}
 use Rattle.zk_vm.specs.declared.stop.Stop.{Stop}
 use Rattle.zk_vm.specs.declared.waiting.Waiting.{Waiting}
-use Rattle.zk_vm.specs.Answers.{first_code, answered, answered_by, answer_settled, transcribed}
+use Rattle.zk_mem.specs.Map.{MemoryMap}
+use Rattle.zk_state.specs.declared.refusal.Limit.{Limit}
+use Rattle.zk_state.specs.declared.refusal.Limit.TheVariants.{Frames, Words, Steps, Reads}
+use Rattle.zk_state.specs.declared.refusal.Refusal.{Refusal}
+use Rattle.zk_state.specs.declared.refusal.Refusal.TheVariants as refusal
+use Rattle.zk_state.specs.Frames.{Frame, FrameList, frames_of, total_of, with_bounds, with_frames, within_bounds}
+use Rattle.zk_save.specs.declared.restore.RestoreError.{RestoreError}
+use Rattle.zk_save.specs.declared.restore.RestoreError.TheVariants as restore_error
+use Rattle.zk_save.specs.Loading.{frames_fit, loaded, loaded_by, put_in_place, restored}
+use Rattle.zk_save.specs.States.{WholeState, memory_back}
+use Rattle.zk_step.specs.Inputs.{character_answered, line_answered, result_answered}
+use Rattle.zk_step.specs.Restarts.{renewed}
+use Rattle.zk_step.specs.Resuming.{resumed as back}
+use Rattle.zk_vm.specs.declared.stop.Stop.TheVariants.{Limit as LimitAt}
+use Rattle.zk_vm.specs.Answers.{Answer, answered, answered_by, answer_settled, codes_of, file_of, first_code, is_kept, restored_from, restored_to, transcribed, truth_word}
 use Rattle.zk_vm.specs.Laws.{IsNoFrameLimit, IsNoFrameStop, state_in, segment_in, session_in, FrameLimitsOnlyCutRuns}
 use Rattle.zk_vm.specs.Outcome.{Outcome, Segment, Session, segment, segment_by, segment_of, behind_due, continued, followed, outcome, ended, ran, given, given_to, resumed}
-use Rattle.zk_vm.specs.Step.{State, Step, Verdict, step, verdict_of, state_after, text_of}
-use Rattle.zk_vm.specs.Step.Step.{Goes, Waits, Quits, Faults}
+use Rattle.zk_vm.specs.Step.{State, Step, Verdict, goes_to, step, verdict_of, state_after, text_of}
+use Rattle.zk_vm.specs.Step.Step.{Goes, Waits, Quits, Faults, Exceeds}
 use Rattle.zk_vm.specs.Step.Verdict.{GoesOn, WaitsFor, StopsBy}
-use Rattle.zk_vm.proofs.FrameLimits.{step_in, step_same, verdict_same, goes_same, frame_limits_only_cut}
-use Rattle.zk_vm.proofs.Playing.{outcome_stopped, ran_waiting}
+use Rattle.zk_vm.proofs.FrameLimits.{by_limit, frame_limits_only_cut, frames_same, goes_same, goes_to_same, no_fault, over_is, step_in, step_same, verdict_same, within_more}
+use Rattle.zk_vm.proofs.Outcomes.{outcome_stopped, ran_waiting}
 
 -- ---- bounds stay
 
@@ -43,6 +58,7 @@ after_bounds s (Waits t waiting text) h =
     (ap most_f same, ap most_w same)
 after_bounds s (Quits text) h = (refl, refl)
 after_bounds s (Faults f) h = (refl, refl)
+after_bounds s (Exceeds l) h = (refl, refl)
 
 step_bounds : (s : State) → (most_f (state_after s (step s)) ≡ most_f s) × (most_w (state_after s (step s)) ≡ most_w s)
 step_bounds s = after_bounds s (step s) (step_same (most_f s) (most_w s) s)
@@ -81,25 +97,111 @@ settled_same : (f m : ℕ) (s : State) (due : List ℕ) (r : Result (Workspace �
 unfolding step_in
 settled_same f m s due (Ok (w, next.At p)) = refl
 settled_same f m s due (Ok (w, next.Waits x)) = refl
+settled_same f m s due (Ok (w, next.Keeps)) = refl
+settled_same f m s due (Ok (w, next.Resumes)) = refl
 settled_same f m s due (Ok (w, next.End)) = refl
 settled_same f m s due (Err e) = refl
 
-answered_by_same : (f m : ℕ) (w : Workspace) (i : Instr) (x : Wait) (codes : List ℕ) → answered_by (rebounded f m w) i x codes ≡ led_in f m (answered_by w i x codes)
-answered_by_same f m w i (Line text parse) codes = answers_see_no_bounds.line f m w i text parse codes
-answered_by_same f m w i Char codes = answers_see_no_bounds.character f m w i (first_code codes)
+-- a saved game that is restored within the bounds is restored within greater ones
+abbrev restored_in : ℕ → ℕ → Result (MemoryMap × FrameList × ℕ) RestoreError → Result (MemoryMap × FrameList × ℕ) RestoreError
+restored_in f m (Ok (n, g, p)) = Ok (n, with_bounds f m g, p)
+restored_in f m (Err e) = Err e
 
-transcribed_same : (f m : ℕ) (w : Workspace) (x : Wait) (codes : List ℕ) → transcribed (rebounded f m w) x codes ≡ transcribed w x codes
-transcribed_same f m w (Line text parse) codes = refl
-transcribed_same f m w Char codes = refl
+abbrev placed : WholeState → MemoryMap → Result FrameList RestoreError → Result (MemoryMap × FrameList × ℕ) RestoreError
+placed w n r = loaded_by {B = MemoryMap × FrameList × ℕ} r (λ frames. Ok (memory_back w n, frames, w.place))
 
-answered_same : (f m : ℕ) (s : State) (w : Waiting) (codes : List ℕ) → answered (state_in f m s) w codes ≡ step_in f m (answered s w codes)
+same_bounded : (g u : FrameList) → within_bounds g ≡ Ok u → g ≡ u
+unfolding within_bounds
+same_bounded g u h = go (nat_lt g.most_frames (length (frames_of g))) (nat_lt g.most_words (total_of g)) h
+  where
+    go : (b c : Bool) → (if b then Err (refusal.Limit Frames) else (if c then Err (refusal.Limit Words) else Ok g)) ≡ Ok u → g ≡ u
+    go true c k = absurd cc
+    go false true k = absurd cc
+    go false false k = cc
+
+placed_same : (f m : ℕ) (w : WholeState) (n : MemoryMap) (g : FrameList) (q : Result FrameList Refusal) → within_bounds g ≡ q → g.most_frames ≤ f → g.most_words ≤ m → ((l : Limit) → placed w n (frames_fit q) ≡ Err (restore_error.Limit l) → IsNoFrameStop (LimitAt 0 l))
+    → placed w n (frames_fit (within_bounds (with_bounds f m g))) ≡ restored_in f m (placed w n (frames_fit q))
+placed_same f m w n g (Ok u) e few short own =
+    let more = within_more g u f m few short e in
+    let same = same_bounded g u e in
+    ap (λ (q : Result FrameList Refusal). placed w n (frames_fit q)) more ∙ ap (λ (x : FrameList). placed w n (Ok (with_bounds f m x))) same
+placed_same f m w n g (Err (refusal.Limit l)) e few short own = absurd (by_limit 0 l (over_is g (refusal.Limit l) e) (own l refl))
+placed_same f m w n g (Err (refusal.Fault x)) e few short own = absurd (no_fault g x e)
+
+with_frames_bounds : (s : FrameList) (fs : List Frame) → ((with_frames s fs).most_frames ≡ s.most_frames) × ((with_frames s fs).most_words ≡ s.most_words)
+with_frames_bounds s [] = (refl, refl)
+with_frames_bounds s (x ∷ fs) = (refl, refl)
+
+loaded_same : (f m : ℕ) (n : MemoryMap) (s : FrameList) (r : Result WholeState RestoreError) → s.most_frames ≤ f → s.most_words ≤ m → ((l : Limit) → loaded_by r (λ w. put_in_place w n s) ≡ Err (restore_error.Limit l) → IsNoFrameStop (LimitAt 0 l))
+    → loaded_by r (λ w. put_in_place w n (with_bounds f m s)) ≡ restored_in f m (loaded_by r (λ w. put_in_place w n s))
+unfolding put_in_place
+loaded_same f m n s (Ok w) few short own =
+    let bounds = with_frames_bounds s w.frames in
+    ap (λ (g : FrameList). placed w n (frames_fit (within_bounds g))) (frames_same f m s w.frames)
+    ∙ placed_same f m w n (with_frames s w.frames) (within_bounds (with_frames s w.frames)) refl (omega (arith, bounds.0, few)) (omega (arith, bounds.1, short)) own
+loaded_same f m n s (Err e) few short own = refl
+
+restored_same : (f m : ℕ) (file : List ℕ) (n : MemoryMap) (s : FrameList) → s.most_frames ≤ f → s.most_words ≤ m → ((l : Limit) → restored file n s ≡ Err (restore_error.Limit l) → IsNoFrameStop (LimitAt 0 l)) → restored file n (with_bounds f m s) ≡ restored_in f m (restored file n s)
+unfolding restored
+restored_same f m file n s few short own = loaded_same f m n s (loaded n file) few short own
+
+renewed_same : (f m : ℕ) (w : Workspace) → renewed (rebounded f m w) ≡ rebounded f m (renewed w)
+unfolding renewed
+renewed_same f m w = refl
+
+zero_same : (f m : ℕ) (s : State) (i : Instr) → goes_to (state_in f m s) s.undo (result_answered (rebounded f m s.workspace) i 0 false) ≡ step_in f m (goes_to s s.undo (result_answered s.workspace i 0 false))
+zero_same f m s i = ap (goes_to (state_in f m s) s.undo) (answers_see_no_bounds.result f m s.workspace i 0 false) ∙ goes_to_same f m s s.undo (result_answered s.workspace i 0 false)
+
+restored_to_same : (f m : ℕ) (s : State) (i : Instr) (q : Result (MemoryMap × FrameList × ℕ) RestoreError) → restored_to (state_in f m s) i (restored_in f m q) ≡ step_in f m (restored_to s i q)
+unfolding step_in
+restored_to_same f m s i (Ok (n, g, p)) =
+    let v : Workspace = record s.workspace { memory = n; frames = g } in
+    ap (λ (w : Workspace). goes_to (state_in f m s) s.undo (back w p)) (renewed_same f m v) ∙ ap (goes_to (state_in f m s) s.undo) (answers_see_no_bounds.back f m (renewed v) p) ∙ goes_to_same f m s s.undo (back (renewed v) p)
+restored_to_same f m s i (Err (restore_error.Limit l)) = refl
+restored_to_same f m s i (Err restore_error.NotQuetzal) = zero_same f m s i
+restored_to_same f m s i (Err restore_error.Truncated) = zero_same f m s i
+restored_to_same f m s i (Err restore_error.OtherStory) = zero_same f m s i
+restored_to_same f m s i (Err restore_error.BadMemory) = zero_same f m s i
+restored_to_same f m s i (Err restore_error.BadStack) = zero_same f m s i
+
+exceeds_by : (s : State) (i : Instr) (q : Result (MemoryMap × FrameList × ℕ) RestoreError) (l : Limit) → q ≡ Err (restore_error.Limit l) → restored_to s i q ≡ Exceeds l
+exceeds_by s i q l h = ap (restored_to s i) h
+
+from_same : (f m : ℕ) (s : State) (i : Instr) (file : Option (List ℕ)) → most_f s ≤ f → most_w s ≤ m → ((l : Limit) → restored_from s i file ≡ Exceeds l → IsNoFrameStop (LimitAt 0 l)) → restored_from (state_in f m s) i file ≡ step_in f m (restored_from s i file)
+from_same f m s i None few short own = zero_same f m s i
+from_same f m s i (Some file) few short own =
+    ap (restored_to (state_in f m s) i) (restored_same f m file s.workspace.memory s.workspace.frames few short (λ l e. own l (exceeds_by s i (restored file s.workspace.memory s.workspace.frames) l e)))
+    ∙ restored_to_same f m s i (restored file s.workspace.memory s.workspace.frames)
+
+answered_by_same : (f m : ℕ) (s : State) (i : Instr) (x : Wait) (a : Answer) → most_f s ≤ f → most_w s ≤ m → ((l : Limit) → answered_by s i x a ≡ Exceeds l → IsNoFrameStop (LimitAt 0 l)) → answered_by (state_in f m s) i x a ≡ step_in f m (answered_by s i x a)
+answered_by_same f m s i (Line text parse) a few short own =
+    ap (answer_settled (state_in f m s) (transcribed s.workspace (Line text parse) (codes_of a))) (answers_see_no_bounds.line f m s.workspace i text parse (codes_of a))
+    ∙ settled_same f m s (transcribed s.workspace (Line text parse) (codes_of a)) (line_answered s.workspace i text parse (codes_of a))
+answered_by_same f m s i Char a few short own =
+    ap (answer_settled (state_in f m s) []) (answers_see_no_bounds.character f m s.workspace i (first_code (codes_of a))) ∙ settled_same f m s [] (character_answered s.workspace i (first_code (codes_of a)))
+answered_by_same f m s i Save a few short own =
+    ap (goes_to (state_in f m s) s.undo) (answers_see_no_bounds.result f m s.workspace i (truth_word (is_kept a)) (is_kept a)) ∙ goes_to_same f m s s.undo (result_answered s.workspace i (truth_word (is_kept a)) (is_kept a))
+answered_by_same f m s i Restore a few short own = from_same f m s i (file_of a) few short own
+
+answered_same : (f m : ℕ) (s : State) (w : Waiting) (a : Answer) → most_f s ≤ f → most_w s ≤ m → ((l : Limit) → answered s w a ≡ Exceeds l → IsNoFrameStop (LimitAt 0 l)) → answered (state_in f m s) w a ≡ step_in f m (answered s w a)
 unfolding answered
-answered_same f m s w codes =
-    rw (transcribed_same f m s.workspace w.wait codes, answered_by_same f m s.workspace w.instruction w.wait codes)
-    (settled_same f m s (transcribed s.workspace w.wait codes) (answered_by s.workspace w.instruction w.wait codes))
+answered_same f m s w a few short own = answered_by_same f m s w.instruction w.wait a few short own
 
-answered_bounds : (s : State) (w : Waiting) (codes : List ℕ) → (most_f (state_after s (answered s w codes)) ≡ most_f s) × (most_w (state_after s (answered s w codes)) ≡ most_w s)
-answered_bounds s w codes = after_bounds s (answered s w codes) (answered_same (most_f s) (most_w s) s w codes)
+-- an answer keeps the bounds
+own_bounds : (s : State) (w : Waiting) (a : Answer) (x : Step) → answered s w a ≡ x → ((l : Limit) → x ≡ Exceeds l → ⊥) → (most_f (state_after s x) ≡ most_f s) × (most_w (state_after s x) ≡ most_w s)
+own_bounds s w a x e other =
+    let same = answered_same (most_f s) (most_w s) s w a (omega arith) (omega arith) (λ l h. absurd (other l (sym e ∙ h))) in
+    after_bounds s x (sym e ∙ same ∙ ap (step_in (most_f s) (most_w s)) e)
+
+bounds_by : (s : State) (w : Waiting) (a : Answer) (x : Step) → answered s w a ≡ x → (most_f (state_after s x) ≡ most_f s) × (most_w (state_after s x) ≡ most_w s)
+bounds_by s w a (Exceeds l) e = (refl, refl)
+bounds_by s w a (Goes t text) e = own_bounds s w a (Goes t text) e (λ l h. absurd cc)
+bounds_by s w a (Waits t v text) e = own_bounds s w a (Waits t v text) e (λ l h. absurd cc)
+bounds_by s w a (Quits text) e = own_bounds s w a (Quits text) e (λ l h. absurd cc)
+bounds_by s w a (Faults f) e = own_bounds s w a (Faults f) e (λ l h. absurd cc)
+
+answered_bounds : (s : State) (w : Waiting) (a : Answer) → (most_f (state_after s (answered s w a)) ≡ most_f s) × (most_w (state_after s (answered s w a)) ≡ most_w s)
+answered_bounds s w a = bounds_by s w a (answered s w a) refl
 
 goes_bounds : (s : State) (x : Step) (f m : ℕ) → (most_f (state_after s x) ≡ most_f s) × (most_w (state_after s x) ≡ most_w s) → most_f s ≤ f → most_w s ≤ m
     → (t : State) (text : Texts) → x ≡ Goes t text → (t.workspace.frames.most_frames ≤ f) × (t.workspace.frames.most_words ≤ m)
@@ -139,57 +241,68 @@ stop_free GoesOn s t w text h = tt
 stop_free (WaitsFor x) s t w text h = tt
 stop_free (StopsBy stop) s t w text h = h stop refl
 
-given_frames_by : (f m : ℕ) (s : Session) (w : Waiting) (codes : List ℕ) → most_f s.state ≤ f → most_w s.state ≤ m → ((stop : Stop) → (given_to (Some w) s codes).stopped ≡ Some stop → IsNoFrameStop stop)
-    → given_to (Some w) (session_in f m s) codes ≡ session_in f m (given_to (Some w) s codes)
-given_frames_by f m s w codes few short free =
-    let x = answered s.state w codes in
-    let bounds = goes_bounds s.state x f m (answered_bounds s.state w codes) few short in
+exceeds_free : (s : Session) (w : Waiting) (a : Answer) → ((stop : Stop) → (given_to (Some w) s a).stopped ≡ Some stop → IsNoFrameStop stop) → (l : Limit) → answered s.state w a ≡ Exceeds l → IsNoFrameStop (LimitAt 0 l)
+exceeds_free s w a free l e =
+    let stopped : (given_to (Some w) s a).stopped ≡ Some (LimitAt s.state.place l) = ap (λ (x : Step). (resumed s (verdict_of s.state x) (state_after s.state x)).stopped) e in
+    anywhere l s.state.place (free (LimitAt s.state.place l) stopped)
+  where
+    anywhere : (l : Limit) (p : ℕ) → IsNoFrameStop (LimitAt p l) → IsNoFrameStop (LimitAt 0 l)
+    anywhere Frames p h = h
+    anywhere Words p h = h
+    anywhere Steps p h = tt
+    anywhere Reads p h = tt
+
+given_frames_by : (f m : ℕ) (s : Session) (w : Waiting) (a : Answer) → most_f s.state ≤ f → most_w s.state ≤ m → ((stop : Stop) → (given_to (Some w) s a).stopped ≡ Some stop → IsNoFrameStop stop)
+    → given_to (Some w) (session_in f m s) a ≡ session_in f m (given_to (Some w) s a)
+given_frames_by f m s w a few short free =
+    let x = answered s.state w a in
+    let bounds = goes_bounds s.state x f m (answered_bounds s.state w a) few short in
     let own = stop_free (verdict_of s.state x) s (state_after s.state x) w (text_of s.state x) free in
     let parts = verdict_same f m s.state x bounds (record { end = Ok w; state = state_after s.state x; text = no_text }) own in
-    rw (answered_same f m s.state w codes, parts.0, parts.2) (resumed_frames f m s (verdict_of s.state x) (state_after s.state x))
+    rw (answered_same f m s.state w a few short (exceeds_free s w a free), parts.0, parts.2) (resumed_frames f m s (verdict_of s.state x) (state_after s.state x))
 
 resumed_bounds : (s : Session) (v : Verdict) (t : State) → (most_f t ≡ most_f s.state) × (most_w t ≡ most_w s.state) → (most_f (resumed s v t).state ≡ most_f s.state) × (most_w (resumed s v t).state ≡ most_w s.state)
 resumed_bounds s GoesOn t h = h
 resumed_bounds s (WaitsFor w) t h = (refl, refl)
 resumed_bounds s (StopsBy stop) t h = (refl, refl)
 
-given_bounds : (s : Session) (w : Waiting) (codes : List ℕ) → (most_f (given_to (Some w) s codes).state ≡ most_f s.state) × (most_w (given_to (Some w) s codes).state ≡ most_w s.state)
-given_bounds s w codes = resumed_bounds s (verdict_of s.state (answered s.state w codes)) (state_after s.state (answered s.state w codes)) (answered_bounds s.state w codes)
+given_bounds : (s : Session) (w : Waiting) (a : Answer) → (most_f (given_to (Some w) s a).state ≡ most_f s.state) × (most_w (given_to (Some w) s a).state ≡ most_w s.state)
+given_bounds s w a = resumed_bounds s (verdict_of s.state (answered s.state w a)) (state_after s.state (answered s.state w a)) (answered_bounds s.state w a)
 
 -- the same of what a machine waits for
 
-waiting_frames : (f m : ℕ) (s : Session) (x : Option Waiting) (w : Waiting) (codes : List ℕ) → x ≡ Some w → most_f s.state ≤ f → most_w s.state ≤ m → ((stop : Stop) → (given_to x s codes).stopped ≡ Some stop → IsNoFrameStop stop)
-    → (given_to x (session_in f m s) codes ≡ session_in f m (given_to x s codes)) × (most_f (given_to x s codes).state ≡ most_f s.state) × (most_w (given_to x s codes).state ≡ most_w s.state)
-waiting_frames f m s None w codes e few short free = absurd cc
-waiting_frames f m s (Some v) w codes e few short free = let bounds = given_bounds s v codes in (given_frames_by f m s v codes few short free, bounds.0, bounds.1)
+waiting_frames : (f m : ℕ) (s : Session) (x : Option Waiting) (w : Waiting) (a : Answer) → x ≡ Some w → most_f s.state ≤ f → most_w s.state ≤ m → ((stop : Stop) → (given_to x s a).stopped ≡ Some stop → IsNoFrameStop stop)
+    → (given_to x (session_in f m s) a ≡ session_in f m (given_to x s a)) × (most_f (given_to x s a).state ≡ most_f s.state) × (most_w (given_to x s a).state ≡ most_w s.state)
+waiting_frames f m s None w a e few short free = absurd cc
+waiting_frames f m s (Some v) w a e few short free = let bounds = given_bounds s v a in (given_frames_by f m s v a few short free, bounds.0, bounds.1)
 
-given_frames : (f m : ℕ) (s : Session) (w : Waiting) (codes : List ℕ) → s.waiting ≡ Some w → most_f s.state ≤ f → most_w s.state ≤ m → ((stop : Stop) → (given s codes).stopped ≡ Some stop → IsNoFrameStop stop)
-    → (given (session_in f m s) codes ≡ session_in f m (given s codes)) × (most_f (given s codes).state ≡ most_f s.state) × (most_w (given s codes).state ≡ most_w s.state)
+given_frames : (f m : ℕ) (s : Session) (w : Waiting) (a : Answer) → s.waiting ≡ Some w → most_f s.state ≤ f → most_w s.state ≤ m → ((stop : Stop) → (given s a).stopped ≡ Some stop → IsNoFrameStop stop)
+    → (given (session_in f m s) a ≡ session_in f m (given s a)) × (most_f (given s a).state ≡ most_f s.state) × (most_w (given s a).state ≡ most_w s.state)
 unfolding given
-given_frames f m s w codes e few short free = waiting_frames f m s s.waiting w codes e few short free
+given_frames f m s w a e few short free = waiting_frames f m s s.waiting w a e few short free
 
 ends_otherwise : (r : Result Waiting Stop) (t : Texts) (o : Outcome) → IsNoFrameStop (followed r t o).stop → IsNoFrameLimit r
 ends_otherwise (Ok w) t o h = tt
 ends_otherwise (Err stop) t o h = h
 
-stops_otherwise : (answers : List (List ℕ)) (end : Stop) (s : Session) → IsNoFrameStop (outcome answers end s).stop → (stop : Stop) → s.stopped ≡ Some stop → IsNoFrameStop stop
+stops_otherwise : (answers : List Answer) (end : Stop) (s : Session) → IsNoFrameStop (outcome answers end s).stop → (stop : Stop) → s.stopped ≡ Some stop → IsNoFrameStop stop
 stops_otherwise answers end s own stop e = subst IsNoFrameStop (ap (λ (o : Outcome). o.stop) (outcome_stopped answers end s stop e)) own
 
 pub frame_limits_only_cut_runs : FrameLimitsOnlyCutRuns
 unfolding outcome
 frame_limits_only_cut_runs [] end f m s few short own =
     rw (segment_frames f m s few short (ends_otherwise (segment_of s).end (segment_of s).text (record { stop = end; text = no_text }) own)) refl
-frame_limits_only_cut_runs (codes ∷ answers) end f m s few short own =
-    let e = segment_frames f m s few short (ends_otherwise (segment_of s).end (segment_of s).text (outcome answers end (given (ran s) codes)) own) in
-    rw (e, ran_frames f m s e) (go (segment_of s).end refl own (λ less below free. frame_limits_only_cut_runs answers end f m (given (ran s) codes) less below free))
+frame_limits_only_cut_runs (a ∷ answers) end f m s few short own =
+    let e = segment_frames f m s few short (ends_otherwise (segment_of s).end (segment_of s).text (outcome answers end (given (ran s) a)) own) in
+    rw (e, ran_frames f m s e) (go (segment_of s).end refl own (λ less below free. frame_limits_only_cut_runs answers end f m (given (ran s) a) less below free))
   where
-    go : (r : Result Waiting Stop) → (segment_of s).end ≡ r → IsNoFrameStop (followed r (segment_of s).text (outcome answers end (given (ran s) codes))).stop
-        → (most_f (given (ran s) codes).state ≤ f → most_w (given (ran s) codes).state ≤ m → IsNoFrameStop (outcome answers end (given (ran s) codes)).stop → outcome answers end (session_in f m (given (ran s) codes)) ≡ outcome answers end (given (ran s) codes))
-        → followed r (segment_of s).text (outcome answers end (given (session_in f m (ran s)) codes)) ≡ followed r (segment_of s).text (outcome answers end (given (ran s) codes))
+    go : (r : Result Waiting Stop) → (segment_of s).end ≡ r → IsNoFrameStop (followed r (segment_of s).text (outcome answers end (given (ran s) a))).stop
+        → (most_f (given (ran s) a).state ≤ f → most_w (given (ran s) a).state ≤ m → IsNoFrameStop (outcome answers end (given (ran s) a)).stop → outcome answers end (session_in f m (given (ran s) a)) ≡ outcome answers end (given (ran s) a))
+        → followed r (segment_of s).text (outcome answers end (given (session_in f m (ran s)) a)) ≡ followed r (segment_of s).text (outcome answers end (given (ran s) a))
     go (Err stop) h free same = refl
     go (Ok w) h free same =
         let here = ran_bounds s in
-        let parts = given_frames f m (ran s) w codes (ran_waiting s w h) (omega (arith, here.0)) (omega (arith, here.1)) (stops_otherwise answers end (given (ran s) codes) free) in
-        let less : most_f (given (ran s) codes).state ≤ f = omega (arith, parts.1, here.0) in
-        let below : most_w (given (ran s) codes).state ≤ m = omega (arith, parts.2, here.1) in
+        let parts = given_frames f m (ran s) w a (ran_waiting s w h) (omega (arith, here.0)) (omega (arith, here.1)) (stops_otherwise answers end (given (ran s) a) free) in
+        let less : most_f (given (ran s) a).state ≤ f = omega (arith, parts.1, here.0) in
+        let below : most_w (given (ran s) a).state ≤ m = omega (arith, parts.2, here.1) in
         rw (parts.0, same less below free) refl

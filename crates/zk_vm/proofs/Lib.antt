@@ -1,8 +1,17 @@
+pub mod Advancing
+pub mod Answering
+pub mod Ends
 pub mod Filling
 pub mod FrameLimits
 pub mod GivenCodes
+pub mod Going
+pub mod Halting
+pub mod Keeping
+pub mod OnlySaveUndo
+pub mod Sounds
 pub mod GreaterLimits
 pub mod GreaterRoom
+pub mod Outcomes
 pub mod Playing
 pub mod Routes
 pub mod Runs

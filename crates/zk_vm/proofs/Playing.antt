@@ -1,6 +1,5 @@
 -- Turn after turn.
-use Rattle.std.proofs.Common.{◌≡◌, ◌∙◌, ◌<◌, ◌⊎◌, ◌||◌, inl, inr, ℕ, zero, suc, ◌+◌, ◌-◌, Bool, true, false, List, [], ◌∷◌, ◌++◌, take, append_assoc, append-nil, Option, Some, None, Result, Ok, Err, refl, ap, sym, subst, arith}
-use Rattle.std.specs.Prelude.{if◌then◌else◌}
+use Rattle.std.proofs.Common.{◌≡◌, ◌∙◌, ◌≤◌, ◌<◌, ◌⊎◌, ◌||◌, inl, inr, ℕ, suc, ◌+◌, ◌-◌, Bool, true, false, List, [], ◌∷◌, ◌++◌, append_assoc, append-nil, Option, Some, None, Result, Ok, Err, refl, ap, sym, subst, arith}
 use Rattle.std.specs.List.{AllByRecursion}
 use Rattle.zk_text.specs.Extra.{is_input_code}
 use Rattle.zk_term.specs.declared.lines.Over.{Over}
@@ -8,46 +7,38 @@ use Rattle.zk_term.specs.declared.lines.Over.TheVariants.{Failed}
 use Rattle.zk_term.specs.Devices.{Shows}
 use Rattle.zk_term.specs.Lines.{Heard, behind, nothing_more}
 use Rattle.zk_term.proofs.Shown.{shows_twice, shows_past, shows_nothing}
-use Rattle.zk_mem.specs.declared.fault.Fault.{Fault}
-use Rattle.zk_code.specs.declared.instr.Instr.{Instr}
-use Rattle.zk_code.specs.Reading.{instr_at}
-use Rattle.zk_step.specs.declared.ending.Next.{Next}
-use Rattle.zk_step.specs.declared.ending.Next.TheVariants as next
-use Rattle.zk_step.specs.Instructions.{carried_out}
 use Rattle.zk_step.specs.declared.ending.Wait.{Wait}
 use Rattle.zk_step.specs.declared.ending.Wait.TheVariants as wait
 use Rattle.zk_step.specs.Routing.{Texts, no_text, text_joined}
-use Rattle.zk_step.specs.declared.workspace.Workspace.{Workspace}
 use Rattle.zk_vm.specs.declared.stop.Event.{Event}
 use Rattle.zk_vm.specs.declared.stop.Event.TheVariants as event
 use Rattle.zk_vm.specs.declared.stop.Stop.{Stop}
-use Rattle.zk_vm.specs.declared.stop.Stop.TheVariants.{Write}
+use Rattle.zk_vm.specs.declared.stop.Stop.TheVariants.{Write, Memory}
 use Rattle.zk_vm.specs.declared.waiting.Waiting.{Waiting}
-use Rattle.zk_vm.specs.Answers.{first_code, answered_by, answered, answer_settled, transcribed}
-use Rattle.zk_vm.specs.Halts.{event_by, event_of, event_waited, IsLeftAs}
-use Rattle.zk_vm.specs.Outcome.{Outcome, Session, Segment, continued, segment, followed, outcome, segment_of, segment_by, ran, given, given_to}
-use Rattle.zk_vm.specs.Step.{State, Verdict, step, fetched, settled, led_to, waits_by, state_after, text_of, verdict_of}
-use Rattle.zk_vm.specs.Step.Verdict.{GoesOn, WaitsFor, StopsBy}
-use Rattle.zk_vm.specs.View.{viewed}
-use Rattle.zk_vm.specs.Plays.{codes_read, typed, stop_behind, played, IsPlayed, IsAnswered, IsPlay, turned}
+use Rattle.zk_vm.specs.Answers.{Answer, first_code, answered}
+use Rattle.zk_vm.specs.Answers.Answer.{Typed, Kept, File}
+use Rattle.zk_vm.specs.Halts.{event_by, event_of, event_waited, is_read_event, ComesToKeep, IsLeftAs}
+use Rattle.zk_vm.specs.Outcome.{Outcome, Session, Segment, ended, followed, outcome, segment_of, segment_by, ran, given, given_to, given_all, shown_up_to, with_stop}
+use Rattle.zk_vm.specs.Plays.{codes_read, AsksForLine, AsksForFile, IsSlotAnswer, IsLastSlot, AreSlotAnswers, IsServed, ShowsOfRun, IsRunOn, AsksForNoFile, EndsTurn, IsLeftByTurn, EndsTurnOrFails, TookTexts, IsTurn, stop_behind, stop_waiting, IsOutcomeOn, CanBeGiven, IsAnswered, ArePlayed, IsLastAnswered, IsHeard, IsPlayed, IsPlay}
 
 -- a character is a line's first code
-char_by : (s : State) (i : Instr) (x : Wait) (codes : List ℕ) → event_by x ≡ event.Char
-    → answer_settled s (transcribed s.workspace x (first_code codes ∷ [])) (answered_by s.workspace i x (first_code codes ∷ [])) ≡ answer_settled s (transcribed s.workspace x codes) (answered_by s.workspace i x codes)
-char_by s i (wait.Line text parse) codes h = absurd cc
-char_by s i wait.Char codes h = refl
+char_to : (x : Wait) (w : Waiting) (s : Session) (codes : List ℕ) → w.wait ≡ x → event_by x ≡ event.Char → given_to (Some w) s (Typed (first_code codes ∷ [])) ≡ given_to (Some w) s (Typed codes)
+unfolding answered
+char_to (wait.Line text parse) w s codes e h = absurd cc
+char_to wait.Char w s codes e h = rw e refl
+char_to wait.Save w s codes e h = absurd cc
+char_to wait.Restore w s codes e h = absurd cc
 
 some_event : (x : Wait) → ◌≡◌ {A = Option Event} (Some (event_by x)) (Some event.Char) → event_by x ≡ event.Char
 some_event x h = cc
 
-char_to : (w : Option Waiting) (s : Session) (codes : List ℕ) → event_waited w ≡ Some event.Char → given_to w s (first_code codes ∷ []) ≡ given_to w s codes
-unfolding answered
-char_to None s codes h = absurd cc
-char_to (Some w) s codes h = rw (char_by s.state w.instruction w.wait codes (some_event w.wait h)) refl
+char_by : (w : Option Waiting) (s : Session) (codes : List ℕ) → event_waited w ≡ Some event.Char → given_to w s (Typed (first_code codes ∷ [])) ≡ given_to w s (Typed codes)
+char_by None s codes h = absurd cc
+char_by (Some w) s codes h = char_to w.wait w s codes refl (some_event w.wait h)
 
-pub char_given : (s : Session) (codes : List ℕ) → event_waited s.waiting ≡ Some event.Char → given s (first_code codes ∷ []) ≡ given s codes
+pub char_given : (s : Session) (codes : List ℕ) → event_waited s.waiting ≡ Some event.Char → given s (Typed (first_code codes ∷ [])) ≡ given s (Typed codes)
 unfolding given
-char_given s codes h = char_to s.waiting s codes h
+char_given s codes h = char_by s.waiting s codes h
 
 -- ---- the end of a segment
 
@@ -68,78 +59,507 @@ ran_waits : (s : Session) (w : Waiting) → (segment_of s).end ≡ Ok w → (ran
 unfolding segment_of ran
 ran_waits s w h = rw h (not_stopped s.stopped s w h)
 
+pub ran_waiting : (s : Session) (w : Waiting) → (segment_of s).end ≡ Ok w → (ran s).waiting ≡ Some w
+unfolding ran
+ran_waiting s w h = rw h refl
+
+ran_stops : (s : Session) (stop : Stop) → (segment_of s).end ≡ Err stop → (ran s).stopped ≡ Some stop
+unfolding ran
+ran_stops s stop h = rw h refl
+
+runs_on : (s : Session) (w : Waiting) → (segment_of s).end ≡ Ok w → s.stopped ≡ None
+unfolding segment_of
+runs_on s w h = not_stopped s.stopped s w h
+
+ended_waits : (s : Session) (g : Segment) (r : Result Waiting Stop) (e : Event) → event_waited (ended s g r).waiting ≡ Some e → (w : Waiting) × (r ≡ Ok w)
+ended_waits s g (Ok w) e h = (w, refl)
+ended_waits s g (Err stop) e h = absurd cc
+
+-- a machine waits that has run up to what it waits for
+asks_for : (s : Session) (e : Event) → event_waited (ran s).waiting ≡ Some e → (w : Waiting) × ((segment_of s).end ≡ Ok w)
+unfolding ran
+asks_for s e h = ended_waits s (segment_of s) (segment_of s).end e h
+
+file_asked : (s : Session) → AsksForFile (ran s) → (w : Waiting) × ((segment_of s).end ≡ Ok w)
+file_asked s (inl h) = asks_for s event.Save h
+file_asked s (inr h) = asks_for s event.Restore h
+
+line_asked : (s : Session) → AsksForLine (ran s) → (w : Waiting) × ((segment_of s).end ≡ Ok w)
+line_asked s (inl h) = asks_for s event.Line h
+line_asked s (inr h) = asks_for s event.Char h
+
+not_both : (x : Option Stop) (stop : Stop) → x ≡ None → x ≡ Some stop → ⊥
+not_both x stop h k = absurd cc
+
+no_wait : (s : Session) (stop : Stop) → s.stopped ≡ Some stop → (w : Waiting) × ((segment_of s).end ≡ Ok w) → ⊥
+no_wait s stop h w = not_both s.stopped stop (runs_on s w.0 w.1) h
+
+no_keeping : (s : Session) (stop : Stop) (text : Texts) → s.stopped ≡ Some stop → ComesToKeep s text → ⊥
+no_keeping s stop text h k = not_both s.stopped stop k.runs h
+
+stops_or_waits : (r : Result Waiting Stop) (stop : Stop) (w : Waiting) → r ≡ Err stop → r ≡ Ok w → ⊥
+stops_or_waits r stop w h k = absurd cc
+
+-- a machine that has stopped runs nothing
+stopped_segment : (s : Session) (stop : Stop) → s.stopped ≡ Some stop → segment_of s ≡ record { end = Err stop; state = s.state; text = no_text }
+unfolding segment_of
+stopped_segment s stop h = rw h refl
+
+stopped_end : (s : Session) (stop : Stop) → s.stopped ≡ Some stop → (segment_of s).end ≡ Err stop
+stopped_end s stop h = ap (λ (g : Segment). g.end) (stopped_segment s stop h)
+
+stopped_text : (s : Session) (stop : Stop) → s.stopped ≡ Some stop → (segment_of s).text ≡ no_text
+stopped_text s stop h = ap (λ (g : Segment). g.text) (stopped_segment s stop h)
+
+-- a machine that has stopped stays so
+stopped_given : (s : Session) (a : Answer) (stop : Stop) → s.stopped ≡ Some stop → (given (ran s) a).stopped ≡ Some stop
+unfolding given ran
+stopped_given s a stop h = rw (stopped_end s stop h) refl
+
+stopped_all : (answers : List Answer) (s : Session) (stop : Stop) → s.stopped ≡ Some stop → (given_all answers s).stopped ≡ Some stop
+unfolding given_all
+stopped_all [] s stop h = h
+stopped_all (a ∷ answers) s stop h = stopped_all answers (given (ran s) a) stop (stopped_given s a stop h)
+
+left_none : (m s : Session) (x : Option Stop) → x ≡ None → IsLeftAs m s x → m ≡ s
+left_none m s None e left = left
+left_none m s (Some stop) e left = absurd cc
+
+stopped_as : (m s : Session) (x : Option Stop) (stop : Stop) → x ≡ Some stop → IsLeftAs m s x → m.stopped ≡ Some stop
+stopped_as m s None stop e left = absurd cc
+stopped_as m s (Some y) stop e left = left.0 ∙ e
+
+-- ---- answers of a slot
+
+slot_asks : {K : Type 0} (held : K → Option (Option (List ℕ))) (keeps : K → List ℕ → Option Bool) (before after : K) (s : Session) (a : Answer) → IsSlotAnswer held keeps before after s a → AsksForFile s
+slot_asks held keeps before after s (Typed codes) h = absurd h
+slot_asks held keeps before after s (Kept true) h = inl h.0
+slot_asks held keeps before after s (Kept false) h = inl h.0
+slot_asks held keeps before after s (File file) h = inr h.0
+
+slot_can : {K : Type 0} (held : K → Option (Option (List ℕ))) (keeps : K → List ℕ → Option Bool) (before after : K) (s : Session) (a : Answer) → IsSlotAnswer held keeps before after s a → CanBeGiven a
+slot_can held keeps before after s (Typed codes) h = absurd h
+slot_can held keeps before after s (Kept kept) h = tt
+slot_can held keeps before after s (File file) h = tt
+
+slots_can : {K : Type 0} (held : K → Option (Option (List ℕ))) (keeps : K → List ℕ → Option Bool) (answers : List Answer) (before after : K) (s : Session) → AreSlotAnswers held keeps before after s answers → AllByRecursion CanBeGiven answers
+unfolding AreSlotAnswers
+slots_can held keeps [] before after s h = tt
+slots_can held keeps (a ∷ answers) before after s h = (slot_can held keeps before h.0 (ran s) a h.1.0, slots_can held keeps answers h.0 after (given (ran s) a) h.1.1)
+
+-- ---- a turn that goes on
+
+last_stopped : {K : Type 0} (held : K → Option (Option (List ℕ))) (before after : K) (m s : Session) (stop : Stop) → m.stopped ≡ Some stop → IsLastSlot held before after m → IsLastSlot held before after s
+last_stopped held before after m s stop e (inl h) = inl h
+last_stopped held before after m s stop e (inr h) = absurd (no_wait m stop e (file_asked m h.0))
+
+shows_stopped : (m s : Session) (stop : Stop) (text : Texts) → m.stopped ≡ Some stop → s.stopped ≡ Some stop → ShowsOfRun m text → ShowsOfRun s text
+shows_stopped m s stop text e f (inl h) = inl (h ∙ stopped_text m stop e ∙ sym (stopped_text s stop f))
+shows_stopped m s stop text e f (inr h) = absurd (no_keeping m stop text e h)
+
+ends_stopped : (unwritten : Bool) (m s : Session) (stop : Stop) (answer : Result Event Stop) (text : Texts) → m.stopped ≡ Some stop → s.stopped ≡ Some stop → EndsTurnOrFails unwritten m answer text → EndsTurnOrFails unwritten s answer text
+ends_stopped true m s stop answer text e f h = (h.0, shows_stopped m s stop text e f h.1)
+ends_stopped false m s stop answer text e f (inl h) = inl (h.0 ∙ ap event_of (stopped_end m stop e ∙ sym (stopped_end s stop f)), h.1, h.2 ∙ stopped_text m stop e ∙ sym (stopped_text s stop f))
+ends_stopped false m s stop answer text e f (inr (h, inl k)) = absurd (no_keeping m stop text e k)
+ends_stopped false m s stop answer text e f (inr (h, inr k)) = absurd (no_wait m stop e (file_asked m k.0))
+
+ok_or_err : (e : Event) (stop : Stop) → ◌≡◌ {A = Result Event Stop} (Ok e) (Err stop) → ⊥
+ok_or_err e stop h = absurd cc
+
+-- a turn that asks has written all, and its machine runs up to what it asks
+turn_asks : (unwritten : Bool) (s : Session) (e : Event) (text : Texts) → EndsTurnOrFails unwritten s (Ok e) text → (unwritten ≡ false) × (Ok e ≡ event_of (segment_of s).end) × AsksForNoFile (Ok e) × (text ≡ (segment_of s).text)
+turn_asks true s e text h = absurd (ok_or_err e Write h.0)
+turn_asks false s e text (inl h) = (refl, h.0, h.1, h.2)
+turn_asks false s e text (inr h) = absurd (ok_or_err e Memory h.0)
+
+left_stopped : (unwritten : Bool) (m s new : Session) (stop : Stop) (answer : Result Event Stop) (text : Texts) → m.stopped ≡ Some stop → EndsTurnOrFails unwritten m answer text → IsLeftByTurn new m answer → IsLeftByTurn new s answer
+left_stopped unwritten m s new stop (Ok e) text k ends h = absurd (no_wait m stop k (waits_for (segment_of m).end e (sym (turn_asks unwritten m e text ends).1)))
+left_stopped unwritten m s new stop (Err x) text k ends h = h
+
+turn_stopped : {K : Type 0} (held : K → Option (Option (List ℕ))) (keeps : K → List ℕ → Option Bool) (before after : K) (m s new : Session) (stop : Stop) (answer : Result Event Stop) (unwritten : Bool) (Shown : Texts → Texts → Type 0) (answers : List Answer) (text : Texts)
+    → m.stopped ≡ Some stop → s.stopped ≡ Some stop → AreSlotAnswers held keeps before after m answers → EndsTurnOrFails unwritten (given_all answers m) answer text → IsLeftByTurn new (given_all answers m) answer → Shown (shown_up_to answers m) text
+    → IsTurn (AreSlotAnswers held keeps before after s) s new answer unwritten Shown
+unfolding AreSlotAnswers given_all shown_up_to
+turn_stopped held keeps before after m s new stop answer unwritten Shown [] text e f gives ends left shown = record {
+  answers = [];
+  gives = last_stopped held before after m s stop e gives;
+  text = text;
+  ends = ends_stopped unwritten m s stop answer text e f ends;
+  left = left_stopped unwritten m s new stop answer text e ends left;
+  shown = shown;
+}
+turn_stopped held keeps before after m s new stop answer unwritten Shown (a ∷ answers) text e f gives ends left shown =
+    absurd (no_wait m stop e (file_asked m (slot_asks held keeps before gives.0 (ran m) a gives.1.0)))
+
+turn_left_by : {K : Type 0} (held : K → Option (Option (List ℕ))) (keeps : K → List ℕ → Option Bool) (before after : K) (m s new : Session) (answer : Result Event Stop) (unwritten : Bool) (Shown : Texts → Texts → Type 0) (x : Option Stop)
+    → s.stopped ≡ x → IsLeftAs m s x → IsTurn (AreSlotAnswers held keeps before after m) m new answer unwritten Shown → IsTurn (AreSlotAnswers held keeps before after s) s new answer unwritten Shown
+turn_left_by held keeps before after m s new answer unwritten Shown None e left t = subst (λ (n : Session). IsTurn (AreSlotAnswers held keeps before after n) n new answer unwritten Shown) left t
+turn_left_by held keeps before after m s new answer unwritten Shown (Some stop) e left t = turn_stopped held keeps before after m s new stop answer unwritten Shown t.answers t.text left.0 e t.gives t.ends t.left t.shown
+
+-- texts that are these
+abbrev pub AreTexts : Texts → Texts → Texts → Texts → Type 0
+AreTexts first second a b = (a ≡ first) × (b ≡ second)
+
+-- a turn behind an answer of a slot
+turn_behind : {K : Type 0} (held : K → Option (Option (List ℕ))) (keeps : K → List ℕ → Option Bool) (before mid after : K) (s new : Session) (answer : Result Event Stop) (unwritten : Bool) (a : Answer) (first second : Texts)
+    → IsSlotAnswer held keeps before mid (ran s) a → IsTurn (AreSlotAnswers held keeps mid after (given (ran s) a)) (given (ran s) a) new answer unwritten (AreTexts first second)
+    → IsTurn (AreSlotAnswers held keeps before after s) s new answer unwritten (AreTexts (text_joined (segment_of s).text first) second)
+unfolding AreSlotAnswers given_all shown_up_to
+turn_behind held keeps before mid after s new answer unwritten a first second is t = record {
+  answers = a ∷ t.answers;
+  gives = (mid, (is, t.gives));
+  text = t.text;
+  ends = t.ends;
+  left = t.left;
+  shown = (ap (text_joined (segment_of s).text) t.shown.0, t.shown.1);
+}
+
+-- a turn with no answer
+pub turn_alone : {K : Type 0} (held : K → Option (Option (List ℕ))) (keeps : K → List ℕ → Option Bool) (before after : K) (s new : Session) (answer : Result Event Stop) (unwritten : Bool) (text : Texts)
+    → IsLastSlot held before after s → EndsTurnOrFails unwritten s answer text → IsLeftByTurn new s answer → IsTurn (AreSlotAnswers held keeps before after s) s new answer unwritten (AreTexts no_text text)
+unfolding AreSlotAnswers given_all shown_up_to
+turn_alone held keeps before after s new answer unwritten text last ends left = record { answers = []; gives = last; text = text; ends = ends; left = left; shown = (refl, refl) }
+
+same_text : (a b c : Texts) → text_joined a (text_joined b c) ≡ text_joined (text_joined a b) c
+same_text a b c = rw (append_assoc a.screen b.screen c.screen, append_assoc a.script b.script c.script) refl
+
+no_text_behind : (t : Texts) → text_joined t no_text ≡ t
+no_text_behind t = rw (append-nil t.screen, append-nil t.script) refl
+
+-- a text was shown, and a turn from here on is, behind it, the whole turn
+pub record TurnSoFar {K : Type 0} (held : K → Option (Option (List ℕ))) (keeps : K → List ℕ → Option Bool) (start now : Session) (slot0 slot1 : K) (screen0 screen1 script0 script1 : Option (List ℕ)) : Type 0 where
+  pub text : Texts
+  pub screen : Shows (record { taken = screen0; failed = false }) (record { taken = screen1; failed = false }) text.screen
+  pub script : Shows (record { taken = script0; failed = false }) (record { taken = script1; failed = false }) text.script
+  pub rest : (after : K) (new : Session) (answer : Result Event Stop) (unwritten : Bool) (first second : Texts) → IsTurn (AreSlotAnswers held keeps slot1 after now) now new answer unwritten (AreTexts first second)
+      → IsTurn (AreSlotAnswers held keeps slot0 after start) start new answer unwritten (AreTexts (text_joined text first) second)
+
+pub turn_begins : {K : Type 0} (held : K → Option (Option (List ℕ))) (keeps : K → List ℕ → Option Bool) (start : Session) (slot : K) (screen script : Option (List ℕ)) → TurnSoFar held keeps start start slot slot screen screen script script
+turn_begins held keeps start slot screen script = record {
+  text = no_text;
+  screen = shows_nothing _;
+  script = shows_nothing _;
+  rest = λ after new answer unwritten first second t. t;
+}
+
+pub turn_served : {K : Type 0} (held : K → Option (Option (List ℕ))) (keeps : K → List ℕ → Option Bool) (start now mid next : Session) (slot0 slot1 slot2 : K) (screen0 screen1 screen2 script0 script1 script2 : Option (List ℕ))
+    → TurnSoFar held keeps start now slot0 slot1 screen0 screen1 script0 script1 → mid ≡ ran now → IsServed held keeps slot1 slot2 mid next
+    → Shows (record { taken = screen1; failed = false }) (record { taken = screen2; failed = false }) (segment_of now).text.screen → Shows (record { taken = script1; failed = false }) (record { taken = script2; failed = false }) (segment_of now).text.script
+    → TurnSoFar held keeps start next slot0 slot2 screen0 screen2 script0 script2
+turn_served held keeps start now mid next slot0 slot1 slot2 screen0 screen1 screen2 script0 script1 script2 s same served screen script = record {
+  text = text_joined s.text (segment_of now).text;
+  screen = shows_twice _ _ _ _ _ s.screen screen;
+  script = shows_twice _ _ _ _ _ s.script script;
+  rest = λ after new answer unwritten first second t.
+      let is = subst (λ (m : Session). IsSlotAnswer held keeps slot1 slot2 m served.answer) same served.is in
+      let left = subst (λ (m : Session). IsLeftAs next (given m served.answer) (given m served.answer).stopped) same served.left in
+      let here = turn_left_by held keeps slot2 after next (given (ran now) served.answer) new answer unwritten (AreTexts first second) (given (ran now) served.answer).stopped refl left t in
+      let one = turn_behind held keeps slot1 slot2 after now new answer unwritten served.answer first second is here in
+      subst (λ (u : Texts). IsTurn (AreSlotAnswers held keeps slot0 after start) start new answer unwritten (AreTexts u second)) (same_text s.text (segment_of now).text first)
+      (s.rest after new answer unwritten (text_joined (segment_of now).text first) second one);
+}
+
+pub turn_ends : {K : Type 0} (held : K → Option (Option (List ℕ))) (keeps : K → List ℕ → Option Bool) (start now new : Session) (slot0 slot1 slot2 : K) (screen0 screen1 screen2 script0 script1 script2 : Option (List ℕ)) (answer : Result Event Stop) (unwritten : Bool) (text : Texts)
+    → TurnSoFar held keeps start now slot0 slot1 screen0 screen1 script0 script1 → IsLastSlot held slot1 slot2 now → EndsTurnOrFails unwritten now answer text → IsLeftByTurn new now answer
+    → Shows (record { taken = screen1; failed = false }) (record { taken = screen2; failed = unwritten }) text.screen → Shows (record { taken = script1; failed = false }) (record { taken = script2; failed = unwritten }) text.script
+    → IsTurn (AreSlotAnswers held keeps slot0 slot2 start) start new answer unwritten (TookTexts screen0 screen2 script0 script2 unwritten)
+turn_ends held keeps start now new slot0 slot1 slot2 screen0 screen1 screen2 script0 script1 script2 answer unwritten text s last ends left screen script =
+    let t = s.rest slot2 new answer unwritten no_text text (turn_alone held keeps slot1 slot2 now new answer unwritten text last ends left) in
+    let first = t.shown.0 ∙ no_text_behind s.text in
+    record {
+      answers = t.answers;
+      gives = t.gives;
+      text = t.text;
+      ends = t.ends;
+      left = t.left;
+      shown = record {
+        screen = screen1;
+        script = script1;
+        screen_first = subst (λ (u : Texts). Shows (record { taken = screen0; failed = false }) (record { taken = screen1; failed = false }) u.screen) (sym first) s.screen;
+        script_first = subst (λ (u : Texts). Shows (record { taken = script0; failed = false }) (record { taken = script1; failed = false }) u.script) (sym first) s.script;
+        screen_second = subst (λ (u : Texts). Shows (record { taken = screen1; failed = false }) (record { taken = screen2; failed = unwritten }) u.screen) (sym t.shown.1) screen;
+        script_second = subst (λ (u : Texts). Shows (record { taken = script1; failed = false }) (record { taken = script2; failed = unwritten }) u.script) (sym t.shown.1) script;
+      };
+    }
+
+-- ---- a run in a turn
+
+-- a run that asks has written all of its text, and its machine is the Standard's
+pub run_asks : (unwritten : Bool) (now mid : Session) (e : Event) (Shown : Texts → Type 0) → IsRunOn now mid (Ok e) unwritten Shown → (unwritten ≡ false) × (Ok e ≡ event_of (segment_of now).end) × (mid ≡ ran now) × (now.stopped ≡ None) × Shown (segment_of now).text
+run_asks true now mid e Shown h = absurd (ok_or_err e Write h.0)
+run_asks false now mid e Shown (inl h) =
+    let w = waits_for (segment_of now).end e (sym h.0) in
+    (refl, h.0, left_none mid (ran now) (ran now).stopped (ran_waits now w.0 w.1) h.1, runs_on now w.0 w.1, h.2)
+run_asks false now mid e Shown (inr h) = absurd (ok_or_err e Memory h.0)
+
+read_event : (e : Event) → is_read_event e ≡ true → AsksForNoFile (Ok e)
+read_event event.Line h = tt
+read_event event.Char h = tt
+read_event event.Save h = absurd cc
+read_event event.Restore h = absurd cc
+
+-- how a run in a turn ends it
+pub record RunEnds (unwritten : Bool) (now new : Session) (answer : Result Event Stop) (Shown : Texts → Type 0) : Type 0 where
+  pub text : Texts
+  pub ends : EndsTurnOrFails unwritten now answer text
+  pub left : IsLeftByTurn new now answer
+  pub shown : Shown text
+
+ends_with : (unwritten : Bool) (now : Session) (answer : Result Event Stop) (text : Texts) → unwritten ≡ false → EndsTurn now answer text → EndsTurnOrFails unwritten now answer text
+ends_with unwritten now answer text e h = rw e h
+
+-- at a read
+pub run_reads : (unwritten : Bool) (now mid : Session) (e : Event) (Shown : Texts → Type 0) → is_read_event e ≡ true → IsRunOn now mid (Ok e) unwritten Shown → RunEnds unwritten now mid (Ok e) Shown
+run_reads unwritten now mid e Shown k h =
+    let r = run_asks unwritten now mid e Shown h in
+    record { text = (segment_of now).text; ends = ends_with unwritten now (Ok e) (segment_of now).text r.0 (inl (r.1, read_event e k, refl)); left = r.2; shown = r.4 }
+
+-- for want of memory for a saved game
+pub run_lacks : (unwritten : Bool) (now mid new : Session) (e : Event) (stop : Stop) (Shown : Texts → Type 0) → AsksForFile mid → stop ≡ Memory → new ≡ with_stop mid Memory → IsRunOn now mid (Ok e) unwritten Shown → RunEnds unwritten now new (Err stop) Shown
+run_lacks unwritten now mid new e stop Shown asks is closed h =
+    let r = run_asks unwritten now mid e Shown h in
+    record {
+      text = (segment_of now).text;
+      ends = ends_with unwritten now (Err stop) (segment_of now).text r.0 (inr (ap (λ (x : Stop). let y : Result Event Stop = Err x in y) is, inr (subst AsksForFile r.2 asks, refl)));
+      left = (ap (λ (m : Session). m.stopped) closed ∙ ap (λ (x : Stop). Some x) (sym is), ap (λ (m : Session). m.waiting) closed);
+      shown = r.4;
+    }
+
+pub ran_asks : (now mid : Session) → mid ≡ ran now → AsksForFile mid → AsksForFile (ran now)
+ran_asks now mid same asks = subst AsksForFile same asks
+
+same_stop : (x y : Stop) → ◌≡◌ {A = Result Event Stop} (Err x) (Err y) → x ≡ y
+same_stop x y h = cc
+
+-- at its stop
+pub run_stops : (unwritten : Bool) (now mid : Session) (stop : Stop) (Shown : Texts → Type 0) → mid.waiting ≡ None → IsRunOn now mid (Err stop) unwritten Shown → RunEnds unwritten now mid (Err stop) Shown
+run_stops true now mid stop Shown free h = record {
+  text = h.3.0;
+  ends = (h.0, h.3.1);
+  left = (h.1 ∙ ap (λ (x : Stop). Some x) (sym (same_stop stop Write h.0)), free);
+  shown = h.3.2;
+}
+run_stops false now mid stop Shown free (inl h) = record {
+  text = (segment_of now).text;
+  ends = inl (h.0, tt, refl);
+  left = (stopped_as mid (ran now) (ran now).stopped stop (ran_stops now stop (stops_by (segment_of now).end stop (sym h.0))) h.1, free);
+  shown = h.2;
+}
+run_stops false now mid stop Shown free (inr h) = record {
+  text = h.3.0;
+  ends = inr (h.0, inl h.3.1);
+  left = (h.1 ∙ ap (λ (x : Stop). Some x) (sym (same_stop stop Memory h.0)), free);
+  shown = h.3.2;
+}
+
+pub either_false : (a b : Bool) → (a || b) ≡ false → (a ≡ false) × (b ≡ false)
+either_false true b h = absurd cc
+either_false false b h = (refl, h)
+
+-- ---- how many answers a slot can still give
+
+abbrev pub steps_left : Option Stop → ℕ → ℕ → ℕ
+steps_left None steps most = most - steps
+steps_left (Some stop) steps most = 0
+
+fewer_steps_by : (x : Option Stop) (before mid after most : ℕ) → before ≤ mid → mid < most → (x ≡ None → after ≡ mid + 1) → steps_left x after most < most - before
+fewer_steps_by None before mid after most h k counted = let e = counted refl in omega arith
+fewer_steps_by (Some stop) before mid after most h k counted = omega arith
+
+pub fewer_steps : (x y : Option Stop) (before mid after most most' : ℕ) → y ≡ None → most' ≡ most → before ≤ mid → mid < most → (x ≡ None → after ≡ mid + 1) → steps_left x after most' < steps_left y before most
+fewer_steps x None before mid after most most' e f h k counted = rw f (fewer_steps_by x before mid after most h k counted)
+fewer_steps x (Some stop) before mid after most most' e f h k counted = absurd cc
+
 -- ---- the outcome of what is left of a run
+
+-- an outcome behind some text
+abbrev pub shown_before : Texts → Outcome → Outcome
+shown_before t o = record { stop = o.stop; text = text_joined t o.text }
+
+same_shown : (a b : Texts) (o : Outcome) → shown_before a (shown_before b o) ≡ shown_before (text_joined a b) o
+same_shown a b o = ap (λ (t : Texts). let p : Outcome = record { stop = o.stop; text = t } in p) (same_text a b o.text)
 
 more_after : (r : Result Waiting Stop) (t : Texts) (o : Outcome) → (more : Texts) × ((followed r t o).text ≡ text_joined t more)
 more_after (Ok w) t o = (o.text, refl)
 more_after (Err stop) t o = (no_text, rw (append-nil t.screen, append-nil t.script) refl)
 
-outcome_begins : (answers : List (List ℕ)) (end : Stop) (s : Session) → (more : Texts) × ((outcome answers end s).text ≡ text_joined (segment_of s).text more)
+alone_begins : (end : Stop) (s : Session) → (more : Texts) × ((outcome [] end s).text ≡ text_joined (segment_of s).text more)
 unfolding outcome
-outcome_begins [] end s = more_after (segment_of s).end (segment_of s).text (record { stop = end; text = no_text })
-outcome_begins (codes ∷ answers) end s = more_after (segment_of s).end (segment_of s).text (outcome answers end (given (ran s) codes))
+alone_begins end s = more_after (segment_of s).end (segment_of s).text (record { stop = end; text = no_text })
 
-outcome_stops : (answers : List (List ℕ)) (end stop : Stop) (s : Session) → (segment_of s).end ≡ Err stop → outcome answers end s ≡ record { stop = stop; text = (segment_of s).text }
+outcome_stops : (answers : List Answer) (end stop : Stop) (s : Session) → (segment_of s).end ≡ Err stop → outcome answers end s ≡ record { stop = stop; text = (segment_of s).text }
 unfolding outcome
 outcome_stops [] end stop s h = rw h refl
-outcome_stops (codes ∷ answers) end stop s h = rw h refl
+outcome_stops (a ∷ answers) end stop s h = rw h refl
 
-pub played_begins : (h : Heard) (s : Session) → (more : Texts) × ((played h s).text ≡ text_joined (segment_of s).text more)
-unfolding played
-played_begins h s = outcome_begins (typed h.lines s) (stop_behind h.over) s
-
-pub played_stops : (h : Heard) (stop : Stop) (s : Session) → (segment_of s).end ≡ Err stop → played h s ≡ record { stop = stop; text = (segment_of s).text }
-unfolding played
-played_stops h stop s e = outcome_stops (typed h.lines s) (stop_behind h.over) stop s e
-
-played_ends : (o : Over) (s : Session) (w : Waiting) → (segment_of s).end ≡ Ok w → played (nothing_more o) s ≡ record { stop = stop_behind o; text = text_joined (segment_of s).text no_text }
-unfolding played typed outcome
-played_ends o s w h = rw h refl
-
-played_on : (line : List ℕ) (h : Heard) (s : Session) (w : Waiting) → (segment_of s).end ≡ Ok w
-    → played (behind line h) s ≡ record { stop = (played h (given (ran s) (codes_read (ran s) line))).stop; text = text_joined (segment_of s).text (played h (given (ran s) (codes_read (ran s) line))).text }
-unfolding played typed outcome
-played_on line h s w e = rw e refl
+alone_waits : (end : Stop) (s : Session) (w : Waiting) → (segment_of s).end ≡ Ok w → outcome [] end s ≡ record { stop = end; text = text_joined (segment_of s).text no_text }
+unfolding outcome
+alone_waits end s w h = rw h refl
 
 -- a machine that has stopped has the outcome of any that has, by the same stop
-stopped_segment : (s : Session) (stop : Stop) → s.stopped ≡ Some stop → segment_of s ≡ record { end = Err stop; state = s.state; text = no_text }
-unfolding segment_of
-stopped_segment s stop h = rw h refl
-
-pub outcome_stopped : (answers : List (List ℕ)) (end : Stop) (s : Session) (stop : Stop) → s.stopped ≡ Some stop → outcome answers end s ≡ record { stop = stop; text = no_text }
+pub outcome_stopped : (answers : List Answer) (end : Stop) (s : Session) (stop : Stop) → s.stopped ≡ Some stop → outcome answers end s ≡ record { stop = stop; text = no_text }
 outcome_stopped answers end s stop e =
-    let seg = stopped_segment s stop e in
-    outcome_stops answers end stop s (ap (λ (g : Segment). g.end) seg) ∙ ap (λ (t : Texts). let o : Outcome = record { stop = stop; text = t } in o) (ap (λ (g : Segment). g.text) seg)
+    outcome_stops answers end stop s (stopped_end s stop e) ∙ ap (λ (t : Texts). let o : Outcome = record { stop = stop; text = t } in o) (stopped_text s stop e)
 
-played_stopped : (h : Heard) (s : Session) (stop : Stop) → s.stopped ≡ Some stop → played h s ≡ record { stop = stop; text = no_text }
-played_stopped h s stop e =
-    let seg = stopped_segment s stop e in
-    played_stops h stop s (ap (λ (g : Segment). g.end) seg) ∙ ap (λ (t : Texts). let o : Outcome = record { stop = stop; text = t } in o) (ap (λ (g : Segment). g.text) seg)
-
-left_by : (h : Heard) (m s : Session) (x : Option Stop) → s.stopped ≡ x → IsLeftAs m s x → played h m ≡ played h s
-left_by h m s None e left = ap (played h) left
-left_by h m s (Some stop) e left = played_stopped h m stop left.0 ∙ sym (played_stopped h s stop e)
-
-played_left : (h : Heard) (m s : Session) → IsLeftAs m s s.stopped → played h m ≡ played h s
-played_left h m s left = left_by h m s s.stopped refl left
-
-outcome_left_by : (answers : List (List ℕ)) (end : Stop) (m s : Session) (x : Option Stop) → s.stopped ≡ x → IsLeftAs m s x → outcome answers end m ≡ outcome answers end s
-outcome_left_by answers end m s None e left = ap (outcome answers end) left
-outcome_left_by answers end m s (Some stop) e left = outcome_stopped answers end m stop left.0 ∙ sym (outcome_stopped answers end s stop e)
-
-outcome_left : (answers : List (List ℕ)) (end : Stop) (m s : Session) → IsLeftAs m s s.stopped → outcome answers end m ≡ outcome answers end s
-outcome_left answers end m s left = outcome_left_by answers end m s s.stopped refl left
-
-outcome_on : (codes : List ℕ) (answers : List (List ℕ)) (end : Stop) (s : Session) (w : Waiting) → (segment_of s).end ≡ Ok w
-    → outcome (codes ∷ answers) end s ≡ record { stop = (outcome answers end (given (ran s) codes)).stop; text = text_joined (segment_of s).text (outcome answers end (given (ran s) codes)).text }
+outcome_on : (a : Answer) (answers : List Answer) (end : Stop) (s : Session) (w : Waiting) → (segment_of s).end ≡ Ok w → outcome (a ∷ answers) end s ≡ shown_before (segment_of s).text (outcome answers end (given (ran s) a))
 unfolding outcome
-outcome_on codes answers end s w e = rw e refl
+outcome_on a answers end s w e = rw e refl
+
+outcome_all : {K : Type 0} (held : K → Option (Option (List ℕ))) (keeps : K → List ℕ → Option Bool) (answers : List Answer) (before after : K) (s : Session) (end : Stop) → AreSlotAnswers held keeps before after s answers
+    → outcome answers end s ≡ shown_before (shown_up_to answers s) (outcome [] end (given_all answers s))
+unfolding AreSlotAnswers given_all shown_up_to
+outcome_all held keeps [] before after s end h = refl
+outcome_all held keeps (a ∷ answers) before after s end h =
+    let w = file_asked s (slot_asks held keeps before h.0 (ran s) a h.1.0) in
+    outcome_on a answers end s w.0 w.1 ∙ ap (shown_before (segment_of s).text) (outcome_all held keeps answers h.0 after (given (ran s) a) end h.1.1) ∙ same_shown (segment_of s).text (shown_up_to answers (given (ran s) a)) _
+
+-- ---- an answer in front
+
+on_outcome : (a : Answer) (answers : List Answer) (over : Over) (IsLast : Type 0) (s : Session) (w : Waiting) (o : Outcome) → (segment_of s).end ≡ Ok w → IsOutcomeOn answers over IsLast (given (ran s) a) o → IsOutcomeOn (a ∷ answers) over IsLast s (shown_before (segment_of s).text o)
+unfolding given_all shown_up_to
+on_outcome a answers over IsLast s w o e (inl h) = inl (ap (shown_before (segment_of s).text) h.0 ∙ sym (outcome_on a answers _ s w e), h.1)
+on_outcome a answers over IsLast s w o e (inr h) = inr (h.0, (h.1.0, (h.1.1.0, ap (text_joined (segment_of s).text) h.1.1.1 ∙ same_text (segment_of s).text (shown_up_to answers (given (ran s) a)) h.1.0)))
+
+answered_one : (a : Answer) (s : Session) (w : Waiting) → (segment_of s).end ≡ Ok w → CanBeGiven a → (o : Outcome) → IsAnswered (given (ran s) a) o → IsAnswered s (shown_before (segment_of s).text o)
+answered_one a s w e can o p = (a ∷ p.0, (p.1.0, ((can, p.1.1.0), on_outcome a p.0 p.1.0 (Unit {0}) s w o e p.1.1.1)))
+
+answered_slots : {K : Type 0} (held : K → Option (Option (List ℕ))) (keeps : K → List ℕ → Option Bool) (answers : List Answer) (before after : K) (s : Session) → AreSlotAnswers held keeps before after s answers
+    → (o : Outcome) → IsAnswered (given_all answers s) o → IsAnswered s (shown_before (shown_up_to answers s) o)
+unfolding AreSlotAnswers given_all shown_up_to
+answered_slots held keeps [] before after s h o p = p
+answered_slots held keeps (a ∷ answers) before after s h o p =
+    let w = file_asked s (slot_asks held keeps before h.0 (ran s) a h.1.0) in
+    subst (IsAnswered s) (same_shown (segment_of s).text (shown_up_to answers (given (ran s) a)) o)
+    (answered_one a s w.0 w.1 (slot_can held keeps before h.0 (ran s) a h.1.0) (shown_before (shown_up_to answers (given (ran s) a)) o) (answered_slots held keeps answers h.0 after (given (ran s) a) h.1.1 o p))
+
+slot_played : {K : Type 0} (held : K → Option (Option (List ℕ))) (keeps : K → List ℕ → Option Bool) (before mid after : K) (lines left : List (List ℕ)) (s : Session) (a : Answer) (answers : List Answer)
+    → IsSlotAnswer held keeps before mid (ran s) a → ArePlayed held keeps mid after lines left (given (ran s) a) answers → ArePlayed held keeps before after lines left s (a ∷ answers)
+unfolding ArePlayed
+slot_played held keeps before mid after lines left s (Typed codes) answers h p = absurd h
+slot_played held keeps before mid after lines left s (Kept kept) answers h p = (mid, (h, p))
+slot_played held keeps before mid after lines left s (File file) answers h p = (mid, (h, p))
+
+played_alone : {K : Type 0} (held : K → Option (Option (List ℕ))) (keeps : K → List ℕ → Option Bool) (answers : List Answer) (before after : K) (lines : List (List ℕ)) (s : Session) → AreSlotAnswers held keeps before after s answers → ArePlayed held keeps before after lines lines s answers
+unfolding AreSlotAnswers ArePlayed
+played_alone held keeps [] before after lines s h = (h, refl)
+played_alone held keeps (a ∷ answers) before after lines s h = slot_played held keeps before h.0 after lines lines s a answers h.1.0 (played_alone held keeps answers h.0 after lines (given (ran s) a) h.1.1)
+
+played_slot : {K : Type 0} (held : K → Option (Option (List ℕ))) (keeps : K → List ℕ → Option Bool) (before mid after : K) (whole : Heard) (failed unwritten : Bool) (s : Session) (a : Answer) → IsSlotAnswer held keeps before mid (ran s) a
+    → (o : Outcome) → IsPlayed held keeps mid after whole failed unwritten (given (ran s) a) o → IsPlayed held keeps before after whole failed unwritten s (shown_before (segment_of s).text o)
+unfolding given_all
+played_slot held keeps before mid after whole failed unwritten s a h o p =
+    let w = file_asked s (slot_asks held keeps before mid (ran s) a h) in
+    (p.0, (p.1.0, (a ∷ p.1.1.0, (p.1.1.1.0, (slot_played held keeps before mid after p.0.lines p.1.1.1.0 s a p.1.1.0 h p.1.1.1.1.0, on_outcome a p.1.1.0 p.0.over _ s w.0 o w.1 p.1.1.1.1.1)))))
+
+played_slots : {K : Type 0} (held : K → Option (Option (List ℕ))) (keeps : K → List ℕ → Option Bool) (answers : List Answer) (before mid after : K) (whole : Heard) (failed unwritten : Bool) (s : Session) → AreSlotAnswers held keeps before mid s answers
+    → (AsksForFile (ran (given_all answers s)) → ⊥) → (o : Outcome) → IsPlayed held keeps mid after whole failed unwritten (given_all answers s) o → IsPlayed held keeps before after whole failed unwritten s (shown_before (shown_up_to answers s) o)
+unfolding AreSlotAnswers given_all shown_up_to
+played_slots {K} held keeps [] before mid after whole failed unwritten s (inl h) none o p = subst (λ (k : K). IsPlayed held keeps k after whole failed unwritten s o) h p
+played_slots held keeps [] before mid after whole failed unwritten s (inr h) none o p = absurd (none h.0)
+played_slots held keeps (a ∷ answers) before mid after whole failed unwritten s h none o p =
+    subst (IsPlayed held keeps before after whole failed unwritten s) (same_shown (segment_of s).text (shown_up_to answers (given (ran s) a)) o)
+    (played_slot held keeps before h.0 after whole failed unwritten s a h.1.0 (shown_before (shown_up_to answers (given (ran s) a)) o) (played_slots held keeps answers h.0 mid after whole failed unwritten (given (ran s) a) h.1.1 none o p))
+
+heard_behind : (line : List ℕ) (h h' : Heard) (failed : Bool) (g : Heard) → h ≡ behind line h' → IsHeard h' failed g → IsHeard h failed (behind line g)
+heard_behind line h h' failed g e (inl k) = inl (ap (behind line) k ∙ sym e)
+heard_behind line h h' failed g e (inr k) = inr (k.0, (suc k.1.0, ap (behind line) k.1.1 ∙ rw e refl))
+
+played_line : {K : Type 0} (held : K → Option (Option (List ℕ))) (keeps : K → List ℕ → Option Bool) (before after : K) (line : List ℕ) (h h' : Heard) (failed unwritten : Bool) (s : Session) (codes : List ℕ) → AsksForLine (ran s) → h ≡ behind line h' → codes ≡ codes_read (ran s) line
+    → (o : Outcome) → IsPlayed held keeps before after h' failed unwritten (given (ran s) (Typed codes)) o → IsPlayed held keeps before after h failed unwritten s (shown_before (segment_of s).text o)
+unfolding given_all ArePlayed
+played_line held keeps before after line h h' failed unwritten s codes asks hear read o p =
+    let w = line_asked s asks in
+    (behind line p.0, (heard_behind line h h' failed p.0 hear p.1.0, (Typed codes ∷ p.1.1.0, (p.1.1.1.0, ((line, (p.0.lines, (refl, asks, read, p.1.1.1.1.0))), on_outcome (Typed codes) p.1.1.0 p.0.over _ s w.0 o w.1 p.1.1.1.1.1)))))
+
+-- ---- a machine that an answer has stopped
+
+no_line : (s : Session) (stop : Stop) → s.stopped ≡ Some stop → AsksForLine (ran s) → ⊥
+no_line s stop e asks = no_wait s stop e (line_asked s asks)
+
+no_file : (s : Session) (stop : Stop) → s.stopped ≡ Some stop → AsksForFile (ran s) → ⊥
+no_file s stop e asks = no_wait s stop e (file_asked s asks)
+
+outcome_of_stopped : (answers : List Answer) (over : Over) (IsLast Last : Type 0) (m s : Session) (stop : Stop) (o : Outcome) → m.stopped ≡ Some stop → s.stopped ≡ Some stop → Last → IsOutcomeOn answers over IsLast m o → IsOutcomeOn answers over Last s o
+outcome_of_stopped answers over IsLast Last m s stop o e f last (inl h) = inl (h.0 ∙ outcome_stopped answers _ m stop e ∙ sym (outcome_stopped answers _ s stop f), last)
+outcome_of_stopped answers over IsLast Last m s stop o e f last (inr h) = absurd (no_keeping (given_all answers m) stop h.1.0 (stopped_all answers m stop e) h.1.1.0)
+
+answered_left_by : (m s : Session) (x : Option Stop) → s.stopped ≡ x → IsLeftAs m s x → (o : Outcome) → IsAnswered m o → IsAnswered s o
+answered_left_by m s None e left o p = subst (λ (n : Session). IsAnswered n o) left p
+answered_left_by m s (Some stop) e left o p = (p.0, (p.1.0, (p.1.1.0, outcome_of_stopped p.0 p.1.0 (Unit {0}) (Unit {0}) m s stop o left.0 e tt p.1.1.1)))
+
+last_of_stopped : (unwritten : Bool) (left : List (List ℕ)) (s : Session) (stop : Stop) → s.stopped ≡ Some stop → IsLastAnswered unwritten left s
+last_of_stopped unwritten left s stop e = λ f asks. absurd (no_line s stop e asks)
+
+played_stopped : {K : Type 0} (held : K → Option (Option (List ℕ))) (keeps : K → List ℕ → Option Bool) (before after : K) (unwritten : Bool) (m s : Session) (stop : Stop) (o : Outcome) (h : Heard) (left : List (List ℕ)) (answers : List Answer) → m.stopped ≡ Some stop → s.stopped ≡ Some stop
+    → ArePlayed held keeps before after h.lines left m answers → IsOutcomeOn answers h.over (IsLastAnswered unwritten left (given_all answers m)) m o → ArePlayed held keeps before after h.lines left s answers × IsOutcomeOn answers h.over (IsLastAnswered unwritten left (given_all answers s)) s o
+unfolding ArePlayed given_all
+played_stopped held keeps before after unwritten m s stop o h left [] e f p q = ((last_stopped held before after m s stop e p.0, p.1), outcome_of_stopped [] h.over _ _ m s stop o e f (last_of_stopped unwritten left s stop f) q)
+played_stopped held keeps before after unwritten m s stop o h left (Typed codes ∷ answers) e f p q = absurd (no_line m stop e p.1.1.1)
+played_stopped held keeps before after unwritten m s stop o h left (Kept kept ∷ answers) e f p q = absurd (no_file m stop e (slot_asks held keeps before p.0 (ran m) (Kept kept) p.1.0))
+played_stopped held keeps before after unwritten m s stop o h left (File file ∷ answers) e f p q = absurd (no_file m stop e (slot_asks held keeps before p.0 (ran m) (File file) p.1.0))
+
+played_left_by : {K : Type 0} (held : K → Option (Option (List ℕ))) (keeps : K → List ℕ → Option Bool) (before after : K) (whole : Heard) (failed unwritten : Bool) (m s : Session) (x : Option Stop) → s.stopped ≡ x → IsLeftAs m s x
+    → (o : Outcome) → IsPlayed held keeps before after whole failed unwritten m o → IsPlayed held keeps before after whole failed unwritten s o
+played_left_by held keeps before after whole failed unwritten m s None e left o p = subst (λ (n : Session). IsPlayed held keeps before after whole failed unwritten n o) left p
+played_left_by held keeps before after whole failed unwritten m s (Some stop) e left o p =
+    (p.0, (p.1.0, (p.1.1.0, (p.1.1.1.0, played_stopped held keeps before after unwritten m s stop o p.0 p.1.1.1.0 p.1.1.0 left.0 e p.1.1.1.1.0 p.1.1.1.1.1))))
+
+-- ---- a turn that asks
+
+line_event : (x : Option Event) (e : Event) → x ≡ Some e → is_read_event e ≡ true → (x ≡ Some event.Line) ⊎ (x ≡ Some event.Char)
+line_event x event.Line h k = inl h
+line_event x event.Char h k = inr h
+line_event x event.Save h k = absurd cc
+line_event x event.Restore h k = absurd cc
+
+not_file : (x : Option Event) → (x ≡ Some event.Line) ⊎ (x ≡ Some event.Char) → (x ≡ Some event.Save) ⊎ (x ≡ Some event.Restore) → ⊥
+not_file x (inl h) (inl k) = absurd cc
+not_file x (inl h) (inr k) = absurd cc
+not_file x (inr h) (inl k) = absurd cc
+not_file x (inr h) (inr k) = absurd cc
+
+line_stop : (x : Option Event) (over : Over) → (x ≡ Some event.Line) ⊎ (x ≡ Some event.Char) → stop_waiting x over ≡ stop_behind over
+line_stop x over (inl h) = rw h refl
+line_stop x over (inr h) = rw h refl
+
+file_stop : (x : Option Event) (over : Over) → (x ≡ Some event.Save) ⊎ (x ≡ Some event.Restore) → stop_waiting x over ≡ Memory
+file_stop x over (inl h) = rw h refl
+file_stop x over (inr h) = rw h refl
+
+-- a turn that asks has written all of its text, and its machine waits for a line
+pub record Asked {K : Type 0} (held : K → Option (Option (List ℕ))) (keeps : K → List ℕ → Option Bool) (before after : K) (now mid : Session) (screen_failed script_failed : Bool) (screen0 screen1 script0 script1 : Option (List ℕ)) : Type 0 where
+  pub screen_works : screen_failed ≡ false
+  pub script_works : script_failed ≡ false
+  pub answers : List Answer
+  pub gives : AreSlotAnswers held keeps before after now answers
+  pub same : mid ≡ ran (given_all answers now)
+  pub asks : AsksForLine (ran (given_all answers now))
+  pub runs : now.stopped ≡ None
+  pub took : TookTexts screen0 screen1 script0 script1 false (shown_up_to answers now) (segment_of (given_all answers now)).text
+
+runs_now : (answers : List Answer) (s : Session) (x : Option Stop) → s.stopped ≡ x → AsksForLine (ran (given_all answers s)) → s.stopped ≡ None
+runs_now answers s None e asks = e
+runs_now answers s (Some stop) e asks = absurd (no_line (given_all answers s) stop (stopped_all answers s stop e) asks)
+
+pub turn_asked : {K : Type 0} (held : K → Option (Option (List ℕ))) (keeps : K → List ℕ → Option Bool) (before after : K) (now mid : Session) (a b : Bool) (screen0 screen1 script0 script1 : Option (List ℕ)) (e : Event)
+    → event_waited mid.waiting ≡ Some e → is_read_event e ≡ true → IsTurn (AreSlotAnswers held keeps before after now) now mid (Ok e) (a || b) (TookTexts screen0 screen1 script0 script1 (a || b))
+    → Asked held keeps before after now mid a b screen0 screen1 script0 script1
+turn_asked held keeps before after now mid a b screen0 screen1 script0 script1 e waits k t =
+    let asked = turn_asks (a || b) (given_all t.answers now) e t.text t.ends in
+    let works = either_false a b asked.0 in
+    let asks : AsksForLine (ran (given_all t.answers now)) = line_event _ e (ap (λ (m : Session). event_waited m.waiting) (sym t.left) ∙ waits) k in
+    record {
+      screen_works = works.0;
+      script_works = works.1;
+      answers = t.answers;
+      gives = t.gives;
+      same = t.left;
+      asks = asks;
+      runs = runs_now t.answers now now.stopped refl asks;
+      took = subst (λ (u : Texts). TookTexts screen0 screen1 script0 script1 false (shown_up_to t.answers now) u) asked.3 (subst (λ (f : Bool). TookTexts screen0 screen1 script0 script1 f (shown_up_to t.answers now) t.text) asked.0 t.shown);
+    }
 
 -- ---- what was played so far
-
--- an outcome behind some text
-abbrev pub shown_before : Texts → Outcome → Outcome
-shown_before t o = record { stop = o.stop; text = text_joined t o.text }
 
 -- a text was shown, and what a play has from here on makes, behind it, what the whole play has
 pub record SoFar (Whole Rest : Outcome → Type 0) (screen0 screen1 script0 script1 : Option (List ℕ)) : Type 0 where
@@ -156,219 +576,185 @@ so_far_none Whole screen script = record {
   rest = λ o p. p;
 }
 
-same_text : (a b c : Texts) → text_joined a (text_joined b c) ≡ text_joined (text_joined a b) c
-same_text a b c = rw (append_assoc a.screen b.screen c.screen, append_assoc a.script b.script c.script) refl
-
-pub so_far_on : (Whole Rest Then : Outcome → Type 0) (screen0 screen1 screen2 script0 script1 script2 : Option (List ℕ)) (t : Texts) → SoFar Whole Rest screen0 screen1 script0 script1
-    → Shows (record { taken = screen1; failed = false }) (record { taken = screen2; failed = false }) t.screen → Shows (record { taken = script1; failed = false }) (record { taken = script2; failed = false }) t.script
-    → ((o : Outcome) → Then o → Rest (shown_before t o)) → SoFar Whole Then screen0 screen2 script0 script2
-so_far_on Whole Rest Then screen0 screen1 screen2 script0 script1 script2 t s screen script on = record {
-  text = text_joined s.text t;
-  screen = shows_twice _ _ _ _ _ s.screen screen;
-  script = shows_twice _ _ _ _ _ s.script script;
-  rest = λ o p. subst (λ (u : Texts). Whole (record { stop = o.stop; text = u })) (same_text s.text t o.text) (s.rest (shown_before t o) (on o p));
+so_far_on : (Whole Rest Then : Outcome → Type 0) (screen0 screen1 screen2 script0 script1 script2 : Option (List ℕ)) (first second : Texts) → SoFar Whole Rest screen0 screen1 script0 script1 → TookTexts screen1 screen2 script1 script2 false first second
+    → ((o : Outcome) → Then o → Rest (shown_before first (shown_before second o))) → SoFar Whole Then screen0 screen2 script0 script2
+so_far_on Whole Rest Then screen0 screen1 screen2 script0 script1 script2 first second s took on = record {
+  text = text_joined s.text (text_joined first second);
+  screen = shows_twice _ _ _ _ _ s.screen (shows_twice _ _ _ _ _ took.screen_first took.screen_second);
+  script = shows_twice _ _ _ _ _ s.script (shows_twice _ _ _ _ _ took.script_first took.script_second);
+  rest = λ o p. subst Whole (ap (shown_before s.text) (same_shown first second o) ∙ same_shown s.text (text_joined first second) o) (s.rest (shown_before first (shown_before second o)) (on o p));
 }
 
--- what is played on the lines of an input behind one that was read
-pub on_played : (line : List ℕ) (h h' : Heard) (failed : Bool) (now mid next : Session) (e : Event) (codes : List ℕ) → event_of (segment_of now).end ≡ Ok e → mid ≡ ran now → h ≡ behind line h' → codes ≡ codes_read mid line
-    → IsLeftAs next (given mid codes) (given mid codes).stopped → (o : Outcome) → IsPlayed h' failed next o → IsPlayed h failed now (shown_before (segment_of now).text o)
-on_played line h h' failed now mid next e codes ends same hear read left o p = go p
-  where
-    w : (w : Waiting) × ((segment_of now).end ≡ Ok w)
-    w = waits_for (segment_of now).end e ends
+-- what is answered behind a turn and a line
+pub on_answered : {K : Type 0} (held : K → Option (Option (List ℕ))) (keeps : K → List ℕ → Option Bool) (before after : K) (Whole : Outcome → Type 0) (now mid next : Session) (a b : Bool) (screen0 screen1 screen2 script0 script1 script2 : Option (List ℕ)) (codes : List ℕ)
+    → Asked held keeps before after now mid a b screen1 screen2 script1 script2 → AllByRecursion (λ c. is_input_code c ≡ true) codes → IsLeftAs next (given mid (Typed codes)) (given mid (Typed codes)).stopped
+    → SoFar Whole (IsAnswered now) screen0 screen1 script0 script1 → SoFar Whole (IsAnswered next) screen0 screen2 script0 script2
+on_answered held keeps before after Whole now mid next a b screen0 screen1 screen2 script0 script1 script2 codes t typed left s =
+    let end = given_all t.answers now in
+    let w = line_asked end t.asks in
+    let left_here = subst (λ (m : Session). IsLeftAs next (given m (Typed codes)) (given m (Typed codes)).stopped) t.same left in
+    so_far_on Whole (IsAnswered now) (IsAnswered next) screen0 screen1 screen2 script0 script1 script2 (shown_up_to t.answers now) (segment_of end).text s t.took
+    (λ o p. answered_slots held keeps t.answers before after now t.gives _ (answered_one (Typed codes) end w.0 w.1 typed o (answered_left_by next (given (ran end) (Typed codes)) _ refl left_here o p)))
 
-    there : (g : Heard) → played g next ≡ played g (given (ran now) (codes_read (ran now) line))
-    there g = played_left g next (given mid codes) left ∙ ap (λ (m : Session). played g (given m codes)) same ∙ ap (λ (cs : List ℕ). played g (given (ran now) cs)) (read ∙ ap (λ (m : Session). codes_read m line) same)
-
-    on : (g : Heard) → shown_before (segment_of now).text (played g next) ≡ played (behind line g) now
-    on g = ap (shown_before (segment_of now).text) (there g) ∙ sym (played_on line g now w.0 w.1)
-
-    go : IsPlayed h' failed next o → IsPlayed h failed now (shown_before (segment_of now).text o)
-    go (inl q) = inl (ap (shown_before (segment_of now).text) q ∙ on h' ∙ ap (λ (g : Heard). played g now) (sym hear))
-    go (inr q) = inr (q.0, (suc q.1.0, ap (shown_before (segment_of now).text) q.1.1 ∙ on (record { lines = take q.1.0 h'.lines; over = Failed }) ∙ rw hear refl))
-
--- what is played on answers behind one that was given
-pub on_answered : (now mid next : Session) (e : Event) (codes : List ℕ) → AllByRecursion (λ c. is_input_code c ≡ true) codes → event_of (segment_of now).end ≡ Ok e → mid ≡ ran now → IsLeftAs next (given mid codes) (given mid codes).stopped
-    → (o : Outcome) → IsAnswered next o → IsAnswered now (shown_before (segment_of now).text o)
-on_answered now mid next e codes typed ends same left o p =
-    let w = waits_for (segment_of now).end e ends in
-    let end = stop_behind p.1.0 in
-    let there = outcome_left p.0 end next (given mid codes) left ∙ ap (λ (m : Session). outcome p.0 end (given m codes)) same in
-    (codes ∷ p.0, (p.1.0, ((typed, p.1.1.0), ap (shown_before (segment_of now).text) (p.1.1.1 ∙ there) ∙ sym (outcome_on codes p.0 end now w.0 w.1))))
+-- what is played behind a turn and a line
+pub on_played : {K : Type 0} (held : K → Option (Option (List ℕ))) (keeps : K → List ℕ → Option Bool) (before mid_slot after : K) (Whole : Outcome → Type 0) (h h' : Heard) (failed unwritten : Bool) (now mid next : Session) (a b : Bool) (screen0 screen1 screen2 script0 script1 script2 : Option (List ℕ)) (line codes : List ℕ)
+    → Asked held keeps before mid_slot now mid a b screen1 screen2 script1 script2 → h ≡ behind line h' → codes ≡ codes_read mid line → IsLeftAs next (given mid (Typed codes)) (given mid (Typed codes)).stopped
+    → SoFar Whole (IsPlayed held keeps before after h failed unwritten now) screen0 screen1 script0 script1 → SoFar Whole (IsPlayed held keeps mid_slot after h' failed unwritten next) screen0 screen2 script0 script2
+on_played held keeps before mid_slot after Whole h h' failed unwritten now mid next a b screen0 screen1 screen2 script0 script1 script2 line codes t hear read left s =
+    let end = given_all t.answers now in
+    let left_here = subst (λ (m : Session). IsLeftAs next (given m (Typed codes)) (given m (Typed codes)).stopped) t.same left in
+    so_far_on Whole (IsPlayed held keeps before after h failed unwritten now) (IsPlayed held keeps mid_slot after h' failed unwritten next) screen0 screen1 screen2 script0 script1 script2 (shown_up_to t.answers now) (segment_of end).text s t.took
+    (λ o p. played_slots held keeps t.answers before mid_slot after h failed unwritten now t.gives (not_file _ t.asks) _
+    (played_line held keeps mid_slot after line h h' failed unwritten end codes t.asks hear (read ∙ ap (λ (m : Session). codes_read m line) t.same) o
+    (played_left_by held keeps mid_slot after h' failed unwritten next (given (ran end) (Typed codes)) _ refl left_here o p)))
 
 -- ---- the end of a play
 
--- what is left of a play: one more outcome
-pub ends_so : (Whole Rest : Outcome → Type 0) (screen0 screen1 screen2 script0 script1 script2 : Option (List ℕ)) (unwritten : Bool) (stop : Stop) (o : Outcome)
-    → SoFar Whole Rest screen0 screen1 script0 script1 → Rest o
-    → Shows (record { taken = screen1; failed = false }) (record { taken = screen2; failed = unwritten }) o.text.screen → Shows (record { taken = script1; failed = false }) (record { taken = script2; failed = unwritten }) o.text.script
-    → stop ≡ (if unwritten then Write else o.stop) → IsPlay Whole stop unwritten screen0 screen2 script0 script2
-ends_so Whole Rest screen0 screen1 screen2 script0 script1 script2 unwritten stop o s p screen script e = record {
-  outcome = shown_before s.text o;
-  is = s.rest o p;
-  stops = e;
-  screen = shows_twice _ _ _ _ _ s.screen screen;
-  script = shows_twice _ _ _ _ _ s.script script;
-}
+-- an outcome ends by a turn: its text is the turn's, and where a write has failed it begins with that
+abbrev pub EndsSo : Bool → Stop → Texts → Texts → Outcome → Type 0
+EndsSo true stop first second o = (stop ≡ Write) × ((more : Texts) × (o.text ≡ text_joined (text_joined first second) more))
+EndsSo false stop first second o = (stop ≡ o.stop) × (o.text ≡ text_joined first second)
 
-shows_longer : (a : Option (List ℕ)) (b : Option (List ℕ)) (s more whole : List ℕ) → whole ≡ s ++ more → Shows (record { taken = a; failed = false }) (record { taken = b; failed = true }) s → Shows (record { taken = a; failed = false }) (record { taken = b; failed = true }) whole
+shows_longer : (a b : Option (List ℕ)) (s more whole : List ℕ) → whole ≡ s ++ more → Shows (record { taken = a; failed = false }) (record { taken = b; failed = true }) s → Shows (record { taken = a; failed = false }) (record { taken = b; failed = true }) whole
 shows_longer a b s more whole e h = rw e (shows_twice (record { taken = a; failed = false }) (record { taken = b; failed = true }) (record { taken = b; failed = true }) s more h (shows_past _ _ more refl refl refl))
 
--- an outcome from here on: it begins with the segment from here, and is that alone where the segment stops
-pub record IsOutcome (now : Session) (o : Outcome) : Type 0 where
-  pub more : Texts
-  pub begins : o.text ≡ text_joined (segment_of now).text more
-  pub stops : (stop : Stop) → (segment_of now).end ≡ Err stop → o ≡ record { stop = stop; text = (segment_of now).text }
+pub play_ends : (Whole Rest : Outcome → Type 0) (screen0 screen1 screen2 script0 script1 script2 : Option (List ℕ)) (unwritten : Bool) (stop : Stop) (o : Outcome) (first second : Texts)
+    → SoFar Whole Rest screen0 screen1 script0 script1 → Rest o → EndsSo unwritten stop first second o → TookTexts screen1 screen2 script1 script2 unwritten first second → IsPlay Whole stop unwritten screen0 screen2 script0 script2
+play_ends Whole Rest screen0 screen1 screen2 script0 script1 script2 true stop o first second s p e took = record {
+  outcome = shown_before s.text o;
+  is = s.rest o p;
+  stops = e.0;
+  screen = shows_twice _ _ _ _ _ s.screen (shows_longer screen1 screen2 _ e.1.0.screen o.text.screen (ap (λ (t : Texts). t.screen) e.1.1) (shows_twice _ _ _ _ _ took.screen_first took.screen_second));
+  script = shows_twice _ _ _ _ _ s.script (shows_longer script1 script2 _ e.1.0.script o.text.script (ap (λ (t : Texts). t.script) e.1.1) (shows_twice _ _ _ _ _ took.script_first took.script_second));
+}
+play_ends Whole Rest screen0 screen1 screen2 script0 script1 script2 false stop o first second s p e took = record {
+  outcome = shown_before s.text o;
+  is = s.rest o p;
+  stops = e.0;
+  screen = shows_twice _ _ _ _ _ s.screen (rw e.1 (shows_twice _ _ _ _ _ took.screen_first took.screen_second));
+  script = shows_twice _ _ _ _ _ s.script (rw e.1 (shows_twice _ _ _ _ _ took.script_first took.script_second));
+}
 
-pub played_is : (h : Heard) (s : Session) → IsOutcome s (played h s)
-played_is h s = let more = played_begins h s in record { more = more.0; begins = more.1; stops = λ stop e. played_stops h stop s e }
+-- the outcome that a turn ends
+pub record EndOf (answers : List Answer) (over : Over) (unwritten : Bool) (Last : Type 0) (now : Session) (stop : Stop) (text : Texts) : Type 0 where
+  pub o : Outcome
+  pub is : IsOutcomeOn answers over Last now o
+  pub ends : EndsSo unwritten stop (shown_up_to answers now) text o
 
-pub outcome_is : (answers : List (List ℕ)) (end : Stop) (s : Session) → IsOutcome s (outcome answers end s)
-outcome_is answers end s = let more = outcome_begins answers end s in record { more = more.0; begins = more.1; stops = λ stop e. outcome_stops answers end stop s e }
+true_or_false : (A : Type 0) → ◌≡◌ {A = Bool} true false → A
+true_or_false A h = absurd cc
 
--- a turn that stops, or whose write has failed
-pub stops_play : (Whole Rest : Outcome → Type 0) (now : Session) (o : Outcome) (screen0 screen1 screen2 script0 script1 script2 : Option (List ℕ)) (unwritten : Bool) (stop : Stop)
-    → SoFar Whole Rest screen0 screen1 script0 script1 → Rest o → IsOutcome now o → Err stop ≡ (if unwritten then Err Write else event_of (segment_of now).end)
-    → Shows (record { taken = screen1; failed = false }) (record { taken = screen2; failed = unwritten }) (segment_of now).text.screen → Shows (record { taken = script1; failed = false }) (record { taken = script2; failed = unwritten }) (segment_of now).text.script
-    → IsPlay Whole stop unwritten screen0 screen2 script0 script2
-stops_play Whole Rest now o screen0 screen1 screen2 script0 script1 script2 true stop s p is e screen script =
-    ends_so Whole Rest screen0 screen1 screen2 script0 script1 script2 true stop o s p
-    (shows_longer screen1 screen2 (segment_of now).text.screen is.more.screen _ (ap (λ (t : Texts). t.screen) is.begins) screen)
-    (shows_longer script1 script2 (segment_of now).text.script is.more.script _ (ap (λ (t : Texts). t.script) is.begins) script) cc
-stops_play Whole Rest now o screen0 screen1 screen2 script0 script1 script2 false stop s p is e screen script =
-    let all = is.stops stop (stops_by (segment_of now).end stop (sym e)) in
-    ends_so Whole Rest screen0 screen1 screen2 script0 script1 script2 false stop o s p (rw all screen) (rw all script) (rw all refl)
+kept_end : (answers : List Answer) (over : Over) (Last : Type 0) (now : Session) (text : Texts) → ComesToKeep (given_all answers now) text → IsOutcomeOn answers over Last now (record { stop = Memory; text = text_joined (shown_up_to answers now) text })
+kept_end answers over Last now text comes = inr (refl, (text, (comes, refl)))
 
--- a read that finds no answer
-pub answers_end : (Whole Rest : Outcome → Type 0) (now : Session) (o : Outcome) (screen0 screen1 screen2 script0 script1 script2 : Option (List ℕ)) (stop : Stop)
-    → SoFar Whole Rest screen0 screen1 script0 script1 → Rest o → o ≡ record { stop = stop; text = text_joined (segment_of now).text no_text }
-    → Shows (record { taken = screen1; failed = false }) (record { taken = screen2; failed = false }) (segment_of now).text.screen → Shows (record { taken = script1; failed = false }) (record { taken = script2; failed = false }) (segment_of now).text.script
-    → IsPlay Whole stop false screen0 screen2 script0 script2
-answers_end Whole Rest now o screen0 screen1 screen2 script0 script1 script2 stop s p is screen script =
-    ends_so Whole Rest screen0 screen1 screen2 script0 script1 script2 false stop o s p
-    (rw is (shows_twice _ _ _ (segment_of now).text.screen [] screen (shows_nothing _))) (rw is (shows_twice _ _ _ (segment_of now).text.script [] script (shows_nothing _))) (rw is refl)
-
-pub input_over : (x : Over) (s : Session) (e : Event) → event_of (segment_of s).end ≡ Ok e → played (nothing_more x) s ≡ record { stop = stop_behind x; text = text_joined (segment_of s).text no_text }
-input_over x s e ends = let w = waits_for (segment_of s).end e ends in played_ends x s w.0 w.1
-
-pub no_answer : (end : Stop) (s : Session) (e : Event) → event_of (segment_of s).end ≡ Ok e → outcome [] end s ≡ record { stop = end; text = text_joined (segment_of s).text no_text }
-unfolding outcome
-no_answer end s e ends = let w = waits_for (segment_of s).end e ends in rw w.1 refl
-
-pub heard_end : (h : Heard) (failed : Bool) (s : Session) (x : Over) → h ≡ nothing_more x → IsPlayed h failed s (played (nothing_more x) s)
-heard_end h failed s x e = inl (ap (λ (g : Heard). played g s) (sym e))
-
-pub heard_failed : (h : Heard) (failed : Bool) (s : Session) → (failed ≡ true) ⊎ (h ≡ nothing_more Failed) → IsPlayed h failed s (played (nothing_more Failed) s)
-heard_failed h failed s (inl f) = inr (f, (0, refl))
-heard_failed h failed s (inr e) = heard_end h failed s Failed e
-
--- ---- a turn
-
-either_false : (a b : Bool) → (a || b) ≡ false → (a ≡ false) × (b ≡ false)
-either_false true b h = absurd cc
-either_false false b h = (refl, h)
-
-ok_by : (f : Bool) (r : Result Event Stop) (e : Event) → Ok e ≡ (if f then Err Write else r) → (f ≡ false) × (r ≡ Ok e)
-ok_by true r e h = absurd cc
-ok_by false r e h = (refl, sym h)
-
-same_event : (x : Wait) (e : Event) → ◌≡◌ {A = Result Event Stop} (Ok (event_by x)) (Ok e) → event_by x ≡ e
-same_event x e h = cc
-
--- a turn that answers has written all of its text, and its machine waits
-pub record Turned (a b : Bool) (now mid : Session) (e : Event) : Type 0 where
-  pub screen_works : a ≡ false
-  pub script_works : b ≡ false
-  pub ends : event_of (segment_of now).end ≡ Ok e
-  pub same : mid ≡ ran now
-  pub waits : event_waited mid.waiting ≡ Some e
-  pub runs : now.stopped ≡ None
-  pub reads : mid.state.reads ≡ now.state.reads
-
-left_none : (m s : Session) (x : Option Stop) → x ≡ None → IsLeftAs m s x → m ≡ s
-left_none m s None e left = left
-left_none m s (Some stop) e left = absurd cc
-
-pub ran_waiting : (s : Session) (w : Waiting) → (segment_of s).end ≡ Ok w → (ran s).waiting ≡ Some w
-unfolding ran
-ran_waiting s w h = rw h refl
-
-waits_reads : (s : State) (i : Instr) (x : Wait) (r : Result (Workspace × Texts) Fault) → (state_after s (waits_by s i x r)).reads ≡ s.reads
-waits_reads s i x (Ok v) = refl
-waits_reads s i x (Err f) = refl
-
-led_reads : (s : State) (i : Instr) (w : Workspace) (text : Texts) (n : Next) → (state_after s (led_to s i w text n)).reads ≡ s.reads
-led_reads s i w text (next.At place) = refl
-led_reads s i w text (next.Waits x) = waits_reads s i x (viewed w)
-led_reads s i w text next.End = refl
-
-settled_reads : (s : State) (i : Instr) (r : Result (Workspace × (Next × Texts)) Fault) → (state_after s (settled s i r)).reads ≡ s.reads
-settled_reads s i (Ok r) = led_reads s i r.0 r.1.1 r.1.0
-settled_reads s i (Err f) = refl
-
-fetched_reads : (s : State) (r : Result Instr Fault) → (state_after s (fetched s r)).reads ≡ s.reads
-fetched_reads s (Ok i) = settled_reads s i (carried_out s.workspace i)
-fetched_reads s (Err f) = refl
-
-step_reads : (s : State) → (state_after s (step s)).reads ≡ s.reads
-unfolding step
-step_reads s = fetched_reads s (instr_at s.workspace.memory s.place)
-
-continued_reads : (v : Verdict) (s : State) (t : Texts) (rest : Segment) (n : ℕ) → s.reads ≡ n → rest.state.reads ≡ n → (continued v s t rest).state.reads ≡ n
-continued_reads GoesOn s t rest n h k = k
-continued_reads (WaitsFor w) s t rest n h k = h
-continued_reads (StopsBy stop) s t rest n h k = h
-
-segment_reads : (n : ℕ) (s : State) → (segment n s).state.reads ≡ s.reads
-unfolding segment
-segment_reads zero s = refl
-segment_reads (suc n) s = continued_reads (verdict_of s (step s)) (state_after s (step s)) (text_of s (step s)) (segment n (state_after s (step s))) s.reads (step_reads s) (segment_reads n (state_after s (step s)) ∙ step_reads s)
-
-by_reads : (x : Option Stop) (s : Session) → (segment_by x s.limits s.state).state.reads ≡ s.state.reads
-by_reads None s = segment_reads (s.limits.steps - s.state.steps) (record s.state { due = [] })
-by_reads (Some stop) s = refl
-
-ran_reads : (s : Session) (w : Waiting) → (segment_of s).end ≡ Ok w → (ran s).state.reads ≡ s.state.reads
-unfolding ran segment_of
-ran_reads s w h = rw h (by_reads s.stopped s)
-
-runs_on : (s : Session) (w : Waiting) → (segment_of s).end ≡ Ok w → s.stopped ≡ None
-unfolding segment_of
-runs_on s w h = not_stopped s.stopped s w h
-
-pub turned_on : (a b : Bool) (now mid : Session) (e : Event) → Ok e ≡ (if a || b then Err Write else event_of (segment_of now).end) → IsLeftAs mid (turned (a || b) now) (turned (a || b) now).stopped → Turned a b now mid e
-turned_on a b now mid e h left =
-    let both = ok_by (a || b) (event_of (segment_of now).end) e h in
-    let works = either_false a b both.0 in
-    let w = waits_for (segment_of now).end e both.1 in
-    let left_ran : IsLeftAs mid (ran now) (ran now).stopped = subst (λ (f : Bool). IsLeftAs mid (turned f now) (turned f now).stopped) both.0 left in
-    let same : mid ≡ ran now = left_none mid (ran now) (ran now).stopped (ran_waits now w.0 w.1) left_ran in
-    let event : ◌≡◌ {A = Result Event Stop} (Ok (event_by w.0.wait)) (Ok e) = sym (ap event_of w.1) ∙ both.1 in
+turn_stops : {K : Type 0} (held : K → Option (Option (List ℕ))) (keeps : K → List ℕ → Option Bool) (before after : K) (unwritten : Bool) (answers : List Answer) (over : Over) (left : List (List ℕ)) (now : Session) (stop : Stop) (text : Texts)
+    → AreSlotAnswers held keeps before after now answers → EndsTurnOrFails unwritten (given_all answers now) (Err stop) text → EndOf answers over unwritten (IsLastAnswered unwritten left (given_all answers now)) now stop text
+turn_stops held keeps before after true answers over left now stop text gives (e, inl t) =
+    let s = given_all answers now in
+    let end = stop_waiting (event_waited (ran s).waiting) over in
+    let more = alone_begins end s in
     record {
-      screen_works = works.0;
-      script_works = works.1;
-      ends = both.1;
-      same = same;
-      waits = ap (λ (m : Session). event_waited m.waiting) same ∙ ap event_waited (ran_waiting now w.0 w.1) ∙ ap (λ (x : Event). Some x) (same_event w.0.wait e event);
-      runs = runs_on now w.0 w.1;
-      reads = ap (λ (m : Session). m.state.reads) same ∙ ran_reads now w.0 w.1;
+      o = outcome answers end now;
+      is = inl (refl, λ f. true_or_false _ f);
+      ends = (
+        same_stop stop Write e,
+        (
+          more.0,
+          ap (λ (o : Outcome). o.text) (outcome_all held keeps answers before after now end gives) ∙ ap (text_joined (shown_up_to answers now)) more.1
+              ∙ same_text (shown_up_to answers now) (segment_of s).text more.0 ∙ ap (λ (u : Texts). text_joined (text_joined (shown_up_to answers now) u) more.0) (sym t),
+        ),
+      );
+    }
+turn_stops held keeps before after true answers over left now stop text gives (e, inr comes) = record {
+  o = record { stop = Memory; text = text_joined (shown_up_to answers now) text };
+  is = kept_end answers over _ now text comes;
+  ends = (same_stop stop Write e, (no_text, sym (no_text_behind (text_joined (shown_up_to answers now) text))));
+}
+turn_stops held keeps before after false answers over left now stop text gives (inl h) =
+    let s = given_all answers now in
+    let end = stop_waiting (event_waited (ran s).waiting) over in
+    let stops = stops_by (segment_of s).end stop (sym h.0) in
+    let all = outcome_all held keeps answers before after now end gives ∙ ap (shown_before (shown_up_to answers now)) (outcome_stops [] end stop s stops) in
+    record {
+      o = outcome answers end now;
+      is = inl (refl, λ f asks. let w = line_asked s asks in absurd (stops_or_waits (segment_of s).end stop w.0 stops w.1));
+      ends = (sym (ap (λ (o : Outcome). o.stop) all), ap (λ (o : Outcome). o.text) all ∙ ap (text_joined (shown_up_to answers now)) (sym h.2));
+    }
+turn_stops held keeps before after false answers over left now stop text gives (inr (e, inl comes)) = record {
+  o = record { stop = Memory; text = text_joined (shown_up_to answers now) text };
+  is = kept_end answers over _ now text comes;
+  ends = (same_stop stop Memory e, refl);
+}
+turn_stops held keeps before after false answers over left now stop text gives (inr (e, inr h)) =
+    let s = given_all answers now in
+    let end = stop_waiting (event_waited (ran s).waiting) over in
+    let w = file_asked s h.0 in
+    let all = outcome_all held keeps answers before after now end gives ∙ ap (shown_before (shown_up_to answers now)) (alone_waits end s w.0 w.1) in
+    record {
+      o = outcome answers end now;
+      is = inl (refl, λ f asks. absurd (not_file _ asks h.0));
+      ends = (
+        same_stop stop Memory e ∙ sym (ap (λ (o : Outcome). o.stop) all ∙ file_stop _ over h.0),
+        ap (λ (o : Outcome). o.text) all ∙ ap (text_joined (shown_up_to answers now)) (no_text_behind (segment_of s).text ∙ sym h.1),
+      );
     }
 
-same_stop : (x y : Stop) → ◌≡◌ {A = Result Event Stop} (Err x) (Err y) → x ≡ y
-same_stop x y h = cc
+read_ends : {K : Type 0} (held : K → Option (Option (List ℕ))) (keeps : K → List ℕ → Option Bool) (before after : K) (answers : List Answer) (over : Over) (now : Session)
+    → AreSlotAnswers held keeps before after now answers → AsksForLine (ran (given_all answers now)) → EndOf answers over false (IsLastAnswered false [] (given_all answers now)) now (stop_behind over) (segment_of (given_all answers now)).text
+read_ends held keeps before after answers over now gives asks =
+    let s = given_all answers now in
+    let end = stop_waiting (event_waited (ran s).waiting) over in
+    let w = line_asked s asks in
+    let all = outcome_all held keeps answers before after now end gives ∙ ap (shown_before (shown_up_to answers now)) (alone_waits end s w.0 w.1) in
+    record {
+      o = outcome answers end now;
+      is = inl (refl, λ f a. refl);
+      ends = (sym (ap (λ (o : Outcome). o.stop) all ∙ line_stop _ over asks), ap (λ (o : Outcome). o.text) all ∙ ap (text_joined (shown_up_to answers now)) (no_text_behind (segment_of s).text));
+    }
 
-stopped_as : (m s : Session) (x : Option Stop) (stop : Stop) → x ≡ Some stop → IsLeftAs m s x → m.stopped ≡ Some stop
-stopped_as m s None stop e left = absurd cc
-stopped_as m s (Some y) stop e left = left.0 ∙ e
+any_last : (answers : List Answer) (over : Over) (Last : Type 0) (s : Session) (o : Outcome) → IsOutcomeOn answers over Last s o → IsOutcomeOn answers over (Unit {0}) s o
+any_last answers over Last s o (inl h) = inl (h.0, tt)
+any_last answers over Last s o (inr h) = inr h
 
-ran_stops : (s : Session) (stop : Stop) → (segment_of s).end ≡ Err stop → (ran s).stopped ≡ Some stop
-unfolding ran
-ran_stops s stop h = rw h refl
+-- a turn that stops, or whose write has failed
+pub stops_played : {K : Type 0} (held : K → Option (Option (List ℕ))) (keeps : K → List ℕ → Option Bool) (before after : K) (Whole : Outcome → Type 0) (h : Heard) (failed unwritten : Bool) (now mid : Session) (screen0 screen1 screen2 script0 script1 script2 : Option (List ℕ)) (stop : Stop)
+    → IsTurn (AreSlotAnswers held keeps before after now) now mid (Err stop) unwritten (TookTexts screen1 screen2 script1 script2 unwritten) → SoFar Whole (IsPlayed held keeps before after h failed unwritten now) screen0 screen1 script0 script1
+    → IsPlay Whole stop unwritten screen0 screen2 script0 script2
+stops_played held keeps before after Whole h failed unwritten now mid screen0 screen1 screen2 script0 script1 script2 stop t s =
+    let e = turn_stops held keeps before after unwritten t.answers h.over h.lines now stop t.text t.gives t.ends in
+    play_ends Whole (IsPlayed held keeps before after h failed unwritten now) screen0 screen1 screen2 script0 script1 script2 unwritten stop e.o (shown_up_to t.answers now) t.text s
+    (h, (inl refl, (t.answers, (h.lines, (played_alone held keeps t.answers before after h.lines now t.gives, e.is))))) e.ends t.shown
 
--- a turn that stops has ended its machine
-pub turned_off : (f : Bool) (now mid : Session) (stop : Stop) → Err stop ≡ (if f then Err Write else event_of (segment_of now).end) → IsLeftAs mid (turned f now) (turned f now).stopped → mid.stopped ≡ Some stop
-turned_off true now mid stop h left = left.0 ∙ ap (λ (x : Stop). Some x) (sym (same_stop stop Write h))
-turned_off false now mid stop h left = stopped_as mid (ran now) (ran now).stopped stop (ran_stops now stop (stops_by (segment_of now).end stop (sym h))) left
+pub stops_answered : {K : Type 0} (held : K → Option (Option (List ℕ))) (keeps : K → List ℕ → Option Bool) (before after : K) (Whole : Outcome → Type 0) (unwritten : Bool) (now mid : Session) (screen0 screen1 screen2 script0 script1 script2 : Option (List ℕ)) (stop : Stop)
+    → IsTurn (AreSlotAnswers held keeps before after now) now mid (Err stop) unwritten (TookTexts screen1 screen2 script1 script2 unwritten) → SoFar Whole (IsAnswered now) screen0 screen1 script0 script1
+    → IsPlay Whole stop unwritten screen0 screen2 script0 script2
+stops_answered held keeps before after Whole unwritten now mid screen0 screen1 screen2 script0 script1 script2 stop t s =
+    let e = turn_stops held keeps before after unwritten t.answers Failed [] now stop t.text t.gives t.ends in
+    play_ends Whole (IsAnswered now) screen0 screen1 screen2 script0 script1 script2 unwritten stop e.o (shown_up_to t.answers now) t.text s
+    (t.answers, (Failed, (slots_can held keeps t.answers before after now t.gives, any_last t.answers Failed _ now e.o e.is))) e.ends t.shown
+
+-- a read that finds no line
+pub reads_end : {K : Type 0} (held : K → Option (Option (List ℕ))) (keeps : K → List ℕ → Option Bool) (before after : K) (Whole : Outcome → Type 0) (h : Heard) (over : Over) (failed : Bool) (now mid : Session) (a b : Bool) (screen0 screen1 screen2 script0 script1 script2 : Option (List ℕ))
+    → Asked held keeps before after now mid a b screen1 screen2 script1 script2 → IsHeard h failed (nothing_more over) → SoFar Whole (IsPlayed held keeps before after h failed false now) screen0 screen1 script0 script1
+    → IsPlay Whole (stop_behind over) false screen0 screen2 script0 script2
+reads_end held keeps before after Whole h over failed now mid a b screen0 screen1 screen2 script0 script1 script2 t hear s =
+    let e = read_ends held keeps before after t.answers over now t.gives t.asks in
+    play_ends Whole (IsPlayed held keeps before after h failed false now) screen0 screen1 screen2 script0 script1 script2 false (stop_behind over) e.o (shown_up_to t.answers now) (segment_of (given_all t.answers now)).text s
+    (nothing_more over, (hear, (t.answers, ([], (played_alone held keeps t.answers before after [] now t.gives, e.is))))) e.ends t.took
+
+pub answers_end : {K : Type 0} (held : K → Option (Option (List ℕ))) (keeps : K → List ℕ → Option Bool) (before after : K) (Whole : Outcome → Type 0) (over : Over) (now mid : Session) (a b : Bool) (screen0 screen1 screen2 script0 script1 script2 : Option (List ℕ))
+    → Asked held keeps before after now mid a b screen1 screen2 script1 script2 → SoFar Whole (IsAnswered now) screen0 screen1 script0 script1 → IsPlay Whole (stop_behind over) false screen0 screen2 script0 script2
+answers_end held keeps before after Whole over now mid a b screen0 screen1 screen2 script0 script1 script2 t s =
+    let e = read_ends held keeps before after t.answers over now t.gives t.asks in
+    play_ends Whole (IsAnswered now) screen0 screen1 screen2 script0 script1 script2 false (stop_behind over) e.o (shown_up_to t.answers now) (segment_of (given_all t.answers now)).text s
+    (t.answers, (over, (slots_can held keeps t.answers before after now t.gives, any_last t.answers over _ now e.o e.is))) e.ends t.took
+
+pub heard_end : (h : Heard) (failed : Bool) (over : Over) → h ≡ nothing_more over → IsHeard h failed (nothing_more over)
+heard_end h failed over e = inl (sym e)
+
+pub heard_failed : (h : Heard) (failed : Bool) → (failed ≡ true) ⊎ (h ≡ nothing_more Failed) → IsHeard h failed (nothing_more Failed)
+heard_failed h failed (inl f) = inr (f, (0, refl))
+heard_failed h failed (inr e) = heard_end h failed Failed e
 
 -- ---- how many turns there can still be
 

@@ -1,28 +1,16 @@
 -- Runs, step by step.
-use Rattle.std.proofs.Common.{◌≡◌, ◌∙◌, ℕ, ◌+◌, ◌-◌, ◌<◌, ◌≤◌, suc, zero, List, ◌++◌, Some, Result, Ok, Err, arith, refl, ap, sym, subst}
-use Rattle.zk_mem.specs.declared.fault.Fault.{Fault}
+use Rattle.std.proofs.Common.{◌≡◌, ◌∙◌, ℕ, ◌+◌, ◌-◌, ◌<◌, ◌≤◌, suc, zero, List, ◌++◌, Some, Ok, Err, arith, refl, ap, sym, subst}
 use Rattle.zk_state.specs.declared.refusal.Limit.TheVariants.{Steps}
-use Rattle.zk_state.specs.declared.refusal.Refusal.{Refusal}
-use Rattle.zk_state.specs.Frames.{FrameList, within_bounds}
-use Rattle.zk_code.specs.declared.instr.Instr.{Instr}
-use Rattle.zk_code.specs.Reading.{instr_at}
-use Rattle.zk_step.specs.declared.ending.Next.{Next}
-use Rattle.zk_step.specs.declared.ending.Next.TheVariants as next
-use Rattle.zk_step.specs.declared.ending.Wait.{Wait}
-use Rattle.zk_step.specs.declared.workspace.Workspace.{Workspace}
-use Rattle.zk_step.specs.Instructions.{carried_out}
-use Rattle.zk_step.specs.Limited.{kept, limited_move}
 use Rattle.zk_step.specs.Routing.{Texts, no_text, text_joined}
 use Rattle.zk_vm.specs.declared.stop.Stop.TheVariants.{Limit}
 use Rattle.zk_vm.specs.declared.waiting.Halt.{Halt}
 use Rattle.zk_vm.specs.Halts.{halt_by, halt_of, IsLeftAt, IsLeftBy}
 use Rattle.zk_vm.specs.Laws.{IsNoStepLimit, StepLimitOnlyCuts, StepLimitCutsThere}
 use Rattle.zk_vm.specs.Outcome.{Segment, Session, continued, segment}
-use Rattle.zk_vm.specs.Step.{State, Verdict, step, state_after, text_of, verdict_of, waits_by}
+use Rattle.zk_vm.specs.Step.{State, Verdict, step, state_after, text_of, verdict_of}
 use Rattle.zk_vm.specs.Step.Verdict.{GoesOn, WaitsFor, StopsBy}
-use Rattle.zk_vm.specs.View.{viewed}
 
-goes_by_halt : (v : Verdict) → Ok tt ≡ halt_by v → v ≡ GoesOn
+pub goes_by_halt : (v : Verdict) → Ok tt ≡ halt_by v → v ≡ GoesOn
 goes_by_halt GoesOn h = refl
 goes_by_halt (WaitsFor w) h = absurd cc
 goes_by_halt (StopsBy stop) h = absurd cc
@@ -79,32 +67,6 @@ pub step_limit_cuts_there : StepLimitCutsThere
 unfolding segment
 step_limit_cuts_there zero s end text h = rw (h.0, h.1) refl
 step_limit_cuts_there (suc n) s end text h = rw (h.1, step_limit_cuts_there n (state_after s (step s)) end h.0 h.2, h.3) refl
-
--- ---- a step that waits shows the view
-
-same_move : (a b : Workspace × (Next × Texts)) → ◌≡◌ {A = Result (Workspace × (Next × Texts)) Refusal} (Ok a) (Ok b) → a.1.0 ≡ b.1.0
-same_move a b h =
-    let pair : a ≡ b = cc in
-    ap (λ (q : Workspace × (Next × Texts)). q.1.0) pair
-
-carried_waits : (r : Result (Workspace × (Next × Texts)) Fault) (w : Workspace) (x : Wait) (t : Texts) → limited_move r ≡ Ok (w, (next.Waits x, t)) → r ≡ Ok (w, (next.Waits x, t))
-carried_waits (Ok (v, (next.At p, u))) w x t h = go (within_bounds v.frames) h
-  where
-    go : (r : Result FrameList Refusal) → ◌≡◌ {A = Result (Workspace × (Next × Texts)) Refusal} (kept {B = Workspace × (Next × Texts)} r (v, (next.At p, u))) (Ok (w, (next.Waits x, t))) → ◌≡◌ {A = Result (Workspace × (Next × Texts)) Fault} (Ok (v, (next.At p, u))) (Ok (w, (next.Waits x, t)))
-    go (Ok s) k = let same : next.At p ≡ next.Waits x = same_move _ _ k in absurd cc
-    go (Err e) k = absurd cc
-carried_waits (Ok (v, (next.Waits y, u))) w x t h = cc
-carried_waits (Ok (v, (next.End, u))) w x t h = let same : next.End ≡ next.Waits x = same_move (v, (next.End, u)) (w, (next.Waits x, t)) h in absurd cc
-carried_waits (Err f) w x t h = absurd cc
-
-waits_text : (s : State) (i : Instr) (x : Wait) (w : Workspace) (r : Result (Workspace × Texts) Fault) → text_of s (waits_by s i x r) ≡ text_of (record s { workspace = w }) (waits_by (record s { workspace = w }) i x r)
-waits_text s i x w (Ok v) = refl
-waits_text s i x w (Err f) = refl
-
-pub text_waits : (s : State) (i : Instr) (w : Workspace) (x : Wait) (t : Texts) → instr_at s.workspace.memory s.place ≡ Ok i → limited_move (carried_out s.workspace i) ≡ Ok (w, (next.Waits x, t))
-    → text_of s (step s) ≡ text_of (record s { workspace = w }) (waits_by (record s { workspace = w }) i x (viewed w))
-unfolding step
-text_waits s i w x t h k = rw (h, carried_waits (carried_out s.workspace i) w x t k) (waits_text s i x w (viewed w))
 
 -- what shows the rest of a run shows the whole
 abbrev pub ShowsRest : {S : Type 0} → (S → S → List ℕ → List ℕ → Type 0) → S → S → Texts → Texts → Type 0

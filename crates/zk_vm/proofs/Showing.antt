@@ -8,7 +8,7 @@ use Rattle.zk_step.specs.declared.ending.Ending.{Ending}
 use Rattle.zk_code.specs.declared.instr.Instr.{Instr}
 use Rattle.zk_step.specs.declared.ending.Effect.{Effect}
 use Rattle.zk_step.specs.declared.ending.Next.{Next}
-use Rattle.zk_step.specs.declared.ending.Next.TheVariants.{At, Waits, End}
+use Rattle.zk_step.specs.declared.ending.Next.TheVariants.{At, Waits, Keeps, Resumes, End}
 use Rattle.zk_step.specs.declared.ending.Output.{Output}
 use Rattle.zk_step.specs.declared.ending.Output.TheVariants.{Nothing, Code, Character, Number, Text, Line, Rows, Status}
 use Rattle.zk_step.specs.declared.workspace.Workspace.{Workspace}
@@ -21,6 +21,7 @@ use Rattle.zk_step.proofs.Steps.{finish_refused, route_refused}
 use Rattle.zk_step.proofs.Waits.{waits_ends, waits_silent}
 use Rattle.zk_vm.specs.Halts.{IsQuiet}
 use Rattle.zk_vm.specs.Routes.{finished_after}
+use Rattle.zk_vm.proofs.Ends.{ends_as, next_is, keeps_silent, resumes_silent}
 
 -- an instruction that is not refused shows its texts
 pub told : (r : Result (Workspace × (Next × Texts)) Refusal) (w : Workspace) (n : Next) (t : Texts) → r ≡ Ok (w, (n, t)) → r ≡ Ok (w, (n, text_in r))
@@ -70,7 +71,7 @@ pub shown_nothing : {S : Type 0} (shows : S → S → List ℕ → List ℕ → 
 shown_nothing {S} shows t r e a b (inl none) h k = rw none at k
 shown_nothing {S} shows t r e a b (inr ok) h k = let never = rw h at ok in absurd (search rules)
 
--- an instruction that waits shows nothing
+-- an instruction that waits, keeps a state or goes back shows nothing
 silent : (m : MemoryMap) (w : Workspace) (o : Output) → o ≡ Nothing → text_routed (routed m w o) ≡ no_text
 unfolding routed
 silent m w o h = rw h refl
@@ -82,4 +83,12 @@ quiet_wait w i vs e v (Waits x) found u before after ready h =
     let waits = waits_ends w i vs e.ending v x h in
     let ready_wait = rw waits at ready in
     silent found u e.output (waits_silent before after e.output x ready_wait)
+quiet_wait w i vs e v Keeps found u before after ready h =
+    let keeps = ends_as w i vs e.ending v Keeps (next_is _ v Keeps h) in
+    let ready_keep = rw keeps at ready in
+    silent found u e.output (keeps_silent before after e.output ready_keep)
+quiet_wait w i vs e v Resumes found u before after ready h =
+    let resumes = ends_as w i vs e.ending v Resumes (next_is _ v Resumes h) in
+    let ready_back = rw resumes at ready in
+    silent found u e.output (resumes_silent before after e.output ready_back)
 quiet_wait w i vs e v End found u before after ready h = tt

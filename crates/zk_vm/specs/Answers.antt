@@ -1,5 +1,5 @@
--- The answers to reads (Standard, section 15, `sread`, `aread` and `read_char`).
-use Rattle.std.specs.Prelude.{ℕ, ◌+◌, Bool, ◌&&◌, List, [], ◌∷◌, ◌++◌, is_none, Result, Ok, Err, if◌then◌else◌}
+-- The answers that a machine waits for (Standard, section 15, `sread`, `aread`, `read_char`, `save` and `restore`).
+use Rattle.std.specs.Prelude.{ℕ, ◌+◌, Bool, true, false, ◌&&◌, List, [], ◌∷◌, ◌++◌, is_none, Option, Some, None, Result, Ok, Err, if◌then◌else◌}
 use Rattle.zk_mem.specs.declared.fault.Fault.{Fault}
 use Rattle.zk_mem.specs.Map.{MemoryMap}
 use Rattle.zk_text.specs.Extra.{own_characters}
@@ -8,26 +8,50 @@ use Rattle.zk_code.specs.declared.instr.Instr.{Instr}
 use Rattle.zk_step.specs.declared.ending.Next.{Next}
 use Rattle.zk_step.specs.declared.ending.Next.TheVariants.{At}
 use Rattle.zk_step.specs.declared.ending.Wait.{Wait}
-use Rattle.zk_step.specs.declared.ending.Wait.TheVariants.{Line, Char}
+use Rattle.zk_step.specs.declared.ending.Wait.TheVariants.{Line, Char, Save, Restore}
 use Rattle.zk_step.specs.declared.workspace.Workspace.{Workspace}
-use Rattle.zk_step.specs.Inputs.{line_answered, character_answered}
+use Rattle.zk_state.specs.Frames.{FrameList}
+use Rattle.zk_save.specs.declared.restore.RestoreError.{RestoreError}
+use Rattle.zk_save.specs.declared.restore.RestoreError.TheVariants as restore_error
+use Rattle.zk_save.specs.Loading.{restored}
+use Rattle.zk_step.specs.Inputs.{line_answered, character_answered, result_answered}
+use Rattle.zk_step.specs.Restarts.{renewed}
+use Rattle.zk_step.specs.Resuming.{resumed}
 use Rattle.zk_step.specs.Routing.{no_text, script_is_on}
 use Rattle.zk_step.specs.Status.{code_units}
 use Rattle.zk_step.specs.Streams.{newest_of}
 use Rattle.zk_step.specs.TextBuffers.{kept_of}
 use Rattle.zk_vm.specs.declared.waiting.Waiting.{Waiting}
-use Rattle.zk_vm.specs.Step.{State, Step}
-use Rattle.zk_vm.specs.Step.Step.{Goes, Quits, Faults}
+use Rattle.zk_vm.specs.Step.{State, Step, goes_to}
+use Rattle.zk_vm.specs.Step.Step.{Goes, Quits, Faults, Exceeds}
+
+-- an answer: the codes of a line that was typed, whether a saved game was kept, or a saved game, where there is one
+pub data Answer : Type 0 where
+  Typed : (codes : List ℕ) → Answer
+  Kept : (kept : Bool) → Answer
+  File : (file : Option (List ℕ)) → Answer
+
+-- the codes of an answer; what is no line has none
+abbrev pub codes_of : Answer → List ℕ
+codes_of (Typed codes) = codes
+codes_of _ = []
+
+-- a saved game was kept
+abbrev pub is_kept : Answer → Bool
+is_kept (Kept kept) = kept
+is_kept _ = false
+
+-- the saved game of an answer
+abbrev pub file_of : Answer → Option (List ℕ)
+file_of (File file) = file
+file_of _ = None
+
+-- ---- reads
 
 -- the first code of a line, and a new line where it has none
 abbrev pub first_code : List ℕ → ℕ
 first_code [] = 13
 first_code (c ∷ cs) = c
-
--- what waits gets the codes of a line, or the first of them
-abbrev pub answered_by : Workspace → Instr → Wait → List ℕ → Result (Workspace × Next) Fault
-answered_by w i (Line text parse) codes = line_answered w i text parse codes
-answered_by w i Char codes = character_answered w i (first_code codes)
 
 -- letters, none where the text buffer can't be read
 abbrev pub letters_or_none : Result (List ℕ) Fault → List ℕ
@@ -45,17 +69,44 @@ is_transcribed w = script_is_on w.memory && is_none (newest_of w.streams.tables)
 -- what the transcript gets of what was typed: a line, but no character (section 7.1.1.1)
 abbrev pub transcribed : Workspace → Wait → List ℕ → List ℕ
 transcribed w (Line text parse) codes = if is_transcribed w then line_shown w.memory text codes else []
-transcribed w Char codes = []
+transcribed w _ codes = []
 
 -- the read is answered: no steps were made since, and the transcript is to get what was typed
 abbrev pub answer_led : State → List ℕ → Workspace → Next → Step
-answer_led s due w (At place) = Goes (record { workspace = w; place = place; steps = 0; reads = s.reads + 1; due = due }) no_text
+answer_led s due w (At place) = Goes (record s { workspace = w; place = place; steps = 0; reads = s.reads + 1; due = due }) no_text
 answer_led s due w _ = Quits no_text
 
 abbrev pub answer_settled : State → List ℕ → Result (Workspace × Next) Fault → Step
 answer_settled s due (Ok r) = answer_led s due r.0 r.1
 answer_settled s due (Err f) = Faults f
 
--- the rest of the instruction that waits, once the codes of a line have come
-unfoldable pub answered : State → Waiting → List ℕ → Step
-answered s w codes = answer_settled s (transcribed s.workspace w.wait codes) (answered_by s.workspace w.instruction w.wait codes)
+-- ---- saved games
+
+-- 1 for a truth, 0 for a falsehood
+abbrev pub truth_word : Bool → ℕ
+truth_word true = 1
+truth_word false = 0
+
+-- a saved game is back, and goes on where it was saved; where it is refused nothing changes and the answer is 0 or a
+-- falsehood, but for one with too many frames or words
+abbrev pub restored_to : State → Instr → Result (MemoryMap × FrameList × ℕ) RestoreError → Step
+restored_to s i (Ok (m, f, place)) = goes_to s s.undo (resumed (renewed (record s.workspace { memory = m; frames = f })) place)
+restored_to s i (Err (restore_error.Limit l)) = Exceeds l
+restored_to s i (Err _) = goes_to s s.undo (result_answered s.workspace i 0 false)
+
+-- without a saved game the answer is 0 or a falsehood
+abbrev pub restored_from : State → Instr → Option (List ℕ) → Step
+restored_from s i None = goes_to s s.undo (result_answered s.workspace i 0 false)
+restored_from s i (Some file) = restored_to s i (restored file s.workspace.memory s.workspace.frames)
+
+-- ---- all answers
+
+abbrev pub answered_by : State → Instr → Wait → Answer → Step
+answered_by s i (Line text parse) a = answer_settled s (transcribed s.workspace (Line text parse) (codes_of a)) (line_answered s.workspace i text parse (codes_of a))
+answered_by s i Char a = answer_settled s [] (character_answered s.workspace i (first_code (codes_of a)))
+answered_by s i Save a = goes_to s s.undo (result_answered s.workspace i (truth_word (is_kept a)) (is_kept a))
+answered_by s i Restore a = restored_from s i (file_of a)
+
+-- the rest of the instruction that waits, once its answer has come
+unfoldable pub answered : State → Waiting → Answer → Step
+answered s w a = answered_by s w.instruction w.wait a

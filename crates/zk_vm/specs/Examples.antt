@@ -9,6 +9,7 @@ use Rattle.zk_vm.specs.declared.limits.Limits.{Limits}
 use Rattle.zk_vm.specs.declared.stop.Event.TheVariants as event
 use Rattle.zk_vm.specs.declared.stop.Stop.{Stop}
 use Rattle.zk_vm.specs.declared.stop.Stop.TheVariants.{Quit, Fault, Limit, EndOfInput, Read}
+use Rattle.zk_vm.specs.Answers.Answer.{Typed}
 use Rattle.zk_vm.specs.Bounds.{AreInRange}
 use Rattle.zk_vm.specs.Halts.{event_waited}
 use Rattle.zk_vm.specs.Outcome.{Outcome, Session, begun, given, outcome, ran, with_stop}
@@ -107,8 +108,8 @@ echoes = story_of (0xf6 ∷ 0x7f ∷ 1 ∷ 0 ∷ 0xe5 ∷ 0xbf ∷ 0 ∷ 0x8c �
 -- each line answers one character: its first, and a new line where it has none; then the input has ended, or it fails
 abbrev pub LinesAnswerReads : Type 0
 LinesAnswerReads =
-    (outcome (codes "ab" ∷ [] ∷ codes "z" ∷ []) EndOfInput (starts echoes (limits_of 1 1 10)) ≡ stops EndOfInput (97 ∷ 10 ∷ 122 ∷ []))
-    × (outcome (codes "ab" ∷ []) Read (starts echoes (limits_of 1 1 10)) ≡ stops Read (codes "a"))
+    (outcome (Typed (codes "ab") ∷ Typed [] ∷ Typed (codes "z") ∷ []) EndOfInput (starts echoes (limits_of 1 1 10)) ≡ stops EndOfInput (97 ∷ 10 ∷ 122 ∷ []))
+    × (outcome (Typed (codes "ab") ∷ []) Read (starts echoes (limits_of 1 1 10)) ≡ stops Read (codes "a"))
 
 -- a typed line is the codes of its characters, by the extra characters of the story that reads it: "aé", in UTF-8
 abbrev pub LinesAreTyped : Type 0
@@ -117,8 +118,8 @@ LinesAreTyped = codes_read (starts echoes (limits_of 1 1 10)) (97 ∷ 195 ∷ 16
 -- steps are counted anew from an answer on, and the read itself is none of them: two lead from one to the next
 abbrev pub AnswersCountAnew : Type 0
 AnswersCountAnew =
-    (outcome (codes "a" ∷ codes "b" ∷ []) EndOfInput (starts echoes (limits_of 1 1 3)) ≡ stops EndOfInput (codes "ab"))
-    × (outcome (codes "a" ∷ codes "b" ∷ []) EndOfInput (starts echoes (limits_of 1 1 2)) ≡ stops (Limit 64 Steps) (codes "a"))
+    (outcome (Typed (codes "a") ∷ Typed (codes "b") ∷ []) EndOfInput (starts echoes (limits_of 1 1 3)) ≡ stops EndOfInput (codes "ab"))
+    × (outcome (Typed (codes "a") ∷ Typed (codes "b") ∷ []) EndOfInput (starts echoes (limits_of 1 1 2)) ≡ stops (Limit 64 Steps) (codes "a"))
 
 -- a machine of a story that has answered so many reads
 abbrev pub after_reads : ℕ → Session → Session
@@ -127,25 +128,25 @@ after_reads n s = record s { state = record s.state { reads = n } }
 -- 16,777,216 reads are answered, and the next one is past the limit, also where there is no answer to it
 abbrev pub ReadsAreLimited : Type 0
 ReadsAreLimited =
-    (outcome (codes "a" ∷ codes "b" ∷ []) EndOfInput (after_reads 16777215 (starts echoes (limits_of 1 1 10))) ≡ stops (Limit 64 Reads) (codes "a"))
-    × (outcome (codes "a" ∷ codes "b" ∷ []) EndOfInput (after_reads 16777213 (starts echoes (limits_of 1 1 10))) ≡ stops EndOfInput (codes "ab"))
+    (outcome (Typed (codes "a") ∷ Typed (codes "b") ∷ []) EndOfInput (after_reads 16777215 (starts echoes (limits_of 1 1 10))) ≡ stops (Limit 64 Reads) (codes "a"))
+    × (outcome (Typed (codes "a") ∷ Typed (codes "b") ∷ []) EndOfInput (after_reads 16777213 (starts echoes (limits_of 1 1 10))) ≡ stops EndOfInput (codes "ab"))
 
 -- `aread` at 64 with its text buffer there: byte 65 says that it holds 127 letters already, of 228. A letter would stand
 -- past the story; of an empty line the count is to be stored, above the static base. The faults have the read's address.
 abbrev pub AnswersFault : Type 0
 AnswersFault =
-    (outcome (codes "a" ∷ []) EndOfInput (starts (story_of (0xe4 ∷ 0x7f ∷ 64 ∷ 0 ∷ [])) (limits_of 1 1 10)) ≡ stops (Fault 64 BadAddress) [])
-    × (outcome ([] ∷ []) EndOfInput (starts (story_of (0xe4 ∷ 0x7f ∷ 64 ∷ 0 ∷ [])) (limits_of 1 1 10)) ≡ stops (Fault 64 ReadOnly) [])
-    × (outcome (codes "a" ∷ []) EndOfInput (starts echoes (limits_of 1 0 10)) ≡ stops (Limit 64 Words) [])
+    (outcome (Typed (codes "a") ∷ []) EndOfInput (starts (story_of (0xe4 ∷ 0x7f ∷ 64 ∷ 0 ∷ [])) (limits_of 1 1 10)) ≡ stops (Fault 64 BadAddress) [])
+    × (outcome (Typed [] ∷ []) EndOfInput (starts (story_of (0xe4 ∷ 0x7f ∷ 64 ∷ 0 ∷ [])) (limits_of 1 1 10)) ≡ stops (Fault 64 ReadOnly) [])
+    × (outcome (Typed (codes "a") ∷ []) EndOfInput (starts echoes (limits_of 1 0 10)) ≡ stops (Limit 64 Words) [])
 
 -- a machine waits for a line or a character, and goes on from there
 abbrev pub MachinesWait : Type 0
 MachinesWait =
     (event_waited (ran (starts echoes (limits_of 1 1 10))).waiting ≡ Some event.Char)
     × (event_waited (ran (starts (story_of (0xe4 ∷ 0x7f ∷ 64 ∷ 0 ∷ [])) (limits_of 1 1 10))).waiting ≡ Some event.Line)
-    × ((given (ran (starts echoes (limits_of 1 1 10))) (codes "a")).state.place ≡ 68)
-    × ((given (ran (starts echoes (limits_of 1 1 10))) (codes "a")).state.reads ≡ 1)
-    × ((given (ran (starts echoes (limits_of 1 1 10))) (codes "a")).waiting ≡ None)
+    × ((given (ran (starts echoes (limits_of 1 1 10))) (Typed (codes "a"))).state.place ≡ 68)
+    × ((given (ran (starts echoes (limits_of 1 1 10))) (Typed (codes "a"))).state.reads ≡ 1)
+    × ((given (ran (starts echoes (limits_of 1 1 10))) (Typed (codes "a"))).waiting ≡ None)
 
 -- ---- the upper window and the transcript
 
@@ -157,12 +158,12 @@ shows_a_row = story_of (0xea ∷ 0x7f ∷ 1 ∷ 0xeb ∷ 0x7f ∷ 1 ∷ 0xb2 ∷
 -- where the view has the upper window its row stands on a line before the read, else nothing of it is shown
 abbrev pub ViewsShowRows : Type 0
 ViewsShowRows =
-    (outcome (codes "x" ∷ []) EndOfInput (begun shows_a_row 1 (limits_of 1 1 10) Upper) ≡ stops Quit (codes "| hi" ++ 10 ∷ []))
-    × (outcome (codes "x" ∷ []) EndOfInput (begun shows_a_row 1 (limits_of 1 1 10) Plain) ≡ stops Quit [])
+    (outcome (Typed (codes "x") ∷ []) EndOfInput (begun shows_a_row 1 (limits_of 1 1 10) Upper) ≡ stops Quit (codes "| hi" ++ 10 ∷ []))
+    × (outcome (Typed (codes "x") ∷ []) EndOfInput (begun shows_a_row 1 (limits_of 1 1 10) Plain) ≡ stops Quit [])
 
 -- past the most reads no row is shown either
 abbrev pub NoViewPastTheMostReads : Type 0
-NoViewPastTheMostReads = outcome (codes "x" ∷ []) EndOfInput (after_reads 16777216 (begun shows_a_row 1 (limits_of 1 1 10) Upper)) ≡ stops (Limit 76 Reads) []
+NoViewPastTheMostReads = outcome (Typed (codes "x") ∷ []) EndOfInput (after_reads 16777216 (begun shows_a_row 1 (limits_of 1 1 10) Upper)) ≡ stops (Limit 76 Reads) []
 
 -- at 64 `output_stream` 2, at 67 `print` of "hi", at 70 `output_stream` -2, at 74 `print` of "hi", at 77 `quit`
 abbrev pub ScriptsGetText : Type 0

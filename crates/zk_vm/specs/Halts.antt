@@ -1,12 +1,15 @@
 -- What a machine tells of a run, and how it is left.
-use Rattle.std.specs.Prelude.{◌≡◌, ◌≤◌, ◌<◌, ◌^◌, ◌+◌, ℕ, Option, Some, None, Result, Ok, Err}
-use Rattle.zk_state.specs.declared.refusal.Refusal.{Refusal}
-use Rattle.zk_state.specs.declared.refusal.Refusal.TheVariants as refusal
+use Rattle.std.specs.Prelude.{◌≡◌, ◌⊎◌, ◌≤◌, ◌<◌, ◌^◌, ◌+◌, ◌-◌, Bool, true, false, ℕ, [], Option, Some, None, Result, Ok, Err}
 use Rattle.zk_step.specs.declared.ending.Next.{Next}
-use Rattle.zk_step.specs.declared.ending.Next.TheVariants.{At, Waits}
+use Rattle.zk_code.specs.declared.instr.Instr.{Instr}
+use Rattle.zk_code.specs.declared.opcode.Opcode.TheVariants.{Saving}
+use Rattle.zk_code.specs.declared.opcode.Saving.TheVariants.{SaveUndo}
+use Rattle.zk_code.specs.Reading.{instr_at}
+use Rattle.zk_step.specs.declared.ending.Next.TheVariants.{Waits, Keeps, Resumes}
 use Rattle.zk_step.specs.declared.ending.Wait.{Wait}
 use Rattle.zk_step.specs.declared.ending.Wait.TheVariants as wait
-use Rattle.zk_step.specs.Routing.{Texts, no_text}
+use Rattle.zk_step.specs.Routing.{Texts, no_text, on_script, text_joined}
+use Rattle.zk_vm.specs.declared.limits.Limits.{Limits}
 use Rattle.zk_vm.specs.declared.stop.Event.{Event}
 use Rattle.zk_vm.specs.declared.stop.Event.TheVariants as event
 use Rattle.zk_vm.specs.declared.stop.Stop.{Stop}
@@ -14,9 +17,9 @@ use Rattle.zk_vm.specs.declared.stop.Stop.TheVariants as stop
 use Rattle.zk_vm.specs.declared.waiting.Halt.{Halt}
 use Rattle.zk_vm.specs.declared.waiting.Halt.TheVariants as halt
 use Rattle.zk_vm.specs.declared.waiting.Waiting.{Waiting}
-use Rattle.zk_vm.specs.Step.{State, Verdict}
+use Rattle.zk_vm.specs.Step.{State, Verdict, step, verdict_of, state_after, text_of, is_past_reads}
 use Rattle.zk_vm.specs.Step.Verdict.{GoesOn, WaitsFor, StopsBy}
-use Rattle.zk_vm.specs.Outcome.{Session}
+use Rattle.zk_vm.specs.Outcome.{Session, Leads, segment_of, ran}
 
 -- a verdict, as the code tells it
 abbrev pub halt_by : Verdict → Result (Unit {0}) Halt
@@ -33,11 +36,20 @@ halt_of (Err stop) = halt.Stops stop
 abbrev pub event_by : Wait → Event
 event_by (wait.Line text parse) = event.Line
 event_by wait.Char = event.Char
+event_by wait.Save = event.Save
+event_by wait.Restore = event.Restore
 
 -- how a segment ends, as callers are told
 abbrev pub event_of : Result Waiting Stop → Result Event Stop
 event_of (Ok w) = Ok (event_by w.wait)
 event_of (Err stop) = Err stop
+
+-- a line or a character is asked for
+abbrev pub is_read_event : Event → Bool
+is_read_event event.Line = true
+is_read_event event.Char = true
+is_read_event event.Save = false
+is_read_event event.Restore = false
 
 -- what a machine waits for
 abbrev pub event_waited : Option Waiting → Option Event
@@ -60,19 +72,64 @@ abbrev pub IsLeftAs : Session → Session → Option Stop → Type 0
 IsLeftAs new s None = new ≡ s
 IsLeftAs new s (Some stop) = (new.stopped ≡ Some stop) × (new.waiting ≡ None) × (new.limits ≡ s.limits)
 
--- a machine that waits can be answered
-abbrev pub CanAnswer : ℕ → Option Stop → Option Waiting → Type 0
-CanAnswer reads stopped None = Unit {0}
-CanAnswer reads stopped (Some w) = (reads < 16777216) × (w.instruction.next ≤ 2 ^ 20) × (stopped ≡ None)
+-- a machine that waits can be answered: there may be one more read, where it waits for one, and one more step
+pub record IsAnswerable (s : State) (l : Limits) (stopped : Option Stop) (w : Waiting) : Type 0 where
+  pub reads : is_past_reads s.reads w.wait ≡ false
+  pub steps : s.steps < l.steps
+  pub next : w.instruction.next ≤ 2 ^ 20
+  pub some : 1 ≤ w.instruction.next
+  pub place : s.place < 2 ^ 20
+  pub runs : stopped ≡ None
+  pub shown : s.due ≡ []
 
--- a machine goes on where an answer leads, or stops
-abbrev pub IsLed : Session → Session → Result Next Refusal → Type 0
-IsLed old new (Ok (At place)) = new ≡ record old { state = record old.state { place = place; steps = 0; reads = old.state.reads + 1 } }
-IsLed old new (Ok _) = new ≡ record old { stopped = Some stop.Quit }
-IsLed old new (Err (refusal.Fault f)) = new ≡ record old { stopped = Some (stop.Fault old.state.place f) }
-IsLed old new (Err (refusal.Limit l)) = new ≡ record old { stopped = Some (stop.Limit old.state.place l) }
+abbrev pub CanAnswer : State → Limits → Option Stop → Option Waiting → Type 0
+CanAnswer s l stopped None = Unit {0}
+CanAnswer s l stopped (Some w) = IsAnswerable s l stopped w
 
--- an instruction that waits shows nothing
+-- an instruction that waits, keeps or goes back shows nothing
 abbrev pub IsQuiet : Next → Texts → Type 0
 IsQuiet (Waits w) text = text ≡ no_text
+IsQuiet Keeps text = text ≡ no_text
+IsQuiet Resumes text = text ≡ no_text
 IsQuiet _ text = Unit {0}
+
+-- ---- want of memory
+
+-- the instruction at a state's place keeps a state, where there may be one
+pub record IsKeeping (s : State) : Type 0 where
+  pub instruction : Instr
+  pub fetched : instr_at s.workspace.memory s.place ≡ Ok instruction
+  pub keeps : instruction.opcode ≡ Saving SaveUndo
+  pub some : 0 < s.workspace.memory.undo_states
+
+-- a step was made as the Standard's machine makes it, and its text was shown; or it came to keep a state, for which there
+-- was no memory
+abbrev pub IsStep : Session → Session → Result (Unit {0}) Halt → (Texts → Type 0) → Type 0
+IsStep old new answer Shown =
+    ((answer ≡ halt_by (verdict_of old.state (step old.state)))
+    × IsLeftAt old new (verdict_of old.state (step old.state)) (state_after old.state (step old.state))
+    × Shown (text_of old.state (step old.state)))
+    ⊎ ((answer ≡ Err (halt.Stops stop.Memory)) × (new.waiting ≡ None) × (IsKeeping old.state × Shown no_text))
+
+-- some steps of a machine lead to an instruction that keeps a state; this is what they show
+pub record ComesToKeep (s : Session) (text : Texts) : Type 0 where
+  pub runs : s.stopped ≡ None
+  pub steps : ℕ
+  pub few : steps < s.limits.steps - s.state.steps
+  pub end : State
+  pub behind : Texts
+  pub leads : Leads steps (record s.state { due = [] }) end behind
+  pub keeping : IsKeeping end
+  pub shown : text ≡ text_joined (on_script s.state.due) behind
+
+-- a machine has run as the Standard's machine does, and shown its text; or it came to keep a state, for which there was
+-- no memory, and has shown its text up to there
+abbrev pub IsRun : Session → Session → Result Event Stop → (Texts → Type 0) → Type 0
+IsRun old new answer Shown =
+    ((answer ≡ event_of (segment_of old).end) × IsLeftAs new (ran old) (ran old).stopped × Shown (segment_of old).text)
+    ⊎ ((answer ≡ Err stop.Memory) × (new.stopped ≡ Some stop.Memory) × (new.waiting ≡ None) × ((text : Texts) × ComesToKeep old text × Shown text))
+
+-- while a machine has no stop
+abbrev pub WhileRunning : Option Stop → Type 0 → Type 0
+WhileRunning None P = P
+WhileRunning (Some stop) P = Unit {0}

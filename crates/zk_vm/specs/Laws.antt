@@ -12,16 +12,19 @@ use Rattle.zk_vm.specs.declared.stop.Stop.{Stop}
 use Rattle.zk_vm.specs.declared.stop.Stop.TheVariants.{Limit as LimitAt}
 use Rattle.zk_vm.specs.Bounds.{AreInRange}
 use Rattle.zk_vm.specs.declared.waiting.Waiting.{Waiting}
+use Rattle.zk_vm.specs.Answers.{Answer}
 use Rattle.zk_vm.specs.Step.{State, step, most_reads}
 use Rattle.zk_vm.specs.Step.Step.{Goes}
 use Rattle.zk_vm.specs.Outcome.{Segment, Session, segment, outcome, begun, Leads}
 
--- no more frames and words than the limits say, no more steps since the last answered read, and no more reads
+-- no more frames and words than the limits say, no more steps since the last answered read, no more reads, and no more
+-- states to go back to
 pub record IsWithin (l : Limits) (s : State) : Type 0 where
   pub frames : length (frames_of s.workspace.frames) ≤ l.frames
   pub words : total_of s.workspace.frames ≤ l.words
   pub steps : s.steps ≤ l.steps
   pub reads : s.reads ≤ most_reads
+  pub undo : length s.undo ≤ l.undo
 
 -- every state that a run passes, from the start of a story on, is within its limits
 abbrev pub RunsStayWithin : Type 0
@@ -84,7 +87,7 @@ with_more_steps k s = record s { limits = record s.limits { steps = s.limits.ste
 
 -- a run that stops for another reason is the same under any greater limit on steps, whatever answers it gets
 abbrev pub StepLimitOnlyCutsRuns : Type 0
-StepLimitOnlyCutsRuns = (answers : List (List ℕ)) (end : Stop) (k : ℕ) (s : Session) → (s.stopped ≡ None → s.state.steps ≤ s.limits.steps)
+StepLimitOnlyCutsRuns = (answers : List Answer) (end : Stop) (k : ℕ) (s : Session) → (s.stopped ≡ None → s.state.steps ≤ s.limits.steps)
     → IsNoStepStop (outcome answers end s).stop → outcome answers end (with_more_steps k s) ≡ outcome answers end s
 
 -- a machine with other limits on frames and words
@@ -93,5 +96,5 @@ session_in f w s = record s { state = state_in f w s.state; limits = record s.li
 
 -- a run that stops for another reason is the same under any greater limits on frames and words, whatever answers it gets
 abbrev pub FrameLimitsOnlyCutRuns : Type 0
-FrameLimitsOnlyCutRuns = (answers : List (List ℕ)) (end : Stop) (f w : ℕ) (s : Session) → s.state.workspace.frames.most_frames ≤ f → s.state.workspace.frames.most_words ≤ w
+FrameLimitsOnlyCutRuns = (answers : List Answer) (end : Stop) (f w : ℕ) (s : Session) → s.state.workspace.frames.most_frames ≤ f → s.state.workspace.frames.most_words ≤ w
     → IsNoFrameStop (outcome answers end s).stop → outcome answers end (session_in f w s) ≡ outcome answers end s

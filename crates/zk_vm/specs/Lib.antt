@@ -2,11 +2,14 @@ pub mod View
 pub mod Answers
 pub mod Bounds
 pub mod Consoles
+pub mod Going
 pub mod Halts
 pub mod Laws
 pub mod Outcome
+pub mod Sound
 pub mod Plays
 pub mod Printed
 pub mod Step
 pub mod Examples
 pub mod Routes
+pub mod SavingExamples

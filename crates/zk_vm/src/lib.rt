@@ -11,6 +11,7 @@ pub mod machine;
 pub mod play;
 mod printer;
 mod routing;
+pub mod saving_examples;
 pub mod screen;
 pub mod slot;
 mod step;

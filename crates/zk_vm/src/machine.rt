@@ -1,16 +1,20 @@
 // A machine that runs a story.
 
-ghost use Rattle.std.specs.Prelude.{◌≡◌, ◌≤◌, ◌<◌, ◌+◌, ◌-◌, ◌^◌, ◌⊎◌, true, [], ◌∷◌, length, Some, None, Ok, IfOk, OnOk, OnErr};
+ghost use Rattle.std.specs.Prelude.{◌≡◌, ◌≤◌, ◌<◌, ◌+◌, ◌-◌, ◌^◌, ◌⊎◌, true, [], ◌∷◌, length, nat_lt, if◌then◌else◌, option_copied, Some, None, Ok, Err, IfOk, OnOk, OnErr, MatchResult};
 ghost use Rattle.std.specs.List.{AllByRecursion};
 ghost use Rattle.zk_text.specs.Extra.{is_input_code};
-ghost use Rattle.zk_state.specs.Frames.{IsBounded};
+ghost use Rattle.zk_state.specs.Frames.{IsBounded, bounds_of};
 ghost use Rattle.zk_code.specs.Reading.{instr_at};
 ghost use Rattle.zk_vm.specs.Bounds.{AreInRange};
-ghost use Rattle.zk_vm.specs.Halts.{halt_of, halt_by, IsLeftAt, IsLeftBy, IsLeftAs, IsLed, event_by, event_of, event_waited};
+ghost use Rattle.zk_vm.specs.Answers.{truth_word};
+ghost use Rattle.zk_vm.specs.Answers.Answer.{Typed, Kept, File};
+ghost use Rattle.zk_vm.specs.Going.{limit_of, stop_by, verdict_by, place_by, steps_by, stopped_by, restored_on, Settles, LacksMemory, IsHalted};
+ghost use Rattle.zk_vm.specs.Halts.{ComesToKeep, IsLeftAs, IsLeftBy, IsRun, IsStep, event_by, event_waited, halt_by, halt_of, is_read_event};
 ghost use Rattle.zk_vm.specs.Laws.{IsWithin};
-ghost use Rattle.zk_vm.specs.Outcome.{begun, segment, segment_of, ran, given, with_stop};
-ghost use Rattle.zk_vm.specs.Step.{step, verdict_of, state_after, text_of, waits_by};
-ghost use Rattle.zk_vm.specs.View.{viewed};
+ghost use Rattle.zk_vm.specs.Outcome.{begun, given, segment, with_stop};
+ghost use Rattle.zk_vm.specs.Plays.{image_of};
+ghost use Rattle.zk_vm.specs.Step.{is_read, led_to, text_of};
+ghost use Rattle.zk_step.specs.Routing.{no_text};
 
 use crate::codes::Codes;
 use crate::limits::Limits;
@@ -27,11 +31,15 @@ use zk_code::decode::decode;
 use zk_code::instr::Instr;
 use zk_mem::memory::{Memory, Setup};
 use zk_mem::story::Story;
+use zk_save::restore::{RestoreError, restore};
+use zk_save::save::save;
+use zk_save::undo::Undo;
 use zk_state::frames::Frames;
 use zk_state::refusal::{Limit, Refusal};
 use zk_step::ending::{Next, Wait};
-use zk_step::inputs::{answer_character, answer_line};
+use zk_step::inputs::{answer_character, answer_line, answer_result};
 use zk_step::random::Generators;
+use zk_step::resuming::resume;
 use zk_step::streams::Streams;
 use zk_step::workspace::{View, Workspace};
 use zk_term::windows::Windows;
@@ -52,6 +60,7 @@ pub struct Machine {
     stopped: Option<Stop>,
     // what the transcript is still to get of the line that was read
     due: ArrayVec<char, 511>,
+    undo: Undo,
     // room for what a table of stream 3 gets in a step
     codes: Codes,
 }
@@ -59,8 +68,10 @@ pub struct Machine {
 impl Model for Machine {
     ghost use Rattle.std.specs.Prelude.{◌≤◌, ◌≡◌};
     ghost use Rattle.zk_state.specs.Frames.{bounds_of};
-    ghost use Rattle.zk_vm.specs.Halts.{CanAnswer};
+    ghost use Rattle.zk_save.specs.States.{states_in, AreOf};
+    ghost use Rattle.zk_vm.specs.Halts.{CanAnswer, WhileRunning};
     ghost use Rattle.zk_vm.specs.Outcome.{Session};
+    ghost use Rattle.zk_vm.specs.Sound.{state_seen, IsSound};
     ghost use Rattle.std.specs.Coded as coded;
     ghost use Rattle.zk_step.specs.contracts.workspace.Workspace as play;
 
@@ -68,15 +79,15 @@ impl Model for Machine {
 
     ghost coded = { Prim.hlevel (coded.codes, play.the_row.coded) };
 
-    ghost view = { λ m. record { state = record { workspace = m.workspace; place = m.place; steps = m.steps; reads = m.reads; due = m.due.items }; limits = m.limits; waiting = m.waiting; stopped = m.stopped } };
+    ghost view = { λ m. record { state = state_seen m; limits = m.limits; waiting = m.waiting; stopped = m.stopped } };
 
-    ghost invariant = { λ m. (m.steps ≤ m.limits.steps) × (bounds_of m.workspace.frames ≡ (m.limits.frames, m.limits.words)) × (m.reads ≤ 16777216) × CanAnswer m.reads m.stopped m.waiting };
+    ghost invariant = { IsSound };
 }
 
 impl Machine {
     /// A machine at the start of a story. `seed` begins its random numbers, and `view` says what it shows of
     /// the status line and the upper window.
-    #[tactic(auto, unfolding(crate::specs::Outcome::begun))]
+    #[tactic(auto, unfolding(crate::specs::Outcome::begun, zk_save::specs::States::states_in))]
     pub fn start(
         alloc: Global,
         story: Story,
@@ -94,6 +105,7 @@ impl Machine {
         let frames = Frames::new(alloc, limits.frames, limits.words)?;
         let memory = Memory::start(alloc, story, setup)?;
         let windows = Windows::new(alloc)?;
+        let undo = Undo::new(alloc, limits.undo)?;
         let codes = Codes::new(alloc)?;
         let generators = Generators {
             free: seed,
@@ -116,32 +128,36 @@ impl Machine {
             waiting: None,
             stopped: None,
             due: ArrayVec::new(),
+            undo,
             codes,
         })
     }
 
-    /// There are no more frames, words, steps and reads than the limits say.
+    /// There are no more frames, words, steps, reads and states to go back to than the limits say.
     #[inline(always)]
     fn is_within(&self)
         ensures bounded { IsBounded self.now.state.workspace.frames }
         ensures within { IsWithin self.now.limits self.now.state }
     {
         let _ = &self.limits;
+        self.undo.len();
         self.workspace.frames.is_bounded();
     }
 
     /// Carries out an instruction that was fetched from the machine's place.
-    #[tactic(auto, unfolding(crate::specs::Step::step))]
     fn advance<S: Screen>(&mut self, i: Instr, screen: &mut S) -> Result<(), Halt>
         requires room { self.old.state.steps < self.old.limits.steps }
         requires free { self.old.waiting ≡ None }
         requires runs { self.old.stopped ≡ None }
+        requires silent { self.old.state.due ≡ [] }
         requires near { i.next ≤ 2 ^ 20 }
+        requires inside { self.old.state.place < i.next }
         requires fetched { instr_at self.old.state.workspace.memory self.old.state.place ≡ Ok i }
-        ensures value { result ≡ halt_by (verdict_of self.old.state (step self.old.state)) }
-        ensures left { IsLeftAt self.old self.new (verdict_of self.old.state (step self.old.state)) (state_after self.old.state (step self.old.state)) }
-        ensures text { S.shows screen.old screen.new (text_of self.old.state (step self.old.state)).screen (text_of self.old.state (step self.old.state)).script }
+        ensures step { IsStep self.old self.new result (λ t. S.shows screen.old screen.new t.screen t.script) }
         ensures counted { OnOk result (self.new.state.steps ≡ self.old.state.steps + 1) }
+        ensures silent { OnOk result (self.new.state.due ≡ self.old.state.due) }
+        ensures reads { self.new.state.reads ≡ self.old.state.reads }
+        ensures more { self.old.state.steps ≤ self.new.state.steps }
         ensures limits { self.new.limits ≡ self.old.limits }
     {
         match carry_out(&mut self.workspace, &i, &mut self.codes, screen) {
@@ -151,33 +167,128 @@ impl Machine {
                 Ok(())
             }
             Ok(Next::Waits(wait)) => self.wait_for(wait, i, screen),
-            Ok(Next::End) => Err(Halt::Stops(Stop::Quit)),
-            Err(Refusal::Fault(fault)) => Err(Halt::Stops(Stop::Fault(self.place, fault))),
-            Err(Refusal::Limit(limit)) => Err(Halt::Stops(Stop::Limit(self.place, limit))),
+            Ok(Next::Keeps) => self.keep(&i),
+            Ok(Next::Resumes) => self.go_back(&i),
+            Ok(Next::End) => halt(&mut self.stopped, Stop::Quit),
+            Err(refusal) => halt(&mut self.stopped, stop_at(self.place, refusal)),
         }
     }
 
-    /// Shows the view and waits for an answer, where there may be one more.
+    /// Keeps the state in front of the others, and goes on with the answer of `save_undo`. Where there is no
+    /// memory for it, nothing is stored.
+    fn keep(&mut self, i: &Instr) -> Result<(), Halt>
+        requires room { self.old.state.steps < self.old.limits.steps }
+        requires free { self.old.waiting ≡ None }
+        requires runs { self.old.stopped ≡ None }
+        requires near { i.now.next ≤ 2 ^ 20 }
+        requires inside { self.old.state.place < i.now.next }
+        ensures step { Settles self.old self.new result (led_to self.old.state i.now self.old.state.workspace no_text Next.Keeps) ⊎ LacksMemory self.old self.new result }
+        ensures counted { OnOk result (self.new.state.steps ≡ self.old.state.steps + 1) }
+        ensures silent { OnOk result (self.new.state.due ≡ self.old.state.due) }
+        ensures reads { self.new.state.reads ≡ self.old.state.reads }
+        ensures more { self.old.state.steps ≤ self.new.state.steps }
+        ensures limits { self.new.limits ≡ self.old.limits }
+    {
+        if self.limits.undo == 0 {
+            self.undo.len();
+            let led = answer_result(&mut self.workspace, i, 0xffff, true);
+            return go_on(&mut self.place, &mut self.steps, &mut self.stopped, led);
+        }
+        let place = place_of_save(self.workspace.memory.version(), self.place, i.next);
+        match self
+            .undo
+            .put(&self.workspace.memory, &self.workspace.frames, place)
+        {
+            Ok(()) => {}
+            Err(_) => return halt(&mut self.stopped, Stop::Memory),
+        }
+        let led = answer_result(&mut self.workspace, i, 1, true);
+        go_on(&mut self.place, &mut self.steps, &mut self.stopped, led)
+    }
+
+    /// Goes back to the newest state that is kept, and on where it was saved; without one `restore_undo`
+    /// answers 0.
+    fn go_back(&mut self, i: &Instr) -> Result<(), Halt>
+        requires room { self.old.state.steps < self.old.limits.steps }
+        requires free { self.old.waiting ≡ None }
+        requires runs { self.old.stopped ≡ None }
+        requires near { i.now.next ≤ 2 ^ 20 }
+        ensures step { Settles self.old self.new result (led_to self.old.state i.now self.old.state.workspace no_text Next.Resumes) }
+        ensures counted { OnOk result (self.new.state.steps ≡ self.old.state.steps + 1) }
+        ensures silent { OnOk result (self.new.state.due ≡ self.old.state.due) }
+        ensures reads { self.new.state.reads ≡ self.old.state.reads }
+        ensures more { self.old.state.steps ≤ self.new.state.steps }
+        ensures limits { self.new.limits ≡ self.old.limits }
+    {
+        match self
+            .undo
+            .take(&mut self.workspace.memory, &mut self.workspace.frames)
+        {
+            Some(place) => {
+                let led = resume(&mut self.workspace, place);
+                go_on(&mut self.place, &mut self.steps, &mut self.stopped, led)
+            }
+            None => {
+                let led = answer_result(&mut self.workspace, i, 0, false);
+                go_on(&mut self.place, &mut self.steps, &mut self.stopped, led)
+            }
+        }
+    }
+
+    /// Waits for an answer: for a read behind the view.
     fn wait_for<S: Screen>(
         &mut self,
         wait: Wait,
         instruction: Instr,
         screen: &mut S,
     ) -> Result<(), Halt>
-        requires near { instruction.next ≤ 2 ^ 20 }
+        requires room { self.old.state.steps < self.old.limits.steps }
         requires free { self.old.waiting ≡ None }
         requires runs { self.old.stopped ≡ None }
-        ensures value { result ≡ halt_by (verdict_of self.old.state (waits_by self.old.state instruction wait (viewed self.old.state.workspace))) }
-        ensures left { IsLeftAt self.old self.new (verdict_of self.old.state (waits_by self.old.state instruction wait (viewed self.old.state.workspace))) (state_after self.old.state (waits_by self.old.state instruction wait (viewed self.old.state.workspace))) }
-        ensures text { S.shows screen.old screen.new (text_of self.old.state (waits_by self.old.state instruction wait (viewed self.old.state.workspace))).screen (text_of self.old.state (waits_by self.old.state instruction wait (viewed self.old.state.workspace))).script }
+        requires silent { self.old.state.due ≡ [] }
+        requires near { instruction.next ≤ 2 ^ 20 }
+        requires inside { self.old.state.place < instruction.next }
+        ensures step { Settles self.old self.new result (led_to self.old.state instruction self.old.state.workspace no_text (Next.Waits wait)) }
+        ensures text { S.shows screen.old screen.new (text_of self.old.state (led_to self.old.state instruction self.old.state.workspace no_text (Next.Waits wait))).screen (text_of self.old.state (led_to self.old.state instruction self.old.state.workspace no_text (Next.Waits wait))).script }
+        ensures waits { OnOk result ⊥ }
+        ensures reads { self.new.state.reads ≡ self.old.state.reads }
+        ensures more { self.old.state.steps ≤ self.new.state.steps }
+        ensures limits { self.new.limits ≡ self.old.limits }
+    {
+        if is_read(wait) {
+            return self.wait_behind_view(wait, instruction, screen);
+        }
+        self.waiting = Some(Waiting { wait, instruction });
+        Err(Halt::Waits(wait))
+    }
+
+    /// Shows the view and waits for a line or a character, where there may be one more read.
+    fn wait_behind_view<S: Screen>(
+        &mut self,
+        wait: Wait,
+        instruction: Instr,
+        screen: &mut S,
+    ) -> Result<(), Halt>
+        requires room { self.old.state.steps < self.old.limits.steps }
+        requires free { self.old.waiting ≡ None }
+        requires runs { self.old.stopped ≡ None }
+        requires silent { self.old.state.due ≡ [] }
+        requires near { instruction.next ≤ 2 ^ 20 }
+        requires inside { self.old.state.place < instruction.next }
+        requires read { is_read wait ≡ true }
+        ensures step { Settles self.old self.new result (led_to self.old.state instruction self.old.state.workspace no_text (Next.Waits wait)) }
+        ensures text { S.shows screen.old screen.new (text_of self.old.state (led_to self.old.state instruction self.old.state.workspace no_text (Next.Waits wait))).screen (text_of self.old.state (led_to self.old.state instruction self.old.state.workspace no_text (Next.Waits wait))).script }
+        ensures waits { OnOk result ⊥ }
+        ensures reads { self.new.state.reads ≡ self.old.state.reads }
+        ensures more { self.old.state.steps ≤ self.new.state.steps }
         ensures limits { self.new.limits ≡ self.old.limits }
     {
         match check_view(&self.workspace) {
             Ok(()) => {}
-            Err(fault) => return Err(Halt::Stops(Stop::Fault(self.place, fault))),
+            Err(fault) => return halt(&mut self.stopped, Stop::Fault(self.place, fault)),
         }
         if self.reads >= MOST_READS {
-            return Err(Halt::Stops(Stop::Limit(self.place, Limit::Reads)));
+            return halt(&mut self.stopped, Stop::Limit(self.place, Limit::Reads));
         }
         show_view(&mut self.workspace, screen);
         self.waiting = Some(Waiting { wait, instruction });
@@ -185,30 +296,32 @@ impl Machine {
     }
 
     /// One step.
-    #[tactic(auto, unfolding(crate::specs::Step::step))]
     fn step<S: Screen>(&mut self, screen: &mut S) -> Result<(), Halt>
         requires room { self.old.state.steps < self.old.limits.steps }
         requires free { self.old.waiting ≡ None }
         requires runs { self.old.stopped ≡ None }
-        ensures value { result ≡ halt_by (verdict_of self.old.state (step self.old.state)) }
-        ensures left { IsLeftAt self.old self.new (verdict_of self.old.state (step self.old.state)) (state_after self.old.state (step self.old.state)) }
-        ensures text { S.shows screen.old screen.new (text_of self.old.state (step self.old.state)).screen (text_of self.old.state (step self.old.state)).script }
+        requires silent { self.old.state.due ≡ [] }
+        ensures step { IsStep self.old self.new result (λ t. S.shows screen.old screen.new t.screen t.script) }
         ensures counted { OnOk result (self.new.state.steps ≡ self.old.state.steps + 1) }
+        ensures silent { OnOk result (self.new.state.due ≡ self.old.state.due) }
+        ensures reads { self.new.state.reads ≡ self.old.state.reads }
+        ensures more { self.old.state.steps ≤ self.new.state.steps }
         ensures limits { self.new.limits ≡ self.old.limits }
     {
         match decode(&self.workspace.memory, self.place) {
             Ok(i) => self.advance(i, screen),
-            Err(fault) => Err(Halt::Stops(Stop::Fault(self.place, fault))),
+            Err(fault) => halt(&mut self.stopped, Stop::Fault(self.place, fault)),
         }
     }
 
-    /// Steps up to a read or a stop.
+    /// Steps up to an event or a stop.
     fn steps_to_halt<S: Screen>(&mut self, screen: &mut S) -> Halt
         requires free { self.old.waiting ≡ None }
         requires runs { self.old.stopped ≡ None }
-        ensures halt { result ≡ halt_of (segment (self.old.limits.steps - self.old.state.steps) self.old.state).end }
-        ensures left { IsLeftBy self.old self.new (segment (self.old.limits.steps - self.old.state.steps) self.old.state).end (segment (self.old.limits.steps - self.old.state.steps) self.old.state).state }
-        ensures text { S.shows screen.old screen.new (segment (self.old.limits.steps - self.old.state.steps) self.old.state).text.screen (segment (self.old.limits.steps - self.old.state.steps) self.old.state).text.script }
+        requires silent { self.old.state.due ≡ [] }
+        ensures run { IsHalted self.old self.new result (λ t. S.shows screen.old screen.new t.screen t.script) }
+        ensures reads { self.new.state.reads ≡ self.old.state.reads }
+        ensures more { self.old.state.steps ≤ self.new.state.steps }
         ensures limits { self.new.limits ≡ self.old.limits }
     {
         for _i in self.steps..self.limits.steps {
@@ -220,16 +333,19 @@ impl Machine {
         Halt::Stops(Stop::Limit(self.place, Limit::Steps))
     }
 
-    /// Runs the story up to its next read, or its stop, and answers the same stop from then on until
-    /// `close` sets another. Nothing of an instruction that faults is shown. It is not waiting.
-    #[tactic(auto, unfolding(crate::specs::Outcome::segment_of, crate::specs::Outcome::ran))]
+    /// Runs the story up to the next event, a read or a saved game, or its stop, and answers the same stop
+    /// from then on until `close` sets another. Nothing of an instruction that faults is shown. Where there is
+    /// no memory for a state that `save_undo` keeps, the stop is `Memory`, before that instruction stores its
+    /// answer. It is not waiting.
     pub fn run<S: Screen>(&mut self, screen: &mut S) -> Result<Event, Stop>
         requires { self.old.waiting ≡ None }
-        ensures answer { result ≡ event_of (segment_of self.old).end }
-        ensures left { IsLeftAs self.new (ran self.old) (ran self.old).stopped }
-        ensures text { S.shows screen.old screen.new (segment_of self.old).text.screen (segment_of self.old).text.script }
+        ensures run { IsRun self.old self.new result (λ t. S.shows screen.old screen.new t.screen t.script) }
         ensures free { OnErr result (self.new.waiting ≡ None) }
-        ensures reads { OnOk result (self.new.state.reads < 16777216) }
+        ensures asks { IfOk result (λ event. event_waited self.new.waiting ≡ Some event) }
+        ensures reads { IfOk result (λ event. is_read_event event ≡ true → self.new.state.reads < 16777216) }
+        ensures same_reads { OnOk result (self.new.state.reads ≡ self.old.state.reads) }
+        ensures steps { OnOk result ((self.old.state.steps ≤ self.new.state.steps) × (self.new.state.steps < self.new.limits.steps)) }
+        ensures runs { OnOk result (self.new.stopped ≡ None) }
         ensures limits { self.new.limits ≡ self.old.limits }
         ensures frames { IsBounded self.new.state.workspace.frames }
         ensures within { IsWithin self.new.limits self.new.state }
@@ -263,33 +379,14 @@ impl Machine {
         }
     }
 
-    /// Goes on where the answer to a read leads, or stops.
-    fn follow(&mut self, answered: Result<Next, Refusal>)
-        requires free { self.old.waiting ≡ None }
-        requires room { self.old.state.reads < 16777216 }
-        ensures { IsLed self.old self.new answered }
-    {
-        match answered {
-            Ok(Next::At(place)) => {
-                self.place = place;
-                self.steps = 0;
-                self.reads += 1;
-            }
-            Ok(Next::Waits(_)) | Ok(Next::End) => self.stopped = Some(Stop::Quit),
-            Err(Refusal::Fault(fault)) => self.stopped = Some(Stop::Fault(self.place, fault)),
-            Err(Refusal::Limit(limit)) => self.stopped = Some(Stop::Limit(self.place, limit)),
-        }
-    }
-
     /// Answers a read by the codes of a line, at most 255: they go to its text buffer and their words to its
     /// parse buffer (Z-Machine Standards Document 1.1, section 15, `read`). A fault or a limit comes from the
     /// next `run`. The machine waits for a line.
-    #[tactic(auto, unfolding(crate::specs::Outcome::given, crate::specs::Answers::answered))]
     pub fn answer_line(&mut self, codes: &[u8])
         requires waits { event_waited self.old.waiting ≡ Some Event.Line }
         requires few { length codes.now ≤ 255 }
         requires typed { AllByRecursion (λ c. is_input_code c ≡ true) codes.now }
-        ensures left { IsLeftAs self.new (given self.old codes.now) (given self.old codes.now).stopped }
+        ensures left { IsLeftAs self.new (given self.old (Typed codes.now)) (given self.old (Typed codes.now)).stopped }
         ensures free { self.new.waiting ≡ None }
         ensures counted { self.new.stopped ≡ None → self.new.state.reads ≡ self.old.state.reads + 1 }
         ensures limits { self.new.limits ≡ self.old.limits }
@@ -301,17 +398,17 @@ impl Machine {
             self.due = transcribe(&self.workspace, text, codes);
             let i = &waiting.instruction;
             let answered = answer_line(&mut self.workspace, i, text, parse, codes);
-            self.follow(answered);
+            count_read(&mut self.reads, &mut self.steps);
+            follow(&mut self.place, &mut self.stopped, answered);
         }
     }
 
     /// Answers a read by the code of a character (Z-Machine Standards Document 1.1, section 15,
     /// `read_char`). A fault or a limit comes from the next `run`. The machine waits for a character.
-    #[tactic(auto, unfolding(crate::specs::Outcome::given, crate::specs::Answers::answered))]
     pub fn answer_char(&mut self, code: u8)
         requires waits { event_waited self.old.waiting ≡ Some Event.Char }
         requires typed { (code ≡ 13) ⊎ (is_input_code code ≡ true) }
-        ensures left { IsLeftAs self.new (given self.old (code ∷ [])) (given self.old (code ∷ [])).stopped }
+        ensures left { IsLeftAs self.new (given self.old (Typed (code ∷ []))) (given self.old (Typed (code ∷ []))).stopped }
         ensures free { self.new.waiting ≡ None }
         ensures counted { self.new.stopped ≡ None → self.new.state.reads ≡ self.old.state.reads + 1 }
         ensures limits { self.new.limits ≡ self.old.limits }
@@ -321,7 +418,81 @@ impl Machine {
         };
         self.due.clear();
         let answered = answer_character(&mut self.workspace, &waiting.instruction, code);
-        self.follow(answered);
+        count_read(&mut self.reads, &mut self.steps);
+        follow(&mut self.place, &mut self.stopped, answered);
+    }
+
+    /// The file of the saved game that waits to be kept: the state before its instruction stores or branches
+    /// (Quetzal 1.4). The machine waits for it to be kept.
+    pub fn image(&self, alloc: Global) -> Result<Vec<u8>, AllocError>
+        requires waits { event_waited self.now.waiting ≡ Some Event.Save }
+        ensures { IfOk result (λ v. v.items ≡ image_of self.now) }
+    {
+        let next = match &self.waiting {
+            Some(waiting) => waiting.instruction.next,
+            None => 1,
+        };
+        let place = place_of_save(self.workspace.memory.version(), self.place, next);
+        save(alloc, &self.workspace.memory, &self.workspace.frames, place)
+    }
+
+    /// Answers whether the saved game was kept (Z-Machine Standards Document 1.1, section 15, `save`). A fault
+    /// or a limit comes from the next `run`. The machine waits for it to be kept.
+    pub fn answer_save(&mut self, kept: bool)
+        requires waits { event_waited self.old.waiting ≡ Some Event.Save }
+        ensures left { IsLeftAs self.new (given self.old (Kept kept)) (given self.old (Kept kept)).stopped }
+        ensures free { self.new.waiting ≡ None }
+        ensures counted { self.new.stopped ≡ None → self.new.state.steps ≡ self.old.state.steps + 1 }
+        ensures reads { self.new.stopped ≡ None → self.new.state.reads ≡ self.old.state.reads }
+        ensures limits { self.new.limits ≡ self.old.limits }
+    {
+        let Some(waiting) = self.waiting.take() else {
+            return;
+        };
+        let word = truth_word(kept);
+        let answered = answer_result(&mut self.workspace, &waiting.instruction, word, kept);
+        let _ = go_on(
+            &mut self.place,
+            &mut self.steps,
+            &mut self.stopped,
+            answered,
+        );
+    }
+
+    /// Answers by a saved game, or by none (Z-Machine Standards Document 1.1, section 15, `restore`). A file
+    /// that is refused counts as none, but for one with too many frames or words, which is a limit. A fault or
+    /// a limit comes from the next `run`. The machine waits for a saved game.
+    pub fn answer_restore(&mut self, file: Option<&[u8]>)
+        requires waits { event_waited self.old.waiting ≡ Some Event.Restore }
+        ensures left { IsLeftAs self.new (given self.old (File (option_copied file.entry))) (given self.old (File (option_copied file.entry))).stopped }
+        ensures free { self.new.waiting ≡ None }
+        ensures counted { self.new.stopped ≡ None → self.new.state.steps ≡ self.old.state.steps + 1 }
+        ensures reads { self.new.stopped ≡ None → self.new.state.reads ≡ self.old.state.reads }
+        ensures limits { self.new.limits ≡ self.old.limits }
+    {
+        let Some(waiting) = self.waiting.take() else {
+            return;
+        };
+        match file {
+            Some(file) => {
+                let answered = restore_from(&mut self.workspace, &waiting.instruction, file);
+                let _ = go_on(
+                    &mut self.place,
+                    &mut self.steps,
+                    &mut self.stopped,
+                    answered,
+                );
+            }
+            None => {
+                let answered = answer_result(&mut self.workspace, &waiting.instruction, 0, false);
+                let _ = go_on(
+                    &mut self.place,
+                    &mut self.steps,
+                    &mut self.stopped,
+                    answered,
+                );
+            }
+        }
     }
 
     /// The memory of the story.
@@ -347,5 +518,135 @@ fn asked_by(wait: Wait) -> Event
     match wait {
         Wait::Line(_, _) => Event::Line,
         Wait::Char => Event::Char,
+        Wait::Save => Event::Save,
+        Wait::Restore => Event::Restore,
+    }
+}
+
+/// Whether a line or a character is waited for.
+fn is_read(wait: Wait) -> bool
+    ensures { result ≡ is_read wait }
+{
+    match wait {
+        Wait::Line(_, _) | Wait::Char => true,
+        Wait::Save | Wait::Restore => false,
+    }
+}
+
+/// 1 for a truth, 0 for a falsehood.
+fn truth_word(truth: bool) -> u16
+    ensures { result ≡ truth_word truth }
+{
+    if truth { 1 } else { 0 }
+}
+
+/// Where a run goes on from a state that is saved at a place, by an instruction with `next` behind it: its branch
+/// in version 3, its store byte from version 4 on (Quetzal 1.4, section 5).
+fn place_of_save(version: u8, place: u32, next: u32) -> u32
+    requires place { place < 2 ^ 20 }
+    requires next { 1 ≤ next }
+    ensures { result ≡ (if nat_lt version 4 then place + 1 else next - 1) }
+{
+    if version < 4 { place + 1 } else { next - 1 }
+}
+
+/// The stop of an instruction at a place that is refused.
+fn stop_at(place: u32, refusal: Refusal) -> Stop
+    ensures { result ≡ stop_by place refusal }
+{
+    match refusal {
+        Refusal::Fault(fault) => Stop::Fault(place, fault),
+        Refusal::Limit(limit) => Stop::Limit(place, limit),
+    }
+}
+
+/// Stops a machine.
+fn halt(stopped: &mut Option<Stop>, stop: Stop) -> Result<(), Halt>
+    ensures value { result ≡ Err (Halt.Stops stop) }
+    ensures stopped { stopped.new ≡ Some stop }
+{
+    *stopped = Some(stop);
+    Err(Halt::Stops(stop))
+}
+
+/// Goes on by one step where an instruction leads that was finished in silence, or stops.
+fn go_on(
+    place: &mut u32,
+    steps: &mut u32,
+    stopped: &mut Option<Stop>,
+    led: Result<Next, Refusal>,
+) -> Result<(), Halt>
+    requires { steps.old + 1 < 2 ^ 32 }
+    ensures value { result ≡ halt_by (verdict_by place.old led) }
+    ensures place { place.new ≡ place_by place.old led }
+    ensures steps { steps.new ≡ steps_by steps.old led }
+    ensures more { steps.old ≤ steps.new }
+    ensures stopped { stopped.new ≡ stopped_by stopped.old (verdict_by place.old led) }
+{
+    match led {
+        Ok(Next::At(next)) => {
+            *place = next;
+            *steps += 1;
+            Ok(())
+        }
+        Ok(_) => halt(stopped, Stop::Quit),
+        Err(refusal) => halt(stopped, stop_at(*place, refusal)),
+    }
+}
+
+/// Counts a read that was answered: no steps were made since.
+fn count_read(reads: &mut u32, steps: &mut u32)
+    requires { reads.old ≤ 16777216 }
+    ensures reads { reads.new ≡ reads.old + 1 }
+    ensures steps { steps.new ≡ 0 }
+{
+    *reads += 1;
+    *steps = 0;
+}
+
+/// Goes on where the answer to a read leads, or stops.
+fn follow(place: &mut u32, stopped: &mut Option<Stop>, answered: Result<Next, Refusal>)
+    ensures place { place.new ≡ place_by place.old answered }
+    ensures stopped { stopped.new ≡ stopped_by stopped.old (verdict_by place.old answered) }
+{
+    match answered {
+        Ok(Next::At(next)) => *place = next,
+        Ok(_) => *stopped = Some(Stop::Quit),
+        Err(refusal) => *stopped = Some(stop_at(*place, refusal)),
+    }
+}
+
+/// The limit that a saved game passes, where it is refused for that.
+fn limit_in(error: RestoreError) -> Option<Limit>
+    ensures { result ≡ limit_of error }
+{
+    match error {
+        RestoreError::Limit(limit) => Some(limit),
+        RestoreError::NotQuetzal => None,
+        RestoreError::Truncated => None,
+        RestoreError::OtherStory => None,
+        RestoreError::BadMemory => None,
+        RestoreError::BadStack => None,
+    }
+}
+
+/// Restores a saved game and goes on where it was saved; where it is refused the answer is 0, or a falsehood.
+#[tactic(auto, unfolding(zk_step::specs::Restarts::renewed))]
+fn restore_from(workspace: &mut Workspace, i: &Instr, file: &[u8]) -> Result<Next, Refusal>
+    requires { i.now.next ≤ 2 ^ 20 }
+    ensures value { MatchResult result
+        (λ n. restored_on workspace.old i.now file.now ≡ Ok (workspace.new, n))
+        (λ e. restored_on workspace.old i.now file.now ≡ Err e) }
+    ensures bounds { bounds_of workspace.new.frames ≡ bounds_of workspace.old.frames }
+{
+    match restore(file, &mut workspace.memory, &mut workspace.frames) {
+        Ok(place) => {
+            workspace.renew();
+            resume(workspace, place)
+        }
+        Err(error) => match limit_in(error) {
+            Some(limit) => Err(Refusal::Limit(limit)),
+            None => answer_result(workspace, i, 0, false),
+        },
     }
 }

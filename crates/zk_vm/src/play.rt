@@ -1,49 +1,112 @@
 // Playing a story on devices.
 
-ghost use Rattle.std.specs.Prelude.{◌≡◌, ◌≤◌, ◌<◌, ◌+◌, ◌⊎◌, ◌++◌, ◌||◌, if◌then◌else◌, Err, List, ℕ, length, true, false, None, Some, OnOk, OnErr};
+ghost use Rattle.std.specs.Prelude.{◌≡◌, ◌≤◌, ◌<◌, ◌+◌, ◌⊎◌, ◌++◌, ◌||◌, List, ℕ, length, true, false, None, Some, IfOk, IfErr, OnOk, OnErr};
 ghost use Rattle.std.specs.List.{AllByRecursion};
 ghost use Rattle.zk_text.specs.Extra.{is_input_code, own_characters};
-ghost use Rattle.zk_term.specs.Devices.{Device, Shows};
+ghost use Rattle.zk_term.specs.Devices.{Shows};
 ghost use Rattle.zk_term.specs.Lines.{heard, Hears, HasInputCodes, over_after};
 ghost use Rattle.zk_vm.specs.Answers.{first_code};
-ghost use Rattle.zk_vm.specs.Halts.{IsLeftAs, event_of, event_waited};
+ghost use Rattle.zk_vm.specs.Answers.Answer.{Typed};
+ghost use Rattle.zk_vm.specs.Halts.{IsLeftAs, event_waited, is_read_event};
 ghost use Rattle.zk_vm.specs.Laws.{IsWithin};
-ghost use Rattle.zk_vm.specs.Outcome.{segment_of, given, with_stop};
-ghost use Rattle.zk_vm.specs.Plays.{turned, IsPlay, IsPlayed, IsAnswered};
+ghost use Rattle.zk_vm.specs.Outcome.{given, with_stop};
+ghost use Rattle.zk_vm.specs.Plays.{AsksForFile, AreSlotAnswers, IsRunOn, IsServed, IsTurn, TookTexts, IsPlay, IsPlayed, IsAnswered};
 
 use crate::console::Console;
 use crate::machine::Machine;
 use crate::slot::SaveSlot;
 use crate::stop::{Event, Stop};
-use std::alloc::Global;
+use std::alloc::{AllocError, Global};
 use zk_term::lines::{Input, Lines};
 use zk_term::source::Source;
 use zk_term::target::Target;
 use zk_text::extra::Extra;
 
-/// Runs a story up to its next read, or its stop. Each character goes out at once, as UTF-8: when it
-/// returns all text up to there is written. Once a write has failed nothing more is written to either target,
-/// and the machine is closed with `Write`; what went out is a first part of the text. The machine is not
-/// waiting, and neither target has failed. No opcode asks the slot yet.
-pub fn turn<S: Target, T: Target, K: SaveSlot>(
-    _alloc: Global,
+/// The answer of a slot to a machine that asks it: whether it keeps the saved game, or the one that it has. Where
+/// there is no memory for a saved game, the machine is closed with `Memory`.
+fn serve<K: SaveSlot>(
+    alloc: Global,
+    slot: &mut K,
+    machine: &mut Machine,
+    event: Event,
+) -> Result<(), Stop>
+    requires waits { event_waited machine.old.waiting ≡ Some event }
+    requires file { is_read_event event ≡ false }
+    ensures served { OnOk result (IsServed K.held K.keeps slot.old slot.new machine.old machine.new) }
+    ensures free { machine.new.waiting ≡ None }
+    ensures counted { OnOk result (machine.new.stopped ≡ None → machine.new.state.steps ≡ machine.old.state.steps + 1) }
+    ensures reads { OnOk result (machine.new.stopped ≡ None → machine.new.state.reads ≡ machine.old.state.reads) }
+    ensures limits { machine.new.limits ≡ machine.old.limits }
+    ensures unserved { IfErr result (λ stop. (stop ≡ Stop.Memory) × AsksForFile machine.old × (machine.new ≡ with_stop machine.old Stop.Memory) × (K.held slot.new ≡ K.held slot.old)) }
+{
+    let served = match event {
+        Event::Save => keep(alloc, slot, machine),
+        Event::Restore => bring(alloc, slot, machine),
+        Event::Line | Event::Char => return Ok(()),
+    };
+    match served {
+        Ok(()) => Ok(()),
+        Err(_) => {
+            machine.close(Stop::Memory);
+            Err(Stop::Memory)
+        }
+    }
+}
+
+/// Has a slot keep the saved game that waits for it.
+fn keep<K: SaveSlot>(alloc: Global, slot: &mut K, machine: &mut Machine) -> Result<(), AllocError>
+    requires waits { event_waited machine.old.waiting ≡ Some Event.Save }
+    ensures served { OnOk result (IsServed K.held K.keeps slot.old slot.new machine.old machine.new) }
+    ensures free { OnOk result (machine.new.waiting ≡ None) }
+    ensures counted { OnOk result (machine.new.stopped ≡ None → machine.new.state.steps ≡ machine.old.state.steps + 1) }
+    ensures reads { OnOk result (machine.new.stopped ≡ None → machine.new.state.reads ≡ machine.old.state.reads) }
+    ensures limits { machine.new.limits ≡ machine.old.limits }
+    ensures unserved { OnErr result ((machine.new ≡ machine.old) × (K.held slot.new ≡ K.held slot.old)) }
+{
+    let file = machine.image(alloc)?;
+    let kept = slot.put(file.as_slice());
+    machine.answer_save(kept);
+    Ok(())
+}
+
+/// Restores the saved game that a slot has.
+fn bring<K: SaveSlot>(alloc: Global, slot: &mut K, machine: &mut Machine) -> Result<(), AllocError>
+    requires waits { event_waited machine.old.waiting ≡ Some Event.Restore }
+    ensures served { OnOk result (IsServed K.held K.keeps slot.old slot.new machine.old machine.new) }
+    ensures free { OnOk result (machine.new.waiting ≡ None) }
+    ensures counted { OnOk result (machine.new.stopped ≡ None → machine.new.state.steps ≡ machine.old.state.steps + 1) }
+    ensures reads { OnOk result (machine.new.stopped ≡ None → machine.new.state.reads ≡ machine.old.state.reads) }
+    ensures limits { machine.new.limits ≡ machine.old.limits }
+    ensures unserved { OnErr result ((machine.new ≡ machine.old) × (K.held slot.new ≡ K.held slot.old)) }
+{
+    match slot.get(alloc)? {
+        Some(file) => machine.answer_restore(Some(file.as_slice())),
+        None => machine.answer_restore(None),
+    }
+    Ok(())
+}
+
+/// Runs a story up to its next event, a read or a saved game, or its stop. Where a write has failed the machine is
+/// closed with `Write`.
+fn run_on<S: Target, T: Target>(
     screen: &mut S,
     script: &mut T,
-    _slot: &mut K,
     machine: &mut Machine,
 ) -> Result<Event, Stop>
     requires free { machine.old.waiting ≡ None }
     requires screen_works { S.failed screen.old ≡ false }
     requires script_works { T.failed script.old ≡ false }
-    ensures answer { result ≡ (if S.failed screen.new || T.failed script.new then Err Stop.Write else event_of (segment_of machine.old).end) }
-    ensures screen { Shows (record { taken = S.taken screen.old; failed = false }) (record { taken = S.taken screen.new; failed = S.failed screen.new || T.failed script.new }) (segment_of machine.old).text.screen }
-    ensures script { Shows (record { taken = T.taken script.old; failed = false }) (record { taken = T.taken script.new; failed = S.failed screen.new || T.failed script.new }) (segment_of machine.old).text.script }
-    ensures left { IsLeftAs machine.new (turned (S.failed screen.new || T.failed script.new) machine.old) (turned (S.failed screen.new || T.failed script.new) machine.old).stopped }
+    ensures run { IsRunOn machine.old machine.new result (S.failed screen.new || T.failed script.new)
+        (λ t. Shows (record { taken = S.taken screen.old; failed = false }) (record { taken = S.taken screen.new; failed = S.failed screen.new || T.failed script.new }) t.screen
+        × Shows (record { taken = T.taken script.old; failed = false }) (record { taken = T.taken script.new; failed = S.failed screen.new || T.failed script.new }) t.script) }
     ensures free_again { OnErr result (machine.new.waiting ≡ None) }
-    ensures reads { OnOk result (machine.new.state.reads < 16777216) }
+    ensures asks { IfOk result (λ event. event_waited machine.new.waiting ≡ Some event) }
+    ensures reads { IfOk result (λ event. is_read_event event ≡ true → machine.new.state.reads < 16777216) }
+    ensures same_reads { OnOk result (machine.new.state.reads ≡ machine.old.state.reads) }
+    ensures steps { OnOk result ((machine.old.state.steps ≤ machine.new.state.steps) × (machine.new.state.steps < machine.new.limits.steps)) }
+    ensures runs { OnOk result (machine.new.stopped ≡ None) }
     ensures limits { machine.new.limits ≡ machine.old.limits }
     ensures within { IsWithin machine.new.limits machine.new.state }
-    ensures slot { _slot.new ≡ _slot.old }
 {
     let mut console = Console::new(screen, script);
     let answer = machine.run(&mut console);
@@ -52,6 +115,44 @@ pub fn turn<S: Target, T: Target, K: SaveSlot>(
         return Err(Stop::Write);
     }
     answer
+}
+
+/// Runs a story up to its next read, or its stop; the slot keeps and gives saved games on the way. Each
+/// character goes out at once, as UTF-8: when it returns all text up to there is written. Once a write has failed
+/// nothing more is written to either target, the slot is not asked, and the machine is closed with `Write`; what
+/// went out is a first part of the text. Where there is no memory for a saved game or a state that is to be kept,
+/// the stop is `Memory`. The machine is not waiting, and neither target has failed.
+pub fn turn<S: Target, T: Target, K: SaveSlot>(
+    alloc: Global,
+    screen: &mut S,
+    script: &mut T,
+    slot: &mut K,
+    machine: &mut Machine,
+) -> Result<Event, Stop>
+    requires free { machine.old.waiting ≡ None }
+    requires screen_works { S.failed screen.old ≡ false }
+    requires script_works { T.failed script.old ≡ false }
+    ensures turn { IsTurn (AreSlotAnswers K.held K.keeps slot.old slot.new machine.old) machine.old machine.new result (S.failed screen.new || T.failed script.new)
+        (TookTexts (S.taken screen.old) (S.taken screen.new) (T.taken script.old) (T.taken script.new) (S.failed screen.new || T.failed script.new)) }
+    ensures free_again { OnErr result (machine.new.waiting ≡ None) }
+    ensures asks { IfOk result (λ event. (event_waited machine.new.waiting ≡ Some event) × (is_read_event event ≡ true)) }
+    ensures reads { OnOk result (machine.new.state.reads < 16777216) }
+    ensures same_reads { OnOk result (machine.new.state.reads ≡ machine.old.state.reads) }
+    ensures runs { OnOk result (machine.new.stopped ≡ None) }
+    ensures limits { machine.new.limits ≡ machine.old.limits }
+    ensures within { IsWithin machine.new.limits machine.new.state }
+{
+    loop {
+        match run_on(screen, script, machine) {
+            Ok(Event::Line) => return Ok(Event::Line),
+            Ok(Event::Char) => return Ok(Event::Char),
+            Ok(event) => match serve(alloc, slot, machine, event) {
+                Ok(()) => {}
+                Err(stop) => return Err(stop),
+            },
+            Err(stop) => return Err(stop),
+        }
+    }
 }
 
 /// The next line, by the extra characters in force.
@@ -79,9 +180,10 @@ fn first_of(codes: &[u8]) -> u8
 /// Answers a read by the codes of a line.
 fn answer(machine: &mut Machine, event: Event, codes: &[u8])
     requires waits { event_waited machine.old.waiting ≡ Some event }
+    requires reads { is_read_event event ≡ true }
     requires few { length codes.now ≤ 255 }
     requires typed { AllByRecursion (λ c. is_input_code c ≡ true) codes.now }
-    ensures left { IsLeftAs machine.new (given machine.old codes.now) (given machine.old codes.now).stopped }
+    ensures left { IsLeftAs machine.new (given machine.old (Typed codes.now)) (given machine.old (Typed codes.now)).stopped }
     ensures free { machine.new.waiting ≡ None }
     ensures counted { machine.new.stopped ≡ None → machine.new.state.reads ≡ machine.old.state.reads + 1 }
     ensures limits { machine.new.limits ≡ machine.old.limits }
@@ -106,8 +208,8 @@ fn close(machine: &mut Machine, stop: Stop) -> Stop
 /// reader answer. The reader is asked between turns alone, when all text up to there is written; a read that
 /// finds no line ends the story with `EndOfInput` or, where the reader fails or a line is too long, with
 /// `Read`. Once a write has failed nothing more is written to either target, and the stop is `Write`: what
-/// went out is a first part of the text. The machine is not waiting, and no device has failed. No opcode asks
-/// the slot yet.
+/// went out is a first part of the text. The slot keeps and gives saved games; where there is no memory for one, or
+/// for a state that is to be kept, the stop is `Memory`. The machine is not waiting, and no device has failed.
 pub fn play<R: Source, S: Target, T: Target, K: SaveSlot>(
     alloc: Global,
     reader: &mut R,
@@ -120,12 +222,11 @@ pub fn play<R: Source, S: Target, T: Target, K: SaveSlot>(
     requires reader_works { R.failed reader.old ≡ false }
     requires screen_works { S.failed screen.old ≡ false }
     requires script_works { T.failed script.old ≡ false }
-    ensures played { (bytes : List ℕ) → R.left reader.old ≡ Some bytes → IsPlay (IsPlayed (heard bytes) (R.failed reader.new) machine.old) result (S.failed screen.new || T.failed script.new) (S.taken screen.old) (S.taken screen.new) (T.taken script.old) (T.taken script.new) }
+    ensures played { (bytes : List ℕ) → R.left reader.old ≡ Some bytes → IsPlay (IsPlayed K.held K.keeps slot.old slot.new (heard bytes) (R.failed reader.new) (S.failed screen.new || T.failed script.new) machine.old) result (S.failed screen.new || T.failed script.new) (S.taken screen.old) (S.taken screen.new) (T.taken script.old) (T.taken script.new) }
     ensures answered { IsPlay (IsAnswered machine.old) result (S.failed screen.new || T.failed script.new) (S.taken screen.old) (S.taken screen.new) (T.taken script.old) (T.taken script.new) }
     ensures stopped { machine.new.stopped ≡ Some result }
     ensures limits { machine.new.limits ≡ machine.old.limits }
     ensures within { IsWithin machine.new.limits machine.new.state }
-    ensures slot { slot.new ≡ slot.old }
 {
     let mut lines = Lines::new();
     loop {

@@ -6,7 +6,7 @@ use Rattle.clap.specs.Words.{App, HasMatchesOf, Row, Text, first_of, is_simple, 
 use Rattle.clap.proofs.OnLiterals.{clap_on_literals}
 use Rattle.clap.specs.declared.ArgMatches.{ArgMatches}
 use Rattle.zkit.specs.declared.manner.Manner.{Manner}
-use Rattle.zkit.specs.CommandLine.{AsksToPlay, IsNumberIn, SaysManner, SaysNumber, command_line, number_in, view_said}
+use Rattle.zkit.specs.CommandLine.{AsksToPlay, IsNumberIn, Paths, SaysManner, SaysNumber, command_line, number_in, view_said}
 use Rattle.zk_step.specs.declared.workspace.View.TheVariants.{Plain, Upper}
 
 -- the command line is simple in clap's sense
@@ -41,6 +41,13 @@ pub play_met : (m : ArgMatches) (a : App) (words : List Text) (rows : List Row) 
 play_met m a words rows line_is has name rows_are =
     ap (λ (b : App). subcommand_of b words) (sym line_is) ∙ sym (has (ap is_simple line_is ∙ command_line_is_simple)).1 ∙ paired (subcommand_rows_of m) (codes "play") rows (firsts _ _ ∙ name) rows_are
 
+-- where clap has not met `play`, the words do not ask for it
+pub play_not_met : (m : ArgMatches) (a : App) (words : List Text) → a ≡ command_line → HasMatchesOf a words m → (subcommand_name_of m ≡ Some (codes "play") → ⊥)
+    → (paths : Paths) (n : Manner) → AsksToPlay words paths n → ⊥
+play_not_met m a words line_is has none paths n h =
+    let met : subcommand_rows_of m ≡ Some (codes "play", h.rows) = (has (ap is_simple line_is ∙ command_line_is_simple)).1 ∙ ap (λ (b : App). subcommand_of b words) line_is ∙ h.command in
+    none (sym (firsts _ _) ∙ ap (option_map (λ (p : Text × List Row). p.0)) met)
+
 -- an option without a text says no number
 pub none_said : (rows : List Row) (option : Text) (least most : ℕ) → first_of option rows ≡ None → (n : ℕ) → SaysNumber rows option least most n → ⊥
 none_said rows option least most e n h = subst (λ (o : Option Text). IsSomeAnd o (λ w. IsNumberIn least most w × (number_in w ≡ n))) e h
@@ -63,17 +70,17 @@ pub no_view_said : (rows : List Row) → first_of (codes "upper") rows ≡ None 
 no_view_said rows e = sym (ap view_said e)
 
 -- the rows that words ask to play by are those that clap finds
-same_rows : (words : List Text) (rows : List Row) (story : Text) (script : Option Text) (m : Manner) (h : AsksToPlay words story script m)
+same_rows : (words : List Text) (rows : List Row) (paths : Paths) (m : Manner) (h : AsksToPlay words paths m)
     → subcommand_of command_line words ≡ Some (codes "play", rows) → h.rows ≡ rows
-same_rows words rows story script m h e = ap (λ (o : Option (Text × List Row)). unwrap_or (option_map (λ p. p.1) o) rows) (sym h.command ∙ e)
+same_rows words rows paths m h e = ap (λ (o : Option (Text × List Row)). unwrap_or (option_map (λ p. p.1) o) rows) (sym h.command ∙ e)
 
 pub no_story : (words : List Text) (rows : List Row) → subcommand_of command_line words ≡ Some (codes "play", rows) → first_of (codes "STORY") rows ≡ None
-    → (story : Text) (script : Option Text) (m : Manner) → AsksToPlay words story script m → ⊥
-no_story words rows e none story script m h =
-    let path = subst (λ (r : List Row). first_of (codes "STORY") r ≡ Some story) (same_rows words rows story script m h e) h.path in
-    let both : None ≡ Some story = sym none ∙ path in
+    → (paths : Paths) (m : Manner) → AsksToPlay words paths m → ⊥
+no_story words rows e none paths m h =
+    let path = subst (λ (r : List Row). first_of (codes "STORY") r ≡ Some paths.story) (same_rows words rows paths m h e) h.path in
+    let both : None ≡ Some paths.story = sym none ∙ path in
     absurd cc
 
 pub no_manner : (words : List Text) (rows : List Row) → subcommand_of command_line words ≡ Some (codes "play", rows) → ((m : Manner) → SaysManner rows m → ⊥)
-    → (story : Text) (script : Option Text) (m : Manner) → AsksToPlay words story script m → ⊥
-no_manner words rows e none story script m h = none m (subst (λ (r : List Row). SaysManner r m) (same_rows words rows story script m h e) h.manner)
+    → (paths : Paths) (m : Manner) → AsksToPlay words paths m → ⊥
+no_manner words rows e none paths m h = none m (subst (λ (r : List Row). SaysManner r m) (same_rows words rows paths m h e) h.manner)

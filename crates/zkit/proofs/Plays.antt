@@ -1,5 +1,5 @@
 -- A play whose script is given no bytes first.
-use Rattle.std.proofs.Common.{◌≡◌, ◌||◌, ℕ, Bool, true, false, List, [], Option, Some, None, zero, suc, refl, sym, ◌∙◌, append-nil}
+use Rattle.std.proofs.Common.{◌≡◌, ◌||◌, ℕ, Bool, true, false, List, [], Option, Some, None, zero, suc, inl, refl, sym, ◌∙◌, append-nil}
 use Rattle.std.specs.Prelude.{take, encode_utf8_all}
 use Rattle.std.specs.Io.KnownBytes.{Appends, Keeps}
 use Rattle.std.proofs.KnownBytes.{Appends-nil}
@@ -7,8 +7,10 @@ use Rattle.zk_term.specs.Devices.{Shows}
 use Rattle.zk_term.proofs.Shown.{shows_twice}
 use Rattle.zk_vm.specs.declared.stop.Stop.{Stop}
 use Rattle.zk_vm.specs.declared.stop.Stop.TheVariants.{Write}
-use Rattle.zk_vm.specs.Outcome.{Outcome}
-use Rattle.zk_vm.specs.Plays.{IsPlay}
+use Rattle.zk_term.specs.Lines.{Heard}
+use Rattle.zk_vm.specs.Halts.{event_waited}
+use Rattle.zk_vm.specs.Outcome.{Outcome, Session, given_all, outcome, ran}
+use Rattle.zk_vm.specs.Plays.{ArePlayed, IsPlay, IsPlayed, stop_waiting}
 
 -- what a write took of no bytes
 pub took_none : (n : ℕ) (old new : Option (List ℕ)) → Appends old new (take n []) → Appends old new []
@@ -73,3 +75,14 @@ unwritten Is o false true screen script0 script1 is e h = record {
   screen = shows_failed screen screen o.text.screen (Appends-nil screen);
   script = shows_failed script0 script1 o.text.script h;
 }
+
+-- one of two writes has failed
+pub failed_or : (a b : Bool) → b ≡ true → (a || b) ≡ true
+failed_or true b e = refl
+failed_or false b e = e
+
+-- a play without an answer, where a write has failed
+pub none_played : {K : Type 0} (held : K → Option (Option (List ℕ))) (keeps : K → List ℕ → Option Bool) (slot : K) (h : Heard) (failed unwritten : Bool) (m : Session) → unwritten ≡ true
+    → IsPlayed held keeps slot slot h failed unwritten m (outcome [] (stop_waiting (event_waited (ran (given_all [] m)).waiting) h.over) m)
+unfolding ArePlayed
+none_played {K} held keeps slot h failed unwritten m e = (h, (inl refl, ([], (h.lines, ((inl refl, refl), inl (refl, λ f. absurd cc))))))

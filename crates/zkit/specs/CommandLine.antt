@@ -24,19 +24,19 @@ number_option name default = record (new_rule name) { long = Some name; value_na
 abbrev pub story_word : Rule
 story_word = record (new_rule (codes "STORY")) { required = true }
 
--- the option `--script FILE`
-abbrev pub script_option : Rule
-script_option = record (new_rule (codes "script")) { long = Some (codes "script"); value_names = 1 }
+-- the option `--name FILE`
+abbrev pub file_option : Text → Rule
+file_option name = record (new_rule name) { long = Some name; value_names = 1 }
 
 -- the flag `--upper`
 abbrev pub upper_flag : Rule
 upper_flag = record (new_rule (codes "upper")) { long = Some (codes "upper"); action = Some SetTrue }
 
--- `play [--frames n] [--words n] [--steps n] [--seed n] [--script FILE] [--upper] STORY`
+-- `play [--frames n] [--words n] [--undo n] [--steps n] [--seed n] [--save FILE] [--script FILE] [--upper] STORY`
 abbrev pub play_command : App
-play_command = with_rule (with_rule (with_rule (with_rule (with_rule (with_rule (with_rule (new_app (codes "play")) (number_option (codes "frames") (codes "1024")))
-    (number_option (codes "words") (codes "16384"))) (number_option (codes "steps") (codes "10000000"))) (number_option (codes "seed") (codes "1")))
-    script_option) upper_flag) story_word
+play_command = with_rule (with_rule (with_rule (with_rule (with_rule (with_rule (with_rule (with_rule (with_rule (new_app (codes "play")) (number_option (codes "frames") (codes "1024")))
+    (number_option (codes "words") (codes "16384"))) (number_option (codes "undo") (codes "16"))) (number_option (codes "steps") (codes "10000000"))) (number_option (codes "seed") (codes "1")))
+    (file_option (codes "save"))) (file_option (codes "script"))) upper_flag) story_word
 
 -- zkit's command line: the command `play`; help and the version are clap's
 abbrev pub command_line : App
@@ -61,7 +61,7 @@ pub record SaysLimits (rows : List Row) (l : Limits) : Type 0 where
   pub frames : SaysNumber rows (codes "frames") 1 65535 l.frames
   pub words : SaysNumber rows (codes "words") 0 65535 l.words
   pub steps : SaysNumber rows (codes "steps") 1 1000000000 l.steps
-  pub undo : l.undo ≡ 16
+  pub undo : SaysNumber rows (codes "undo") 0 64 l.undo
 
 -- what is shown, by the text that clap has for `--upper`: `true` where it is given
 abbrev pub view_said : Option Text → View
@@ -74,12 +74,19 @@ pub record SaysManner (rows : List Row) (m : Manner) : Type 0 where
   pub seed : SaysNumber rows (codes "seed") 0 18446744073709551615 m.seed
   pub view : m.view ≡ view_said (first_of (codes "upper") rows)
 
--- clap finds `play` in the words, with a story's path, a transcript's path, if one is given, and a manner
-pub record AsksToPlay (words : List Text) (story : Text) (script : Option Text) (m : Manner) : Type 0 where
+-- the paths of a story, and of a saved game and a transcript, where one is given
+pub record Paths : Type 0 where
+  pub story : Text
+  pub save : Option Text
+  pub script : Option Text
+
+-- clap finds `play` in the words, with the paths and a manner
+pub record AsksToPlay (words : List Text) (paths : Paths) (m : Manner) : Type 0 where
   pub rows : List Row
   pub command : subcommand_of command_line words ≡ Some (codes "play", rows)
-  pub path : first_of (codes "STORY") rows ≡ Some story
-  pub script_path : script ≡ first_of (codes "script") rows
+  pub path : first_of (codes "STORY") rows ≡ Some paths.story
+  pub save_path : paths.save ≡ first_of (codes "save") rows
+  pub script_path : paths.script ≡ first_of (codes "script") rows
   pub manner : SaysManner rows m
 
 -- the status after words that are not understood, or that ask for help
@@ -93,12 +100,12 @@ usage_status _ = 1
 -- and the error is no help
 abbrev pub IsRefusedWith : List Text → Error → Type 0
 IsRefusedWith words e =
-    HasKind (fault_of command_line words) e ⊎ ((1 ≤ usage_status (kind_of e)) × ((story : Text) (script : Option Text) (m : Manner) → AsksToPlay words story script m → ⊥))
+    HasKind (fault_of command_line words) e ⊎ ((1 ≤ usage_status (kind_of e)) × ((paths : Paths) (m : Manner) → AsksToPlay words paths m → ⊥))
 
 -- the words ask for a choice
 abbrev pub Asks : List Text → Choice → Type 0
-Asks words (Play story script m) = AsksToPlay words story.now (option_map (λ s. s.now) script) m
+Asks words (Play story save script m) = AsksToPlay words (record { story = story.now; save = option_map (λ s. s.now) save; script = option_map (λ s. s.now) script }) m
 
 -- the limits of a choice lie in their ranges
 abbrev pub HasLimits : Choice → Type 0
-HasLimits (Play story script m) = AreInRange m.limits
+HasLimits (Play story save script m) = AreInRange m.limits

@@ -6,7 +6,7 @@ ghost use Rattle.clap.specs.declared.Command.TheViews.{out-Command as fields_of}
 ghost use Rattle.zk_vm.specs.Bounds.{AreInRange};
 ghost use Rattle.zk_vm.specs.declared.limits.Limits.{Limits};
 ghost use Rattle.zkit.specs.declared.manner.Manner.{Manner};
-ghost use Rattle.zkit.specs.CommandLine.{Asks, HasLimits, IsNumberIn, IsRefusedWith, SaysLimits, SaysManner, SaysNumber, command_line, number_in, number_option, play_command, script_option, story_word, upper_flag, usage_status, view_said};
+ghost use Rattle.zkit.specs.CommandLine.{Asks, HasLimits, IsNumberIn, IsRefusedWith, SaysLimits, SaysManner, SaysNumber, command_line, number_in, number_option, file_option, play_command, story_word, upper_flag, usage_status, view_said};
 
 use crate::manner::Manner;
 use clap::error::ErrorKind;
@@ -18,9 +18,11 @@ use zk_vm::limits::Limits;
 /// What the program is asked to do.
 #[derive(Drop)]
 pub enum Choice<'a> {
-    /// To play the story in a file, in a manner, with its transcript in the file of `script`, if there is one.
+    /// To play the story in a file, in a manner, with its saved game and its transcript in the files of `save` and
+    /// `script`, if there are any.
     Play {
         story: &'a str,
+        save: Option<&'a str>,
         script: Option<&'a str>,
         manner: Manner,
     },
@@ -38,15 +40,15 @@ fn number_option_of<'a>(alloc: Global, name: &'a str, default: &'a str, help: &'
         .help(help)
 }
 
-/// The option for the transcript's file.
-fn script_option_of<'a>(alloc: Global) -> Arg<'a>
-    ensures rule { rule_of result ≡ script_option }
+/// An option that takes a file's path.
+fn file_option_of<'a>(alloc: Global, name: &'a str, help: &'a str) -> Arg<'a>
+    ensures rule { rule_of result ≡ file_option name.entry.now }
     ensures local { result.global ≡ false }
 {
-    Arg::new(alloc, "script")
-        .long("script")
+    Arg::new(alloc, name)
+        .long(name)
         .value_name("FILE")
-        .help("The file that the transcript is written to; what it held goes")
+        .help(help)
 }
 
 /// The flag for the status line and the upper window.
@@ -87,6 +89,12 @@ fn play_command_of<'a>(alloc: Global) -> Result<Command<'a>, AllocError>
         "16384",
         "The most words that the open routines may hold, 0 to 65535",
     );
+    let undo = number_option_of(
+        alloc,
+        "undo",
+        "16",
+        "How many states can be gone back to, 0 to 64",
+    );
     let steps = number_option_of(
         alloc,
         "steps",
@@ -99,14 +107,26 @@ fn play_command_of<'a>(alloc: Global) -> Result<Command<'a>, AllocError>
         "1",
         "What begins the random numbers, 0 to 18446744073709551615",
     );
+    let save = file_option_of(
+        alloc,
+        "save",
+        "The file that the game is saved to and restored from; without it there are no saved games",
+    );
+    let script = file_option_of(
+        alloc,
+        "script",
+        "The file that the transcript is written to; what it held goes",
+    );
     Command::new(alloc, "play")
         .about("Plays a story")
         .after_help("Example: zkit play --steps 50000000 story.z5")
         .arg(frames)?
         .arg(words)?
+        .arg(undo)?
         .arg(steps)?
         .arg(seed)?
-        .arg(script_option_of(alloc))?
+        .arg(save)?
+        .arg(script)?
         .arg(upper_flag_of(alloc))?
         .arg(story_word_of(alloc))
 }
@@ -191,13 +211,16 @@ fn limits_of(
     let Some(words) = number_of(play, "words", 0, 65_535) else {
         return Err(out_of_range(alloc, command, "words", 0, 65_535));
     };
+    let Some(undo) = number_of(play, "undo", 0, 64) else {
+        return Err(out_of_range(alloc, command, "undo", 0, 64));
+    };
     let Some(steps) = number_of(play, "steps", 1, 1_000_000_000) else {
         return Err(out_of_range(alloc, command, "steps", 1, 1_000_000_000));
     };
     Ok(Limits {
         frames: frames as u16,
         words: words as u16,
-        undo: 16,
+        undo: undo as u8,
         steps: steps as u32,
     })
 }
@@ -257,9 +280,11 @@ pub fn choose<'a>(alloc: Global, words: &'a [&'a str]) -> Result<Choice<'a>, Err
         return Err(usage_error(&mut command, ErrorKind::MissingRequiredArgument, text));
     };
     let manner = manner_of(alloc, &mut command, play)?;
+    let save = play.get_str("save");
     let script = play.get_str("script");
     Ok(Choice::Play {
         story,
+        save,
         script,
         manner,
     })

@@ -11,6 +11,7 @@ mod ending;
 mod manner;
 mod playing;
 mod report;
+mod save_file;
 mod script;
 #[cfg(test)]
 mod tests;
@@ -20,6 +21,7 @@ use crate::ending::Ending;
 use crate::manner::Manner;
 use crate::playing::play_and_report;
 use crate::report::{report, report_briefly};
+use crate::save_file::SaveFile;
 use crate::script::ScriptFile;
 use clap::Error;
 use clap::error::ErrorKind;
@@ -29,10 +31,18 @@ use std::{env, io};
 use zk_term::nothing::Nothing;
 use zk_term::over::Over;
 use zk_term::target::Target;
+use zk_vm::slot::{NoSlot, SaveSlot};
 use zk_vm::stop::Stop;
 
-/// Plays the story in a file, with its transcript in a script, and answers the program's status.
-fn play_with<T: Target>(rt: &HostRuntime, path: &str, manner: Manner, script: &mut T) -> u8
+/// Plays the story in a file, with its saved game in a slot and its transcript in a script, and answers the program's
+/// status.
+fn play_with<T: Target, K: SaveSlot>(
+    rt: &HostRuntime,
+    path: &str,
+    manner: Manner,
+    script: &mut T,
+    slot: &mut K,
+) -> u8
     requires in_range { AreInRange manner.limits }
     requires script_works { T.failed script.old ≡ false }
 {
@@ -51,18 +61,44 @@ fn play_with<T: Target>(rt: &HostRuntime, path: &str, manner: Manner, script: &m
             &mut Over::new(rt.stdin()),
             &mut Over::new(io::writer(rt)),
             script,
+            slot,
             &mut errors,
         ),
     }
 }
 
-/// Plays the story in a file, with its transcript in another where one is named, and answers the program's status.
-fn play_file(rt: &HostRuntime, path: &str, script: Option<&str>, manner: Manner) -> u8
+/// Plays the story in a file, with its transcript in a script, and with its saved game in another file where one is
+/// named; and answers the program's status.
+fn play_saving<T: Target>(
+    rt: &HostRuntime,
+    path: &str,
+    save: Option<&str>,
+    manner: Manner,
+    script: &mut T,
+) -> u8
+    requires in_range { AreInRange manner.limits }
+    requires script_works { T.failed script.old ≡ false }
+{
+    match save {
+        None => play_with(rt, path, manner, script, &mut NoSlot),
+        Some(save) => play_with(rt, path, manner, script, &mut SaveFile::new(rt, save)),
+    }
+}
+
+/// Plays the story in a file, with its saved game and its transcript in others where these are named, and answers the
+/// program's status.
+fn play_file(
+    rt: &HostRuntime,
+    path: &str,
+    save: Option<&str>,
+    script: Option<&str>,
+    manner: Manner,
+) -> u8
     requires { AreInRange manner.limits }
 {
     match script {
-        None => play_with(rt, path, manner, &mut Nothing),
-        Some(script) => play_with(rt, path, manner, &mut ScriptFile::new(rt, script)),
+        None => play_saving(rt, path, save, manner, &mut Nothing),
+        Some(script) => play_saving(rt, path, save, manner, &mut ScriptFile::new(rt, script)),
     }
 }
 
@@ -100,10 +136,11 @@ fn answer(rt: &HostRuntime, words: &[String]) -> u8 {
         Ok(
             Choice::Play {
                 story,
+                save,
                 script,
                 manner,
             },
-        ) => play_file(rt, story, script, manner),
+        ) => play_file(rt, story, save, script, manner),
         Err(error) => tell_usage(rt, &error),
     }
 }

@@ -2,6 +2,7 @@
 
 ghost use Rattle.std.specs.Prelude.{◌≡◌, false, IfOk, IfSome, None};
 ghost use Rattle.zk_vm.specs.Bounds.{AreInRange};
+ghost use Rattle.zk_vm.specs.Plays.{IsPlayed};
 ghost use Rattle.zkit.specs.Playing.{EndsBy, EndsFrom, IsPlayedBy, IsPlayedFrom, IsRun, bytes_read};
 
 use crate::ending::Ending;
@@ -14,7 +15,7 @@ use zk_term::source::Source;
 use zk_term::target::{Failed, Target};
 use zk_vm::machine::Machine;
 use zk_vm::play::play;
-use zk_vm::slot::NoSlot;
+use zk_vm::slot::SaveSlot;
 use zk_vm::stop::Stop;
 
 /// One byte past the greatest length of a story: a longer file is too long by what is read of it.
@@ -30,96 +31,102 @@ pub fn read_story<R: Read + Drop>(alloc: Global, reader: R) -> io::Result<Vec<u8
 }
 
 /// Plays a machine up to its stop. First the script is given no bytes, so that a file is made of it before the run.
-fn play_machine<I: Source, S: Target, T: Target>(
+fn play_machine<I: Source, S: Target, T: Target, K: SaveSlot>(
     alloc: Global,
     machine: &mut Machine,
     input: &mut I,
     screen: &mut S,
     script: &mut T,
+    slot: &mut K,
 ) -> Stop
     requires free { machine.old.waiting ≡ None }
     requires input_works { I.failed input.old ≡ false }
     requires works { S.failed screen.old ≡ false }
     requires script_works { T.failed script.old ≡ false }
-    ensures { IsPlayedBy (record { typed = I.left input.old; unread = I.failed input.new }) machine.old (record { screen = record { taken = S.taken screen.old; failed = S.failed screen.old }; script = record { taken = T.taken script.old; failed = T.failed script.old } }) (record { screen = record { taken = S.taken screen.new; failed = S.failed screen.new }; script = record { taken = T.taken script.new; failed = T.failed script.new } }) result }
+    ensures { IsPlayedBy (IsPlayed K.held K.keeps slot.old slot.new) (record { typed = I.left input.old; unread = I.failed input.new }) machine.old (record { screen = record { taken = S.taken screen.old; failed = S.failed screen.old }; script = record { taken = T.taken script.old; failed = T.failed script.old } }) (record { screen = record { taken = S.taken screen.new; failed = S.failed screen.new }; script = record { taken = T.taken script.new; failed = T.failed script.new } }) result }
 {
     match script.write(&[]) {
         Err(Failed) => Stop::Write,
-        Ok(_) => play(alloc, input, screen, script, &mut NoSlot, machine),
+        Ok(_) => play(alloc, input, screen, script, slot, machine),
     }
 }
 
 /// Plays a story up to its stop.
-fn play_story<I: Source, S: Target, T: Target>(
+fn play_story<I: Source, S: Target, T: Target, K: SaveSlot>(
     alloc: Global,
     story: Story,
     manner: Manner,
     input: &mut I,
     screen: &mut S,
     script: &mut T,
+    slot: &mut K,
 ) -> Stop
     requires in_range { AreInRange manner.limits }
     requires input_works { I.failed input.old ≡ false }
     requires works { S.failed screen.old ≡ false }
     requires script_works { T.failed script.old ≡ false }
-    ensures { IsRun (record { typed = I.left input.old; unread = I.failed input.new }) story manner (record { screen = record { taken = S.taken screen.old; failed = S.failed screen.old }; script = record { taken = T.taken script.old; failed = T.failed script.old } }) (record { screen = record { taken = S.taken screen.new; failed = S.failed screen.new }; script = record { taken = T.taken script.new; failed = T.failed script.new } }) result }
+    ensures { IsRun (IsPlayed K.held K.keeps slot.old slot.new) (record { typed = I.left input.old; unread = I.failed input.new }) story manner (record { screen = record { taken = S.taken screen.old; failed = S.failed screen.old }; script = record { taken = T.taken script.old; failed = T.failed script.old } }) (record { screen = record { taken = S.taken screen.new; failed = S.failed screen.new }; script = record { taken = T.taken script.new; failed = T.failed script.new } }) result }
 {
     match Machine::start(alloc, story, manner.seed, manner.limits, manner.view) {
         Err(_) => Stop::Memory,
-        Ok(mut machine) => play_machine(alloc, &mut machine, input, screen, script),
+        Ok(mut machine) => play_machine(alloc, &mut machine, input, screen, script, slot),
     }
 }
 
 /// Plays the bytes of a file, if they are a story.
-pub fn play_bytes<I: Source, S: Target, T: Target>(
+pub fn play_bytes<I: Source, S: Target, T: Target, K: SaveSlot>(
     alloc: Global,
     bytes: &[u8],
     manner: Manner,
     input: &mut I,
     screen: &mut S,
     script: &mut T,
+    slot: &mut K,
 ) -> Ending
     requires in_range { AreInRange manner.limits }
     requires input_works { I.failed input.old ≡ false }
     requires works { S.failed screen.old ≡ false }
     requires script_works { T.failed script.old ≡ false }
-    ensures { EndsBy (record { typed = I.left input.old; unread = I.failed input.new }) bytes.now manner (record { screen = record { taken = S.taken screen.old; failed = S.failed screen.old }; script = record { taken = T.taken script.old; failed = T.failed script.old } }) (record { screen = record { taken = S.taken screen.new; failed = S.failed screen.new }; script = record { taken = T.taken script.new; failed = T.failed script.new } }) result }
+    ensures { EndsBy (IsPlayed K.held K.keeps slot.old slot.new) (record { typed = I.left input.old; unread = I.failed input.new }) bytes.now manner (record { screen = record { taken = S.taken screen.old; failed = S.failed screen.old }; script = record { taken = T.taken script.old; failed = T.failed script.old } }) (record { screen = record { taken = S.taken screen.new; failed = S.failed screen.new }; script = record { taken = T.taken script.new; failed = T.failed script.new } }) result }
 {
     match Story::open(alloc, bytes) {
         Err(error) => Ending::Refused(error),
-        Ok(story) => Ending::Stopped(play_story(alloc, story, manner, input, screen, script)),
+        Ok(story) => Ending::Stopped(play_story(alloc, story, manner, input, screen, script, slot)),
     }
 }
 
 /// Plays the story that a reader gives.
-pub fn play_from<R: Read + Drop, I: Source, S: Target, T: Target>(
+pub fn play_from<R: Read + Drop, I: Source, S: Target, T: Target, K: SaveSlot>(
     alloc: Global,
     reader: R,
     manner: Manner,
     input: &mut I,
     screen: &mut S,
     script: &mut T,
+    slot: &mut K,
 ) -> Ending
     requires in_range { AreInRange manner.limits }
     requires input_works { I.failed input.old ≡ false }
     requires works { S.failed screen.old ≡ false }
     requires script_works { T.failed script.old ≡ false }
-    ensures { EndsFrom (record { typed = I.left input.old; unread = I.failed input.new }) (R.remaining reader) manner (record { screen = record { taken = S.taken screen.old; failed = S.failed screen.old }; script = record { taken = T.taken script.old; failed = T.failed script.old } }) (record { screen = record { taken = S.taken screen.new; failed = S.failed screen.new }; script = record { taken = T.taken script.new; failed = T.failed script.new } }) result }
+    ensures { EndsFrom (IsPlayed K.held K.keeps slot.old slot.new) (record { typed = I.left input.old; unread = I.failed input.new }) (R.remaining reader) manner (record { screen = record { taken = S.taken screen.old; failed = S.failed screen.old }; script = record { taken = T.taken script.old; failed = T.failed script.old } }) (record { screen = record { taken = S.taken screen.new; failed = S.failed screen.new }; script = record { taken = T.taken script.new; failed = T.failed script.new } }) result }
 {
     match read_story(alloc, reader) {
         Err(error) => Ending::Unread(error),
-        Ok(bytes) => play_bytes(alloc, bytes.as_slice(), manner, input, screen, script),
+        Ok(bytes) => play_bytes(alloc, bytes.as_slice(), manner, input, screen, script, slot),
     }
 }
 
-/// Plays the story that a reader gives, whose reads the lines of `input` answer, reports how that ends, and answers the program's status.
-pub fn play_and_report<R: Read + Drop, I: Source, S: Target, T: Target, E: Target>(
+/// Plays the story that a reader gives: the lines of `input` answer its reads, and the slot keeps its saved game. It
+/// reports how that ends, and answers the program's status.
+pub fn play_and_report<R: Read + Drop, I: Source, S: Target, T: Target, K: SaveSlot, E: Target>(
     alloc: Global,
     reader: R,
     manner: Manner,
     input: &mut I,
     screen: &mut S,
     script: &mut T,
+    slot: &mut K,
     errors: &mut E,
 ) -> u8
     requires in_range { AreInRange manner.limits }
@@ -127,9 +134,9 @@ pub fn play_and_report<R: Read + Drop, I: Source, S: Target, T: Target, E: Targe
     requires works { S.failed screen.old ≡ false }
     requires script_works { T.failed script.old ≡ false }
     requires errors_work { E.failed errors.old ≡ false }
-    ensures { IsPlayedFrom (record { typed = I.left input.old; unread = I.failed input.new }) (R.remaining reader) manner (record { screen = record { taken = S.taken screen.old; failed = S.failed screen.old }; script = record { taken = T.taken script.old; failed = T.failed script.old } }) (record { screen = record { taken = S.taken screen.new; failed = S.failed screen.new }; script = record { taken = T.taken script.new; failed = T.failed script.new } })
+    ensures { IsPlayedFrom (IsPlayed K.held K.keeps slot.old slot.new) (record { typed = I.left input.old; unread = I.failed input.new }) (R.remaining reader) manner (record { screen = record { taken = S.taken screen.old; failed = S.failed screen.old }; script = record { taken = T.taken script.old; failed = T.failed script.old } }) (record { screen = record { taken = S.taken screen.new; failed = S.failed screen.new }; script = record { taken = T.taken script.new; failed = T.failed script.new } })
         (record { taken = E.taken errors.old; failed = E.failed errors.old }) (record { taken = E.taken errors.new; failed = E.failed errors.new }) result }
 {
-    let ending = play_from(alloc, reader, manner, input, screen, script);
+    let ending = play_from(alloc, reader, manner, input, screen, script, slot);
     report(alloc, &ending, &manner.limits, errors)
 }

@@ -11,10 +11,10 @@ invariant-loop-event g l = record {
   script_works : g.T.Target.failed l.script ≡ false;
   over : l.lines.over ≡ None;
   limits : l.machine.limits ≡ l.fn.machine.limits;
-  slot : l.slot ≡ l.fn.slot;
   answered : SoFar (IsAnswered l.fn.machine) (IsAnswered l.machine) (g.S.Target.taken l.fn.screen) (g.S.Target.taken l.screen) (g.T.Target.taken l.fn.script) (g.T.Target.taken l.script);
   played : (bytes : List ℕ) → g.R.Source.left l.fn.reader ≡ Some bytes → (later : List ℕ) × (g.R.Source.left l.reader ≡ Some later)
-      × ((failed : Bool) → SoFar (IsPlayed (heard bytes) failed l.fn.machine) (IsPlayed (heard (l.lines.ahead ++ later)) failed l.machine) (g.S.Target.taken l.fn.screen) (g.S.Target.taken l.screen) (g.T.Target.taken l.fn.script) (g.T.Target.taken l.script));
+      × ((after : g.row.K.Denot) (failed unwritten : Bool) → SoFar (IsPlayed g.K.SaveSlot.held g.K.SaveSlot.keeps l.fn.slot after (heard bytes) failed unwritten l.fn.machine) (IsPlayed g.K.SaveSlot.held g.K.SaveSlot.keeps l.slot after (heard (l.lines.ahead ++ later)) failed unwritten l.machine)
+      (g.S.Target.taken l.fn.screen) (g.S.Target.taken l.screen) (g.T.Target.taken l.fn.script) (g.T.Target.taken l.script));
 }
 
 abbrev pub decreases-loop-event : goal.decreases-loop-event

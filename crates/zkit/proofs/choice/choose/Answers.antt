@@ -1,8 +1,8 @@
-use Rattle.std.proofs.Common.{rules, ◌≡◌, ◌∙◌, sym, ap, subst, codes, map, None, Some, Err, IfErr, inl, inr}
+use Rattle.std.proofs.Common.{rules, ◌≡◌, ◌∙◌, sym, ap, subst, codes, map, None, Some, Err, IfErr, inl, inr, true, false}
 use Rattle.clap.specs.Words.{App, HasKind, fault_of, first_value, found_of, is_simple_and_free, rows_of, subcommand_name_of}
 use Rattle.clap.proofs.WalkLemmas.{first_value-rows}
 use Rattle.zkit.specs.CommandLine.{IsRefusedWith}
-use Rattle.zkit.proofs.CommandLines.{command_line_is_free, no_manner, no_story, play_met}
+use Rattle.zkit.proofs.CommandLines.{command_line_is_free, no_manner, no_story, play_met, play_not_met}
 use Rattle.zkit.proofs.choice.choose.Goals as goal
 
 pub returns-clause-asks : goal.returns-clause-asks
@@ -14,6 +14,7 @@ returns-clause-asks c =
       rows = rows_of found;
       command = play_met c.in_ok-matches.matches _ _ (rows_of found) c.in_ok-command.ensures c.in_ok-matches.ensures.ok.2 name c.in-Some.ensures.rows;
       path = sym (first_value-rows found (codes "STORY")) ∙ story;
+      save_path = c.get_str-save.ensures ∙ first_value-rows found (codes "save");
       script_path = c.get_str-script.ensures ∙ first_value-rows found (codes "script");
       manner = c.in_ok-manner.ensures.says;
     }
@@ -43,3 +44,7 @@ returns-in_err-manner-clause-refused c =
     let met = play_met c.in_ok-matches.matches _ _ (rows_of found) c.in_ok-command.ensures c.in_ok-matches.ensures.ok.2 name c.in-Some.ensures.rows in
     let same : c.from_residual-in_err-manner.result ≡ Err c.in_err-manner.field-0.0 = search rules in
     subst (λ r. IfErr r (λ e. IsRefusedWith words e)) (sym same) (inr (c.in_err-manner.ensures.mistake, no_manner words (rows_of found) met c.in_err-manner.ensures.says_none))
+
+pub returns-in_default-clause-refused : goal.returns-in_default-clause-refused
+returns-in_default-clause-refused c =
+    inr (c.usage_error.ensures, play_not_met c.in_ok-matches.matches _ _ c.in_ok-command.ensures c.in_ok-matches.ensures.ok.2 (λ named. let e : false ≡ true = c.in_default.ensures.found.1 named in absurd cc))

@@ -1,9 +1,10 @@
-use Rattle.std.proofs.Common.{[], inl, refl}
+use Rattle.std.proofs.Common.{◌≡◌, ◌||◌, Bool, true, false, List, [], ℕ, inl, refl}
 use Rattle.zk_term.specs.Lines.{heard}
 use Rattle.zk_term.specs.declared.lines.Over.TheVariants.{End}
-use Rattle.zk_vm.specs.Outcome.{outcome}
-use Rattle.zk_vm.specs.Plays.{played, stop_behind}
-use Rattle.zkit.proofs.Plays.{after_none, failed_none, took_none, unwritten}
+use Rattle.zk_vm.specs.Halts.{event_waited}
+use Rattle.zk_vm.specs.Outcome.{given_all, outcome, ran}
+use Rattle.zk_vm.specs.Plays.{ArePlayed, stop_waiting}
+use Rattle.zkit.proofs.Plays.{after_none, failed_none, failed_or, none_played, took_none, unwritten}
 use Rattle.zkit.proofs.playing.play_machine.Goals as goal
 
 pub returns-in-Ok : goal.returns-in-Ok
@@ -14,6 +15,7 @@ returns-in-Ok g c = record {
 
 pub returns-in-Err : goal.returns-in-Err
 returns-in-Err g c = record {
-  answered = unwritten _ (outcome [] (stop_behind End) c.args.machine.now) _ _ _ _ _ ([], (End, (tt, refl))) c.in-Err.ensures.failed (failed_none _ _ c.in-Err.ensures.bytes);
-  played = λ bytes told. unwritten _ (played (heard bytes) c.args.machine.now) _ _ _ _ _ (inl refl) c.in-Err.ensures.failed (failed_none _ _ c.in-Err.ensures.bytes);
+  answered = unwritten _ (outcome [] (stop_waiting (event_waited (ran (given_all [] c.args.machine.now)).waiting) End) c.args.machine.now) _ _ _ _ _ ([], (End, (tt, inl (refl, tt)))) c.in-Err.ensures.failed (failed_none _ _ c.in-Err.ensures.bytes);
+  played = λ bytes told. unwritten _ (outcome [] (stop_waiting (event_waited (ran (given_all [] c.args.machine.now)).waiting) (heard bytes).over) c.args.machine.now) _ _ _ _ _
+      (none_played g.K.SaveSlot.held g.K.SaveSlot.keeps c.args.slot.now (heard bytes) _ _ c.args.machine.now (failed_or _ _ c.in-Err.ensures.failed)) c.in-Err.ensures.failed (failed_none _ _ c.in-Err.ensures.bytes);
 }

@@ -4,7 +4,7 @@ use Rattle.zk_mem.specs.Again.{with_bytes}
 use Rattle.zk_save.specs.Unpacking.{unpacked, xored}
 use Rattle.zk_save.specs.States.{KeptState}
 use Rattle.zk_save.specs.Ring.{bytes_in}
-use Rattle.zk_save.proofs.Wholes.{unpacks, turned_again, goes_back, put_bounds, settled_base}
+use Rattle.zk_save.proofs.Wholes.{unpacks, turned_again, goes_back, put_bounds, settled_base, settled_story}
 use Rattle.zk_save.proofs.kept.Kept.put_back.Goals as goal
 
 pub returns-clause-state : goal.returns-clause-state
@@ -27,3 +27,9 @@ returns-clause-base c = settled_base c.turn.new.memory c.settle.new.self c.flags
 
 pub returns-clause-bounds : goal.returns-clause-bounds
 returns-clause-bounds c = put_bounds c.args.frames.now c.put_back.new.self c.self.inside.frames c.put_back.ensures
+
+pub returns-clause-story : goal.returns-clause-story
+returns-clause-story c =
+    let settled = settled_story c.turn.new.memory c.settle.new.self c.flags-flags.result c.settle.ensures in
+    let turned = c.turn.ensures.story in
+    (settled.0 ∙ turned.0 ∙ ap (λ (x : MemoryMap). x.file) c.reset.ensures, settled.1 ∙ turned.1 ∙ ap (λ (x : MemoryMap). x.undo_states) c.reset.ensures)

@@ -1,27 +1,31 @@
+use Rattle.std.proofs.Common.{◌∙◌, ap, refl}
 use Rattle.zk_vm.specs.Outcome.{Session}
-use Rattle.zk_vm.proofs.Transcripts.{due_shown}
+use Rattle.zk_vm.proofs.Answering.{answerable}
+use Rattle.zk_vm.proofs.Halting.{run_stopped, run_waits, run_stops, halted_waits}
+use Rattle.zk_vm.proofs.Keeping.{seen}
 use Rattle.zk_vm.proofs.machine.Machine.run.Goals as goal
 
-pub returns-in-Waits-clause-text : goal.returns-in-Waits-clause-text
-returns-in-Waits-clause-text g c =
-    let first = rw c.as_slice.ensures.value at c.script_all.ensures in
-    let rest = rw c.clear.ensures at c.steps_to_halt.ensures.text in
-    let s : Session = record {
-      state = record { workspace = c.self.inside.workspace; place = c.self.inside.place; steps = c.self.inside.steps; reads = c.self.inside.reads; due = c.self.inside.due.items };
-      limits = c.self.inside.limits;
-      waiting = c.self.inside.waiting;
-      stopped = c.self.inside.stopped;
-    } in
-    rw (← c.self.view_is) (due_shown g.S.Screen.shows g.met.S.Screen.twice _ _ _ s c.in_default.is first rest)
+pub returns-in-Some-clause-run : goal.returns-in-Some-clause-run
+returns-in-Some-clause-run g c =
+    let stopped = c.in-Some.is in
+    let free = rw (← c.self.view_is) at c.requires in
+    rw (← c.self.view_is) (run_stopped g.S.Screen.shows _ _ c.in-Some.stop stopped free (g.met.S.Screen.nothing _))
 
-pub returns-in-Stops-clause-text : goal.returns-in-Stops-clause-text
-returns-in-Stops-clause-text g c =
+pub returns-in-Waits-clause-run : goal.returns-in-Waits-clause-run
+returns-in-Waits-clause-run g c =
     let first = rw c.as_slice.ensures.value at c.script_all.ensures in
-    let rest = rw c.clear.ensures at c.steps_to_halt.ensures.text in
-    let s : Session = record {
-      state = record { workspace = c.self.inside.workspace; place = c.self.inside.place; steps = c.self.inside.steps; reads = c.self.inside.reads; due = c.self.inside.due.items };
-      limits = c.self.inside.limits;
-      waiting = c.self.inside.waiting;
-      stopped = c.self.inside.stopped;
-    } in
-    rw (← c.self.view_is) (due_shown g.S.Screen.shows g.met.S.Screen.twice _ _ _ s c.in_default.is first rest)
+    let rest = rw c.clear.ensures at c.in-Waits.ensures.run in
+    rw (← c.self.view_is, c.asked_by.ensures) (run_waits g.S.Screen.shows g.met.S.Screen.twice _ _ _ (seen c.self.inside) c.steps_to_halt.new.self c.in-Waits.wait c.in_default.is first rest)
+
+pub returns-in-Waits-clause-steps : goal.returns-in-Waits-clause-steps
+returns-in-Waits-clause-steps g c =
+    let waits = halted_waits _ _ c.in-Waits.wait _ c.in-Waits.ensures.run in
+    let can = answerable c.self-2.inside waits.0 c.self-2.invariant (ap (λ (m : Session). m.waiting) c.self-2.view_is ∙ waits.1) in
+    (rw (← c.self.view_is) c.in-Waits.ensures.more, rw (← c.self-2.view_is) can.steps)
+
+pub returns-in-Stops-clause-run : goal.returns-in-Stops-clause-run
+returns-in-Stops-clause-run g c =
+    let first = rw c.as_slice.ensures.value at c.script_all.ensures in
+    let rest = rw c.clear.ensures at c.in-Stops.ensures.run in
+    rw (← c.self.view_is) (run_stops g.S.Screen.shows g.met.S.Screen.twice _ _ _ (seen c.self.inside) c.steps_to_halt.new.self _ c.in-Stops.stop c.in_default.is first rest refl
+    (ap (λ (m : Session). m.waiting) c.self-2.view_is) (ap (λ (m : Session). m.limits) c.self-2.view_is ∙ c.in-Stops.ensures.limits))

@@ -1,0 +1,5 @@
+use Rattle.zk_step.proofs.Stories.{stories_stay}
+use Rattle.zk_step.proofs.laws.stories_stay.Goals as goal
+
+pub returns : goal.returns
+returns c = stories_stay

@@ -1,0 +1,35 @@
+// A state that is back goes on where it was saved.
+
+ghost use Rattle.zk_state.specs.Frames.{bounds_of};
+ghost use Rattle.std.specs.Prelude.{◌≡◌, Ok, Err, MatchResult};
+ghost use Rattle.zk_step.specs.Limited.{limited_next};
+ghost use Rattle.zk_step.specs.Resuming.{resumed};
+
+use crate::ending::Next;
+use crate::finish::{go_to, lead, way_after};
+use crate::workspace::Workspace;
+use zk_code::decode::decode_branch;
+use zk_mem::fault::Fault;
+use zk_state::refusal::Refusal;
+
+/// Goes on at the place where a state was saved that is back now (Z-Machine Standards Document 1.1, section 15,
+/// `save` and `restore_undo`): in version 3 the branch at that byte address is taken, from version 4 on 2 is
+/// stored by the store byte there. Where one of these bytes lies outside the story, this is `BadTarget`.
+#[tactic(auto, unfolding(crate::specs::Resuming::resumed))]
+pub fn resume(workspace: &mut Workspace, place: u32) -> Result<Next, Refusal>
+    ensures value { MatchResult result
+        (λ n. limited_next (resumed workspace.old place) ≡ Ok (workspace.new, n))
+        (λ e. limited_next (resumed workspace.old place) ≡ Err e) }
+    ensures bounds { bounds_of workspace.new.frames ≡ bounds_of workspace.old.frames }
+{
+    if workspace.memory.version() < 4 {
+        return match decode_branch(&workspace.memory, place) {
+            Ok((branch, next)) => lead(workspace, way_after(Some(branch), next, Some(true))),
+            Err(_) => Err(Refusal::Fault(Fault::BadTarget)),
+        };
+    }
+    match workspace.memory.cell(place) {
+        Some(variable) => go_to(workspace, Some(variable), Some(2), place + 1),
+        None => Err(Refusal::Fault(Fault::BadTarget)),
+    }
+}

@@ -1,0 +1,167 @@
+-- Steps of a machine up to an event or a stop.
+use Rattle.std.proofs.Common.{◌≡◌, ◌∙◌, ◌≤◌, ◌<◌, ◌⊎◌, inl, inr, ℕ, zero, suc, ◌+◌, ◌-◌, List, [], ◌++◌, Option, Some, None, Result, Ok, Err, refl, ap, sym, subst, arith}
+use Rattle.zk_state.specs.declared.refusal.Limit.TheVariants.{Steps}
+use Rattle.zk_step.specs.Routing.{Texts, no_text, on_script, text_joined}
+use Rattle.zk_step.specs.declared.ending.Wait.{Wait}
+use Rattle.zk_vm.specs.declared.stop.Event.{Event}
+use Rattle.zk_vm.specs.declared.stop.Stop.{Stop}
+use Rattle.zk_vm.specs.declared.stop.Stop.TheVariants as stops
+use Rattle.zk_vm.specs.declared.waiting.Halt.{Halt}
+use Rattle.zk_vm.specs.declared.waiting.Halt.TheVariants as halt
+use Rattle.zk_vm.specs.declared.waiting.Waiting.{Waiting}
+use Rattle.zk_vm.specs.Going.{IsHalted, steps_left}
+use Rattle.zk_vm.specs.Halts.{ComesToKeep, IsKeeping, IsLeftAs, IsLeftAt, IsLeftBy, IsRun, IsStep, event_by, event_of, halt_by, halt_of}
+use Rattle.zk_vm.specs.Outcome.{Leads, Segment, Session, behind_due, ended, ran, segment, segment_by, segment_of}
+use Rattle.zk_vm.specs.Step.{State, Verdict, step, state_after, text_of, verdict_of}
+use Rattle.zk_vm.specs.Step.Verdict.{GoesOn, WaitsFor, StopsBy}
+use Rattle.zk_vm.proofs.Runs.{ShowsRest, goes_by_halt, left_goes, left_on, last_shown, rest_shown, run_ends, run_goes, run_limit}
+
+-- where a machine comes to keep a state, so does one that has led to it, and what shows the rest shows the whole
+abbrev pub ComesOn : {S : Type 0} → (S → S → List ℕ → List ℕ → Type 0) → S → S → Session → Session → Type 0
+ComesOn {S} shows old now first s = (text : Texts) → ComesToKeep s text → (whole : Texts) × (ComesToKeep first whole × ShowsRest shows old now text whole)
+
+-- a step before it
+pub comes_before : (old new : Session) (t rest : Texts) → old.stopped ≡ None → old.state.due ≡ [] → new.state.due ≡ [] → new ≡ record old { state = new.state } → new.state ≡ state_after old.state (step old.state) → new.state.steps ≡ old.state.steps + 1
+    → verdict_of old.state (step old.state) ≡ GoesOn → text_of old.state (step old.state) ≡ t → ComesToKeep new rest → ComesToKeep old (text_joined t rest)
+comes_before old new t rest runs silent still same next count verdict shown comes =
+    let limits : new.limits ≡ old.limits = ap (λ (s : Session). s.limits) same in
+    let here : record old.state { due = [] } ≡ old.state = ap (λ (due : List ℕ). let s : State = record old.state { due = due } in s) (sym silent) in
+    let there : record new.state { due = [] } ≡ new.state = ap (λ (due : List ℕ). let s : State = record new.state { due = due } in s) (sym still) in
+    let leads : Leads comes.steps (state_after old.state (step old.state)) comes.end comes.behind
+    = subst (λ (s : State). Leads comes.steps s comes.end comes.behind) (there ∙ next) comes.leads in
+    let all : Leads (suc comes.steps) old.state comes.end (text_joined (text_of old.state (step old.state)) comes.behind) = (comes.behind, verdict, leads, refl) in
+    let fewer : suc comes.steps < old.limits.steps - old.state.steps = omega (arith, comes.few, ap (λ (l : _). l.steps) limits, count) in
+    let rest_is : rest ≡ comes.behind = comes.shown ∙ ap (λ (due : List ℕ). text_joined (on_script due) comes.behind) still in
+    record {
+      runs = runs;
+      steps = suc comes.steps;
+      few = fewer;
+      end = comes.end;
+      behind = text_joined (text_of old.state (step old.state)) comes.behind;
+      leads = subst (λ (s : State). Leads (suc comes.steps) s comes.end (text_joined (text_of old.state (step old.state)) comes.behind)) (sym here) all;
+      keeping = comes.keeping;
+      shown = ap (λ (x : Texts). text_joined x rest) (sym shown) ∙ ap (text_joined (text_of old.state (step old.state))) rest_is
+          ∙ sym (ap (λ (due : List ℕ). text_joined (on_script due) (text_joined (text_of old.state (step old.state)) comes.behind)) silent);
+    }
+
+-- it comes to keep a state here
+pub comes_here : (s : Session) → s.stopped ≡ None → s.state.due ≡ [] → s.state.steps < s.limits.steps → IsKeeping s.state → ComesToKeep s no_text
+comes_here s runs silent room keeping = record {
+  runs = runs;
+  steps = 0;
+  few = omega (arith, room);
+  end = record s.state { due = [] };
+  behind = no_text;
+  leads = (refl, refl);
+  keeping = record { instruction = keeping.instruction; fetched = keeping.fetched; keeps = keeping.keeps; some = keeping.some };
+  shown = sym (ap (λ (due : List ℕ). text_joined (on_script due) no_text) silent);
+}
+
+-- a step that goes on
+pub goes_step : (old new : Session) (Shown : Texts → Type 0) → IsStep old new (Ok tt) Shown
+    → (Ok tt ≡ halt_by (verdict_of old.state (step old.state))) × IsLeftAt old new (verdict_of old.state (step old.state)) (state_after old.state (step old.state)) × Shown (text_of old.state (step old.state))
+goes_step old new Shown (inl h) = h
+goes_step old new Shown (inr h) = let never = h.0 in absurd cc
+
+-- a step that does not
+pub run_halts : {S : Type 0} (shows : S → S → List ℕ → List ℕ → Type 0) (first now last : S) (n i : ℕ) (old mid new : Session) (h : Halt) → i < n → mid ≡ record old { state = mid.state } → mid.stopped ≡ None → mid.state.due ≡ [] → mid.state.steps < mid.limits.steps
+    → (segment (n - i) mid.state).end ≡ (steps_left old).end → (segment (n - i) mid.state).state ≡ (steps_left old).state → ShowsRest shows first now (segment (n - i) mid.state).text (steps_left old).text → ComesOn shows first now old mid
+    → IsStep mid new (Err h) (λ t. shows now last t.screen t.script) → IsHalted old new h (λ t. shows first last t.screen t.script)
+run_halts {S} shows first now last n i old mid new h lt same runs silent room end state text comes (inl stepped) =
+    let parts = run_ends n i old mid new h lt same stepped.0 stepped.1 in
+    let left : IsLeftBy old new (steps_left old).end (segment (n - i) mid.state).state = subst (λ (r : Result Waiting Stop). IsLeftBy old new r (segment (n - i) mid.state).state) end parts.1 in
+    inl (parts.0 ∙ ap halt_of end, subst (λ (s : State). IsLeftBy old new (steps_left old).end s) state left, last_shown shows first now last _ _ _ parts.2 stepped.2 text)
+run_halts {S} shows first now last n i old mid new h lt same runs silent room end state text comes (inr keeps) =
+    let tells = keeps.0 in
+    let is : h ≡ halt.Stops stops.Memory = cc in
+    let all = comes no_text (comes_here mid runs silent room keeps.2.0) in
+    inr (is, keeps.1, (all.0, all.1.0, all.1.1 last keeps.2.1))
+
+-- no step is left
+pub run_out : {S : Type 0} (shows : S → S → List ℕ → List ℕ → Type 0) (first now : S) (n i : ℕ) (old mid : Session) (place : ℕ) → n ≤ i → place ≡ mid.state.place → mid.waiting ≡ None
+    → (segment (n - i) mid.state).end ≡ (steps_left old).end → ShowsRest shows first now (segment (n - i) mid.state).text (steps_left old).text → shows now now [] []
+    → IsHalted old mid (halt.Stops (stops.Limit place Steps)) (λ t. shows first now t.screen t.script)
+run_out {S} shows first now n i old mid place few at free end text none =
+    let e = run_limit n i mid.state few in
+    let ends : (steps_left old).end ≡ Err (stops.Limit mid.state.place Steps) = sym end ∙ ap (λ (g : Segment). g.end) e in
+    inl (
+      ap (λ (p : ℕ). halt.Stops (stops.Limit p Steps)) at ∙ sym (ap halt_of ends),
+      subst (λ (r : Result Waiting Stop). IsLeftBy old mid r (steps_left old).state) (sym ends) free,
+      last_shown shows first now now _ _ _ (ap (λ (g : Segment). g.text) e) none text,
+    )
+
+-- ---- a run
+
+-- it has stopped before
+pub run_stopped : {S : Type 0} (shows : S → S → List ℕ → List ℕ → Type 0) (a : S) (s : Session) (stop : Stop) → s.stopped ≡ Some stop → s.waiting ≡ None → shows a a [] [] → IsRun s s (Err stop) (λ t. shows a a t.screen t.script)
+unfolding ran segment_of
+run_stopped {S} shows a s stop h free none =
+    inl (subst (λ (x : Option Stop). (Err stop ≡ event_of (segment_by x s.limits s.state).end) × IsLeftAs s (ended s (segment_by x s.limits s.state) (segment_by x s.limits s.state).end) (ended s (segment_by x s.limits s.state) (segment_by x s.limits s.state).end).stopped
+    × shows a a (segment_by x s.limits s.state).text.screen (segment_by x s.limits s.state).text.script) (sym h) (refl, (h, free, refl), none))
+
+-- a machine whose transcript got what it was still to get
+abbrev pub told_due : Session → Session
+told_due s = record s { state = record s.state { due = [] } }
+
+abbrev Ends : Session → Session → Result Event Stop → (Texts → Type 0) → Segment → Type 0
+Ends old new answer Shown g = (answer ≡ event_of g.end) × IsLeftAs new (ended old g g.end) (ended old g g.end).stopped × Shown g.text
+
+segment_is : (s : Session) → s.stopped ≡ None → segment_of s ≡ behind_due s.state.due (steps_left (told_due s))
+unfolding segment_of
+segment_is s runs = ap (λ (x : Option Stop). segment_by x s.limits s.state) runs
+
+run_ended : (old new : Session) (answer : Result Event Stop) (Shown : Texts → Type 0) → old.stopped ≡ None → Ends old new answer Shown (behind_due old.state.due (steps_left (told_due old))) → IsRun old new answer Shown
+unfolding ran
+run_ended old new answer Shown runs h = inl (subst (λ (g : Segment). Ends old new answer Shown g) (sym (segment_is old runs)) h)
+
+waits_end : (old new : Session) (x : Wait) (s : State) (g : Segment) (r : Result Waiting Stop) → g.state ≡ s → halt.Waits x ≡ halt_of r → IsLeftBy (told_due old) new r s → old.stopped ≡ None → (Ok (event_by x) ≡ event_of r) × IsLeftAs new (ended old g r) (ended old g r).stopped
+waits_end old new x s g (Ok w) same h left runs =
+    let wait : x ≡ w.wait = cc in
+    let here : new ≡ record old { state = g.state; waiting = Some w } = left ∙ ap (λ (t : State). record old { state = t; waiting = Some w }) (sym same) in
+    (ap (λ (y : Wait). Ok (event_by y)) wait, subst (λ (y : Option Stop). IsLeftAs new (record old { state = g.state; waiting = Some w }) y) (sym runs) here)
+waits_end old new x s g (Err stop) same h left runs = absurd cc
+
+pub run_waits : {S : Type 0} (shows : S → S → List ℕ → List ℕ → Type 0) (twice : (a b c : S) (s t u v : List ℕ) → shows a b s u → shows b c t v → shows a c (s ++ t) (u ++ v)) (a b c : S) (old new : Session) (x : Wait) → old.stopped ≡ None
+    → shows a b [] old.state.due → IsHalted (told_due old) new (halt.Waits x) (λ t. shows b c t.screen t.script) → IsRun old new (Ok (event_by x)) (λ t. shows a c t.screen t.script)
+run_waits {S} shows twice a b c old new x runs first (inl h) =
+    let ends = waits_end old new x (steps_left (told_due old)).state (behind_due old.state.due (steps_left (told_due old))) (steps_left (told_due old)).end refl h.0 h.1 runs in
+    run_ended old new (Ok (event_by x)) (λ t. shows a c t.screen t.script) runs (ends.0, ends.1, twice a b c [] _ old.state.due _ first h.2)
+run_waits {S} shows twice a b c old new x runs first (inr h) = let never = h.0 in absurd cc
+
+stops_end : (old new : Session) (stop : Stop) (g : Segment) (r : Result Waiting Stop) → halt.Stops stop ≡ halt_of r → new.stopped ≡ Some stop → new.waiting ≡ None → new.limits ≡ old.limits → (Err stop ≡ event_of r) × IsLeftAs new (ended old g r) (ended old g r).stopped
+stops_end old new stop g (Ok w) h stopped free limits = absurd cc
+stops_end old new stop g (Err e) h stopped free limits = let same : stop ≡ e = cc in (ap Err same, (stopped ∙ ap Some same, free, limits))
+
+free_by : (old mid : Session) (stop : Stop) (r : Result Waiting Stop) (s : State) → halt.Stops stop ≡ halt_of r → IsLeftBy old mid r s → mid.waiting ≡ None
+free_by old mid stop (Ok w) s h left = absurd cc
+free_by old mid stop (Err e) s h left = left
+
+pub run_stops : {S : Type 0} (shows : S → S → List ℕ → List ℕ → Type 0) (twice : (a b c : S) (s t u v : List ℕ) → shows a b s u → shows b c t v → shows a c (s ++ t) (u ++ v)) (a b c : S) (old mid new : Session) (stop : Stop) → old.stopped ≡ None
+    → shows a b [] old.state.due → IsHalted (told_due old) mid (halt.Stops stop) (λ t. shows b c t.screen t.script) → new.stopped ≡ Some stop → new.waiting ≡ mid.waiting → new.limits ≡ old.limits → IsRun old new (Err stop) (λ t. shows a c t.screen t.script)
+run_stops {S} shows twice a b c old mid new stop runs first (inl h) stopped free limits =
+    let none = free_by (told_due old) mid stop (steps_left (told_due old)).end (steps_left (told_due old)).state h.0 h.1 in
+    let ends = stops_end old new stop (behind_due old.state.due (steps_left (told_due old))) (steps_left (told_due old)).end h.0 stopped (free ∙ none) limits in
+    run_ended old new (Err stop) (λ t. shows a c t.screen t.script) runs (ends.0, ends.1, twice a b c [] _ old.state.due _ first h.2)
+run_stops {S} shows twice a b c old mid new stop runs first (inr h) stopped free limits =
+    let tells = h.0 in
+    let is : stop ≡ stops.Memory = cc in
+    let comes = h.2.1 in
+    let whole : ComesToKeep old (text_joined (on_script old.state.due) h.2.0) = record {
+      runs = runs;
+      steps = comes.steps;
+      few = comes.few;
+      end = comes.end;
+      behind = comes.behind;
+      leads = comes.leads;
+      keeping = comes.keeping;
+      shown = ap (text_joined (on_script old.state.due)) comes.shown;
+    } in
+    inr (ap Err is, stopped ∙ ap Some is, free ∙ h.1, (text_joined (on_script old.state.due) h.2.0, whole, twice a b c [] _ old.state.due _ first h.2.2))
+
+pub halted_waits : (old new : Session) (x : Wait) (Shown : Texts → Type 0) → IsHalted old new (halt.Waits x) Shown → (w : Waiting) × (new.waiting ≡ Some w)
+halted_waits old new x Shown (inl h) = go (steps_left old).end h.0 h.1
+  where
+    go : (r : Result Waiting Stop) → halt.Waits x ≡ halt_of r → IsLeftBy old new r (steps_left old).state → (w : Waiting) × (new.waiting ≡ Some w)
+    go (Ok w) e left = (w, ap (λ (s : Session). s.waiting) left)
+    go (Err stop) e left = absurd cc
+halted_waits old new x Shown (inr h) = let never = h.0 in absurd cc

@@ -1,0 +1,123 @@
+-- Outcomes of machines that wait, and of those that have stopped.
+use Rattle.std.proofs.Common.{◌≡◌, ◌∙◌, ◌≤◌, ◌<◌, ◌⊎◌, inl, inr, ℕ, zero, suc, ◌+◌, ◌-◌, Bool, true, false, List, [], ◌∷◌, Option, Some, None, Result, Ok, Err, refl, ap, sym, subst, arith}
+use Rattle.std.specs.Prelude.{if◌then◌else◌}
+use Rattle.zk_mem.specs.declared.fault.Fault.{Fault}
+use Rattle.zk_mem.specs.Map.{MemoryMap}
+use Rattle.zk_state.specs.declared.refusal.Limit.TheVariants.{Reads}
+use Rattle.zk_state.specs.declared.refusal.Refusal.{Refusal}
+use Rattle.zk_state.specs.declared.refusal.Refusal.TheVariants as refusal
+use Rattle.zk_state.specs.Frames.{FrameList, within_bounds}
+use Rattle.zk_code.specs.declared.instr.Instr.{Instr}
+use Rattle.zk_code.specs.Reading.{instr_at}
+use Rattle.zk_save.specs.States.{WholeState, gone_back}
+use Rattle.zk_step.specs.declared.ending.Next.{Next}
+use Rattle.zk_step.specs.declared.ending.Next.TheVariants as next
+use Rattle.zk_step.specs.declared.ending.Wait.{Wait}
+use Rattle.zk_step.specs.declared.workspace.Workspace.{Workspace}
+use Rattle.zk_step.specs.Inputs.{result_answered}
+use Rattle.zk_step.specs.Instructions.{carried_out}
+use Rattle.zk_step.specs.Resuming.{resumed}
+use Rattle.zk_step.specs.Routing.{Texts, no_text, text_joined}
+use Rattle.zk_vm.specs.declared.stop.Stop.{Stop}
+use Rattle.zk_vm.specs.declared.stop.Stop.TheVariants.{Limit}
+use Rattle.zk_vm.specs.declared.waiting.Waiting.{Waiting}
+use Rattle.zk_vm.specs.Answers.{Answer}
+use Rattle.zk_vm.specs.Outcome.{Outcome, Segment, Session, continued, ended, followed, given, outcome, ran, segment, segment_by, segment_of}
+use Rattle.zk_vm.specs.Step.{State, Step, Verdict, back_to, fetched, goes_by, goes_to, is_past_reads, kept_answer, led_to, settled, state_after, step, text_of, text_within, verdict_of, view_before, waits_by, with_kept}
+use Rattle.zk_vm.specs.Step.Step.{Goes, Waits, Quits, Faults, Exceeds}
+use Rattle.zk_vm.specs.Step.Verdict.{GoesOn, WaitsFor, StopsBy}
+use Rattle.zk_vm.proofs.FrameLimits.{counts}
+
+pub ran_waiting : (s : Session) (w : Waiting) → (segment_of s).end ≡ Ok w → (ran s).waiting ≡ Some w
+unfolding ran
+ran_waiting s w h = rw h refl
+
+stopped_segment : (s : Session) (stop : Stop) → s.stopped ≡ Some stop → segment_of s ≡ record { end = Err stop; state = s.state; text = no_text }
+unfolding segment_of
+stopped_segment s stop h = rw h refl
+
+outcome_stops : (answers : List Answer) (end stop : Stop) (s : Session) → (segment_of s).end ≡ Err stop → outcome answers end s ≡ record { stop = stop; text = (segment_of s).text }
+unfolding outcome
+outcome_stops [] end stop s h = rw h refl
+outcome_stops (a ∷ answers) end stop s h = rw h refl
+
+pub outcome_stopped : (answers : List Answer) (end : Stop) (s : Session) (stop : Stop) → s.stopped ≡ Some stop → outcome answers end s ≡ record { stop = stop; text = no_text }
+outcome_stopped answers end s stop e =
+    let seg = stopped_segment s stop e in
+    outcome_stops answers end stop s (ap (λ (g : Segment). g.end) seg) ∙ ap (λ (t : Texts). let o : Outcome = record { stop = stop; text = t } in o) (ap (λ (g : Segment). g.text) seg)
+
+-- ---- a segment that ends with what waits has made fewer steps than it might
+
+goes_no_wait : (s t : State) (undo : List WholeState) (w : Waiting) (text : Texts) (r : Result (Workspace × Next) Fault) → goes_to s undo r ≡ Waits t w text → ⊥
+goes_no_wait s t undo w text (Ok (v, next.At p)) h = absurd cc
+goes_no_wait s t undo w text (Ok (v, next.Waits x)) h = absurd cc
+goes_no_wait s t undo w text (Ok (v, next.Keeps)) h = absurd cc
+goes_no_wait s t undo w text (Ok (v, next.Resumes)) h = absurd cc
+goes_no_wait s t undo w text (Ok (v, next.End)) h = absurd cc
+goes_no_wait s t undo w text (Err e) h = absurd cc
+
+back_no_wait : (s t : State) (i : Instr) (v : Workspace) (w : Waiting) (text : Texts) (q : Option (MemoryMap × FrameList × ℕ × List WholeState)) → back_to s i v q ≡ Waits t w text → ⊥
+back_no_wait s t i v w text None h = goes_no_wait s t s.undo w text (result_answered v i 0 false) h
+back_no_wait s t i v w text (Some (m, f, p, others)) h = goes_no_wait s t others w text (resumed (record v { memory = m; frames = f }) p) h
+
+waits_steps : (s t : State) (i : Instr) (x : Wait) (w : Waiting) (text : Texts) (r : Result (Workspace × Texts) Fault) → waits_by s i x r ≡ Waits t w text → t.steps ≡ s.steps
+waits_steps s t i x w text (Ok v) h = let same : record s { workspace = v.0 } ≡ t = cc in sym (ap (λ (u : State). u.steps) same)
+waits_steps s t i x w text (Err f) h = absurd cc
+
+led_steps : (s t : State) (i : Instr) (v : Workspace) (w : Waiting) (shown text : Texts) (n : Next) → led_to s i v shown n ≡ Waits t w text → t.steps ≡ s.steps
+led_steps s t i v w shown text (next.At p) h = absurd cc
+led_steps s t i v w shown text (next.Waits x) h = waits_steps s t i x w text (view_before x v) h
+led_steps s t i v w shown text next.Keeps h = absurd (goes_no_wait s t (with_kept s i v) w text (result_answered v i (kept_answer v.memory.undo_states) true) h)
+led_steps s t i v w shown text next.Resumes h = absurd (back_no_wait s t i v w text (gone_back s.undo v.memory v.frames) h)
+led_steps s t i v w shown text next.End h = absurd cc
+
+settled_steps : (s t : State) (i : Instr) (w : Waiting) (text : Texts) (r : Result (Workspace × (Next × Texts)) Fault) → settled s i r ≡ Waits t w text → t.steps ≡ s.steps
+settled_steps s t i w text (Ok r) h = led_steps s t i r.0 w r.1.1 text r.1.0 h
+settled_steps s t i w text (Err f) h = absurd cc
+
+fetched_steps : (s t : State) (w : Waiting) (text : Texts) (r : Result Instr Fault) → fetched s r ≡ Waits t w text → t.steps ≡ s.steps
+fetched_steps s t w text (Ok i) h = settled_steps s t i w text (carried_out s.workspace i) h
+fetched_steps s t w text (Err f) h = absurd cc
+
+step_waits : (s t : State) (w : Waiting) (text : Texts) → step s ≡ Waits t w text → t.steps ≡ s.steps
+unfolding step
+step_waits s t w text h = fetched_steps s t w text (instr_at s.workspace.memory s.place) h
+
+continued_few : (s : State) (x : Step) (n : ℕ) (rest : Segment) (w : Waiting) → ((t : State) (text : Texts) → x ≡ Goes t text → t.steps ≡ s.steps + 1) → ((t : State) (v : Waiting) (text : Texts) → x ≡ Waits t v text → t.steps ≡ s.steps)
+    → (rest.end ≡ Ok w → rest.state.steps < (state_after s x).steps + n) → (continued (verdict_of s x) (state_after s x) (text_of s x) rest).end ≡ Ok w → (continued (verdict_of s x) (state_after s x) (text_of s x) rest).state.steps < s.steps + suc n
+continued_few s (Goes t text) n rest w counted waited few h = go (within_bounds t.workspace.frames) h
+  where
+    go : (q : Result FrameList Refusal) → (continued (goes_by s.place q) t (text_within q text) rest).end ≡ Ok w → (continued (goes_by s.place q) t (text_within q text) rest).state.steps < s.steps + suc n
+    go (Ok u) k = let less = few k in let one = counted t text refl in omega (arith, less, one)
+    go (Err (refusal.Limit l)) k = absurd cc
+    go (Err (refusal.Fault f)) k = absurd cc
+continued_few s (Waits t v text) n rest w counted waited few h = go (is_past_reads s.reads v.wait) h
+  where
+    go : (b : Bool) → (continued (if b then StopsBy (Limit s.place Reads) else WaitsFor v) t (if b then no_text else text) rest).end ≡ Ok w
+        → (continued (if b then StopsBy (Limit s.place Reads) else WaitsFor v) t (if b then no_text else text) rest).state.steps < s.steps + suc n
+    go true k = absurd cc
+    go false k = let same = waited t v text refl in omega (arith, same)
+continued_few s (Quits text) n rest w counted waited few h = absurd cc
+continued_few s (Faults f) n rest w counted waited few h = absurd cc
+continued_few s (Exceeds l) n rest w counted waited few h = absurd cc
+
+segment_few : (n : ℕ) (s : State) (w : Waiting) → (segment n s).end ≡ Ok w → (segment n s).state.steps < s.steps + n
+unfolding segment
+segment_few zero s w h = absurd cc
+segment_few (suc n) s w h =
+    continued_few s (step s) n (segment n (state_after s (step s))) w (λ t text e. (counts s t text e).steps) (λ t v text e. step_waits s t v text e) (segment_few n (state_after s (step s)) w) h
+
+by_few : (x : Option Stop) (s : Session) (w : Waiting) → (x ≡ None → s.state.steps ≤ s.limits.steps) → (segment_by x s.limits s.state).end ≡ Ok w → (segment_by x s.limits s.state).state.steps < s.limits.steps
+by_few None s w few h = let least = few refl in let less = segment_few (s.limits.steps - s.state.steps) (record s.state { due = [] }) w h in omega (arith, least, less)
+by_few (Some stop) s w few h = absurd cc
+
+ended_parts : (s : Session) (g : Segment) (r : Result Waiting Stop) → ((ended s g r).state ≡ g.state) × ((ended s g r).limits ≡ s.limits)
+ended_parts s g (Ok w) = (refl, refl)
+ended_parts s g (Err stop) = (refl, refl)
+
+pub ran_few : (s : Session) (w : Waiting) → (s.stopped ≡ None → s.state.steps ≤ s.limits.steps) → (segment_of s).end ≡ Ok w → (ran s).state.steps < (ran s).limits.steps
+unfolding ran segment_of
+ran_few s w few h =
+    let parts = ended_parts s (segment_of s) (segment_of s).end in
+    let less = by_few s.stopped s w few h in
+    omega (arith, less, ap (λ (t : State). t.steps) parts.0, ap (λ (l : _). l.steps) parts.1)

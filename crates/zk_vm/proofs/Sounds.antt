@@ -1,0 +1,122 @@
+-- What the parts of a machine keep to, step by step.
+use Rattle.std.proofs.Common.{◌≡◌, ◌∙◌, ◌≤◌, ◌<◌, ℕ, ◌+◌, List, [], ◌∷◌, length, Option, Some, None, Result, Ok, Err, refl, ap, sym, arith}
+use Rattle.std.specs.Prelude.{map}
+use Rattle.zk_mem.specs.Fresh.{fresh}
+use Rattle.zk_mem.specs.Map.{MemoryMap}
+use Rattle.zk_mem.specs.Again.{again, settled}
+use Rattle.zk_state.specs.declared.refusal.Refusal.{Refusal}
+use Rattle.zk_state.specs.Frames.{FrameList, IsBounded, bounds_of, first_frames, with_frames}
+use Rattle.zk_save.specs.States.{WholeState, KeptState, UndoStates, whole_state, AreOf, gone_back, memory_back, states_in}
+use Rattle.zk_save.proofs.Wholes.{same_of}
+use Rattle.zk_step.specs.declared.ending.Next.{Next}
+use Rattle.zk_step.specs.declared.ending.Next.TheVariants.{At, Waits, Keeps, Resumes, End}
+use Rattle.zk_step.specs.declared.workspace.Workspace.{Workspace}
+use Rattle.zk_step.specs.Laws.{fixed_parts}
+use Rattle.zk_vm.specs.declared.machine.Machine.TheInside.{Inside}
+use Rattle.zk_vm.specs.declared.stop.Stop.{Stop}
+use Rattle.zk_vm.specs.declared.waiting.Waiting.{Waiting}
+use Rattle.zk_vm.specs.Going.{verdict_by, steps_by, stopped_by}
+use Rattle.zk_vm.specs.Halts.{CanAnswer, WhileRunning}
+use Rattle.zk_vm.specs.Laws.{IsWithin}
+use Rattle.zk_vm.specs.Sound.{state_seen, HasUndo, IsSound}
+
+-- a machine without a stop has what a running one has
+pub running : (x : Option Stop) (P : Type 0) → x ≡ None → WhileRunning x P → P
+running None P e h = h
+running (Some stop) P e h = absurd cc
+
+pub while_running : (x : Option Stop) (P : Type 0) → (x ≡ None → P) → WhileRunning x P
+while_running None P h = h refl
+while_running (Some stop) P h = tt
+
+can_answer_none : (m : Inside) (x : Option Waiting) → x ≡ None → CanAnswer (state_seen m) m.limits m.stopped x
+can_answer_none m None e = tt
+can_answer_none m (Some w) e = absurd cc
+
+-- ---- the story's parts
+
+pub same_file : (m n : MemoryMap) → fixed_parts n ≡ fixed_parts m → n.file ≡ m.file
+unfolding fixed_parts
+same_file m n e = ap (λ (p : (ℕ × ℕ) × (List ℕ × ℕ)). p.1.0) e
+
+pub same_base : (m n : MemoryMap) → fixed_parts n ≡ fixed_parts m → n.static_base ≡ m.static_base
+unfolding fixed_parts
+same_base m n e = ap (λ (p : (ℕ × ℕ) × (List ℕ × ℕ)). p.0.1) e
+
+pub same_version : (m n : MemoryMap) → fixed_parts n ≡ fixed_parts m → n.version ≡ m.version
+unfolding fixed_parts
+same_version m n e = ap (λ (p : (ℕ × ℕ) × (List ℕ × ℕ)). p.0.0) e
+
+pub same_most : (m n : MemoryMap) → fixed_parts n ≡ fixed_parts m → n.undo_states ≡ m.undo_states
+unfolding fixed_parts
+same_most m n e = ap (λ (p : (ℕ × ℕ) × (List ℕ × ℕ)). p.1.1) e
+
+-- memory that is put back has them too
+pub back_fixed : (w : WholeState) (m : MemoryMap) → fixed_parts (memory_back w m) ≡ fixed_parts m
+unfolding fixed_parts again settled
+back_fixed w m = refl
+
+-- the states to go back to are those of a machine's workspace still
+pub undo_stays : (n : Inside) (v : Workspace) → AreOf v.memory v.frames n.undo → v.memory.undo_states ≡ n.limits.undo
+    → fixed_parts n.workspace.memory ≡ fixed_parts v.memory → bounds_of n.workspace.frames ≡ bounds_of v.frames → HasUndo n
+undo_stays n v are most same bounds = record {
+  are_of = same_of v.memory n.workspace.memory v.frames n.workspace.frames n.undo (same_base v.memory n.workspace.memory same) bounds are;
+  memory = same_most v.memory n.workspace.memory same ∙ most;
+}
+
+-- ---- invariants
+
+pub sound_now : (m n : Inside) → IsSound m → n.limits ≡ m.limits → n.waiting ≡ None → n.steps ≤ m.limits.steps → n.reads ≤ 16777216 → n.undo.most ≡ m.undo.most
+    → bounds_of n.workspace.frames ≡ bounds_of m.workspace.frames → (n.stopped ≡ None → HasUndo n) → IsSound n
+sound_now m n is limits free steps reads most bounds undo = record {
+  steps = rw limits steps;
+  bounds = rw limits (bounds ∙ is.bounds);
+  reads = reads;
+  most = rw limits (most ∙ is.most);
+  undo = while_running n.stopped (HasUndo n) undo;
+  waits = can_answer_none n n.waiting free;
+}
+
+few_by : (steps most : ℕ) (led : Result Next Refusal) → steps < most → steps_by steps led ≤ most
+few_by steps most (Ok (At p)) lt = omega arith
+few_by steps most (Ok (Waits x)) lt = omega arith
+few_by steps most (Ok Keeps) lt = omega arith
+few_by steps most (Ok Resumes) lt = omega arith
+few_by steps most (Ok End) lt = omega arith
+few_by steps most (Err e) lt = omega arith
+
+-- where a run goes on, an instruction was finished
+pub going_led : (x before : Option Stop) (place : ℕ) (led : Result Next Refusal) (P : Type 0) → x ≡ stopped_by before (verdict_by place led) → ((n : Next) → led ≡ Ok n → P) → x ≡ None → P
+going_led x before place (Ok n) P e h none = h n refl
+going_led x before place (Err r) P e h none = absurd cc
+
+pub sound_after : (m n : Inside) (place : ℕ) (led : Result Next Refusal) → IsSound m → m.steps < m.limits.steps → n.limits ≡ m.limits → n.waiting ≡ None → n.steps ≡ steps_by m.steps led → n.reads ≡ m.reads
+    → n.undo.most ≡ m.undo.most → bounds_of n.workspace.frames ≡ bounds_of m.workspace.frames → n.stopped ≡ stopped_by m.stopped (verdict_by place led) → ((x : Next) → led ≡ Ok x → HasUndo n) → IsSound n
+sound_after m n place led is room limits free steps reads most bounds stopped undo =
+    sound_now m n is limits free (rw steps (few_by m.steps m.limits.steps led room)) (rw reads is.reads) most bounds (going_led n.stopped m.stopped place led (HasUndo n) stopped undo)
+
+-- ---- what a machine is within
+
+counted : (file : List ℕ) (ks : List KeptState) → length (map (whole_state file) ks) ≡ length ks
+counted file [] = refl
+counted file (k ∷ ks) = let rest = counted file ks in omega (arith, rest)
+
+states_counted : (file : List ℕ) (u : UndoStates) → length (states_in file u) ≡ length u.states
+unfolding states_in
+states_counted file u = counted file u.states
+
+pub first_bounds : (s : FrameList) (f w : ℕ) → s ≡ first_frames f w → bounds_of s ≡ (f, w)
+unfolding bounds_of
+first_bounds s f w e = ap bounds_of e
+
+pub within_limits : (m : Inside) → IsSound m → length m.undo.states ≤ m.undo.most → IsBounded m.workspace.frames → IsWithin m.limits (state_seen m)
+unfolding bounds_of
+within_limits m sound few is =
+    let f : m.workspace.frames.most_frames ≡ m.limits.frames = ap (λ (p : ℕ × ℕ). p.0) sound.bounds in
+    let w : m.workspace.frames.most_words ≡ m.limits.words = ap (λ (p : ℕ × ℕ). p.1) sound.bounds in
+    let n = states_counted m.workspace.memory.file m.undo in
+    record { frames = omega (arith, is.frames, f); words = omega (arith, is.words, w); steps = sound.steps; reads = sound.reads; undo = omega (arith, n, few, sound.most) }
+
+pub first_undo : (story : List ℕ) (undo : ℕ) → (fresh story undo).undo_states ≡ undo
+unfolding fresh
+first_undo story undo = refl

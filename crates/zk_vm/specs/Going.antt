@@ -1,0 +1,96 @@
+-- How a machine goes on where an instruction leads.
+use Rattle.std.specs.Prelude.{◌≡◌, ◌⊎◌, ◌<◌, ◌+◌, ◌-◌, true, false, ℕ, List, Option, Some, None, Result, Ok, Err}
+use Rattle.zk_state.specs.declared.refusal.Limit.{Limit}
+use Rattle.zk_state.specs.declared.refusal.Refusal.{Refusal}
+use Rattle.zk_state.specs.declared.refusal.Refusal.TheVariants as refusal
+use Rattle.zk_state.specs.Frames.{FrameList}
+use Rattle.zk_mem.specs.Map.{MemoryMap}
+use Rattle.zk_code.specs.declared.instr.Instr.{Instr}
+use Rattle.zk_save.specs.declared.restore.RestoreError.{RestoreError}
+use Rattle.zk_save.specs.declared.restore.RestoreError.TheVariants as restore_error
+use Rattle.zk_save.specs.Loading.{restored}
+use Rattle.zk_step.specs.declared.ending.Next.{Next}
+use Rattle.zk_step.specs.declared.ending.Next.TheVariants.{At}
+use Rattle.zk_step.specs.declared.workspace.Workspace.{Workspace}
+use Rattle.zk_step.specs.Inputs.{result_answered}
+use Rattle.zk_step.specs.Limited.{limited_next}
+use Rattle.zk_step.specs.Restarts.{renewed}
+use Rattle.zk_step.specs.Resuming.{resumed}
+use Rattle.zk_step.specs.Routing.{Texts}
+use Rattle.zk_vm.specs.declared.stop.Stop.{Stop}
+use Rattle.zk_vm.specs.declared.stop.Stop.TheVariants as stop
+use Rattle.zk_vm.specs.declared.waiting.Halt.{Halt}
+use Rattle.zk_vm.specs.declared.waiting.Halt.TheVariants as halt
+use Rattle.zk_vm.specs.Halts.{ComesToKeep, IsLeftBy, halt_by, halt_of}
+use Rattle.zk_vm.specs.Outcome.{Segment, Session, segment}
+use Rattle.zk_vm.specs.Step.{State, Step, Verdict, verdict_of, state_after}
+use Rattle.zk_vm.specs.Step.Verdict.{GoesOn, WaitsFor, StopsBy}
+
+-- the stop of an instruction at a place that is refused
+abbrev pub stop_by : ℕ → Refusal → Stop
+stop_by place (refusal.Fault f) = stop.Fault place f
+stop_by place (refusal.Limit l) = stop.Limit place l
+
+-- what becomes of a run where an instruction leads that was finished
+abbrev pub verdict_by : ℕ → Result Next Refusal → Verdict
+verdict_by place (Ok (At next)) = GoesOn
+verdict_by place (Ok _) = StopsBy stop.Quit
+verdict_by place (Err r) = StopsBy (stop_by place r)
+
+-- the place where it leads, the old one where the run does not go on
+abbrev pub place_by : ℕ → Result Next Refusal → ℕ
+place_by place (Ok (At next)) = next
+place_by place _ = place
+
+-- the steps that were made then
+abbrev pub steps_by : ℕ → Result Next Refusal → ℕ
+steps_by steps (Ok (At next)) = steps + 1
+steps_by steps _ = steps
+
+-- why a machine has stopped then
+abbrev pub stopped_by : Option Stop → Verdict → Option Stop
+stopped_by stopped (StopsBy stop) = Some stop
+stopped_by stopped _ = stopped
+
+-- a machine in a state: it goes on there, waits there, or has its stop
+abbrev pub IsPut : Session → Session → Verdict → State → Type 0
+IsPut old new GoesOn s = new ≡ record old { state = s }
+IsPut old new (WaitsFor w) s = new ≡ record old { state = s; waiting = Some w }
+IsPut old new (StopsBy stop) s = (new.stopped ≡ Some stop) × (new.waiting ≡ None) × (new.limits ≡ old.limits)
+
+-- a machine after what a step leads to, as the code tells it
+pub record Settles (old new : Session) (answer : Result (Unit {0}) Halt) (x : Step) : Type 0 where
+  pub tells : answer ≡ halt_by (verdict_of old.state x)
+  pub put : IsPut old new (verdict_of old.state x) (state_after old.state x)
+
+-- there is no memory for a state that is to be kept
+pub record LacksMemory (old new : Session) (answer : Result (Unit {0}) Halt) : Type 0 where
+  pub tells : answer ≡ Err (halt.Stops stop.Memory)
+  pub waiting : new.waiting ≡ None
+  pub some : 0 < old.state.workspace.memory.undo_states
+
+-- the limit that a saved game passes, where it is refused for that
+abbrev pub limit_of : RestoreError → Option Limit
+limit_of (restore_error.Limit l) = Some l
+limit_of _ = None
+
+-- where an instruction leads that restores, by what was loaded
+abbrev pub restored_by : Workspace → Instr → Result (MemoryMap × FrameList × ℕ) RestoreError → Result (Workspace × Next) Refusal
+restored_by w i (Ok (m, f, place)) = limited_next (resumed (renewed (record w { memory = m; frames = f })) place)
+restored_by w i (Err (restore_error.Limit l)) = Err (refusal.Limit l)
+restored_by w i (Err _) = limited_next (result_answered w i 0 false)
+
+-- where an instruction leads that restores a file
+abbrev pub restored_on : Workspace → Instr → List ℕ → Result (Workspace × Next) Refusal
+restored_on w i file = restored_by w i (restored file w.memory w.frames)
+
+-- the segment of the steps that a machine has left
+abbrev pub steps_left : Session → Segment
+steps_left s = segment (s.limits.steps - s.state.steps) s.state
+
+-- A machine has made its steps up to an event or a stop, as the Standard's machine makes them, and shown their text; or it
+-- came to keep a state, for which there was no memory.
+abbrev pub IsHalted : Session → Session → Halt → (Texts → Type 0) → Type 0
+IsHalted old new answer Shown =
+    ((answer ≡ halt_of (steps_left old).end) × IsLeftBy old new (steps_left old).end (steps_left old).state × Shown (steps_left old).text)
+    ⊎ ((answer ≡ halt.Stops stop.Memory) × (new.waiting ≡ None) × ((text : Texts) × ComesToKeep old text × Shown text))

@@ -1,0 +1,32 @@
+-- What the parts of a machine keep to.
+use Rattle.std.specs.Prelude.{◌≡◌, ◌≤◌}
+use Rattle.zk_save.specs.States.{states_in, AreOf}
+use Rattle.zk_state.specs.Frames.{bounds_of}
+use Rattle.zk_vm.specs.declared.machine.Machine.TheInside.{Inside}
+use Rattle.zk_vm.specs.Halts.{CanAnswer, WhileRunning}
+use Rattle.zk_vm.specs.Step.{State}
+
+-- the state of play that contracts speak of: the states to go back to are whole
+abbrev pub state_seen : Inside → State
+state_seen m = record {
+  workspace = m.workspace;
+  place = m.place;
+  steps = m.steps;
+  reads = m.reads;
+  due = m.due.items;
+  undo = states_in m.workspace.memory.file m.undo;
+}
+
+-- the states to go back to are those of the story, and as many of them are kept as its memory says
+pub record HasUndo (m : Inside) : Type 0 where
+  pub are_of : AreOf m.workspace.memory m.workspace.frames m.undo
+  pub memory : m.workspace.memory.undo_states ≡ m.limits.undo
+
+-- a machine keeps to its limits; while it has no stop its states can be gone back to
+pub record IsSound (m : Inside) : Type 0 where
+  pub steps : m.steps ≤ m.limits.steps
+  pub bounds : bounds_of m.workspace.frames ≡ (m.limits.frames, m.limits.words)
+  pub reads : m.reads ≤ 16777216
+  pub most : m.undo.most ≡ m.limits.undo
+  pub undo : WhileRunning m.stopped (HasUndo m)
+  pub waits : CanAnswer (state_seen m) m.limits m.stopped m.waiting
