@@ -1,5 +1,7 @@
 // One instruction.
 
+ghost use Rattle.std.specs.Prelude.{◌≡◌};
+
 use crate::branch::Branch;
 use crate::opcode::Opcode;
 use crate::operands::Operands;
@@ -16,4 +18,20 @@ pub struct Instr {
     pub text: Option<u32>,
     /// The byte address after the instruction.
     pub next: u32,
+}
+
+impl Instr {
+    /// The same instruction once more.
+    pub fn copy(&self) -> Instr
+        ensures { result ≡ self.now }
+    {
+        Instr {
+            opcode: self.opcode,
+            operands: self.operands.copy(),
+            store: self.store,
+            branch: self.branch,
+            text: self.text,
+            next: self.next,
+        }
+    }
 }

@@ -25,6 +25,8 @@ use Rattle.zk_step.specs.Limited.{kept, limited_move, limited_on, text_in}
 use Rattle.zk_step.specs.Resuming.{resumed}
 use Rattle.zk_step.specs.Routing.{Texts, no_text}
 use Rattle.zk_step.proofs.Stories.{stories_stay}
+use Rattle.zk_fast.specs.declared.cache.Cache.{Cache}
+use Rattle.zk_fast.specs.Caches.{IsCacheOf}
 use Rattle.zk_vm.specs.declared.machine.Machine.TheInside.{Inside}
 use Rattle.zk_vm.specs.declared.stop.Stop.{Stop}
 use Rattle.zk_vm.specs.declared.stop.Stop.TheVariants as stop
@@ -34,7 +36,7 @@ use Rattle.zk_vm.specs.declared.waiting.Waiting.{Waiting}
 use Rattle.zk_vm.specs.Going.{stop_by, IsPut, Settles, LacksMemory}
 use Rattle.zk_vm.specs.Halts.{CanAnswer, IsAnswerable, IsKeeping, IsLeftAt, IsQuiet, IsStep, halt_by}
 use Rattle.zk_vm.specs.Outcome.{Session}
-use Rattle.zk_vm.specs.Sound.{state_seen, HasUndo, IsSound}
+use Rattle.zk_vm.specs.Sound.{state_seen, IsOfStory, IsSound}
 use Rattle.zk_vm.specs.Step.{State, Step, Verdict, back_to, fetched, settled, goes_by, goes_to, is_past_reads, is_read, kept_answer, led_to, most_reads, state_after, step, text_of, text_within, verdict_of, view_before, waits_by, with_kept}
 use Rattle.zk_vm.specs.Step.Step.{Goes, Waits as Awaits, Quits, Faults, Exceeds}
 use Rattle.zk_vm.specs.Step.Verdict.{GoesOn, WaitsFor, StopsBy}
@@ -45,7 +47,7 @@ use Rattle.zk_vm.proofs.Going.{stops_by}
 use Rattle.zk_vm.proofs.Keeping.{seen, same_states}
 use Rattle.zk_vm.specs.declared.limits.Limits.{Limits}
 use Rattle.zk_vm.proofs.OnlySaveUndo.{only_save_undo_keeps}
-use Rattle.zk_vm.proofs.Sounds.{running, while_running, same_file, same_version, same_most, sound_now, undo_stays}
+use Rattle.zk_vm.proofs.Sounds.{running, while_running, same_file, same_version, same_most, sound_now, story_stays}
 
 -- ---- what was carried out
 
@@ -69,7 +71,7 @@ step_is : (s : State) (i : Instr) (v : Workspace) (n : Next) (t : Texts) → ins
 unfolding step
 step_is s i v n t h k = ap (fetched s) h ∙ ap (settled s i) k
 
-fetched_is : (s : State) (i : Instr) → instr_at s.workspace.memory s.place ≡ Ok i → step s ≡ settled s i (carried_out s.workspace i)
+pub fetched_is : (s : State) (i : Instr) → instr_at s.workspace.memory s.place ≡ Ok i → step s ≡ settled s i (carried_out s.workspace i)
 unfolding step
 fetched_is s i h = ap (fetched s) h
 
@@ -79,13 +81,14 @@ fault_is s f h = ap (fetched s) h
 
 -- ---- a machine whose instruction was carried out
 
-pub sound_moved : (m n : Inside) (i : Instr) (x : Next) (t : Texts) → IsSound m → m.stopped ≡ None → n.limits ≡ m.limits → n.waiting ≡ None → n.steps ≤ m.limits.steps → n.reads ≡ m.reads → n.undo ≡ m.undo
+pub sound_moved : (m n : Inside) (i : Instr) (x : Next) (t : Texts) → IsSound m → m.stopped ≡ None → n.limits ≡ m.limits → n.waiting ≡ None → n.steps ≤ m.limits.steps → n.reads ≡ m.reads → n.undo ≡ m.undo → n.cache ≡ m.cache
     → limited_move (carried_out m.workspace i) ≡ Ok (n.workspace, (x, t)) → bounds_of n.workspace.frames ≡ bounds_of m.workspace.frames → IsSound n
-sound_moved m n i x t is runs limits free steps reads undo told bounds =
-    let has = running m.stopped (HasUndo m) runs is.undo in
+sound_moved m n i x t is runs limits free steps reads undo same told bounds =
+    let has = running m.stopped (IsOfStory m) runs is.story in
     let are = subst (λ (u : UndoStates). AreOf m.workspace.memory m.workspace.frames u) (sym undo) has.are_of in
+    let cache = subst (λ (k : Cache). IsCacheOf (fixed_parts m.workspace.memory) k) (sym same) has.cache in
     sound_now m n is limits free steps (rw reads is.reads) (ap (λ (u : UndoStates). u.most) undo) bounds
-    (λ e. undo_stays n m.workspace are (has.memory ∙ ap (λ (l : Limits). l.undo) (sym limits)) (carried_fixed m.workspace i n.workspace x t told) bounds)
+    (λ e. story_stays n m.workspace are (has.memory ∙ ap (λ (l : Limits). l.undo) (sym limits)) cache (carried_fixed m.workspace i n.workspace x t told) bounds)
 
 -- ---- what is asked of a machine, from the state before and from the one behind the instruction
 
@@ -257,7 +260,7 @@ kept_at : (q : Result FrameList Refusal) (r s : Workspace × (Next × Texts)) �
 kept_at (Ok u) r s h = (u, refl)
 kept_at (Err e) r s h = absurd cc
 
-at_step : (s : State) (i : Instr) (w : Workspace) (p : ℕ) (t : Texts) → instr_at s.workspace.memory s.place ≡ Ok i → limited_move (carried_out s.workspace i) ≡ Ok (w, (At p, t))
+pub at_step : (s : State) (i : Instr) (w : Workspace) (p : ℕ) (t : Texts) → instr_at s.workspace.memory s.place ≡ Ok i → limited_move (carried_out s.workspace i) ≡ Ok (w, (At p, t))
     → (step s ≡ Goes (record s { workspace = w; place = p; steps = s.steps + 1 }) t) × ((u : FrameList) × (within_bounds w.frames ≡ Ok u))
 at_step s i w p t h told =
     let is = move_is (carried_out s.workspace i) (w, (At p, t)) told in
@@ -292,7 +295,7 @@ kept_err : (q : Result FrameList Refusal) (r : Workspace × (Next × Texts)) (e 
 kept_err (Ok u) r e h = absurd cc
 kept_err (Err d) r e h = cc
 
-err_step : (s : State) (i : Instr) (r : Result (Workspace × (Next × Texts)) Fault) (e : Refusal) → limited_move r ≡ Err e → (verdict_of s (settled s i r) ≡ StopsBy (stop_by s.place e)) × (text_of s (settled s i r) ≡ no_text)
+pub err_step : (s : State) (i : Instr) (r : Result (Workspace × (Next × Texts)) Fault) (e : Refusal) → limited_move r ≡ Err e → (verdict_of s (settled s i r) ≡ StopsBy (stop_by s.place e)) × (text_of s (settled s i r) ≡ no_text)
 err_step s i (Ok (w, (At p, t))) e h =
     let over = kept_err (within_bounds w.frames) (w, (At p, t)) e h in
     (ap (goes_by s.place) over ∙ stops_by s.place e, ap (λ (q : Result FrameList Refusal). text_within q t) over)
@@ -349,16 +352,16 @@ not_past n x lt =
 pub sound_waiting : (m : Inside) (v : Workspace) (w : Waiting) → IsSound m → m.stopped ≡ None → m.due.items ≡ [] → m.steps < m.limits.steps → v.memory ≡ m.workspace.memory → bounds_of v.frames ≡ bounds_of m.workspace.frames
     → w.instruction.next ≤ 1048576 → m.place < w.instruction.next → is_past_reads m.reads w.wait ≡ false → IsSound (record m { workspace = v; waiting = Some w })
 sound_waiting m v w is runs silent room memory bounds near inside past =
-    let has = running m.stopped (HasUndo m) runs is.undo in
+    let has = running m.stopped (IsOfStory m) runs is.story in
     let all = sound_now m (record m { workspace = v; waiting = None }) is refl refl is.steps is.reads refl bounds
-    (λ e. undo_stays (record m { workspace = v; waiting = None }) m.workspace has.are_of has.memory (ap fixed_parts memory) bounds) in
-    let stays = undo_stays (record m { workspace = v; waiting = Some w }) m.workspace has.are_of has.memory (ap fixed_parts memory) bounds in
+    (λ e. story_stays (record m { workspace = v; waiting = None }) m.workspace has.are_of has.memory has.cache (ap fixed_parts memory) bounds) in
+    let stays = story_stays (record m { workspace = v; waiting = Some w }) m.workspace has.are_of has.memory has.cache (ap fixed_parts memory) bounds in
     record {
       steps = all.steps;
       bounds = all.bounds;
       reads = all.reads;
       most = all.most;
-      undo = while_running m.stopped (HasUndo (record m { workspace = v; waiting = Some w })) (λ e. stays);
+      story = while_running m.stopped (IsOfStory (record m { workspace = v; waiting = Some w })) (λ e. stays);
       waits = record { reads = past; steps = room; next = near; some = omega (arith, inside); place = omega (arith, near, inside); runs = runs; shown = silent };
     }
 

@@ -23,6 +23,8 @@ use Rattle.zk_step.specs.Laws.{fixed_parts}
 use Rattle.zk_step.specs.Limited.{limited_next}
 use Rattle.zk_step.proofs.Stories.{answers_leave_stories}
 use Rattle.zk_vm.specs.declared.limits.Limits.{Limits}
+use Rattle.zk_fast.specs.declared.cache.Cache.{Cache}
+use Rattle.zk_fast.specs.Caches.{IsCacheOf}
 use Rattle.zk_vm.specs.declared.machine.Machine.TheInside.{Inside}
 use Rattle.zk_vm.specs.declared.stop.Event.TheVariants as event
 use Rattle.zk_vm.specs.declared.stop.Stop.{Stop}
@@ -32,11 +34,11 @@ use Rattle.zk_vm.specs.Answers.Answer.{Typed, Kept, File}
 use Rattle.zk_vm.specs.Going.{verdict_by, place_by, steps_by, stopped_by, limit_of, restored_by, restored_on}
 use Rattle.zk_vm.specs.Halts.{CanAnswer, IsAnswerable, IsLeftAs, event_by, event_waited}
 use Rattle.zk_vm.specs.Outcome.{Session, given}
-use Rattle.zk_vm.specs.Sound.{state_seen, HasUndo, IsSound}
+use Rattle.zk_vm.specs.Sound.{state_seen, IsOfStory, IsSound}
 use Rattle.zk_vm.specs.Step.{State, goes_to, is_read, is_past_reads, most_reads}
 use Rattle.zk_vm.proofs.Going.{Told, told_on, file_answered, limit_answered, read_answered, reading}
 use Rattle.zk_vm.proofs.Keeping.{seen, behind, same_states, sound_behind}
-use Rattle.zk_vm.proofs.Sounds.{back_fixed, running, sound_now, sound_after, undo_stays, going_led}
+use Rattle.zk_vm.proofs.Sounds.{back_fixed, running, sound_now, sound_after, story_stays, going_led}
 
 answerable_by : (s : State) (l : Limits) (stopped : Option Stop) (x : Option Waiting) (w : Waiting) → x ≡ Some w → CanAnswer s l stopped x → IsAnswerable s l stopped w
 answerable_by s l stopped None w e can = absurd cc
@@ -83,11 +85,11 @@ unfolding answered
 saves s w k e = rw e refl
 
 -- a machine that was answered, and waits no more
-answered_sound : (m : Inside) (v : Workspace) (place steps : ℕ) (stopped : Option Stop) (led : Result Next Refusal) → IsSound m → m.stopped ≡ None → m.steps < m.limits.steps → HasUndo m → bounds_of v.frames ≡ bounds_of m.workspace.frames
+answered_sound : (m : Inside) (v : Workspace) (place steps : ℕ) (stopped : Option Stop) (led : Result Next Refusal) → IsSound m → m.stopped ≡ None → m.steps < m.limits.steps → IsOfStory m → bounds_of v.frames ≡ bounds_of m.workspace.frames
     → steps ≡ steps_by m.steps led → stopped ≡ stopped_by m.stopped (verdict_by m.place led) → ((n : Next) → led ≡ Ok n → fixed_parts v.memory ≡ fixed_parts m.workspace.memory) → IsSound (behind (record m { waiting = None }) v place steps stopped m.undo)
 answered_sound m v place steps stopped led is runs room has bounds counts stops fixed =
     sound_after m (behind (record m { waiting = None }) v place steps stopped m.undo) m.place led is room refl refl counts refl refl bounds stops
-    (λ n e. undo_stays (behind (record m { waiting = None }) v place steps stopped m.undo) m.workspace has.are_of has.memory (fixed n e) bounds)
+    (λ n e. story_stays (behind (record m { waiting = None }) v place steps stopped m.undo) m.workspace has.are_of has.memory has.cache (fixed n e) bounds)
 
 pub save_answered : (m : Inside) (w : Waiting) (k : Bool) (word : ℕ) (led : Result Next Refusal) (v : Workspace) (place steps : ℕ) (stopped : Option Stop) → IsSound m → m.waiting ≡ Some w → event_waited m.waiting ≡ Some event.Save → word ≡ truth_word k
     → Told led (limited_next (result_answered m.workspace w.instruction word k)) v → bounds_of v.frames ≡ bounds_of m.workspace.frames
@@ -96,7 +98,7 @@ pub save_answered : (m : Inside) (w : Waiting) (k : Bool) (word : ℕ) (led : Re
     × IsLeftAs (seen (behind (record m { waiting = None }) v place steps stopped m.undo)) (given (seen m) (Kept k)) (given (seen m) (Kept k)).stopped
 save_answered m w k word led v place steps stopped is waits saving value told bounds at counts stops =
     let can = answerable m w is waits in
-    let has = running m.stopped (HasUndo m) can.runs is.undo in
+    let has = running m.stopped (IsOfStory m) can.runs is.story in
     let fixed : (n : Next) → result_answered m.workspace w.instruction word k ≡ Ok (v, n) → fixed_parts v.memory ≡ fixed_parts m.workspace.memory
     = (λ n e. answers_leave_stories.result m.workspace w.instruction word k (v, n) e) in
     let here = saves (state_seen m) w k (asks_save m.waiting w waits saving) in
@@ -170,7 +172,7 @@ pub file_restored : (m : Inside) (w : Waiting) (file : List ℕ) (led : Result N
     × IsLeftAs (seen (behind (record m { waiting = None }) v place steps stopped m.undo)) (given (seen m) (File (Some file))) (given (seen m) (File (Some file))).stopped
 file_restored m w file led v place steps stopped is waits restoring told bounds at counts stops =
     let can = answerable m w is waits in
-    let has = running m.stopped (HasUndo m) can.runs is.undo in
+    let has = running m.stopped (IsOfStory m) can.runs is.story in
     let same : (n : MemoryMap) (g : FrameList) (p : ℕ) → restored file m.workspace.memory m.workspace.frames ≡ Ok (n, g, p) → fixed_parts n ≡ fixed_parts m.workspace.memory
     = (λ n g p e. restored_fixed file m.workspace.memory n m.workspace.frames g p e) in
     let fixed = restored_stays m.workspace w.instruction (restored file m.workspace.memory m.workspace.frames) led v same told in
@@ -186,7 +188,7 @@ pub none_restored : (m : Inside) (w : Waiting) (led : Result Next Refusal) (v : 
     × IsLeftAs (seen (behind (record m { waiting = None }) v place steps stopped m.undo)) (given (seen m) (File None)) (given (seen m) (File None)).stopped
 none_restored m w led v place steps stopped is waits restoring told bounds at counts stops =
     let can = answerable m w is waits in
-    let has = running m.stopped (HasUndo m) can.runs is.undo in
+    let has = running m.stopped (IsOfStory m) can.runs is.story in
     let fixed : (n : Next) → result_answered m.workspace w.instruction 0 false ≡ Ok (v, n) → fixed_parts v.memory ≡ fixed_parts m.workspace.memory
     = (λ n e. answers_leave_stories.result m.workspace w.instruction 0 false (v, n) e) in
     let here = restores (state_seen m) w None (asks_restore m.waiting w waits restoring) in (
@@ -201,15 +203,16 @@ few_reads n x read past =
     let here : nat_le most_reads n ≡ false = rw read at past in
     grind (arith, nat_tests, here)
 
-pub read_sound : (m n : Inside) (w : Waiting) (led : Result Next Refusal) → IsSound m → m.waiting ≡ Some w → is_read w.wait ≡ true → n.limits ≡ m.limits → n.waiting ≡ None → n.steps ≡ 0 → n.reads ≡ m.reads + 1 → n.undo ≡ m.undo
+pub read_sound : (m n : Inside) (w : Waiting) (led : Result Next Refusal) → IsSound m → m.waiting ≡ Some w → is_read w.wait ≡ true → n.limits ≡ m.limits → n.waiting ≡ None → n.steps ≡ 0 → n.reads ≡ m.reads + 1 → n.undo ≡ m.undo → n.cache ≡ m.cache
     → bounds_of n.workspace.frames ≡ bounds_of m.workspace.frames → n.stopped ≡ stopped_by m.stopped (verdict_by m.place led) → ((x : Next) → led ≡ Ok x → fixed_parts n.workspace.memory ≡ fixed_parts m.workspace.memory) → IsSound n
-read_sound m n w led is waits read limits free steps reads undo bounds stops fixed =
+read_sound m n w led is waits read limits free steps reads undo same bounds stops fixed =
     let can = answerable m w is waits in
-    let has = running m.stopped (HasUndo m) can.runs is.undo in
+    let has = running m.stopped (IsOfStory m) can.runs is.story in
     let few = few_reads m.reads w.wait read can.reads in
     let are = subst (λ (u : UndoStates). AreOf m.workspace.memory m.workspace.frames u) (sym undo) has.are_of in
+    let cache = subst (λ (k : Cache). IsCacheOf (fixed_parts m.workspace.memory) k) (sym same) has.cache in
     sound_now m n is limits free (omega (arith, steps)) (omega (arith, reads, few)) (ap (λ (u : UndoStates). u.most) undo) bounds
-    (going_led n.stopped m.stopped m.place led (HasUndo n) stops (λ x e. undo_stays n m.workspace are (has.memory ∙ ap (λ (l : Limits). l.undo) (sym limits)) (fixed x e) bounds))
+    (going_led n.stopped m.stopped m.place led (IsOfStory n) stops (λ x e. story_stays n m.workspace are (has.memory ∙ ap (λ (l : Limits). l.undo) (sym limits)) cache (fixed x e) bounds))
 
 reads_char : (s : State) (w : Waiting) (code : ℕ) → w.wait ≡ wait.Char → answered s w (Typed (code ∷ [])) ≡ answer_settled s [] (character_answered s.workspace w.instruction code)
 unfolding answered

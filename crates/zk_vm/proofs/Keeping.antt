@@ -22,10 +22,10 @@ use Rattle.zk_vm.specs.declared.waiting.Halt.{Halt}
 use Rattle.zk_vm.specs.Going.{verdict_by, place_by, steps_by, stopped_by, Settles}
 use Rattle.zk_vm.specs.Halts.{halt_by}
 use Rattle.zk_vm.specs.Outcome.{Session}
-use Rattle.zk_vm.specs.Sound.{state_seen, HasUndo, IsSound}
+use Rattle.zk_vm.specs.Sound.{state_seen, IsOfStory, IsSound}
 use Rattle.zk_vm.specs.Step.{Step, back_to, goes_to, led_to, kept_answer, saved_place, with_kept}
 use Rattle.zk_vm.proofs.Going.{Told, told_on, gone_on}
-use Rattle.zk_vm.proofs.Sounds.{running, same_file, same_base, same_most, back_fixed, undo_stays, sound_after}
+use Rattle.zk_vm.proofs.Sounds.{running, same_file, same_base, same_most, back_fixed, story_stays, sound_after}
 
 -- the machine that contracts see
 abbrev pub seen : Inside → Session
@@ -43,9 +43,9 @@ pub sound_behind : (m : Inside) (w v : Workspace) (place steps : ℕ) (stopped :
     → undo.most ≡ m.undo.most → AreOf v.memory v.frames undo → fixed_parts v.memory ≡ fixed_parts m.workspace.memory → bounds_of v.frames ≡ bounds_of m.workspace.frames → bounds_of w.frames ≡ bounds_of v.frames
     → steps ≡ steps_by m.steps led → stopped ≡ stopped_by m.stopped (verdict_by m.place led) → ((n : Next) → led ≡ Ok n → fixed_parts w.memory ≡ fixed_parts v.memory) → IsSound (behind m w place steps stopped undo)
 sound_behind m w v place steps stopped undo led is runs free room most are here same bounds counts stops fixed =
-    let has = running m.stopped (HasUndo m) runs is.undo in
+    let has = running m.stopped (IsOfStory m) runs is.story in
     sound_after m (behind m w place steps stopped undo) m.place led is room refl free counts refl most (bounds ∙ same) stops
-    (λ n e. undo_stays (behind m w place steps stopped undo) v are (same_most m.workspace.memory v.memory here ∙ has.memory) (fixed n e) bounds)
+    (λ n e. story_stays (behind m w place steps stopped undo) v are (same_most m.workspace.memory v.memory here ∙ has.memory) (rw here has.cache) (fixed n e) bounds)
 
 settles_as : (old new : Session) (answer : Result (Unit {0}) Halt) (x y : Step) → x ≡ y → Settles old new answer y → Settles old new answer x
 settles_as old new answer x y e h = subst (λ (z : Step). Settles old new answer z) (sym e) h
@@ -65,7 +65,7 @@ pub none_kept : (m : Inside) (i : Instr) (led : Result Next Refusal) (w : Worksp
     → answer ≡ halt_by (verdict_by m.place led) → place ≡ place_by m.place led → steps ≡ steps_by m.steps led → stopped ≡ stopped_by m.stopped (verdict_by m.place led)
     → IsSound (behind m w place steps stopped m.undo) × Settles (seen m) (seen (behind m w place steps stopped m.undo)) answer (led_to (state_seen m) i m.workspace no_text Keeps)
 none_kept m i led w place steps stopped answer is runs free room none few told bounds tells at counts stops =
-    let has = running m.stopped (HasUndo m) runs is.undo in
+    let has = running m.stopped (IsOfStory m) runs is.story in
     let fixed : (n : Next) → result_answered m.workspace i 65535 true ≡ Ok (w, n) → fixed_parts w.memory ≡ fixed_parts m.workspace.memory
     = (λ n e. answers_leave_stories.result m.workspace i 65535 true (w, n) e) in
     let most : m.workspace.memory.undo_states ≡ 0 = has.memory ∙ none in
@@ -90,7 +90,7 @@ pub one_kept : (m : Inside) (i : Instr) (undo : UndoStates) (saved : ℕ) (led :
     → answer ≡ halt_by (verdict_by m.place led) → place ≡ place_by m.place led → steps ≡ steps_by m.steps led → stopped ≡ stopped_by m.stopped (verdict_by m.place led)
     → IsSound (behind m w place steps stopped undo) × Settles (seen m) (seen (behind m w place steps stopped undo)) answer (led_to (state_seen m) i m.workspace no_text Keeps)
 one_kept m i undo saved led w place steps stopped answer is runs free room some where_saved put most are told bounds tells at counts stops =
-    let has = running m.stopped (HasUndo m) runs is.undo in
+    let has = running m.stopped (IsOfStory m) runs is.story in
     let fixed : (n : Next) → result_answered m.workspace i 1 true ≡ Ok (w, n) → fixed_parts w.memory ≡ fixed_parts m.workspace.memory
     = (λ n e. answers_leave_stories.result m.workspace i 1 true (w, n) e) in
     let kept : states_in m.workspace.memory.file undo ≡ with_kept (state_seen m) i m.workspace
@@ -143,7 +143,7 @@ stayed : (m : Inside) (i : Instr) (led : Result Next Refusal) (w : Workspace) (p
     → answer ≡ halt_by (verdict_by m.place led) → place ≡ place_by m.place led → steps ≡ steps_by m.steps led → stopped ≡ stopped_by m.stopped (verdict_by m.place led)
     → IsSound (behind m w place steps stopped m.undo) × Settles (seen m) (seen (behind m w place steps stopped m.undo)) answer (led_to (state_seen m) i m.workspace no_text Resumes)
 stayed m i led w place steps stopped answer is runs free room none told bounds tells at counts stops =
-    let has = running m.stopped (HasUndo m) runs is.undo in
+    let has = running m.stopped (IsOfStory m) runs is.story in
     let fixed : (n : Next) → result_answered m.workspace i 0 false ≡ Ok (w, n) → fixed_parts w.memory ≡ fixed_parts m.workspace.memory
     = (λ n e. answers_leave_stories.result m.workspace i 0 false (w, n) e) in (
       sound_behind m w m.workspace place steps stopped m.undo led is runs free room refl has.are_of refl refl bounds counts stops (told_on led (result_answered m.workspace i 0 false) w told fixed),

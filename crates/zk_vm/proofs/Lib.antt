@@ -1,7 +1,9 @@
 pub mod Advancing
+pub mod Ahead
 pub mod Answering
 pub mod Ends
 pub mod Filling
+pub mod Following
 pub mod FrameLimits
 pub mod GivenCodes
 pub mod Going

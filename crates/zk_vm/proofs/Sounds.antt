@@ -12,13 +12,14 @@ use Rattle.zk_step.specs.declared.ending.Next.{Next}
 use Rattle.zk_step.specs.declared.ending.Next.TheVariants.{At, Waits, Keeps, Resumes, End}
 use Rattle.zk_step.specs.declared.workspace.Workspace.{Workspace}
 use Rattle.zk_step.specs.Laws.{fixed_parts}
+use Rattle.zk_fast.specs.Caches.{IsCacheOf}
 use Rattle.zk_vm.specs.declared.machine.Machine.TheInside.{Inside}
 use Rattle.zk_vm.specs.declared.stop.Stop.{Stop}
 use Rattle.zk_vm.specs.declared.waiting.Waiting.{Waiting}
 use Rattle.zk_vm.specs.Going.{verdict_by, steps_by, stopped_by}
 use Rattle.zk_vm.specs.Halts.{CanAnswer, WhileRunning}
 use Rattle.zk_vm.specs.Laws.{IsWithin}
-use Rattle.zk_vm.specs.Sound.{state_seen, HasUndo, IsSound}
+use Rattle.zk_vm.specs.Sound.{state_seen, IsOfStory, IsSound}
 
 -- a machine without a stop has what a running one has
 pub running : (x : Option Stop) (P : Type 0) → x ≡ None → WhileRunning x P → P
@@ -56,24 +57,25 @@ pub back_fixed : (w : WholeState) (m : MemoryMap) → fixed_parts (memory_back w
 unfolding fixed_parts again settled
 back_fixed w m = refl
 
--- the states to go back to are those of a machine's workspace still
-pub undo_stays : (n : Inside) (v : Workspace) → AreOf v.memory v.frames n.undo → v.memory.undo_states ≡ n.limits.undo
-    → fixed_parts n.workspace.memory ≡ fixed_parts v.memory → bounds_of n.workspace.frames ≡ bounds_of v.frames → HasUndo n
-undo_stays n v are most same bounds = record {
+-- the states to go back to and the instructions that were decoded are those of a machine's story still
+pub story_stays : (n : Inside) (v : Workspace) → AreOf v.memory v.frames n.undo → v.memory.undo_states ≡ n.limits.undo → IsCacheOf (fixed_parts v.memory) n.cache
+    → fixed_parts n.workspace.memory ≡ fixed_parts v.memory → bounds_of n.workspace.frames ≡ bounds_of v.frames → IsOfStory n
+story_stays n v are most cache same bounds = record {
   are_of = same_of v.memory n.workspace.memory v.frames n.workspace.frames n.undo (same_base v.memory n.workspace.memory same) bounds are;
   memory = same_most v.memory n.workspace.memory same ∙ most;
+  cache = rw same cache;
 }
 
 -- ---- invariants
 
 pub sound_now : (m n : Inside) → IsSound m → n.limits ≡ m.limits → n.waiting ≡ None → n.steps ≤ m.limits.steps → n.reads ≤ 16777216 → n.undo.most ≡ m.undo.most
-    → bounds_of n.workspace.frames ≡ bounds_of m.workspace.frames → (n.stopped ≡ None → HasUndo n) → IsSound n
-sound_now m n is limits free steps reads most bounds undo = record {
+    → bounds_of n.workspace.frames ≡ bounds_of m.workspace.frames → (n.stopped ≡ None → IsOfStory n) → IsSound n
+sound_now m n is limits free steps reads most bounds story = record {
   steps = rw limits steps;
   bounds = rw limits (bounds ∙ is.bounds);
   reads = reads;
   most = rw limits (most ∙ is.most);
-  undo = while_running n.stopped (HasUndo n) undo;
+  story = while_running n.stopped (IsOfStory n) story;
   waits = can_answer_none n n.waiting free;
 }
 
@@ -91,9 +93,9 @@ going_led x before place (Ok n) P e h none = h n refl
 going_led x before place (Err r) P e h none = absurd cc
 
 pub sound_after : (m n : Inside) (place : ℕ) (led : Result Next Refusal) → IsSound m → m.steps < m.limits.steps → n.limits ≡ m.limits → n.waiting ≡ None → n.steps ≡ steps_by m.steps led → n.reads ≡ m.reads
-    → n.undo.most ≡ m.undo.most → bounds_of n.workspace.frames ≡ bounds_of m.workspace.frames → n.stopped ≡ stopped_by m.stopped (verdict_by place led) → ((x : Next) → led ≡ Ok x → HasUndo n) → IsSound n
+    → n.undo.most ≡ m.undo.most → bounds_of n.workspace.frames ≡ bounds_of m.workspace.frames → n.stopped ≡ stopped_by m.stopped (verdict_by place led) → ((x : Next) → led ≡ Ok x → IsOfStory n) → IsSound n
 sound_after m n place led is room limits free steps reads most bounds stopped undo =
-    sound_now m n is limits free (rw steps (few_by m.steps m.limits.steps led room)) (rw reads is.reads) most bounds (going_led n.stopped m.stopped place led (HasUndo n) stopped undo)
+    sound_now m n is limits free (rw steps (few_by m.steps m.limits.steps led room)) (rw reads is.reads) most bounds (going_led n.stopped m.stopped place led (IsOfStory n) stopped undo)
 
 -- ---- what a machine is within
 

@@ -17,6 +17,7 @@ use Rattle.zk_step.specs.Limited.{limited_next}
 use Rattle.zk_step.specs.Restarts.{renewed}
 use Rattle.zk_step.specs.Resuming.{resumed}
 use Rattle.zk_step.specs.Routing.{Texts}
+use Rattle.zk_fast.specs.Strides.{IsRefusedBehind, Strides}
 use Rattle.zk_vm.specs.declared.stop.Stop.{Stop}
 use Rattle.zk_vm.specs.declared.stop.Stop.TheVariants as stop
 use Rattle.zk_vm.specs.declared.waiting.Halt.{Halt}
@@ -94,3 +95,29 @@ abbrev pub IsHalted : Session → Session → Halt → (Texts → Type 0) → Ty
 IsHalted old new answer Shown =
     ((answer ≡ halt_of (steps_left old).end) × IsLeftBy old new (steps_left old).end (steps_left old).state × Shown (steps_left old).text)
     ⊎ ((answer ≡ halt.Stops stop.Memory) × (new.waiting ≡ None) × ((text : Texts) × ComesToKeep old text × Shown text))
+
+-- ---- steps that are made in silence
+
+-- a state behind so many of them
+abbrev pub behind_strides : State → ℕ → Workspace → ℕ → State
+behind_strides s n w place = record s { workspace = w; place = place; steps = s.steps + n }
+
+-- a machine has made some steps by instructions that show nothing, and goes on
+pub record GoesAhead (old new : Session) : Type 0 where
+  pub steps : ℕ
+  pub strides : Strides steps old.state.workspace old.state.place new.state.workspace new.state.place
+  pub there : new ≡ record old { state = behind_strides old.state steps new.state.workspace new.state.place }
+
+-- the instruction behind them is refused
+pub record StopsAhead (old new : Session) (answer : Halt) : Type 0 where
+  pub steps : ℕ
+  pub place : ℕ
+  pub refusal : Refusal
+  pub few : steps < old.limits.steps - old.state.steps
+  pub refused : IsRefusedBehind steps old.state.workspace old.state.place place refusal
+  pub tells : answer ≡ halt.Stops (stop_by place refusal)
+  pub free : new.waiting ≡ None
+
+abbrev pub IsAhead : Session → Session → Result (Unit {0}) Halt → Type 0
+IsAhead old new (Ok x) = GoesAhead old new
+IsAhead old new (Err h) = StopsAhead old new h

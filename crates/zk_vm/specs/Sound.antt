@@ -2,6 +2,8 @@
 use Rattle.std.specs.Prelude.{◌≡◌, ◌≤◌}
 use Rattle.zk_save.specs.States.{states_in, AreOf}
 use Rattle.zk_state.specs.Frames.{bounds_of}
+use Rattle.zk_step.specs.Laws.{fixed_parts}
+use Rattle.zk_fast.specs.Caches.{IsCacheOf}
 use Rattle.zk_vm.specs.declared.machine.Machine.TheInside.{Inside}
 use Rattle.zk_vm.specs.Halts.{CanAnswer, WhileRunning}
 use Rattle.zk_vm.specs.Step.{State}
@@ -17,10 +19,12 @@ state_seen m = record {
   undo = states_in m.workspace.memory.file m.undo;
 }
 
--- the states to go back to are those of the story, and as many of them are kept as its memory says
-pub record HasUndo (m : Inside) : Type 0 where
+-- the states to go back to are those of the story, and as many of them are kept as its memory says; the instructions that
+-- were decoded before are the story's
+pub record IsOfStory (m : Inside) : Type 0 where
   pub are_of : AreOf m.workspace.memory m.workspace.frames m.undo
   pub memory : m.workspace.memory.undo_states ≡ m.limits.undo
+  pub cache : IsCacheOf (fixed_parts m.workspace.memory) m.cache
 
 -- a machine keeps to its limits; while it has no stop its states can be gone back to
 pub record IsSound (m : Inside) : Type 0 where
@@ -28,5 +32,5 @@ pub record IsSound (m : Inside) : Type 0 where
   pub bounds : bounds_of m.workspace.frames ≡ (m.limits.frames, m.limits.words)
   pub reads : m.reads ≤ 16777216
   pub most : m.undo.most ≡ m.limits.undo
-  pub undo : WhileRunning m.stopped (HasUndo m)
+  pub story : WhileRunning m.stopped (IsOfStory m)
   pub waits : CanAnswer (state_seen m) m.limits m.stopped m.waiting

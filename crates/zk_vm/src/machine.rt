@@ -8,7 +8,7 @@ ghost use Rattle.zk_code.specs.Reading.{instr_at};
 ghost use Rattle.zk_vm.specs.Bounds.{AreInRange};
 ghost use Rattle.zk_vm.specs.Answers.{truth_word};
 ghost use Rattle.zk_vm.specs.Answers.Answer.{Typed, Kept, File};
-ghost use Rattle.zk_vm.specs.Going.{limit_of, stop_by, verdict_by, place_by, steps_by, stopped_by, restored_on, Settles, LacksMemory, IsHalted};
+ghost use Rattle.zk_vm.specs.Going.{IsAhead, limit_of, stop_by, verdict_by, place_by, steps_by, stopped_by, restored_on, Settles, LacksMemory, IsHalted};
 ghost use Rattle.zk_vm.specs.Halts.{ComesToKeep, IsLeftAs, IsLeftBy, IsRun, IsStep, event_by, event_waited, halt_by, halt_of, is_read_event};
 ghost use Rattle.zk_vm.specs.Laws.{IsWithin};
 ghost use Rattle.zk_vm.specs.Outcome.{begun, given, segment, with_stop};
@@ -29,6 +29,8 @@ use std::alloc::{AllocError, Global};
 use std::marker::Model;
 use zk_code::decode::decode;
 use zk_code::instr::Instr;
+use zk_fast::ahead::run_ahead;
+use zk_fast::cache::Cache;
 use zk_mem::memory::{Memory, Setup};
 use zk_mem::story::Story;
 use zk_save::restore::{RestoreError, restore};
@@ -61,6 +63,8 @@ pub struct Machine {
     // what the transcript is still to get of the line that was read
     due: ArrayVec<char, 511>,
     undo: Undo,
+    // instructions that were decoded before: what a run does is not seen to depend on them
+    cache: Cache,
     // room for what a table of stream 3 gets in a step
     codes: Codes,
 }
@@ -106,6 +110,7 @@ impl Machine {
         let memory = Memory::start(alloc, story, setup)?;
         let windows = Windows::new(alloc)?;
         let undo = Undo::new(alloc, limits.undo)?;
+        let cache = Cache::new(alloc)?;
         let codes = Codes::new(alloc)?;
         let generators = Generators {
             free: seed,
@@ -129,6 +134,7 @@ impl Machine {
             stopped: None,
             due: ArrayVec::new(),
             undo,
+            cache,
             codes,
         })
     }
@@ -308,9 +314,36 @@ impl Machine {
         ensures more { self.old.state.steps ≤ self.new.state.steps }
         ensures limits { self.new.limits ≡ self.old.limits }
     {
+        if let Some(i) = self.cache.find(&self.workspace.memory, self.place) {
+            let i = i.copy();
+            return self.advance(i, screen);
+        }
         match decode(&self.workspace.memory, self.place) {
-            Ok(i) => self.advance(i, screen),
+            Ok(i) => {
+                self.cache
+                    .keep(&self.workspace.memory, self.place, i.copy());
+                self.advance(i, screen)
+            }
             Err(fault) => halt(&mut self.stopped, Stop::Fault(self.place, fault)),
+        }
+    }
+
+    /// Makes the steps that are made by instructions that were decoded before and show nothing, as many as there may be.
+    fn go_ahead(&mut self) -> Result<(), Halt>
+        requires free { self.old.waiting ≡ None }
+        requires runs { self.old.stopped ≡ None }
+        ensures ahead { IsAhead self.old self.new result }
+        ensures reads { self.new.state.reads ≡ self.old.state.reads }
+        ensures more { self.old.state.steps ≤ self.new.state.steps }
+        ensures limits { self.new.limits ≡ self.old.limits }
+    {
+        let most = self.limits.steps - self.steps;
+        let stretch = run_ahead(&mut self.workspace, &self.cache, self.place, most);
+        self.place = stretch.place;
+        self.steps += stretch.made;
+        match stretch.refused {
+            None => Ok(()),
+            Some(refusal) => halt(&mut self.stopped, stop_at(stretch.place, refusal)),
         }
     }
 
@@ -325,6 +358,13 @@ impl Machine {
         ensures limits { self.new.limits ≡ self.old.limits }
     {
         for _i in self.steps..self.limits.steps {
+            match self.go_ahead() {
+                Ok(()) => {}
+                Err(halt) => return halt,
+            }
+            if self.steps >= self.limits.steps {
+                return Halt::Stops(Stop::Limit(self.place, Limit::Steps));
+            }
             match self.step(screen) {
                 Ok(()) => {}
                 Err(halt) => return halt,

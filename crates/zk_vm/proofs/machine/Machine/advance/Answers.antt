@@ -10,7 +10,7 @@ invariant_of-self g c =
     let fetched = rw (← c.self.view_is) at c.requires.fetched in
     let value = rw c.in-Ok-At.field-0-is at c.in-Ok-At.ensures.value in
     let more : c.self.inside.steps + 1 ≤ c.self.inside.limits.steps = omega (arith, room) in
-    sound_moved c.self.inside _ c.args.i _ _ c.self.invariant runs refl free more refl refl value c.in-Ok-At.ensures.bounds
+    sound_moved c.self.inside _ c.args.i _ _ c.self.invariant runs refl free more refl refl refl value c.in-Ok-At.ensures.bounds
 
 pub invariant_of-self-in-Ok-Waits : goal.invariant_of-self-in-Ok-Waits
 invariant_of-self-in-Ok-Waits g c =
@@ -19,7 +19,7 @@ invariant_of-self-in-Ok-Waits g c =
     let room = rw (← c.self.view_is) at c.requires.room in
     let fetched = rw (← c.self.view_is) at c.requires.fetched in
     let value = rw c.in-Ok-Waits.field-0-is at c.in-Ok-Waits.ensures.value in
-    sound_moved c.self.inside _ c.args.i _ _ c.self.invariant runs refl free c.self.invariant.steps refl refl value c.in-Ok-Waits.ensures.bounds
+    sound_moved c.self.inside _ c.args.i _ _ c.self.invariant runs refl free c.self.invariant.steps refl refl refl value c.in-Ok-Waits.ensures.bounds
 
 pub invariant_of-self-in-Ok-Keeps : goal.invariant_of-self-in-Ok-Keeps
 invariant_of-self-in-Ok-Keeps g c =
@@ -28,7 +28,7 @@ invariant_of-self-in-Ok-Keeps g c =
     let room = rw (← c.self.view_is) at c.requires.room in
     let fetched = rw (← c.self.view_is) at c.requires.fetched in
     let value = rw c.in-Ok-Keeps.field-0-is at c.in-Ok-Keeps.ensures.value in
-    sound_moved c.self.inside _ c.args.i _ _ c.self.invariant runs refl free c.self.invariant.steps refl refl value c.in-Ok-Keeps.ensures.bounds
+    sound_moved c.self.inside _ c.args.i _ _ c.self.invariant runs refl free c.self.invariant.steps refl refl refl value c.in-Ok-Keeps.ensures.bounds
 
 pub invariant_of-self-in-Ok-Resumes : goal.invariant_of-self-in-Ok-Resumes
 invariant_of-self-in-Ok-Resumes g c =
@@ -37,7 +37,7 @@ invariant_of-self-in-Ok-Resumes g c =
     let room = rw (← c.self.view_is) at c.requires.room in
     let fetched = rw (← c.self.view_is) at c.requires.fetched in
     let value = rw c.in-Ok-Resumes.field-0-is at c.in-Ok-Resumes.ensures.value in
-    sound_moved c.self.inside _ c.args.i _ _ c.self.invariant runs refl free c.self.invariant.steps refl refl value c.in-Ok-Resumes.ensures.bounds
+    sound_moved c.self.inside _ c.args.i _ _ c.self.invariant runs refl free c.self.invariant.steps refl refl refl value c.in-Ok-Resumes.ensures.bounds
 
 pub returns-in-Ok-At-clause-step : goal.returns-in-Ok-At-clause-step
 returns-in-Ok-At-clause-step g c =
