@@ -363,14 +363,14 @@ impl Machine {
                 Err(halt) => return halt,
             }
             if self.steps >= self.limits.steps {
-                return Halt::Stops(Stop::Limit(self.place, Limit::Steps));
+                return out_of_steps(self.place);
             }
             match self.step(screen) {
                 Ok(()) => {}
                 Err(halt) => return halt,
             }
         }
-        Halt::Stops(Stop::Limit(self.place, Limit::Steps))
+        out_of_steps(self.place)
     }
 
     /// Runs the story up to the next event, a read or a saved game, or its stop, and answers the same stop
@@ -598,6 +598,13 @@ fn stop_at(place: u32, refusal: Refusal) -> Stop
         Refusal::Fault(fault) => Stop::Fault(place, fault),
         Refusal::Limit(limit) => Stop::Limit(place, limit),
     }
+}
+
+/// The stop of a machine that has no step left.
+fn out_of_steps(place: u32) -> Halt
+    ensures { result ≡ Halt.Stops (Stop.Limit place Limit.Steps) }
+{
+    Halt::Stops(Stop::Limit(place, Limit::Steps))
 }
 
 /// Stops a machine.
