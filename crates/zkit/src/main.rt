@@ -15,6 +15,8 @@ mod save_file;
 mod script;
 #[cfg(test)]
 mod tests;
+#[cfg(test)]
+mod tests_of_saves;
 
 use crate::choice::{Choice, choose, usage_status_of};
 use crate::ending::Ending;
