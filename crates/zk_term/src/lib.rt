@@ -5,6 +5,7 @@ pub mod examples;
 pub mod laws;
 pub mod lines;
 pub mod nothing;
+pub mod out;
 pub mod over;
 pub mod source;
 pub mod target;

@@ -17,6 +17,7 @@ pub mod Outcomes
 pub mod Playing
 pub mod Routes
 pub mod Runs
+pub mod RunningOn
 pub mod Showing
 pub mod Texts
 pub mod Transcripts

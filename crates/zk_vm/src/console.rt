@@ -1,25 +1,32 @@
 // A machine's screen over two targets.
 
-ghost use Rattle.std.specs.Prelude.{◌≡◌, false};
+ghost use Rattle.std.specs.Prelude.{◌≡◌, ◌||◌, [], false};
+ghost use Rattle.zk_vm.specs.Consoles.{Written};
 
 use crate::screen::Screen;
-use zk_term::target::{Failed, Target, write_char};
+use zk_term::out::Out;
+use zk_term::target::{Failed, Target};
 
-/// Writes each character as UTF-8. Once a write has failed it writes nothing more to either target.
+/// Collects the UTF-8 of each character, and gives it to its target where there is much of it, and at `finish`. Once a
+/// write has failed nothing more is written to either target.
 #[derive(Drop)]
 pub struct Console<'a, S, T> {
     screen: &'a mut S,
     script: &'a mut T,
+    to_screen: Out,
+    to_script: Out,
     failed: bool,
 }
 
 impl<'a, S, T> Console<'a, S, T> {
     pub fn new(screen: &'a mut S, script: &'a mut T) -> Console<'a, S, T>
-        ensures { result ≡ record { screen = screen.entry; script = script.entry; failed = false } }
+        ensures { result ≡ record { screen = screen.entry; script = script.entry; to_screen = []; to_script = []; failed = false } }
     {
         Console {
             screen,
             script,
+            to_screen: Out::new(),
+            to_script: Out::new(),
             failed: false,
         }
     }
@@ -32,6 +39,35 @@ impl<'a, S, T> Console<'a, S, T> {
     }
 }
 
+impl<'a, S: Target, T: Target> Console<'a, S, T> {
+    /// Gives both targets what waits for them.
+    pub fn finish(&mut self)
+        ensures screen { self.new.screen.ghost_name ≡ self.old.screen.ghost_name }
+        ensures script { self.new.script.ghost_name ≡ self.old.script.ghost_name }
+        ensures written { Written
+            (record { screen = S.taken self.old.screen.now; to_screen = self.old.to_screen; script = T.taken self.old.script.now; to_script = self.old.to_script; failed = self.old.failed; either = S.failed self.old.screen.now || T.failed self.old.script.now })
+            (record { screen = S.taken self.new.screen.now; to_screen = self.new.to_screen; script = T.taken self.new.script.now; to_script = self.new.to_script; failed = self.new.failed; either = S.failed self.new.screen.now || T.failed self.new.script.now })
+            [] [] }
+        ensures no_text { self.new.failed ≡ false → self.new.to_screen ≡ [] }
+        ensures no_script { self.new.failed ≡ false → self.new.to_script ≡ [] }
+    {
+        if self.failed {
+            return;
+        }
+        match self.to_screen.flush(self.screen) {
+            Ok(()) => {}
+            Err(Failed) => {
+                self.failed = true;
+                return;
+            }
+        }
+        match self.to_script.flush(self.script) {
+            Ok(()) => {}
+            Err(Failed) => self.failed = true,
+        }
+    }
+}
+
 impl<'a, S: Target, T: Target> Screen for Console<'a, S, T> {
     ghost use Rattle.std.specs.Prelude.{◌≡◌, ◌||◌, List, ℕ, refl};
     ghost use Rattle.std.proofs.Common.{◌∙◌};
@@ -40,15 +76,15 @@ impl<'a, S: Target, T: Target> Screen for Console<'a, S, T> {
     ghost shows = { λ a b s t. (b.screen.ghost_name ≡ a.screen.ghost_name)
         × (b.script.ghost_name ≡ a.script.ghost_name)
         × Written
-        (record { screen = S.taken a.screen.now; script = T.taken a.script.now; failed = a.failed; either = S.failed a.screen.now || T.failed a.script.now })
-        (record { screen = S.taken b.screen.now; script = T.taken b.script.now; failed = b.failed; either = S.failed b.screen.now || T.failed b.script.now })
+        (record { screen = S.taken a.screen.now; to_screen = a.to_screen; script = T.taken a.script.now; to_script = a.to_script; failed = a.failed; either = S.failed a.screen.now || T.failed a.script.now })
+        (record { screen = S.taken b.screen.now; to_screen = b.to_screen; script = T.taken b.script.now; to_script = b.to_script; failed = b.failed; either = S.failed b.screen.now || T.failed b.script.now })
         s t };
 
     fn text(&mut self, c: char) {
         if self.failed {
             return;
         }
-        match write_char(self.screen, c) {
+        match self.to_screen.put(self.screen, c) {
             Ok(()) => {}
             Err(Failed) => self.failed = true,
         }
@@ -58,7 +94,7 @@ impl<'a, S: Target, T: Target> Screen for Console<'a, S, T> {
         if self.failed {
             return;
         }
-        match write_char(self.script, c) {
+        match self.to_script.put(self.script, c) {
             Ok(()) => {}
             Err(Failed) => self.failed = true,
         }

@@ -110,6 +110,7 @@ fn run_on<S: Target, T: Target>(
 {
     let mut console = Console::new(screen, script);
     let answer = machine.run(&mut console);
+    console.finish();
     if console.has_failed() {
         machine.close(Stop::Write);
         return Err(Stop::Write);
@@ -117,8 +118,8 @@ fn run_on<S: Target, T: Target>(
     answer
 }
 
-/// Runs a story up to its next read, or its stop; the slot keeps and gives saved games on the way. Each
-/// character goes out at once, as UTF-8: when it returns all text up to there is written. Once a write has failed
+/// Runs a story up to its next read, or its stop; the slot keeps and gives saved games on the way.
+/// Text goes out as UTF-8, some of it at a time: when it returns, and before the slot is asked, all text up to there is written. Once a write has failed
 /// nothing more is written to either target, the slot is not asked, and the machine is closed with `Write`; what
 /// went out is a first part of the text. Where there is no memory for a saved game or a state that is to be kept,
 /// the stop is `Memory`. The machine is not waiting, and neither target has failed.

@@ -1,0 +1,72 @@
+// Bytes on their way to a target.
+
+ghost use Rattle.std.specs.Prelude.{◌≡◌, [], ◌++◌, ◌||◌, is_err, OnOk, OnErr, encode_utf8};
+ghost use Rattle.std.specs.Io.KnownBytes.{Appends};
+ghost use Rattle.zk_term.specs.Devices.{PassedOn, TookPart};
+
+use crate::target::{Failed, Target, write_all};
+use arrayvec::ArrayVec;
+use std::marker::Model;
+
+/// Bytes that wait to be given to a target, at most 1,024: they go out together where there is no more room, and at
+/// `flush`.
+#[derive(Drop)]
+pub struct Out {
+    waiting: ArrayVec<u8, 1024>,
+}
+
+impl Model for Out {
+    ghost use Rattle.std.specs.Prelude.{List, ℕ};
+
+    ghost Value = { List ℕ };
+
+    ghost view = { λ o. o.waiting.items };
+}
+
+impl Out {
+    /// No bytes.
+    pub fn new() -> Out
+        ensures { result ≡ [] }
+    {
+        Out {
+            waiting: ArrayVec::new(),
+        }
+    }
+
+    /// Gives all bytes that wait to a target, or where a write fails a first part of them.
+    pub fn flush<T: Target>(&mut self, target: &mut T) -> Result<(), Failed>
+        ensures all { OnOk result (Appends (T.taken target.old) (T.taken target.new) self.old) }
+        ensures none { OnOk result (self.new ≡ []) }
+        ensures part { OnErr result (TookPart (T.taken target.old) (T.taken target.new) self.old) }
+        ensures failed { T.failed target.new ≡ (is_err result || T.failed target.old) }
+    {
+        match write_all(target, self.waiting.as_slice()) {
+            Ok(()) => {
+                self.waiting.clear();
+                Ok(())
+            }
+            Err(Failed) => Err(Failed),
+        }
+    }
+
+    /// Adds the UTF-8 of a character to the bytes that wait. Where there is no room for it these go out first, or
+    /// where a write fails a first part of them.
+    pub fn put<T: Target>(&mut self, target: &mut T, c: char) -> Result<(), Failed>
+        ensures all { OnOk result (PassedOn (T.taken target.old) (T.taken target.new) (self.old ++ encode_utf8 c) self.new) }
+        ensures part { OnErr result (TookPart (T.taken target.old) (T.taken target.new) self.old) }
+        ensures failed { T.failed target.new ≡ (is_err result || T.failed target.old) }
+    {
+        let mut buffer = [0u8; 4];
+        let bytes = c.encode_utf8(&mut buffer).as_bytes();
+        if self.waiting.remaining_capacity() < bytes.len() {
+            match self.flush(target) {
+                Ok(()) => {}
+                Err(Failed) => return Err(Failed),
+            }
+        }
+        match self.waiting.try_extend_from_slice(bytes) {
+            Ok(()) => Ok(()),
+            Err(_) => unreachable!(),
+        }
+    }
+}

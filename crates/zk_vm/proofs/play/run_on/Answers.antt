@@ -1,0 +1,19 @@
+use Rattle.std.proofs.Common.{rules, ◌≡◌, ◌∙◌, Some, None, true, false, sym, refl, ap}
+use Rattle.zk_vm.specs.declared.stop.Stop.TheVariants as stop
+use Rattle.zk_vm.specs.Outcome.{Session}
+use Rattle.zk_vm.proofs.RunningOn.{ran_into, ran_on}
+use Rattle.zk_vm.proofs.play.run_on.Goals as goal
+
+pub returns-then-has_failed-clause-run : goal.returns-then-has_failed-clause-run
+returns-then-has_failed-clause-run g c =
+    let broken : c.finish.new.self.failed ≡ true = sym c.has_failed.ensures ∙ c.if-has_failed.true in
+    let stopped : c.close.new.self.stopped ≡ Some stop.Write = ap (λ (s : Session). s.stopped) c.close.ensures in
+    let free : c.close.new.self.waiting ≡ None = ap (λ (s : Session). s.waiting) c.close.ensures in
+    let ends = ran_into _ _ _ _ c.close.new.self _ _ _ _ c.run-answer.ensures.run c.finish.ensures.written (record { screen = search rules; script = search rules; failed = search rules; either = search rules }) (record { screen = c.finish.ensures.no_text; script = c.finish.ensures.no_script }) broken stopped free in
+    search (rules, ends)
+
+pub returns-clause-run : goal.returns-clause-run
+returns-clause-run g c =
+    let sound : c.finish.new.self.failed ≡ false = sym c.has_failed.ensures ∙ c.if-has_failed.false in
+    let goes = ran_on _ _ _ _ _ _ _ _ c.run-answer.ensures.run c.finish.ensures.written (record { screen = search rules; script = search rules; failed = search rules; either = search rules }) (record { screen = c.finish.ensures.no_text; script = c.finish.ensures.no_script }) sound in
+    search (rules, goes)
