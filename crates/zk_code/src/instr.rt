@@ -1,7 +1,7 @@
 // One instruction.
 
 use crate::branch::Branch;
-use crate::opcode::Opcode;
+use crate::opcode::{Idle, Opcode};
 use crate::operands::Operands;
 
 /// An instruction (Standard, section 4.1).
@@ -16,4 +16,18 @@ pub struct Instr {
     pub text: Option<u32>,
     /// The byte address after the instruction.
     pub next: u32,
+}
+
+impl Instr {
+    /// An instruction that does nothing, for a place that holds none.
+    pub fn blank() -> Instr {
+        Instr {
+            opcode: Opcode::Idle(Idle::Nop),
+            operands: Operands::new(),
+            store: None,
+            branch: None,
+            text: None,
+            next: 0,
+        }
+    }
 }
