@@ -3,7 +3,7 @@
 ghost use Rattle.std.specs.Prelude.{◌≡◌};
 
 use crate::branch::Branch;
-use crate::opcode::Opcode;
+use crate::opcode::{Idle, Opcode};
 use crate::operands::Operands;
 
 /// An instruction (Standard, section 4.1).
@@ -32,6 +32,18 @@ impl Instr {
             branch: self.branch,
             text: self.text,
             next: self.next,
+        }
+    }
+
+    /// An instruction that does nothing, for a place that holds none.
+    pub fn blank() -> Instr {
+        Instr {
+            opcode: Opcode::Idle(Idle::Nop),
+            operands: Operands::new(),
+            store: None,
+            branch: None,
+            text: None,
+            next: 0,
         }
     }
 }

@@ -2,7 +2,7 @@
 
 ghost use Rattle.std.specs.Prelude.{ℕ, ◌≡◌, ◌+◌, ◌<◌, ◌≤◌, ◌^◌, ◌++◌, ◌∷◌, [], ◌==◌, if◌then◌else◌, nat_le, ◌&&◌, length, take, reverse, slice_get, slice_index_or, Some, MatchResult, IfOk};
 ghost use Rattle.zk_state.specs.Flat.{frame_of};
-ghost use Rattle.zk_state.specs.Frames.{frames_of, first_frames, with_frames, sizes_of, BeginsFirst, IsFrame, total_of, pushed, popped, top_of, with_top, local_of, with_local, called, left, unwound, IsBounded, GivesBack, RefusesBack};
+ghost use Rattle.zk_state.specs.Frames.{frames_of, first_frames, with_frames, sizes_of, BeginsFirst, IsFrame, total_of, pushed, popped, top_of, with_top, local_of, with_local, called, filled, left, unwound, IsBounded, GivesBack, RefusesBack};
 
 use crate::refusal::{Limit, Refusal};
 use std::alloc::{AllocError, Global};
@@ -144,6 +144,19 @@ fn copy_words(words: &mut Vec<u16>, at: usize, from: &[u16])
 {
     for k in 0..from.len() {
         words[at + k] = from[k];
+    }
+}
+
+/// Fills so many words from an index on: with arguments, and past their last with 0.
+#[inline(always)]
+#[tactic(auto, using(crate::proofs::Calls::fill_step, crate::proofs::Calls::fill_end, crate::proofs::Calls::filled_length))]
+fn fill_words(words: &mut Vec<u16>, at: usize, count: usize, from: &[u16])
+    requires { at + count ≤ length words.old.items }
+    ensures front { take (at + count) words.new.items ≡ take at words.old.items ++ filled count from.now }
+    ensures len { length words.new.items ≡ length words.old.items }
+{
+    for k in 0..count {
+        words[at + k] = from.get(k).copied().unwrap_or(0);
     }
 }
 
@@ -365,11 +378,40 @@ impl Frames {
         Ok(())
     }
 
+    /// A local variable of the current routine, by its index from 0 on, which is one less than its number.
+    #[inline(always)]
+    #[tactic(auto, unfolding(crate::specs::Frames::local_of))]
+    pub fn own(&self, index: u8) -> Result<u16, Fault>
+        ensures { result ≡ local_of self.now (index + 1) }
+    {
+        let at = self.current.base + index as usize;
+        if at >= self.current.floor {
+            return Err(Fault::NoSuchLocal);
+        }
+        Ok(self.words[at])
+    }
+
+    /// Writes a local variable of the current routine, by its index from 0 on.
+    #[inline(always)]
+    #[tactic(auto, unfolding(crate::specs::Frames::with_local))]
+    pub fn set_own(&mut self, index: u8, value: u16) -> Result<(), Fault>
+        ensures { MatchResult result
+            (λ _. with_local self.old (index + 1) value ≡ Ok self.new)
+            (λ e. (with_local self.old (index + 1) value ≡ Err e) × (self.new ≡ self.old)) }
+    {
+        let at = self.current.base + index as usize;
+        if at >= self.current.floor {
+            return Err(Fault::NoSuchLocal);
+        }
+        self.words[at] = value;
+        Ok(())
+    }
+
     /// Begins a routine with these local variables. It will return to the byte address `place`,
     /// its result goes to the variable `store`, and it was given `supplied` arguments (Standard,
     /// section 6.4). With a frame too many this is `Limit::Frames`, else with words too many
     /// `Limit::Words`.
-    #[tactic(auto, unfolding(crate::specs::Frames::called, crate::specs::Frames::within_bounds))]
+    #[tactic(auto, using(crate::proofs::Calls::filled_all))]
     pub fn call(
         &mut self,
         locals: &[u16],
@@ -385,14 +427,41 @@ impl Frames {
             (λ e. (called self.old locals.now place store supplied ≡ Err e)
             × (self.new ≡ self.old)) }
     {
+        let count = locals.len() as u8;
+        match self.call_with(count, locals, place, store, supplied) {
+            Ok(()) => Ok(()),
+            Err(refusal) => Err(refusal),
+        }
+    }
+
+    /// Begins a routine with so many local variables, of which the first take the arguments and the others 0,
+    /// as `call` does.
+    #[inline(always)]
+    #[tactic(auto, unfolding(crate::specs::Frames::called, crate::specs::Frames::within_bounds))]
+    pub fn call_with(
+        &mut self,
+        count: u8,
+        arguments: &[u16],
+        place: u32,
+        store: Option<u8>,
+        supplied: u8,
+    ) -> Result<(), Refusal>
+        requires locals { count ≤ 15 }
+        requires place { place < 2 ^ 24 }
+        requires supplied { supplied ≤ 7 }
+        ensures { MatchResult result
+            (λ _. called self.old (filled count arguments.now) place store supplied ≡ Ok self.new)
+            (λ e. (called self.old (filled count arguments.now) place store supplied ≡ Err e)
+            × (self.new ≡ self.old)) }
+    {
         if self.callers.len() + 1 >= self.most_frames {
             return Err(Refusal::Limit(Limit::Frames));
         }
-        let floor = self.top + locals.len();
+        let floor = self.top + count as usize;
         if floor > self.most_words {
             return Err(Refusal::Limit(Limit::Words));
         }
-        copy_words(&mut self.words, self.top, locals);
+        fill_words(&mut self.words, self.top, count as usize, arguments);
         self.callers.push(self.current).unwrap();
         self.current = FrameRecord {
             base: self.top,

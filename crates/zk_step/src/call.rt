@@ -29,7 +29,7 @@ fn length_of_values(memory: &Memory, count: u8) -> u32
 /// How many local variables the routine at a byte address has, where it has at most 15 and lies in the
 /// story.
 #[tactic(auto, unfolding(crate::specs::Routines::count_at))]
-fn local_count(memory: &Memory, address: u32) -> Option<u8>
+pub fn local_count(memory: &Memory, address: u32) -> Option<u8>
     requires { address < 2 ^ 20 }
     ensures value { result ≡ count_at memory.now address }
     ensures few { IfSome result (λ n. n ≤ 15) }

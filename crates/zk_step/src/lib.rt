@@ -4,7 +4,7 @@
 mod arithmetic;
 mod arrays;
 mod assignment;
-mod call;
+pub mod call;
 mod comparison;
 mod control;
 mod effects;
@@ -20,7 +20,7 @@ pub mod output_examples;
 mod printing;
 pub mod random;
 pub mod resuming;
-mod returning;
+pub mod returning;
 mod routines;
 mod saving;
 pub mod saving_examples;
