@@ -309,6 +309,28 @@ fn the_first_chunk_counts(rt: HostRuntime) -> Result<(), Fail> {
     Ok(())
 }
 
+// As many bytes as there are, and one more by a run of zeros or by a byte of its own.
+#[test]
+fn packed_memory_fits(rt: HostRuntime) -> Result<(), Fail> {
+    for (size, memory, answer) in [
+        ("34", "434d656d 00000002 003f", Ok(0x41)),
+        ("34", "434d656d 00000002 0040", Err(RestoreError::BadMemory)),
+        (
+            "36",
+            "434d656d 00000003 003f05 00",
+            Err(RestoreError::BadMemory),
+        ),
+    ] {
+        let file = game(rt.alloc(), size, [STORY, memory, STACK, "", ""])?;
+        assert_eq!(rt;
+            restored(rt.alloc(), file.as_slice(), 0, 0)?,
+            answer,
+            "{memory}"
+        );
+    }
+    Ok(())
+}
+
 #[test]
 fn plain_memory_is_taken(rt: HostRuntime) -> Result<(), Fail> {
     let mut memory = started(rt.alloc())?;
