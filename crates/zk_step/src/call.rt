@@ -15,7 +15,7 @@ use zk_mem::memory::Memory;
 use zk_state::refusal::Refusal;
 
 /// The bytes of the initial values of so many local variables.
-fn length_of_values(memory: &Memory, count: u8) -> u32
+pub fn length_of_values(memory: &Memory, count: u8) -> u32
     ensures value { result ≡ values_length memory.now count }
     ensures bound { result ≤ 510 }
 {
