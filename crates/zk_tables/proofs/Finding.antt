@@ -1,5 +1,5 @@
 -- Looking a key up.
-use Rattle.std.proofs.Common.{◌≡◌, ◌≢◌, ◌≤◌, ◌<◌, ℕ, zero, suc, ◌+◌, ◌*◌, ◌-◌, Bool, true, false, List, [], ◌∷◌, length, drop, get_or, Option, Some, None, Result, Ok, Err, nat_lt, ◌==◌, nat_eq, drop-cons, add-one, refl, sym, ◌∙◌, ap, subst, arith, inl, inr}
+use Rattle.std.proofs.Common.{◌≡◌, ◌≢◌, ◌≤◌, ◌<◌, ℕ, zero, suc, ◌+◌, ◌*◌, ◌-◌, true, false, List, [], ◌∷◌, length, drop, get_or, Option, Some, None, Result, Ok, Err, nat_lt, ◌==◌, drop-cons, add-one, refl, sym, subst, arith, inl, inr}
 use Rattle.std.specs.Prelude.{slice_get, IfOk}
 use Rattle.std.proofs.Math.Nat.{mul-le-mul_left, mul-suc}
 use Rattle.std.proofs.lemmas.Bool.{ne_eqb, eq-eqb, cases_Bool}
@@ -8,7 +8,7 @@ use Rattle.std.proofs.lemmas.List.{drop_all}
 use Rattle.zk_mem.specs.declared.fault.Fault.{Fault}
 use Rattle.zk_mem.specs.Map.{MemoryMap, readable_end, cell_at}
 use Rattle.zk_tables.specs.declared.dictionary.Dictionary.{Dictionary}
-use Rattle.zk_tables.specs.Dictionaries.{key_length, magnitude, dictionary_byte, dictionary_word, dictionary_by, dictionary_at, IsDictionaryOf, begins_with, has_key, found_from, entry_start}
+use Rattle.zk_tables.specs.Dictionaries.{key_length, magnitude, dictionary_byte, dictionary_word, dictionary_by, dictionary_at, IsDictionaryOf, parts_at, begins_with, has_key, found_from, entry_start}
 use Rattle.zk_tables.proofs.Steps.{bind_ok}
 
 -- what stands behind a byte that is there
@@ -60,7 +60,7 @@ by_inside m a s l n d h = elim (cases_Bool (nat_lt l (key_length m.version))) [
   | inr t ↦ elim (cases_Bool (nat_lt (readable_end m) (a + s + 4 + l * magnitude n))) [
     | inl u ↦ (let g = rw (t, u) at h in absurd cc)
     | inr u ↦ (let g = rw (t, u) at h in
-        let same : record { address = a; separators = s; entry_length = l; entries = magnitude n; is_sorted = nat_lt n 32768 } ≡ d = cc in
+        let same : parts_at m a s l n ≡ d = cc in
         rw (sym same) (record { end = grind (arith, nat_tests); room = grind (arith, nat_tests); some = omega arith }, refl, refl))
   ]
 ]

@@ -3,11 +3,14 @@ pub mod ChainSteps
 pub mod ListSteps
 pub mod Writes
 pub mod Finding
+pub mod Ordering
 pub mod Dividing
 pub mod Storing
 pub mod TokenLaw
 pub mod LookUpLaw
 pub mod TableLaw
+pub mod Halving
+pub mod OrderLaw
 pub mod TreeSteps
 pub mod ChainLaw
 pub mod ListLaw

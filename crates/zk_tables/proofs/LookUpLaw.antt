@@ -1,14 +1,14 @@
 -- A look-up finds the first entry that begins with the key.
-use Rattle.std.proofs.Common.{◌≡◌, ◌≢◌, ◌≤◌, ◌<◌, ℕ, zero, suc, ◌+◌, ◌*◌, ◌-◌, ◌/◌, ◌%◌, Bool, true, false, List, [], ◌∷◌, ◌++◌, length, length-append, drop, get_or, Some, None, Ok, Err, ◌==◌, nat_lt, refl, sym, ◌∙◌, ap, subst, arith, inl, inr, add-one, append_assoc}
+use Rattle.std.proofs.Common.{◌≡◌, ◌≤◌, ◌<◌, ℕ, ◌+◌, ◌/◌, ◌%◌, true, List, [], ◌∷◌, ◌++◌, length, length-append, drop, get_or, Some, Ok, nat_lt, refl, ◌∙◌, ap, subst, arith, inl, inr, add-one}
 use Rattle.std.specs.Prelude.{slice_get}
 use Rattle.std.specs.List.{concat, AllByRecursion}
 use Rattle.std.proofs.Math.Nat.{mul-suc}
-use Rattle.std.proofs.lemmas.Bool.{cases_Bool, ltb-true}
+use Rattle.std.proofs.lemmas.Bool.{ltb-true}
 use Rattle.std.proofs.lemmas.Option.{slice_get-get_or}
 use Rattle.zk_mem.specs.Map.{MemoryMap, readable_end, byte_at}
 use Rattle.zk_tables.specs.declared.dictionary.Dictionary.{Dictionary}
 use Rattle.zk_tables.specs.PropertyList.{Stands}
-use Rattle.zk_tables.specs.Dictionaries.{key_length, Table, IsTable, table_bytes, described, begins_with, has_key, found_from, found_in, entry_start, NoneBegins, IsLookUp, LookUpsAreFirst}
+use Rattle.zk_tables.specs.Dictionaries.{key_length, Table, IsTable, described, begins_with, has_key, found_from, found_in, entry_start, NoneBegins, LookUpsAreFirst}
 use Rattle.zk_tables.proofs.Steps.{chosen, same_value}
 use Rattle.zk_tables.proofs.Finding.{drop_some}
 
@@ -97,19 +97,19 @@ walk_none m d key i (x ∷ xs) r none = rw (has_entry m d key i x xs r, none.0) 
 front_length : (t : Table) → length ((length t.separators ∷ t.separators) ++ (t.entry_length ∷ t.count / 256 ∷ t.count % 256 ∷ [])) ≡ length t.separators + 4
 front_length t = rw (length-append (length t.separators ∷ t.separators) (t.entry_length ∷ t.count / 256 ∷ t.count % 256 ∷ [])) (omega arith)
 
-pub entries_stand : (m : MemoryMap) (a : ℕ) (t : Table) → (h : IsTable m a t) → Stands m (entry_start (described a t) 0) (concat t.entries) h.end
-entries_stand m a t h =
+pub table_entries_stand : (m : MemoryMap) (a : ℕ) (t : Table) → (h : IsTable m a t) → Stands m (entry_start (described m a t) 0) (concat t.entries) h.end
+table_entries_stand m a t h =
     let front = (length t.separators ∷ t.separators) ++ (t.entry_length ∷ t.count / 256 ∷ t.count % 256 ∷ []) in
     let bytes : Stands m a (front ++ concat t.entries) h.end = h.bytes in
-    let start : a + length front ≡ entry_start (described a t) 0 = (let l = front_length t in omega (arith, l)) in
+    let start : a + length front ≡ entry_start (described m a t) 0 = (let l = front_length t in omega (arith, l)) in
     subst (λ b. Stands m b (concat t.entries) h.end) start (stands_behind m a front (concat t.entries) h.end bytes)
 
-whole : (m : MemoryMap) (a : ℕ) (t : Table) (key : List ℕ) → IsTable m a t → length key ≡ key_length m.version → Rest m (described a t) key 0 t.entries
-whole m a t key h long = record { end = h.end; bytes = entries_stand m a t h; lengths = h.lengths; room = omega (arith, long, h.room) }
+whole : (m : MemoryMap) (a : ℕ) (t : Table) (key : List ℕ) → IsTable m a t → length key ≡ key_length m.version → Rest m (described m a t) key 0 t.entries
+whole m a t key h long = record { end = h.end; bytes = table_entries_stand m a t h; lengths = h.lengths; room = omega (arith, long, h.room) }
 
 pub look_ups_are_first : LookUpsAreFirst
 unfolding found_in
 look_ups_are_first m a t key h long = record {
-  first = λ before behind entry same is none. walk_to m (described a t) key t.entries before behind entry (whole m a t key h long) same is none;
-  none = λ none. walk_none m (described a t) key 0 t.entries (whole m a t key h long) none;
+  first = λ before behind entry same is none. walk_to m (described m a t) key t.entries before behind entry (whole m a t key h long) same is none;
+  none = λ none. walk_none m (described m a t) key 0 t.entries (whole m a t key h long) none;
 }

@@ -1,19 +1,21 @@
 -- What is read at an address is the dictionary that the bytes spell there.
-use Rattle.std.proofs.Common.{◌≡◌, ◌≢◌, ◌≤◌, ◌<◌, ℕ, zero, suc, ◌+◌, ◌*◌, ◌-◌, ◌/◌, ◌%◌, Bool, true, false, List, [], ◌∷◌, ◌++◌, length, length-append, get_or, Some, None, Result, Ok, Err, ◌==◌, nat_lt, refl, sym, ◌∙◌, ap, subst, arith, inl, inr, append_assoc}
+use Rattle.std.proofs.Common.{◌≡◌, ◌≤◌, ◌<◌, ℕ, zero, suc, ◌+◌, ◌*◌, ◌/◌, ◌%◌, true, false, List, [], ◌∷◌, ◌++◌, length, length-append, take, get_or, Result, Ok, Err, nat_lt, refl, sym, ◌∙◌, ap, subst, arith, inl, inr}
+use Rattle.std.specs.Prelude.{map}
 use Rattle.std.specs.List.{concat, AllByRecursion}
-use Rattle.std.proofs.Math.Nat.{mul-suc, mul-le-mul_left}
+use Rattle.std.proofs.Math.Nat.{mul-suc}
 use Rattle.std.proofs.lemmas.Bool.{cases_Bool, ltb-true}
 use Rattle.std.proofs.lemmas.Bool.Decides.{nat_tests}
 use Rattle.zk_mem.specs.declared.fault.Fault.{Fault}
-use Rattle.zk_mem.specs.declared.fault.Fault.TheVariants.{BadAddress, BadDictionary}
+use Rattle.zk_mem.specs.declared.fault.Fault.TheVariants.{BadDictionary}
 use Rattle.zk_mem.specs.Header.{word_in}
 use Rattle.zk_mem.specs.Map.{MemoryMap, readable_end, byte_at, word_at, HasBytes}
 use Rattle.zk_tables.specs.declared.dictionary.Dictionary.{Dictionary}
 use Rattle.zk_tables.specs.PropertyList.{Stands}
-use Rattle.zk_tables.specs.Dictionaries.{key_length, magnitude, Table, IsTable, table_bytes, described, dictionary_byte, dictionary_word, dictionary_by, dictionary_at, bytes_from, DictionariesAreTables}
+use Rattle.zk_tables.specs.Dictionaries.{key_length, magnitude, Table, IsTable, table_bytes, described, dictionary_byte, dictionary_word, dictionary_by, dictionary_at, IsDictionaryOf, parts_at, bytes_from, keys_from, entry_start, DictionariesAreTables}
 use Rattle.zk_tables.proofs.Steps.{bind_ok, bind_err, chosen, same_value}
 use Rattle.zk_tables.proofs.ListLaw.{byte_small}
-use Rattle.zk_tables.proofs.LookUpLaw.{stands_first, stands_behind}
+use Rattle.zk_tables.proofs.Ordering.{length_bytes}
+use Rattle.zk_tables.proofs.LookUpLaw.{stands_first, stands_behind, table_entries_stand}
 
 -- ---- bytes of data
 
@@ -69,11 +71,6 @@ word_of m a x below same = let t : nat_lt (a + 1) (readable_end m) ≡ true = gr
 
 -- ---- bytes one after the other
 
-length_bytes : (m : MemoryMap) (a n : ℕ) → length (bytes_from m a n) ≡ n
-unfolding bytes_from
-length_bytes m a zero = refl
-length_bytes m a (suc n) = ap suc (length_bytes m (a + 1) n)
-
 bytes_stand : (m : MemoryMap) (a n : ℕ) → a + n ≤ readable_end m → Stands m a (bytes_from m a n) (a + n)
 unfolding bytes_from
 bytes_stand m a zero h = omega arith
@@ -124,6 +121,33 @@ all_length : (l : ℕ) (es : List (List ℕ)) → AllByRecursion (λ e. length e
 all_length l [] h = omega arith
 all_length l (e ∷ es) h = omega (arith, length-append e (concat es), h.0, all_length l es h.1, mul-suc l (length es))
 
+-- ---- the keys
+
+first_bytes : (m : MemoryMap) (a k n : ℕ) → k ≤ n → take k (bytes_from m a n) ≡ bytes_from m a k
+unfolding bytes_from
+first_bytes m a zero n h = refl
+first_bytes m a (suc k) zero h = absurd (omega (arith, h))
+first_bytes m a (suc k) (suc n) h = ap (λ xs. get_or m.bytes a 0 ∷ xs) (first_bytes m (a + 1) k n (omega (arith, h)))
+
+keys_read : (m : MemoryMap) (a l n : ℕ) → key_length m.version ≤ l → map (λ entry. take (key_length m.version) entry) (entries_from m a l n) ≡ keys_from m a l n
+unfolding entries_from keys_from
+keys_read m a l zero room = refl
+keys_read m a l (suc n) room = rw (first_bytes m a (key_length m.version) l room, keys_read m (a + l) l n room) refl
+
+bytes_found : (m : MemoryMap) (a k c : ℕ) (xs : List ℕ) → Stands m a xs c → k ≤ length xs → take k xs ≡ bytes_from m a k
+unfolding bytes_from
+bytes_found m a zero c xs h room = refl
+bytes_found m a (suc k) c [] h room = absurd (omega (arith, room))
+bytes_found m a (suc k) c (x ∷ xs) h room = rw (byte_value m a x h.0, bytes_found m (a + 1) k c xs h.1 (omega (arith, room))) refl
+
+keys_found : (m : MemoryMap) (a l c : ℕ) (es : List (List ℕ)) → Stands m a (concat es) c → AllByRecursion (λ e. length e ≡ l) es → key_length m.version ≤ l → map (λ entry. take (key_length m.version) entry) es ≡ keys_from m a l (length es)
+unfolding keys_from
+keys_found m a l c [] h lengths room = refl
+keys_found m a l c (e ∷ es) h lengths room =
+    let first = bytes_found m a (key_length m.version) (a + length e) e (stands_first m a e (concat es) c h) (omega (arith, room, lengths.0)) in
+    let behind : Stands m (a + l) (concat es) c = rw lengths.0 at (stands_behind m a e (concat es) c h) in
+    rw (first, keys_found m (a + l) l c es behind lengths.1 room) refl
+
 -- ---- from the parts to the table
 
 record Parts (m : MemoryMap) (a : ℕ) (d : Dictionary) : Type 0 where
@@ -148,17 +172,17 @@ unfolding dictionary_at
 of_parts m a d p = rw (p.first, p.second, p.third) p.by
 
 -- what the tests say
-tests_of : (m : MemoryMap) (a s l n : ℕ) (d : Dictionary) → dictionary_by m a s l n ≡ Ok d → (key_length m.version ≤ l) × (a + s + 4 + l * magnitude n ≤ readable_end m) × (d ≡ record { address = a; separators = s; entry_length = l; entries = magnitude n; is_sorted = nat_lt n 32768 })
+tests_of : (m : MemoryMap) (a s l n : ℕ) (d : Dictionary) → dictionary_by m a s l n ≡ Ok d → (key_length m.version ≤ l) × (a + s + 4 + l * magnitude n ≤ readable_end m) × (d ≡ parts_at m a s l n)
 unfolding dictionary_by
 tests_of m a s l n d h = elim (cases_Bool (nat_lt l (key_length m.version))) [
   | inl t ↦ (let g = rw t at h in absurd cc)
   | inr t ↦ elim (cases_Bool (nat_lt (readable_end m) (a + s + 4 + l * magnitude n))) [
     | inl u ↦ (let g = rw (t, u) at h in absurd cc)
-    | inr u ↦ (let g = rw (t, u) at h in (grind (arith, nat_tests), grind (arith, nat_tests), (let same : record { address = a; separators = s; entry_length = l; entries = magnitude n; is_sorted = nat_lt n 32768 } ≡ d = cc in sym same)))
+    | inr u ↦ (let g = rw (t, u) at h in (grind (arith, nat_tests), grind (arith, nat_tests), (let same : parts_at m a s l n ≡ d = cc in sym same)))
   ]
 ]
 
-by_tests : (m : MemoryMap) (a s l n : ℕ) → key_length m.version ≤ l → a + s + 4 + l * magnitude n ≤ readable_end m → dictionary_by m a s l n ≡ Ok (record { address = a; separators = s; entry_length = l; entries = magnitude n; is_sorted = nat_lt n 32768 })
+by_tests : (m : MemoryMap) (a s l n : ℕ) → key_length m.version ≤ l → a + s + 4 + l * magnitude n ≤ readable_end m → dictionary_by m a s l n ≡ Ok (parts_at m a s l n)
 unfolding dictionary_by
 by_tests m a s l n room inside =
     let t : nat_lt l (key_length m.version) ≡ false = grind (arith, nat_tests) in
@@ -206,14 +230,14 @@ is_table m a d fits p =
       room = tests.0;
     }
 
-found_there : (m : MemoryMap) (a : ℕ) (d : Dictionary) → HasBytes m → dictionary_at m a ≡ Ok d → (t : Table) × IsTable m a t × (d ≡ described a t)
+found_there : (m : MemoryMap) (a : ℕ) (d : Dictionary) → HasBytes m → dictionary_at m a ≡ Ok d → (t : Table) × IsTable m a t × (d ≡ described m a t)
 unfolding table_of
 found_there m a d fits h =
     let p = parts_of m a d h in
     let tests = tests_of m a p.separators p.entry_length p.count d p.by in (
       table_of m a p.separators p.entry_length p.count,
       is_table m a d fits p,
-      rw (length_bytes m (a + 1) p.separators, length_entries m (a + p.separators + 4) p.entry_length (magnitude p.count)) tests.2,
+      rw (length_bytes m (a + 1) p.separators, length_entries m (a + p.separators + 4) p.entry_length (magnitude p.count), keys_read m (a + p.separators + 4) p.entry_length (magnitude p.count) tests.0) tests.2,
     )
 
 table_end : (m : MemoryMap) (a : ℕ) (t : Table) → (h : IsTable m a t) → a + length t.separators + 4 + t.entry_length * magnitude t.count ≤ readable_end m
@@ -226,7 +250,7 @@ table_end m a t h =
     let many : t.entry_length * length t.entries ≡ t.entry_length * magnitude t.count = ap (λ (n : ℕ). t.entry_length * n) h.entries in
     omega (arith, end, is, entries, all, front, many)
 
-table_found : (m : MemoryMap) (a : ℕ) (t : Table) → IsTable m a t → dictionary_at m a ≡ Ok (described a t)
+table_found : (m : MemoryMap) (a : ℕ) (t : Table) → IsTable m a t → dictionary_at m a ≡ Ok (described m a t)
 table_found m a t h =
     let s = length t.separators in
     let front = stands_first m (a + 1) (t.separators ++ (t.entry_length ∷ t.count / 256 ∷ t.count % 256 ∷ [])) (concat t.entries) h.end h.bytes.1 in
@@ -241,7 +265,10 @@ table_found m a t h =
     let low_is = byte_value m (a + s + 2 + 1) _ low in
     let word : word_in m.bytes (a + s + 2) ≡ t.count = rw (high_is, low_is) (omega arith) in
     let by = by_tests m a s t.entry_length t.count h.room (table_end m a t h) in
-    rw h.entries (of_parts m a _ (record {
+    let start : entry_start (described m a t) 0 ≡ a + s + 4 = omega arith in
+    let stand : Stands m (a + s + 4) (concat t.entries) h.end = subst (λ (b : ℕ). Stands m b (concat t.entries) h.end) start (table_entries_stand m a t h) in
+    let keys = keys_found m (a + s + 4) t.entry_length h.end t.entries stand h.lengths h.room in
+    rw (keys, h.entries) (of_parts m a _ (record {
       separators = s;
       entry_length = t.entry_length;
       count = t.count;
@@ -280,6 +307,10 @@ some_dictionary d = Ok d
 refused_there : (m : MemoryMap) (a : ℕ) (r : Result Dictionary Fault) → dictionary_at m a ≡ r → HasBytes m → ((t : Table) → IsTable m a t → ⊥) → r ≡ Err BadDictionary
 refused_there m a (Ok d) h fits none = (let t = found_there m a d fits h in absurd (none t.0 t.1))
 refused_there m a (Err e) h fits none = rw (fault_is m a e h) refl
+
+-- a table is the dictionary at its address
+pub table_is_read : (m : MemoryMap) (a : ℕ) (t : Table) → IsTable m a t → IsDictionaryOf m (described m a t)
+table_is_read m a t h = record { stands = table_found m a t h }
 
 pub dictionaries_are_tables : DictionariesAreTables
 dictionaries_are_tables m a fits = record {

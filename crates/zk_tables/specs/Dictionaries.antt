@@ -1,5 +1,5 @@
 -- Dictionaries and their entries (Standard, sections 13.2 to 13.5).
-use Rattle.std.specs.Prelude.{◌≡◌, ℕ, zero, suc, ◌+◌, ◌*◌, ◌-◌, ◌<◌, ◌≤◌, Bool, true, false, ◌&&◌, ◌||◌, List, [], ◌∷◌, ◌++◌, length, drop, get_or, Option, Some, None, Result, Ok, Err, nat_lt, ◌==◌, ◌↔◌, if◌then◌else◌}
+use Rattle.std.specs.Prelude.{◌≡◌, ℕ, zero, suc, ◌+◌, ◌*◌, ◌-◌, ◌<◌, ◌≤◌, Bool, true, false, ◌&&◌, ◌||◌, List, [], ◌∷◌, ◌++◌, length, map, take, drop, get_or, Result, Ok, Err, nat_lt, nat_le, ◌==◌, ◌↔◌, if◌then◌else◌}
 use Rattle.std.specs.List.{concat, AllByRecursion}
 use Rattle.zk_mem.specs.declared.fault.Fault.{Fault}
 use Rattle.zk_mem.specs.declared.fault.Fault.TheVariants.{BadDictionary}
@@ -16,6 +16,23 @@ key_length version = if nat_lt version 4 then 4 else 6
 -- how many entries a count says, which is signed (section 13.2)
 abbrev pub magnitude : ℕ → ℕ
 magnitude count = if nat_lt count 32768 then count else 65536 - count
+
+-- a key is above another: where they first differ its byte is greater, as unsigned numbers
+unfoldable pub is_above : List ℕ → List ℕ → Bool
+is_above [] others = false
+is_above (k ∷ ks) [] = false
+is_above (k ∷ ks) (o ∷ os) = if k == o then is_above ks os else nat_lt o k
+
+-- keys do not fall: none is above the one after it
+unfoldable pub do_not_fall : List (List ℕ) → Bool
+do_not_fall [] = true
+do_not_fall (k ∷ []) = true
+do_not_fall (k ∷ l ∷ ks) = if is_above k l then false else do_not_fall (l ∷ ks)
+
+-- a table at an address can be searched by halves: all of it lies at or above the static base, where nothing is
+-- written, its count says that it is sorted, and its keys are
+abbrev pub can_be_halved : MemoryMap → ℕ → ℕ → List (List ℕ) → Bool
+can_be_halved m a count keys = nat_le m.static_base a && nat_lt count 32768 && do_not_fall keys
 
 -- a dictionary: its separators, the length of an entry, the count as it is written, and the entries
 -- (section 13.2)
@@ -39,9 +56,20 @@ pub record IsTable (m : MemoryMap) (a : ℕ) (t : Table) : Type 0 where
   pub lengths : AllByRecursion (λ e. length e ≡ t.entry_length) t.entries
   pub room : key_length m.version ≤ t.entry_length
 
--- where its parts stand
-abbrev pub described : ℕ → Table → Dictionary
-described a t = record { address = a; separators = length t.separators; entry_length = t.entry_length; entries = length t.entries; is_sorted = nat_lt t.count 32768 }
+-- the keys of its entries, their first bytes (sections 13.3 and 13.4)
+abbrev pub keys_of : MemoryMap → Table → List (List ℕ)
+keys_of m t = map (λ entry. take (key_length m.version) entry) t.entries
+
+-- where its parts stand, and how it can be searched
+abbrev pub described : MemoryMap → ℕ → Table → Dictionary
+described m a t = record {
+  address = a;
+  separators = length t.separators;
+  entry_length = t.entry_length;
+  entries = length t.entries;
+  is_sorted = nat_lt t.count 32768;
+  allows_halves = can_be_halved m a t.count (keys_of m t);
+}
 
 -- ---- the same, read from its front on
 
@@ -53,12 +81,34 @@ dictionary_byte m a = if nat_lt a (readable_end m) then byte_at m a else Err Bad
 unfoldable pub dictionary_word : MemoryMap → ℕ → Result ℕ Fault
 dictionary_word m a = if nat_lt (a + 1) (readable_end m) then word_at m a else Err BadDictionary
 
+-- n bytes from an address on
+unfoldable pub bytes_from : MemoryMap → ℕ → ℕ → List ℕ
+bytes_from m a zero = []
+bytes_from m a (suc n) = get_or m.bytes a 0 ∷ bytes_from m (a + 1) n
+
+-- the keys of n entries of a length, from an address on
+unfoldable pub keys_from : MemoryMap → ℕ → ℕ → ℕ → List (List ℕ)
+keys_from m a entry_length zero = []
+keys_from m a entry_length (suc n) = bytes_from m a (key_length m.version) ∷ keys_from m (a + entry_length) entry_length n
+
+-- where the parts of a dictionary stand, by its separators, the length of an entry and its count, and how it can be
+-- searched
+abbrev pub parts_at : MemoryMap → ℕ → ℕ → ℕ → ℕ → Dictionary
+parts_at m a separators entry_length count = record {
+  address = a;
+  separators = separators;
+  entry_length = entry_length;
+  entries = magnitude count;
+  is_sorted = nat_lt count 32768;
+  allows_halves = can_be_halved m a count (keys_from m (a + separators + 4) entry_length (magnitude count));
+}
+
 -- the dictionary of so many separators, with entries of a length, by its count
 unfoldable pub dictionary_by : MemoryMap → ℕ → ℕ → ℕ → ℕ → Result Dictionary Fault
 dictionary_by m a separators entry_length count =
     if nat_lt entry_length (key_length m.version) || nat_lt (readable_end m) (a + separators + 4 + entry_length * magnitude count)
     then Err BadDictionary
-    else Ok (record { address = a; separators = separators; entry_length = entry_length; entries = magnitude count; is_sorted = nat_lt count 32768 })
+    else Ok (parts_at m a separators entry_length count)
 
 -- the dictionary at an address
 unfoldable pub dictionary_at : MemoryMap → ℕ → Result Dictionary Fault
@@ -73,11 +123,6 @@ pub record IsDictionaryOf (m : MemoryMap) (d : Dictionary) : Type 0 where
   pub stands : dictionary_at m d.address ≡ Ok d
 
 -- ---- its separators and entries
-
--- n bytes from an address on
-unfoldable pub bytes_from : MemoryMap → ℕ → ℕ → List ℕ
-bytes_from m a zero = []
-bytes_from m a (suc n) = get_or m.bytes a 0 ∷ bytes_from m (a + 1) n
 
 -- the separators of a dictionary
 unfoldable pub separators_of : MemoryMap → Dictionary → List ℕ
@@ -111,7 +156,7 @@ found_in m d key = found_from m d key d.entries 0
 -- what is read at an address is the dictionary that the bytes spell there, and it is refused where they spell
 -- none
 pub record IsTableReading (m : MemoryMap) (a : ℕ) : Type 0 where
-  pub found : (d : Dictionary) → (dictionary_at m a ≡ Ok d) ↔ ((t : Table) × IsTable m a t × (d ≡ described a t))
+  pub found : (d : Dictionary) → (dictionary_at m a ≡ Ok d) ↔ ((t : Table) × IsTable m a t × (d ≡ described m a t))
   pub refused : (e : Fault) → (dictionary_at m a ≡ Err e) ↔ ((e ≡ BadDictionary) × ((t : Table) → IsTable m a t → ⊥))
 
 -- at each address, where memory holds bytes
@@ -124,8 +169,8 @@ NoneBegins entries key = AllByRecursion (λ e. begins_with e key ≡ false) entr
 
 -- a key is looked up: the first entry that begins with it is found, and 0 where there is none (section 13.5)
 pub record IsLookUp (m : MemoryMap) (a : ℕ) (t : Table) (key : List ℕ) : Type 0 where
-  pub first : (before behind : List (List ℕ)) (entry : List ℕ) → t.entries ≡ before ++ entry ∷ behind → begins_with entry key ≡ true → NoneBegins before key → found_in m (described a t) key ≡ entry_start (described a t) (length before)
-  pub none : NoneBegins t.entries key → found_in m (described a t) key ≡ 0
+  pub first : (before behind : List (List ℕ)) (entry : List ℕ) → t.entries ≡ before ++ entry ∷ behind → begins_with entry key ≡ true → NoneBegins before key → found_in m (described m a t) key ≡ entry_start (described m a t) (length before)
+  pub none : NoneBegins t.entries key → found_in m (described m a t) key ≡ 0
 
 -- in each dictionary
 abbrev pub LookUpsAreFirst : Type 0

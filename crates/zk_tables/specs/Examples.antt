@@ -5,7 +5,8 @@ use Rattle.zk_mem.specs.declared.fault.Fault.TheVariants.{BadAddress, BadDiction
 use Rattle.zk_mem.specs.Map.{MemoryMap}
 use Rattle.zk_tables.specs.declared.dictionary.Dictionary.{Dictionary}
 use Rattle.zk_tables.specs.declared.words.Word.{Word}
-use Rattle.zk_tables.specs.Dictionaries.{dictionary_at, found_in, separators_of}
+use Rattle.zk_tables.specs.Dictionaries.{is_above, dictionary_at, found_in, separators_of}
+use Rattle.zk_tables.specs.Halves.{found_by_halves, compared_by_halves}
 use Rattle.zk_tables.specs.Tokens.{tokens, token}
 use Rattle.zk_tables.specs.Parsing.{letters_of, letters_start, words_put}
 use Rattle.zk_tables.specs.Layout.{layout_of, is_entry_in, entry_of, entries}
@@ -280,15 +281,15 @@ three_entries high_count =
 
 -- where its parts stand
 abbrev pub described_three : Bool → Dictionary
-described_three is_sorted = record { address = 0; separators = 2; entry_length = 4; entries = 3; is_sorted = is_sorted }
+described_three is_sorted = record { address = 0; separators = 2; entry_length = 4; entries = 3; is_sorted = is_sorted; allows_halves = false }
 
 -- a dictionary is its separators, the length of an entry, a signed count and the entries; a count of -3 is three
 -- entries that are not sorted (section 13.2)
 abbrev pub DictionariesAreRead : Type 0
 DictionariesAreRead =
-    (dictionary_at (memory_of 3 (three_entries 0)) 0 ≡ Ok (record { address = 0; separators = 2; entry_length = 4; entries = 3; is_sorted = true }))
-    × (dictionary_at (memory_of 3 (three_entries 0xff)) 0 ≡ Ok (record { address = 0; separators = 2; entry_length = 4; entries = 3; is_sorted = false }))
-    × (dictionary_at (memory_of 3 (7 ∷ 0 ∷ 5 ∷ 0 ∷ 0 ∷ [])) 1 ≡ Ok (record { address = 1; separators = 0; entry_length = 5; entries = 0; is_sorted = true }))
+    (dictionary_at (memory_of 3 (three_entries 0)) 0 ≡ Ok (record { address = 0; separators = 2; entry_length = 4; entries = 3; is_sorted = true; allows_halves = false }))
+    × (dictionary_at (memory_of 3 (three_entries 0xff)) 0 ≡ Ok (record { address = 0; separators = 2; entry_length = 4; entries = 3; is_sorted = false; allows_halves = false }))
+    × (dictionary_at (memory_of 3 (7 ∷ 0 ∷ 5 ∷ 0 ∷ 0 ∷ [])) 1 ≡ Ok (record { address = 1; separators = 0; entry_length = 5; entries = 0; is_sorted = true; allows_halves = false }))
 
 -- an entry has room for a key: 4 bytes up to version 3, 6 from version 4 on; and all of it lies in data (sections 13.3
 -- and 13.4)
@@ -306,6 +307,74 @@ FirstEntriesAreFound =
     × (found_in (memory_of 3 (three_entries 0xff)) (described_three false) (0x65 ∷ 0xaa ∷ 0x80 ∷ 0xa5 ∷ []) ≡ 14)
     × (found_in (memory_of 3 (three_entries 0)) (described_three true) (0x64 ∷ 0xd0 ∷ 0xa8 ∷ 0xa6 ∷ []) ≡ 0)
     × (separators_of (memory_of 3 (three_entries 0)) (described_three true) ≡ codes ",.")
+
+-- keys are compared from their first byte on, as unsigned numbers (sections 13.3 and 13.5)
+abbrev pub KeysAreCompared : Type 0
+KeysAreCompared =
+    (is_above (0x80 ∷ 0 ∷ []) (0x7f ∷ 0xff ∷ []) ≡ true)
+    × (is_above (0x7f ∷ 0xff ∷ []) (0x80 ∷ 0 ∷ []) ≡ false)
+    × (is_above (0x32 ∷ 0x85 ∷ []) (0x32 ∷ 0x84 ∷ []) ≡ true)
+    × (is_above (0x32 ∷ 0x84 ∷ []) (0x32 ∷ 0x85 ∷ []) ≡ false)
+    × (is_above (0x32 ∷ 0x85 ∷ []) (0x32 ∷ 0x85 ∷ []) ≡ false)
+
+-- a memory whose dictionary is at 64, with its static base
+abbrev pub dictionary_from : ℕ → ℕ → List ℕ → MemoryMap
+dictionary_from version base bytes = static_from base (memory_of version (replicate 64 0 ++ bytes))
+
+-- what is read there, of entries of a length
+abbrev pub at_64 : ℕ → ℕ → Bool → Bool → Dictionary
+at_64 entry_length entries is_sorted allows_halves = record {
+  address = 64;
+  separators = 0;
+  entry_length = entry_length;
+  entries = entries;
+  is_sorted = is_sorted;
+  allows_halves = allows_halves;
+}
+
+-- two entries with one key, and one with a greater one
+abbrev pub two_and_one : List ℕ
+two_and_one = 0 ∷ 4 ∷ 0 ∷ 3 ∷ 0x64 ∷ 0xd0 ∷ 0xa8 ∷ 0xa5 ∷ 0x64 ∷ 0xd0 ∷ 0xa8 ∷ 0xa5 ∷ 0x65 ∷ 0xaa ∷ 0x80 ∷ 0xa5 ∷ []
+
+-- the same keys, the greatest first, with the bytes of the count
+abbrev pub one_and_two : ℕ → ℕ → List ℕ
+one_and_two high low = 0 ∷ 4 ∷ high ∷ low ∷ 0x65 ∷ 0xaa ∷ 0x80 ∷ 0xa5 ∷ 0x64 ∷ 0xd0 ∷ 0xa8 ∷ 0xa5 ∷ 0x64 ∷ 0xd0 ∷ 0xa8 ∷ 0xa5 ∷ []
+
+-- halves are allowed where nothing of the table can be written, its count is not negative and no key is above the one
+-- after it; what is behind the keys does not count, which are 4 bytes up to version 3 and 6 from version 4 on (sections
+-- 13.2 to 13.5)
+abbrev pub HalvesAreAllowed : Type 0
+HalvesAreAllowed =
+    (dictionary_at (dictionary_from 3 64 two_and_one) 64 ≡ Ok (at_64 4 3 true true))
+    × (dictionary_at (dictionary_from 3 65 two_and_one) 64 ≡ Ok (at_64 4 3 true false))
+    × (dictionary_at (dictionary_from 3 64 (one_and_two 0 3)) 64 ≡ Ok (at_64 4 3 true false))
+    × (dictionary_at (dictionary_from 3 64 (one_and_two 0xff 0xfd)) 64 ≡ Ok (at_64 4 3 false false))
+    × (dictionary_at (dictionary_from 3 64 (0 ∷ 4 ∷ 0xff ∷ 0xff ∷ 1 ∷ 2 ∷ 3 ∷ 4 ∷ [])) 64 ≡ Ok (at_64 4 1 false false))
+    × (dictionary_at (dictionary_from 3 64 (0 ∷ 4 ∷ 0 ∷ 0 ∷ [])) 64 ≡ Ok (at_64 4 0 true true))
+    × (dictionary_at (dictionary_from 3 64 (0 ∷ 6 ∷ 0 ∷ 2 ∷ 1 ∷ 2 ∷ 3 ∷ 4 ∷ 5 ∷ 6 ∷ 1 ∷ 2 ∷ 3 ∷ 4 ∷ 5 ∷ 5 ∷ [])) 64 ≡ Ok (at_64 6 2 true true))
+    × (dictionary_at (dictionary_from 4 64 (0 ∷ 6 ∷ 0 ∷ 2 ∷ 1 ∷ 2 ∷ 3 ∷ 4 ∷ 5 ∷ 6 ∷ 1 ∷ 2 ∷ 3 ∷ 4 ∷ 5 ∷ 5 ∷ [])) 64 ≡ Ok (at_64 6 2 true false))
+
+-- by halves the first of two entries with one key is found, at 0x44, and the third, at 0x4c; another key is not there.
+-- Of three entries that in the middle is compared, then one of the others, and then that which the search came to
+-- (section 13.5)
+abbrev pub FirstEntriesAreFoundByHalves : Type 0
+FirstEntriesAreFoundByHalves =
+    (found_by_halves (dictionary_from 3 64 two_and_one) (at_64 4 3 true true) (0x64 ∷ 0xd0 ∷ 0xa8 ∷ 0xa5 ∷ []) ≡ 0x44)
+    × (found_by_halves (dictionary_from 3 64 two_and_one) (at_64 4 3 true true) (0x65 ∷ 0xaa ∷ 0x80 ∷ 0xa5 ∷ []) ≡ 0x4c)
+    × (found_by_halves (dictionary_from 3 64 two_and_one) (at_64 4 3 true true) (0x64 ∷ 0xd0 ∷ 0xa8 ∷ 0xa6 ∷ []) ≡ 0)
+    × (found_in (dictionary_from 3 64 two_and_one) (at_64 4 3 true true) (0x64 ∷ 0xd0 ∷ 0xa8 ∷ 0xa5 ∷ []) ≡ 0x44)
+    × (found_in (dictionary_from 3 64 two_and_one) (at_64 4 3 true true) (0x65 ∷ 0xaa ∷ 0x80 ∷ 0xa5 ∷ []) ≡ 0x4c)
+    × (found_in (dictionary_from 3 64 two_and_one) (at_64 4 3 true true) (0x64 ∷ 0xd0 ∷ 0xa8 ∷ 0xa6 ∷ []) ≡ 0)
+    × (found_in (dictionary_from 3 64 (one_and_two 0 3)) (at_64 4 3 true false) (0x64 ∷ 0xd0 ∷ 0xa8 ∷ 0xa5 ∷ []) ≡ 0x48)
+    × (found_in (dictionary_from 3 64 (one_and_two 0xff 0xfd)) (at_64 4 3 false false) (0x64 ∷ 0xd0 ∷ 0xa8 ∷ 0xa5 ∷ []) ≡ 0x48)
+
+-- how many keys are compared: behind the last entry there is none to come to
+abbrev pub ComparisonsAreCounted : Type 0
+ComparisonsAreCounted =
+    (compared_by_halves (dictionary_from 3 64 two_and_one) (at_64 4 3 true true) (0x64 ∷ 0xd0 ∷ 0xa8 ∷ 0xa5 ∷ []) ≡ 3)
+    × (compared_by_halves (dictionary_from 3 64 two_and_one) (at_64 4 3 true true) (0x64 ∷ 0xd0 ∷ 0xa8 ∷ 0xa6 ∷ []) ≡ 3)
+    × (compared_by_halves (dictionary_from 3 64 two_and_one) (at_64 4 3 true true) (0x66 ∷ 0 ∷ 0 ∷ 0 ∷ []) ≡ 2)
+    × (compared_by_halves (dictionary_from 3 64 (0 ∷ 4 ∷ 0 ∷ 0 ∷ [])) (at_64 4 0 true true) (0x66 ∷ 0 ∷ 0 ∷ 0 ∷ []) ≡ 0)
 
 -- ---- words (sections 13.6 and 15)
 

@@ -7,6 +7,7 @@ pub mod Attributes
 pub mod PropertyList
 pub mod Properties
 pub mod Dictionaries
+pub mod Halves
 pub mod Tokens
 pub mod Parsing
 pub mod Examples

@@ -1,8 +1,9 @@
 // Dictionaries.
 
-ghost use Rattle.std.specs.Prelude.{◌≡◌, ◌≤◌, ◌<◌, ◌+◌, ◌*◌, IfOk, length, drop};
+ghost use Rattle.std.specs.Prelude.{◌≡◌, ◌≤◌, ◌<◌, ◌+◌, ◌*◌, IfOk, true, length, drop, get_or};
 ghost use Rattle.zk_mem.specs.Map.{readable_end};
-ghost use Rattle.zk_tables.specs.Dictionaries.{key_length, magnitude, dictionary_byte, dictionary_word, dictionary_by, dictionary_at, IsDictionaryOf, begins_with, entry_start, has_key, found_from, found_in};
+ghost use Rattle.zk_tables.specs.Dictionaries.{key_length, magnitude, dictionary_byte, dictionary_word, dictionary_by, dictionary_at, IsDictionaryOf, begins_with, is_above, do_not_fall, bytes_from, keys_from, entry_start, has_key, found_from, found_in};
+ghost use Rattle.zk_tables.specs.Halves.{Place, entry_key, halved_whole, compared_by_halves};
 
 use zk_mem::fault::Fault;
 use zk_mem::memory::Memory;
@@ -21,6 +22,9 @@ pub struct Dictionary {
     pub entries: u16,
     /// Whether the story says that its entries are sorted by their keys.
     pub is_sorted: bool,
+    /// Whether it can be searched by halves: it lies whole at or above the static base, where nothing is
+    /// written, the story says that it is sorted, and no key is above the one after it.
+    pub allows_halves: bool,
 }
 
 #[tactic(auto, unfolding(crate::specs::Dictionaries::dictionary_byte))]
@@ -64,6 +68,49 @@ fn key_bytes(memory: &Memory) -> u8
     if memory.version() < 4 { 4 } else { 6 }
 }
 
+/// The byte at an address, or 0 past the story's end.
+#[tactic(auto, unfolding(zk_mem::specs::Map::cell_at), using(zk_text::proofs::Lists::read_or))]
+fn byte_or_zero(memory: &Memory, address: u32) -> u8
+    ensures { result ≡ get_or memory.now.bytes address 0 }
+{
+    memory.cell(address).unwrap_or(0)
+}
+
+/// Whether the key at an address is above the one at another: where they first differ, its byte is greater.
+#[tactic(auto, using(crate::proofs::Ordering::keys_on, crate::proofs::Ordering::keys_differ, crate::proofs::Ordering::keys_end))]
+fn key_falls(memory: &Memory, first: u32, second: u32) -> bool
+    requires first { first < 4294967000 }
+    requires second { second < 4294967000 }
+    ensures { result ≡ is_above (bytes_from memory.now first (key_length memory.now.version)) (bytes_from memory.now second (key_length memory.now.version)) }
+{
+    let length = key_bytes(memory) as u32;
+    for i in 0..length {
+        let byte = byte_or_zero(memory, first + i);
+        let other = byte_or_zero(memory, second + i);
+        if byte != other {
+            return other < byte;
+        }
+    }
+    false
+}
+
+/// Whether no key of so many entries of a length, from an address on, is above the one after it.
+#[tactic(auto, using(crate::proofs::Ordering::falls_here, crate::proofs::Ordering::falls_on, crate::proofs::Ordering::falls_end))]
+fn keys_do_not_fall(memory: &Memory, first: u32, entry_length: u8, entries: u16) -> bool
+    requires { first < 70000 }
+    ensures { result ≡ do_not_fall (keys_from memory.now first entry_length entries) }
+{
+    let mut address = first;
+    for index in 1..entries {
+        let next = address + entry_length as u32;
+        if key_falls(memory, address, next) {
+            return false;
+        }
+        address = next;
+    }
+    true
+}
+
 #[tactic(auto, unfolding(crate::specs::Dictionaries::dictionary_by))]
 fn dictionary_with(
     memory: &Memory,
@@ -76,16 +123,21 @@ fn dictionary_with(
     ensures { result ≡ dictionary_by memory.now address separators entry_length count }
 {
     let entries = entries_of(count);
-    let end = address + separators as u32 + 4 + entry_length as u32 * entries as u32;
+    let first = address + separators as u32 + 4;
+    let end = first + entry_length as u32 * entries as u32;
     if entry_length < key_bytes(memory) || memory.data_end() < end {
         return Err(Fault::BadDictionary);
     }
+    let is_sorted = count < 0x8000;
     Ok(Dictionary {
         address,
         separators,
         entry_length,
         entries,
-        is_sorted: count < 0x8000,
+        is_sorted,
+        allows_halves: memory.dynamic().len() <= address as usize
+            && is_sorted
+            && keys_do_not_fall(memory, first, entry_length, entries),
     })
 }
 
@@ -151,10 +203,76 @@ impl Dictionary {
         self.address + self.separators as u32 + 4 + self.entry_length as u32 * index as u32
     }
 
-    /// The address of the first entry whose first bytes are a key, or 0 where there is none (Standard,
-    /// section 13.5).
+    /// Whether the key of an entry, counted from 0, is below another.
+    #[tactic(auto, using(crate::proofs::Ordering::below_on, crate::proofs::Ordering::below_differs, crate::proofs::Ordering::below_end))]
+    fn entry_is_below(&self, memory: &Memory, key: &[u8], index: u16) -> bool
+        requires stands { IsDictionaryOf memory.now self.now }
+        requires key { length key.now ≡ key_length memory.now.version }
+        requires index { index < self.now.entries }
+        ensures { result ≡ is_above key.now (entry_key memory.now self.now index) }
+    {
+        let start = self.start_of(memory, index);
+        for i in 0..key.len() {
+            let byte = byte_or_zero(memory, start + i as u32);
+            if key[i] != byte {
+                return byte < key[i];
+            }
+        }
+        false
+    }
+
+    /// The first entry, counted from 0, whose key is not below another, or the number of entries where there
+    /// is none; and how many keys were compared with it, each by halves.
+    #[tactic(auto, unfolding(crate::specs::Halves::halved_whole), using(crate::proofs::Halving::halved_out, crate::proofs::Halving::halved_up, crate::proofs::Halving::halved_down, crate::proofs::Halving::halved_end))]
+    fn first_not_below(&self, memory: &Memory, key: &[u8]) -> (u16, u32)
+        requires stands { IsDictionaryOf memory.now self.now }
+        requires key { length key.now ≡ key_length memory.now.version }
+        ensures entry { result.0 ≡ (halved_whole memory.now self.now key.now).entry }
+        ensures compared { result.1 ≡ (halved_whole memory.now self.now key.now).compared }
+        ensures few { result.1 ≤ 15 }
+    {
+        let mut first = 0;
+        let mut left = self.entries;
+        for compared in 0..15 {
+            if left == 0 {
+                return (first, compared);
+            }
+            let half = left / 2;
+            if self.entry_is_below(memory, key, first + half) {
+                first += half + 1;
+                left -= half + 1;
+            } else {
+                left = half;
+            }
+        }
+        (first, 15)
+    }
+
+    /// The address of the first entry whose first bytes are a key, or 0 where there is none, and how many
+    /// keys were compared: at most 16. The entry is found by halves (Standard, section 13.5).
+    #[tactic(auto, unfolding(crate::specs::Halves::compared_by_halves), using(crate::proofs::Halving::first_past, crate::proofs::Halving::first_other, crate::proofs::Halving::first_here))]
+    pub fn halves(&self, memory: &Memory, key: &[u8]) -> (u16, u32)
+        requires stands { IsDictionaryOf memory.now self.now }
+        requires key { length key.now ≡ key_length memory.now.version }
+        requires ordered { self.now.allows_halves ≡ true }
+        ensures address { result.0 ≡ found_in memory.now self.now key.now }
+        ensures compared { result.1 ≡ compared_by_halves memory.now self.now key.now }
+        ensures bound { result.1 ≤ 16 }
+    {
+        let (index, compared) = self.first_not_below(memory, key);
+        if index >= self.entries {
+            return (0, compared);
+        }
+        if !self.entry_begins_with(memory, key, index) {
+            return (0, compared + 1);
+        }
+        (self.start_of(memory, index) as u16, compared + 1)
+    }
+
+    /// The address of the first entry whose first bytes are a key, or 0 where there is none: one entry after
+    /// the other (Standard, section 13.5).
     #[tactic(auto, unfolding(crate::specs::Dictionaries::found_in), using(crate::proofs::Finding::found_on, crate::proofs::Finding::found_here, crate::proofs::Finding::found_none))]
-    pub fn find(&self, memory: &Memory, key: &[u8]) -> u16
+    fn walk(&self, memory: &Memory, key: &[u8]) -> u16
         requires stands { IsDictionaryOf memory.now self.now }
         requires key { length key.now ≡ key_length memory.now.version }
         ensures { result ≡ found_in memory.now self.now key.now }
@@ -165,5 +283,19 @@ impl Dictionary {
             }
         }
         0
+    }
+
+    /// The address of the first entry whose first bytes are a key, or 0 where there is none (Standard,
+    /// section 13.5). It is found by halves where the dictionary allows it.
+    pub fn find(&self, memory: &Memory, key: &[u8]) -> u16
+        requires stands { IsDictionaryOf memory.now self.now }
+        requires key { length key.now ≡ key_length memory.now.version }
+        ensures { result ≡ found_in memory.now self.now key.now }
+    {
+        if self.allows_halves {
+            let (address, _) = self.halves(memory, key);
+            return address;
+        }
+        self.walk(memory, key)
     }
 }

@@ -1,6 +1,6 @@
 // Worked examples of the definitions, which refuse one that is turned together with its body.
 
-ghost use Rattle.zk_tables.specs.Examples.{DictionariesAreRead, DictionariesAreRefused, FirstEntriesAreFound, WordsOfATextAreDivided, LettersByVersion, WordsAreStored, PositionsByVersion, EarlyEntriesHaveNineBytes, LateEntriesHaveFourteenBytes, EarlyObjectsAreBytes, EarlyAttributesFromTheTopBit, AttributesByVersion, AttributesAreGivenAndTaken, ObjectZeroHasNoAttributes, EarlyLinksAreBytes, LateLinksAreWords, ObjectZeroHasNoLinks, ChildrenFollowSiblings, RemovesOneChild, InsertsAsFirstChild, ObjectZeroStaysOut, DefaultsCountFromOne, ValuesOfProperties, AddressesOfProperties, NumbersFollow, LengthsBeforeTheData, ValuesArePut, NamesBehindTheirCount, StaticObjectsStay};
+ghost use Rattle.zk_tables.specs.Examples.{DictionariesAreRead, DictionariesAreRefused, FirstEntriesAreFound, KeysAreCompared, HalvesAreAllowed, FirstEntriesAreFoundByHalves, ComparisonsAreCounted, WordsOfATextAreDivided, LettersByVersion, WordsAreStored, PositionsByVersion, EarlyEntriesHaveNineBytes, LateEntriesHaveFourteenBytes, EarlyObjectsAreBytes, EarlyAttributesFromTheTopBit, AttributesByVersion, AttributesAreGivenAndTaken, ObjectZeroHasNoAttributes, EarlyLinksAreBytes, LateLinksAreWords, ObjectZeroHasNoLinks, ChildrenFollowSiblings, RemovesOneChild, InsertsAsFirstChild, ObjectZeroStaysOut, DefaultsCountFromOne, ValuesOfProperties, AddressesOfProperties, NumbersFollow, LengthsBeforeTheData, ValuesArePut, NamesBehindTheirCount, StaticObjectsStay};
 
 /// The entries of objects, by version (Standard, sections 12.2 and 12.3).
 #[tactic(auto, unfolding(crate::specs::Layout::layout_of, crate::specs::Layout::is_entry_in, crate::specs::Layout::is_entry, crate::specs::Layout::entry_of, crate::specs::Layout::entries_in, crate::specs::Layout::entries, zk_mem::specs::Header::header_of, zk_mem::specs::Header::unit_length, zk_mem::specs::Map::byte_at, zk_mem::specs::Map::word_at, zk_mem::specs::Map::byte_put, zk_mem::specs::Map::word_put, zk_mem::specs::Map::cell_at, zk_mem::specs::Map::code_word_at))]
@@ -54,6 +54,15 @@ pub fn dictionaries_by_example()
     ensures dictionaries_are_read { DictionariesAreRead }
     ensures dictionaries_are_refused { DictionariesAreRefused }
     ensures first_entries_are_found { FirstEntriesAreFound }
+{}
+
+/// Search by halves (Standard, section 13.5).
+#[tactic(auto, unfolding(crate::specs::Dictionaries::dictionary_byte, crate::specs::Dictionaries::dictionary_word, crate::specs::Dictionaries::dictionary_by, crate::specs::Dictionaries::dictionary_at, crate::specs::Dictionaries::bytes_from, crate::specs::Dictionaries::separators_of, crate::specs::Dictionaries::begins_with, crate::specs::Dictionaries::has_key, crate::specs::Dictionaries::found_from, crate::specs::Dictionaries::found_in, crate::specs::Dictionaries::is_above, crate::specs::Dictionaries::do_not_fall, crate::specs::Dictionaries::keys_from, crate::specs::Halves::halved, crate::specs::Halves::halved_whole, crate::specs::Halves::found_by_halves, crate::specs::Halves::compared_by_halves, zk_mem::specs::Map::byte_at, zk_mem::specs::Map::word_at))]
+pub fn halves_by_example()
+    ensures keys_are_compared { KeysAreCompared }
+    ensures halves_are_allowed { HalvesAreAllowed }
+    ensures first_entries_are_found_by_halves { FirstEntriesAreFoundByHalves }
+    ensures comparisons_are_counted { ComparisonsAreCounted }
 {}
 
 /// The words of a text, and a parse buffer (Standard, sections 13.6 and 15).

@@ -7,6 +7,7 @@ ghost use Rattle.zk_tables.specs.Tree.{ChainsDecide};
 ghost use Rattle.zk_tables.specs.TreeLaws.{RemovalsTakeOut, RemovalsAreMade, InsertionsPutFirst, InsertionsAreMade};
 ghost use Rattle.zk_tables.specs.PropertyList.{ListsAreRead, AtMostOneList};
 ghost use Rattle.zk_tables.specs.Dictionaries.{DictionariesAreTables, LookUpsAreFirst};
+ghost use Rattle.zk_tables.specs.Halves.{KeysAreInOrder, HalvesFindTheFirst};
 ghost use Rattle.zk_tables.specs.Tokens.{TokensAreWords, TokensAreDetermined};
 
 /// A link that was written names the object, and all other links name what they named.
@@ -82,4 +83,16 @@ pub fn dictionaries_are_tables()
 /// A look-up finds the first entry of all that begins with the key, and 0 where none does.
 pub fn look_ups_are_first()
     ensures { LookUpsAreFirst }
+{}
+
+/// Keys of one length do not fall from one to the next just where none is above a later one: behind a front
+/// that both have, its byte is nowhere the greater.
+pub fn keys_are_in_order()
+    ensures { KeysAreInOrder }
+{}
+
+/// In a dictionary that allows it a search by halves finds the first entry of all that begins with the key,
+/// and 0 where none does, and compares at most 16 keys.
+pub fn halves_find_the_first()
+    ensures { HalvesFindTheFirst }
 {}

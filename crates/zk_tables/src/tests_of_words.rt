@@ -73,6 +73,9 @@ const THREE: &str = "00 04 00 03 64 D0 A8 A5 64 D0 A8 A5 65 AA 80 A5";
 /// The same with the first and the third exchanged, and a negative count.
 const EXCHANGED: &str = "00 04 FF FD 65 AA 80 A5 64 D0 A8 A5 64 D0 A8 A5";
 
+/// The same with a positive count.
+const FALLING: &str = "00 04 00 03 65 AA 80 A5 64 D0 A8 A5 64 D0 A8 A5";
+
 /// A separator, the comma, and no entries.
 const COMMA: &str = "01 2C 07 00 00";
 
@@ -95,6 +98,81 @@ fn finds_the_first_entry(rt: HostRuntime) -> Result<(), Fail> {
     assert_eq!(rt; found(rt.alloc(), THREE, "take@")?, 0);
     assert_eq!(rt; found(rt.alloc(), EXCHANGED, "take")?, 0x48);
     assert_eq!(rt; found(rt.alloc(), EXCHANGED, "the ")?, 0x44);
+    assert_eq!(rt; found(rt.alloc(), FALLING, "take")?, 0x48);
+    assert_eq!(rt; found(rt.alloc(), FALLING, "the ")?, 0x44);
+    Ok(())
+}
+
+/// What a search by halves gives for a word in a dictionary that allows it.
+fn halves(alloc: Global, dictionary: &str, word: &str) -> Result<Option<(u16, u32)>, Fail> {
+    let memory = story(alloc, 3, 0x40, (dictionary, "", ""))?;
+    let dictionary = Dictionary::at(&memory, 0x40)?;
+    if !dictionary.allows_halves {
+        return Ok(None);
+    }
+    let spelled = key(&memory, word.as_bytes());
+    Ok(Some(dictionary.halves(&memory, spelled.as_slice())))
+}
+
+#[test]
+fn finds_the_first_entry_by_halves(rt: HostRuntime) -> Result<(), Fail> {
+    assert_eq!(rt; halves(rt.alloc(), THREE, "take")?, Some((0x44, 3)));
+    assert_eq!(rt; halves(rt.alloc(), THREE, "the ")?, Some((0x4c, 3)));
+    assert_eq!(rt; halves(rt.alloc(), THREE, "take@")?, Some((0, 3)));
+    assert_eq!(rt; halves(rt.alloc(), THREE, "zoo")?, Some((0, 2)));
+    assert_eq!(rt; halves(rt.alloc(), EXCHANGED, "take")?, None);
+    assert_eq!(rt; halves(rt.alloc(), FALLING, "take")?, None);
+    assert_eq!(rt; halves(rt.alloc(), "00 04 00 00", "take")?, Some((0, 0)));
+    Ok(())
+}
+
+/// A byte of a story of version 3 that is all data: its dictionary, at 0040, has as many entries as there is
+/// room for, 16,367, and the first two bytes of one are 2 and 4 for each entry before it.
+fn byte_of_the_greatest(address: u32) -> u8 {
+    if address >= 0x44 {
+        let key = address / 4 * 4 - 0x42;
+        return match address % 4 {
+            0 => (key / 256 % 256) as u8,
+            1 => (key % 256) as u8,
+            _ => 0,
+        };
+    }
+    match address {
+        0x00 => 3,
+        0x07 | 0x0f => 0x40,
+        0x41 => 4,
+        0x42 => 0x3f,
+        0x43 => 0xef,
+        _ => 0,
+    }
+}
+
+/// What a search by halves, and a look-up, give in the greatest dictionary.
+fn halves_of_the_greatest(alloc: Global, key: [u8; 4]) -> Result<Option<(u16, u32, u16)>, Fail> {
+    let mut bytes = Vec::new(alloc);
+    for address in 0..0x10000u32 {
+        bytes.push(byte_of_the_greatest(address))?;
+    }
+    let story = Story::open(alloc, bytes.as_slice())?;
+    let memory = Memory::start(alloc, story, Setup { undo_states: 0 })?;
+    let dictionary = Dictionary::at(&memory, 0x40)?;
+    if !dictionary.allows_halves || dictionary.entries != 16_367 || memory.version() >= 4 {
+        return Ok(None);
+    }
+    let (address, compared) = dictionary.halves(&memory, &key);
+    Ok(Some((address, compared, dictionary.find(&memory, &key))))
+}
+
+#[test]
+fn sixteen_comparisons_are_enough(rt: HostRuntime) -> Result<(), Fail> {
+    let alloc = rt.alloc();
+    let greatest = |high: u8, low: u8| halves_of_the_greatest(alloc, [high, low, 0, 0]);
+    // the first, the last, and what is before, between and behind them
+    assert_eq!(rt; greatest(0x00, 0x02)?, Some((0x44, 15, 0x44)));
+    assert_eq!(rt; greatest(0xff, 0xba)?, Some((0xfffc, 15, 0xfffc)));
+    assert_eq!(rt; greatest(0x00, 0x01)?, Some((0, 15, 0)));
+    assert_eq!(rt; greatest(0x7f, 0xff)?, Some((0, 15, 0)));
+    assert_eq!(rt; greatest(0xff, 0xbb)?, Some((0, 13, 0)));
     Ok(())
 }
 
@@ -116,9 +194,11 @@ fn reads_dictionaries(rt: HostRuntime) -> Result<(), Fail> {
         entry_length: 4,
         entries: 3,
         is_sorted: true,
+        allows_halves: true,
     };
     let exchanged = Dictionary {
         is_sorted: false,
+        allows_halves: false,
         ..three
     };
     assert_eq!(rt; dictionary_at(rt.alloc(), 3, THREE, 0x40)?, Ok(three));
@@ -126,6 +206,42 @@ fn reads_dictionaries(rt: HostRuntime) -> Result<(), Fail> {
         dictionary_at(rt.alloc(), 3, EXCHANGED, 0x40)?,
         Ok(exchanged)
     );
+    Ok(())
+}
+
+/// Whether a dictionary at the address 0040 can be searched by halves.
+fn allows_halves(
+    alloc: Global,
+    version: u8,
+    static_base: u8,
+    dictionary: &str,
+) -> Result<bool, Fail> {
+    let memory = story(alloc, version, static_base, (dictionary, "", ""))?;
+    Ok(Dictionary::at(&memory, 0x40)?.allows_halves)
+}
+
+#[test]
+fn allows_halves_in_order(rt: HostRuntime) -> Result<(), Fail> {
+    let alloc = rt.alloc();
+    let unsigned = "00 04 00 02 7F 00 00 00 80 00 00 00";
+    let behind_the_keys = "00 06 00 02 01 02 03 04 05 06 01 02 03 04 05 05";
+    assert!(rt; allows_halves(alloc, 3, 0x40, THREE)?);
+    assert!(rt; allows_halves(alloc, 3, 0x40, unsigned)?);
+    assert!(rt; allows_halves(alloc, 3, 0x40, behind_the_keys)?);
+    assert!(rt; allows_halves(alloc, 3, 0x40, "00 04 00 00")?);
+    Ok(())
+}
+
+#[test]
+fn allows_no_halves_elsewhere(rt: HostRuntime) -> Result<(), Fail> {
+    let alloc = rt.alloc();
+    let one_of_minus_one = "00 04 FF FF 01 02 03 04";
+    let last_byte = "00 04 00 02 01 02 03 05 01 02 03 04";
+    let last_byte_of_six = "00 06 00 02 01 02 03 04 05 06 01 02 03 04 05 05";
+    assert!(rt; !allows_halves(alloc, 3, 0x41, THREE)?);
+    assert!(rt; !allows_halves(alloc, 3, 0x40, one_of_minus_one)?);
+    assert!(rt; !allows_halves(alloc, 3, 0x40, last_byte)?);
+    assert!(rt; !allows_halves(alloc, 5, 0x40, last_byte_of_six)?);
     Ok(())
 }
 
