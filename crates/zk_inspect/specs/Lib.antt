@@ -1,0 +1,10 @@
+pub mod Lists
+pub mod Codes
+pub mod Search
+pub mod Numbers
+pub mod Listing
+pub mod Written
+pub mod Objects
+pub mod Texts
+pub mod Keys
+pub mod Findings

@@ -1,0 +1,9 @@
+-- What was written of a text.
+use Rattle.std.specs.Prelude.{ℕ, Bool, true, false, List, Option}
+use Rattle.std.specs.Io.KnownBytes.{Appends}
+use Rattle.zk_term.specs.Devices.{TookPart}
+
+-- by whether a write has failed: all of it, or a first part
+abbrev pub Wrote : Bool → Option (List ℕ) → Option (List ℕ) → List ℕ → Type 0
+Wrote false old new text = Appends old new text
+Wrote true old new text = TookPart old new text

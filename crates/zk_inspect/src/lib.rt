@@ -1,0 +1,7 @@
+// Lists, disassembles and checks stories, without running them.
+#![tactic(auto)]
+
+pub mod code;
+pub mod finding;
+mod marks;
+pub mod reach;
