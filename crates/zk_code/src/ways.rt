@@ -27,7 +27,8 @@ fn saving_goes_on(operation: Saving) -> bool
     !matches!(operation, Saving::Restart)
 }
 
-fn is_jump(opcode: Opcode) -> bool
+/// Whether an opcode is `jump`.
+pub fn is_jump(opcode: Opcode) -> bool
     ensures { result ≡ is_jump opcode }
 {
     matches!(opcode, Opcode::Control(Control::Jump))

@@ -1,3 +1,4 @@
 pub mod Marking
 pub mod Inside
 pub mod Searching
+pub mod Outputs

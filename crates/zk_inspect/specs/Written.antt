@@ -1,5 +1,5 @@
 -- What was written of a text.
-use Rattle.std.specs.Prelude.{ℕ, Bool, true, false, List, Option}
+use Rattle.std.specs.Prelude.{◌≡◌, ℕ, Bool, true, false, ◌||◌, List, Option}
 use Rattle.std.specs.Io.KnownBytes.{Appends}
 use Rattle.zk_term.specs.Devices.{TookPart}
 
@@ -7,3 +7,8 @@ use Rattle.zk_term.specs.Devices.{TookPart}
 abbrev pub Wrote : Bool → Option (List ℕ) → Option (List ℕ) → List ℕ → Type 0
 Wrote false old new text = Appends old new text
 Wrote true old new text = TookPart old new text
+
+-- a target was given a text, and took all of it, or a first part where a write has failed now
+pub record Gave {S : Type 0} (taken : S → Option (List ℕ)) (has_failed : S → Bool) (failed : Bool) (old new : S) (text : List ℕ) : Type 0 where
+  pub written : Wrote failed (taken old) (taken new) text
+  pub failed_by : has_failed new ≡ (failed || has_failed old)

@@ -4,4 +4,6 @@
 pub mod code;
 pub mod finding;
 mod marks;
+mod operands;
 pub mod reach;
+mod writing;
