@@ -1,6 +1,6 @@
 // The headers of routines.
 
-ghost use Rattle.std.specs.Prelude.{◌≡◌, ◌≤◌, ◌<◌, ◌^◌, IfSome};
+ghost use Rattle.std.specs.Prelude.{◌≡◌, ◌≤◌, ◌<◌, ◌^◌, IfSome, OnSome};
 ghost use Rattle.zk_code.specs.Routines.{code_start, count_at, values_length};
 
 use zk_mem::memory::Memory;
@@ -21,9 +21,9 @@ fn length_of_values(memory: &Memory, count: u8) -> u32
 /// or where it or one of the initial values lies outside the story (Standard, section 5.2).
 #[tactic(auto, unfolding(crate::specs::Routines::count_at))]
 pub fn local_count(memory: &Memory, address: u32) -> Option<u8>
-    requires { address < 2 ^ 20 }
     ensures value { result ≡ count_at memory.now address }
     ensures few { IfSome result (λ n. n ≤ 15) }
+    ensures within { OnSome result (address < 524288) }
 {
     let count = memory.cell(address)?;
     if count > 15 || address + 1 + length_of_values(memory, count) > memory.len() {
@@ -37,7 +37,6 @@ pub fn local_count(memory: &Memory, address: u32) -> Option<u8>
 /// 5.3). It may be the story's end.
 #[tactic(auto, unfolding(crate::specs::Routines::code_start))]
 pub fn code_start(memory: &Memory, address: u32) -> Option<u32>
-    requires { address < 2 ^ 20 }
     ensures value { result ≡ code_start memory.now address }
     ensures near { IfSome result (λ a. a < 2 ^ 21) }
 {

@@ -2,3 +2,4 @@ pub mod Marking
 pub mod Inside
 pub mod Searching
 pub mod Outputs
+pub mod Quotes

@@ -1,8 +1,9 @@
 -- Texts that are written one after another.
 use Rattle.std.specs.List.{concat, flat_map}
-use Rattle.std.proofs.Common.{◌≤◌, ◌-◌, take, Bor, arith, length, get_or, drop, map, ◌≡◌, ◌∙◌, ℕ, List, [], ◌∷◌, ◌++◌, Option, Bool, true, false, ◌||◌, append_assoc, sym, refl, ap, subst}
+use Rattle.std.proofs.Common.{◌≤◌, ◌<◌, ◌+◌, ◌-◌, add-one, drop-cons, take, Bor, arith, length, get_or, drop, map, ◌≡◌, ◌∙◌, ℕ, List, [], ◌∷◌, ◌++◌, Option, Bool, true, false, ◌||◌, append_assoc, sym, refl, ap, subst}
 use Rattle.std.proofs.lemmas.List.{append-nil}
-use Rattle.std.proofs.lemmas.List.{take_rest}
+use Rattle.std.proofs.lemmas.List.{take_rest, take-append-drop}
+use Rattle.std.proofs.lemmas.Grind.{flat_map-append}
 use Rattle.std.proofs.KnownBytes.{Appends-nil, Appends-trans}
 use Rattle.std.specs.Io.KnownBytes.{Appends}
 use Rattle.zk_term.specs.Devices.{TookPart}
@@ -12,39 +13,7 @@ use Rattle.zk_mem.specs.Map.{MemoryMap}
 use Rattle.zk_code.specs.declared.instr.Instr.{Instr}
 use Rattle.zk_code.specs.declared.operands.Operand.{Operand}
 use Rattle.zk_inspect.specs.Listing.{first_text, further_text, operands_text}
-use Rattle.zk_inspect.specs.Written.{Wrote, Gave}
-
-wrote_then : (e : Bool) (a b c : Option (List ℕ)) (s t : List ℕ) → Appends a b s → Wrote e b c t → Wrote e a c (s ++ t)
-wrote_then false a b c s t h k = Appends-trans a b c s t h k
-wrote_then true a b c s t h k = record {
-  part = s ++ k.part;
-  rest = k.rest;
-  whole = ap (λ (l : List ℕ). s ++ l) k.whole ∙ sym (append_assoc s k.part k.rest);
-  takes = Appends-trans a b c s k.part h k.takes;
-}
-
--- a text behind another
-pub gave_then : {S : Type 0} (taken : S → Option (List ℕ)) (has_failed : S → Bool) (e : Bool) (a b c : S) (s t : List ℕ) → Gave taken has_failed false a b s → Gave taken has_failed e b c t → Gave taken has_failed e a c (s ++ t)
-gave_then {S} taken has_failed e a b c s t h k = record {
-  written = wrote_then e (taken a) (taken b) (taken c) s t h.written k.written;
-  failed_by = k.failed_by ∙ ap (λ (x : Bool). e || x) h.failed_by;
-}
-
--- a first part of a text is one of more
-pub gave_part : {S : Type 0} (taken : S → Option (List ℕ)) (has_failed : S → Bool) (a b : S) (s t : List ℕ) → Gave taken has_failed true a b s → Gave taken has_failed true a b (s ++ t)
-gave_part {S} taken has_failed a b s t h = record {
-  written = record {
-    part = h.written.part;
-    rest = h.written.rest ++ t;
-    whole = ap (λ (l : List ℕ). l ++ t) h.written.whole ∙ append_assoc h.written.part h.written.rest t;
-    takes = h.written.takes;
-  };
-  failed_by = h.failed_by;
-}
-
--- nothing was to be written
-pub gave_nothing : {S : Type 0} (taken : S → Option (List ℕ)) (has_failed : S → Bool) (a : S) → Gave taken has_failed false a a []
-gave_nothing {S} taken has_failed a = record { written = Appends-nil (taken a); failed_by = refl }
+use Rattle.zk_inspect.specs.Written.{Gave, gave_then, gave_part, gave_nothing}
 
 -- a text whose first part was not all written
 pub gave_err : {S : Type 0} (taken : S → Option (List ℕ)) (has_failed : S → Bool) (r : Result (Unit {0}) Failed) (a b : S) (s t : List ℕ) → IsErr r → Gave taken has_failed true a b s → Gave taken has_failed (is_err r) a b (s ++ t)
@@ -75,3 +44,14 @@ pub first_operand : (m : MemoryMap) (i : Instr) (os xs : List Operand) (d : Oper
 unfolding operands_text
 first_operand m i [] xs d e le = let n : length xs ≡ 0 = ap length e in absurd (omega arith)
 first_operand m i (o ∷ os) xs d e le = rw e (rw take_rest refl)
+
+-- the same text, said otherwise
+pub gave_as : {S : Type 0} (taken : S → Option (List ℕ)) (has_failed : S → Bool) (e : Bool) (a b : S) (s u : List ℕ) → u ≡ s → Gave taken has_failed e a b s → Gave taken has_failed e a b u
+gave_as {S} taken has_failed e a b s u same h = subst (λ (x : List ℕ). Gave taken has_failed e a b x) (sym same) h
+
+-- all lines, of which the first are written
+pub lines_rest : {X : Type 0} (f : X → List ℕ) (xs : List X) (d : X) (i : ℕ) → i < length xs → flat_map f xs ≡ (flat_map f (take i xs) ++ f (get_or xs i d)) ++ flat_map f (drop (i + 1) xs)
+lines_rest {X} f xs d i lt =
+    let cut : drop i xs ≡ get_or xs i d ∷ drop (i + 1) xs = rw (add-one i) (drop-cons xs i d lt) in
+    let whole : flat_map f xs ≡ flat_map f (take i xs) ++ flat_map f (drop i xs) = ap (flat_map f) (sym (take-append-drop i xs)) ∙ flat_map-append f (take i xs) (drop i xs) in
+    whole ∙ ap (λ (ys : List X). flat_map f (take i xs) ++ flat_map f ys) cut ∙ sym (append_assoc (flat_map f (take i xs)) (f (get_or xs i d)) (flat_map f (drop (i + 1) xs)))

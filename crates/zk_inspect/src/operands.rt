@@ -72,10 +72,7 @@ fn write_destination<T: Target>(
 
 /// Writes a branch, where there is one.
 #[tactic(auto, unfolding(crate::specs::Listing::branch_text))]
-pub(crate) fn write_branch<T: Target>(
-    target: &mut T,
-    branch: Option<Branch>,
-) -> Result<(), Failed>
+pub(crate) fn write_branch<T: Target>(target: &mut T, branch: Option<Branch>) -> Result<(), Failed>
     ensures { Gave T.taken T.failed (is_err result) target.old target.new (branch_text branch) }
 {
     match branch {

@@ -134,7 +134,6 @@ impl Search {
         requires reached { IsReached memory.now address }
         requires stands { IsInstruction memory.now address instr.now instr.now.next }
         requires called { constant_call memory.now instr.now ≡ Some routine }
-        requires near { routine < 2 ^ 20 }
         ensures search { OnOk result (IsSearch memory.now self.new) }
         ensures grows { OnOk result (Grows self.old self.new) }
         ensures found { OnOk result ((c : ℕ) → code_start memory.now routine ≡ Some c → IsMarked self.new.routines routine × IsMarked self.new.marks c) }

@@ -113,3 +113,22 @@ pub(crate) fn write_decimal<T: Target>(
     let mut buffer = Buffer::new();
     write_texts(target, &[before, between, buffer.format(n).as_bytes()])
 }
+
+/// Writes an address and a number between three texts.
+#[tactic(auto, unfolding(crate::specs::Numbers::address_digits))]
+pub(crate) fn write_counted<'a, T: Target>(
+    target: &mut T,
+    before: &'a [u8],
+    address: u32,
+    between: &'a [u8],
+    n: u32,
+    after: &'a [u8],
+) -> Result<(), Failed>
+    ensures { Gave T.taken T.failed (is_err result) target.old target.new (before.now ++ address_digits address ++ between.now ++ decimal n ++ after.now) }
+{
+    let mut buffer = Buffer::new();
+    let digits = hex_digits_of(address);
+    let number = buffer.format(n).as_bytes();
+    let shown = &digits[zeros_before(address)..];
+    write_texts(target, &[before, shown, between, number, after])
+}
