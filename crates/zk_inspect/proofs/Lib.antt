@@ -3,3 +3,4 @@ pub mod Inside
 pub mod Searching
 pub mod Outputs
 pub mod Quotes
+pub mod OneList

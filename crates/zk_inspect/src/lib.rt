@@ -5,8 +5,11 @@ pub mod code;
 pub mod disassembly;
 pub mod error;
 pub mod finding;
+pub mod laws;
 mod marks;
 mod operands;
 mod quoting;
 pub mod reach;
+#[cfg(test)]
+mod tests;
 mod writing;
