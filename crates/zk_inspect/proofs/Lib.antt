@@ -4,3 +4,5 @@ pub mod Searching
 pub mod Outputs
 pub mod Quotes
 pub mod OneList
+pub mod Listed
+pub mod Checks

@@ -54,7 +54,7 @@ pub some_same : (a b : ℕ) → Some a ≡ Some b → a ≡ b
 some_same a b h = cc
 
 -- a greater number behind others
-increasing_push : (xs : List ℕ) (i : ℕ) → IsStrictlyIncreasing xs → ((a : ℕ) → Contains xs a → a < i) → IsStrictlyIncreasing (xs ++ i ∷ [])
+pub increasing_push : (xs : List ℕ) (i : ℕ) → IsStrictlyIncreasing xs → ((a : ℕ) → Contains xs a → a < i) → IsStrictlyIncreasing (xs ++ i ∷ [])
 increasing_push xs i up below k lt =
     let size = length-append xs (i ∷ []) in
     let inside : k < length xs = omega arith in

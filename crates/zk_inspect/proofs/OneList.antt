@@ -30,7 +30,7 @@ above x xs up (suc k) lt =
     omega arith
 
 -- a member is the first, or one behind it
-first_or : (x a : ℕ) (xs : List ℕ) → Contains (x ∷ xs) a → (x ≡ a) ⊎ Contains xs a
+pub first_or : (x a : ℕ) (xs : List ℕ) → Contains (x ∷ xs) a → (x ≡ a) ⊎ Contains xs a
 first_or x a xs (zero, lt, e) = inl e
 first_or x a xs (suc k, lt, e) = inr (k, omega arith, e)
 

@@ -9,3 +9,4 @@ pub mod Objects
 pub mod Texts
 pub mod Keys
 pub mod Findings
+pub mod Tests
