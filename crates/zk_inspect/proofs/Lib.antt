@@ -6,3 +6,4 @@ pub mod Quotes
 pub mod OneList
 pub mod Listed
 pub mod Checks
+pub mod Entries

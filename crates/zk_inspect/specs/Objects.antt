@@ -1,5 +1,5 @@
 -- The objects that are listed, and what may be wrong with them (Standard, sections 12.3 to 12.5).
-use Rattle.std.specs.Prelude.{◌≡◌, ◌≢◌, ◌⊎◌, ℕ, ◌<◌, Result, Ok, Err}
+use Rattle.std.specs.Prelude.{◌≡◌, ◌≢◌, ◌⊎◌, ℕ, ◌<◌, Result, Ok, Err, min}
 use Rattle.zk_mem.specs.declared.fault.Fault.{Fault}
 use Rattle.zk_mem.specs.declared.fault.Fault.TheVariants.{BadProperty}
 use Rattle.zk_mem.specs.Header.{header_of}
@@ -32,3 +32,8 @@ LacksList m o = (list_of m o ≡ Err BadProperty) ⊎ ((a : ℕ) × (list_of m o
 -- something holds of a listed object whose entry stands at an address
 abbrev pub HasObject : MemoryMap → (ℕ → Type 0) → ℕ → Type 0
 HasObject m P a = (o : ℕ) × IsListed m o a × P o
+
+-- the lower one of an address and another, where there is one
+abbrev pub lower_of : Result ℕ Fault → ℕ → ℕ
+lower_of (Ok table) lowest = min lowest table
+lower_of (Err f) lowest = lowest
