@@ -9,3 +9,4 @@ pub mod Longer
 pub mod Room
 pub mod Cut
 pub mod Same
+pub mod Reached

@@ -4,4 +4,6 @@ pub mod Targets
 pub mod Reading
 pub mod Grammar
 pub mod Laws
+pub mod Routines
+pub mod Reach
 pub mod Examples

@@ -1,6 +1,7 @@
 // Laws of the instructions of a story.
 
 ghost use Rattle.zk_code.specs.Laws.{AtMostOne, EndsInside, FoundIsSpelled, ReasonRefuses, RefusedWithReason, SameBytes, SpelledIsFound, TextIsWords, WordsAreText};
+ghost use Rattle.zk_code.specs.Reach.{ReachIsLeast};
 
 /// Reading from an address on finds the instruction that the grammar spells there, and that alone; and
 /// it refuses for the reasons that the grammar gives, and for those alone.
@@ -36,4 +37,10 @@ pub fn same_bytes()
 pub fn texts_are_words()
     ensures read { WordsAreText }
     ensures spelled { TextIsWords }
+{}
+
+/// The addresses that are reached are the least set that has the first instruction of the story and each way on from
+/// each of its instructions.
+pub fn reach_is_least()
+    ensures { ReachIsLeast }
 {}

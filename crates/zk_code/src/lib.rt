@@ -10,6 +10,8 @@ pub mod instr;
 pub mod laws;
 pub mod opcode;
 pub mod operands;
+pub mod routines;
 mod table;
 #[cfg(test)]
 mod tests;
+pub mod ways;

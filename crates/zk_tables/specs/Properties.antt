@@ -6,7 +6,7 @@ use Rattle.zk_mem.specs.Results.{◌>>=◌}
 use Rattle.zk_mem.specs.Map.{MemoryMap, HasBytes, byte_at, word_at, byte_put, word_put}
 use Rattle.zk_tables.specs.declared.lists.Property.{Property}
 use Rattle.zk_tables.specs.Layout.{layout_of, entry_of, default_words_start}
-use Rattle.zk_tables.specs.PropertyList.{IsPropertyList, LeavesData, list_byte, long_length, first_with, first_number, number_after, found_at, first_number_at, number_after_at}
+use Rattle.zk_tables.specs.PropertyList.{IsPropertyList, LeavesData, properties_at, list_byte, long_length, first_with, first_number, number_after, found_at, first_number_at, number_after_at}
 
 -- an object's property table; its address follows the links (section 12.3)
 unfoldable pub table_of : MemoryMap → ℕ → Result ℕ Fault
@@ -20,6 +20,10 @@ list_of m o = do
   table ← table_of m o
   words ← list_byte m table
   Ok (table + 1 + 2 * words)
+
+-- the properties of an object, in their order
+unfoldable pub properties_of : MemoryMap → ℕ → Result (List Property) Fault
+properties_of m o = list_of m o >>= properties_at m
 
 -- the first property of a number that an object has
 unfoldable pub property_of : MemoryMap → ℕ → ℕ → Result (Option Property) Fault

@@ -10,7 +10,7 @@ use zk_mem::fault::Fault;
 use zk_mem::memory::Memory;
 
 /// Whether the siblings from an object on come to an end, with so many objects at most.
-fn check_chain(memory: &Memory, first: u16, most: u16) -> Result<(), Fault>
+pub(crate) fn check_chain(memory: &Memory, first: u16, most: u16) -> Result<(), Fault>
     ensures { MatchResult result (λ _. IsOk (chain_from memory.now most first)) (λ e. chain_from memory.now most first ≡ Err e) }
 {
     let mut at = first;

@@ -8,7 +8,7 @@ pub mod examples;
 pub mod laws;
 mod layout;
 mod links;
-mod lists;
+pub mod lists;
 pub mod parsing;
 pub mod properties;
 #[cfg(test)]

@@ -18,7 +18,7 @@ pub struct Property {
 
 impl Property {
     /// The byte address after its data.
-    fn end(self) -> u32
+    pub fn end(self) -> u32
         requires { self.address ≤ 65537 }
         ensures { result ≡ self.address + self.length }
     {
@@ -77,9 +77,10 @@ fn read_property_by(memory: &Memory, address: u32, first: u8) -> Result<Option<P
     }))
 }
 
-/// The property whose size bytes begin at an address, or none at the end of a list.
+/// The property whose size bytes begin at a byte address, or none at the end of a list (Standard, section 12.4).
+/// `BadProperty` where one of these bytes does not lie in data.
 #[tactic(auto, unfolding(crate::specs::PropertyList::property_at))]
-fn read_property(memory: &Memory, address: u32) -> Result<Option<Property>, Fault>
+pub fn read_property(memory: &Memory, address: u32) -> Result<Option<Property>, Fault>
     ensures value { result ≡ property_at memory.now address }
     ensures bound { IfOk result (λ r. IfSome r (λ p. p.address ≤ 65537)) }
     ensures within { IfOk result (λ _. address < 65536) }
@@ -89,7 +90,7 @@ fn read_property(memory: &Memory, address: u32) -> Result<Option<Property>, Faul
 }
 
 /// Whether a list goes on from an address to its end, with so many properties at most.
-fn check_list(memory: &Memory, address: u32, most: u32) -> Result<(), Fault>
+pub(crate) fn check_list(memory: &Memory, address: u32, most: u32) -> Result<(), Fault>
     ensures { MatchResult result (λ _. IsOk (properties_from memory.now most address)) (λ e. properties_from memory.now most address ≡ Err e) }
 {
     let mut at = address;

@@ -1,18 +1,28 @@
 // The properties and names of objects.
 
-ghost use Rattle.std.specs.Prelude.{◌≡◌, ◌<◌, Ok, Err, IfOk, IfSome, MatchResult};
-ghost use Rattle.zk_tables.specs.Properties.{table_of, list_of, property_of, default_of, value_in, value_put_in, property_value, property_address_of, next_property_of, property_put, length_by, property_length_of, name_of};
+ghost use Rattle.std.specs.Prelude.{◌≡◌, ◌<◌, Ok, Err, IfOk, IfSome, IsOk, MatchResult};
+ghost use Rattle.zk_tables.specs.Layout.{entry_of};
+ghost use Rattle.zk_tables.specs.Properties.{table_of, list_of, properties_of, property_of, default_of, value_in, value_put_in, property_value, property_address_of, next_property_of, property_put, length_by, property_length_of, name_of};
 
 use crate::layout::{entry, layout_for};
 use crate::lists::{
-    Property, find, find_first_number, find_number_after, length_in, read_list_byte,
+    Property, check_list, find, find_first_number, find_number_after, length_in, read_list_byte,
 };
 use zk_mem::fault::Fault;
 use zk_mem::memory::Memory;
 
-/// Where the property table of an object begins.
+/// The byte address of the entry of an object (Standard, section 12.3), or `BadObject` where it has none in data.
+pub fn entry_address(memory: &Memory, object: u16) -> Result<u32, Fault>
+    ensures value { result ≡ entry_of memory.now object }
+    ensures bound { IfOk result (λ address. address < 65536) }
+{
+    entry(memory, object)
+}
+
+/// The byte address of the property table of an object (Standard, section 12.4), or `BadObject` where it has no entry in
+/// data.
 #[tactic(auto, unfolding(crate::specs::Properties::table_of))]
-fn read_table(memory: &Memory, object: u16) -> Result<u16, Fault>
+pub fn table_address(memory: &Memory, object: u16) -> Result<u16, Fault>
     ensures { result ≡ table_of memory.now object }
 {
     let entry = entry(memory, object)?;
@@ -20,14 +30,29 @@ fn read_table(memory: &Memory, object: u16) -> Result<u16, Fault>
     memory.word(entry + layout.attribute_bytes as u32 + 3 * layout.link_bytes as u32)
 }
 
-/// Where the property list of an object begins.
+/// The byte address of the property list of an object, which stands behind its short name (Standard, section 12.4).
+///
+/// `BadObject` where the object has no entry in data, `BadProperty` where the first byte of its property table does not
+/// lie in data.
 #[tactic(auto, unfolding(crate::specs::Properties::list_of))]
-fn read_list(memory: &Memory, object: u16) -> Result<u32, Fault>
+pub fn list_address(memory: &Memory, object: u16) -> Result<u32, Fault>
     ensures { result ≡ list_of memory.now object }
 {
-    let table = read_table(memory, object)? as u32;
+    let table = table_address(memory, object)? as u32;
     let words = read_list_byte(memory, table)?;
     Ok(table + 1 + 2 * words as u32)
+}
+
+/// Whether the property list of an object lies in data (Standard, section 12.4).
+///
+/// `BadObject` where the object has no entry in data, `BadProperty` where its property list, or the first byte of its
+/// property table, does not lie in data.
+#[tactic(auto, unfolding(crate::specs::Properties::properties_of, crate::specs::PropertyList::properties_at))]
+pub fn check_properties(memory: &Memory, object: u16) -> Result<(), Fault>
+    ensures { MatchResult result (λ _. IsOk (properties_of memory.now object)) (λ e. properties_of memory.now object ≡ Err e) }
+{
+    let list = list_address(memory, object)?;
+    check_list(memory, list, memory.data_end())
 }
 
 /// The first property of a number that an object has.
@@ -36,7 +61,7 @@ fn find_property(memory: &Memory, object: u16, number: u16) -> Result<Option<Pro
     ensures value { result ≡ property_of memory.now object number }
     ensures bound { IfOk result (λ r. IfSome r (λ p. p.address < 65536)) }
 {
-    let list = read_list(memory, object)?;
+    let list = list_address(memory, object)?;
     find(memory, list, number)
 }
 
@@ -130,7 +155,7 @@ pub fn next_property(memory: &Memory, object: u16, number: u16) -> Result<u16, F
             Err(Fault::BadProperty)
         };
     }
-    let list = read_list(memory, object)?;
+    let list = list_address(memory, object)?;
     if number == 0 {
         find_first_number(memory, list)
     } else {
@@ -194,7 +219,7 @@ pub fn name(memory: &Memory, object: u16) -> Result<Option<u32>, Fault>
     if object == 0 {
         return Ok(None);
     }
-    let table = read_table(memory, object)? as u32;
+    let table = table_address(memory, object)? as u32;
     let words = memory.byte(table)?;
     Ok(if words == 0 { None } else { Some(table + 1) })
 }

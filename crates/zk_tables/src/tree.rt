@@ -1,11 +1,12 @@
 // The tree of objects.
 
 ghost use Rattle.std.specs.Prelude.{◌≡◌, Ok, Err, IsOk, MatchResult};
+ghost use Rattle.zk_tables.specs.Chain.{children_of};
 ghost use Rattle.zk_tables.specs.Links.{link_at, parent_of, sibling_of, child_of};
 ghost use Rattle.zk_tables.specs.Tree.{naming_of, unlinked_where, removed, linked, inserted};
 
-use crate::chain::find_naming;
-use crate::layout::entry;
+use crate::chain::{check_chain, find_naming};
+use crate::layout::{count_entries, entry};
 use crate::links::{
     Place, check_writes, child_link, parent_link, read_link, sibling_link, write_link,
 };
@@ -37,6 +38,18 @@ pub fn child(memory: &Memory, object: u16) -> Result<u16, Fault>
     ensures { result ≡ link_at memory.now (child_of object) }
 {
     read_link(memory, child_link(object))
+}
+
+/// Whether the children of an object are a chain, which comes to an end (Standard, section 12.5).
+///
+/// `BadObject` where the object, or one that the chain meets, has no entry in data, `BadTree` where the chain repeats an
+/// object.
+#[tactic(auto, unfolding(crate::specs::Chain::children_of))]
+pub fn check_children(memory: &Memory, object: u16) -> Result<(), Fault>
+    ensures { MatchResult result (λ _. IsOk (children_of memory.now object)) (λ e. children_of memory.now object ≡ Err e) }
+{
+    let first = child(memory, object)?;
+    check_chain(memory, first, count_entries(memory))
 }
 
 /// The link that names an object among its parent's children, if it has a parent.

@@ -1,13 +1,13 @@
 // Texts: where they end, and their units given to a sink.
 
-ghost use Rattle.std.specs.Prelude.{◌≡◌, ◌≤◌, List, Ok, IsOk, OnOk, OnErr, IfOk, length};
-ghost use Rattle.zk_text.specs.Meaning.{text_units, checked_end};
+ghost use Rattle.std.specs.Prelude.{◌≡◌, ◌≤◌, List, Ok, Err, IsOk, OnOk, OnErr, IfOk, MatchResult, length};
+ghost use Rattle.zk_text.specs.Meaning.{text_units, checked_end, meaning_at, no_abbreviation};
 ghost use Rattle.zk_text.specs.declared.unit.Unit.{Unit};
 
 use crate::alphabet::Alphabet;
 use crate::sink::{Sink, SinkFault};
 use crate::unit::Unit;
-use crate::walk::{Outside, Trouble, walk_text};
+use crate::walk::{Inside, Outside, Trouble, walk_text};
 use zk_mem::fault::Fault;
 use zk_mem::memory::Memory;
 
@@ -50,6 +50,21 @@ pub fn check_text(memory: &Memory, address: u32) -> Result<u32, Fault>
         Err(Trouble::Text(fault)) => Err(fault),
         // This sink refuses nothing.
         Err(Trouble::Refused) => Ok(end),
+    }
+}
+
+/// Whether the text of an abbreviation at a byte address has a meaning (Z-Machine Standards Document 1.1, section 3.3):
+/// `TextPastEnd` where it has no last word inside the story, `NestedAbbreviation` where it uses an abbreviation.
+#[tactic(auto, unfolding(zk_mem::specs::Words::text_end_at))]
+pub fn check_abbreviation(memory: &Memory, address: u32) -> Result<(), Fault>
+    ensures { MatchResult result (λ _. IsOk (meaning_at no_abbreviation memory.now address)) (λ e. meaning_at no_abbreviation memory.now address ≡ Err e) }
+{
+    memory.text_end(address).ok_or(Fault::TextPastEnd)?;
+    match walk_text::<Inside, Silent>(memory, Alphabet::of(memory), address, &mut Silent) {
+        Ok(()) => Ok(()),
+        Err(Trouble::Text(fault)) => Err(fault),
+        // This sink refuses nothing.
+        Err(Trouble::Refused) => Ok(()),
     }
 }
 

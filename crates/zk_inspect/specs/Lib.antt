@@ -1,0 +1,12 @@
+pub mod Lists
+pub mod Codes
+pub mod Search
+pub mod Numbers
+pub mod Listing
+pub mod Written
+pub mod Quoted
+pub mod Objects
+pub mod Texts
+pub mod Keys
+pub mod Findings
+pub mod Tests

@@ -1,0 +1,48 @@
+-- Tests on the code of a story.
+use Rattle.std.specs.Prelude.{ℕ, Bool, true, false, ◌||◌, Option, Some, None, is_none, Result, Ok, Err, is_err}
+use Rattle.zk_mem.specs.declared.fault.Fault.{Fault}
+use Rattle.zk_mem.specs.Map.{MemoryMap}
+use Rattle.zk_code.specs.declared.branch.Branch.{Branch}
+use Rattle.zk_code.specs.declared.branch.Target.{Target}
+use Rattle.zk_code.specs.declared.branch.Target.TheVariants.{ReturnFalse, ReturnTrue, At, Below, Past}
+use Rattle.zk_code.specs.declared.instr.Instr.{Instr}
+use Rattle.zk_code.specs.Reach.{constant_call, constant_jump}
+use Rattle.zk_code.specs.Reading.{instr_at}
+use Rattle.zk_code.specs.Routines.{count_at}
+
+-- there is no instruction at an address
+abbrev pub is_undecodable : MemoryMap → ℕ → Bool
+is_undecodable m a = is_err (instr_at m a)
+
+-- a target lies outside the story (section 4.7)
+abbrev pub is_outside : Target → Bool
+is_outside (Below d) = true
+is_outside (Past a) = true
+is_outside _ = false
+
+-- a branch leads there
+abbrev pub branches_out : Option Branch → Bool
+branches_out None = false
+branches_out (Some b) = is_outside b.target
+
+-- a jump does
+abbrev pub jumps_out : Option Target → Bool
+jumps_out None = false
+jumps_out (Some t) = is_outside t
+
+-- a call is of no routine
+abbrev pub calls_out : MemoryMap → Option ℕ → Bool
+calls_out m None = false
+calls_out m (Some r) = is_none (count_at m r)
+
+-- an instruction leads out of the story
+abbrev pub instr_leads_out : MemoryMap → Instr → Bool
+instr_leads_out m i = branches_out i.branch || jumps_out (constant_jump m i) || calls_out m (constant_call m i)
+
+-- the instruction at an address does
+abbrev pub found_leads_out : MemoryMap → Result Instr Fault → Bool
+found_leads_out m (Ok i) = instr_leads_out m i
+found_leads_out m (Err f) = false
+
+abbrev pub leads_out : MemoryMap → ℕ → Bool
+leads_out m a = found_leads_out m (instr_at m a)

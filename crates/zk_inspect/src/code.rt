@@ -1,0 +1,60 @@
+// The code of a story.
+
+ghost use Rattle.std.specs.Prelude.{◌≡◌, ◌≤◌, [], ◌∷◌, ◌++◌, OnOk, length, slice_get};
+
+use std::alloc::{AllocError, Global};
+use std::marker::Model;
+
+/// A list of byte addresses.
+#[derive(Debug, Drop)]
+pub struct Addresses {
+    list: Vec<u32>,
+}
+
+impl Model for Addresses {
+    ghost use Rattle.std.specs.Prelude.{List, ℕ};
+
+    ghost Value = { List ℕ };
+
+    ghost view = { λ a. a.list.items };
+}
+
+impl Addresses {
+    pub(crate) fn new(alloc: Global) -> Addresses
+        ensures { result ≡ [] }
+    {
+        Addresses {
+            list: Vec::new(alloc),
+        }
+    }
+
+    pub(crate) fn push(&mut self, address: u32) -> Result<(), AllocError>
+        ensures { OnOk result (self.new ≡ self.old ++ address ∷ []) }
+    {
+        self.list.push(address)?;
+        Ok(())
+    }
+
+    /// The address at an index, counted from 0.
+    pub fn get(&self, index: usize) -> Option<u32>
+        ensures { result ≡ slice_get self.now index }
+    {
+        self.list.get(index).copied()
+    }
+
+    pub fn as_slice(&self) -> &[u32]
+        ensures { result.now ≡ self.now }
+    {
+        self.list.as_slice()
+    }
+}
+
+/// The reachable code of a story: what a run comes to from its first instruction on by what stands in the instructions,
+/// and the routines that are called there by a constant. Both lists ascend, and have each address once.
+#[derive(Debug, Drop)]
+pub struct Code {
+    /// The byte addresses of instructions. There need be none: code may lead to data, or to the story's end.
+    pub addresses: Addresses,
+    /// The byte addresses of routines.
+    pub routines: Addresses,
+}

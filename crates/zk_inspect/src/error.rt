@@ -1,0 +1,10 @@
+// Why a listing is refused.
+
+/// A listing that was not written to its end.
+#[derive(Clone, Copy, Debug, PartialEq, Eq, Drop)]
+pub enum ListError {
+    /// There is no memory.
+    Memory,
+    /// A write failed.
+    Write,
+}

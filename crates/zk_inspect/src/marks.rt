@@ -1,0 +1,69 @@
+// Marks on addresses.
+
+ghost use Rattle.std.specs.Prelude.{◌≡◌, ◌<◌, ◌≤◌, ◌^◌, true, false, IfOk, length, get_or, replicate, slice_set};
+ghost use Rattle.zk_inspect.specs.Lists.{IsListOf, IsMarked};
+
+use crate::code::Addresses;
+use std::alloc::{AllocError, Global};
+use std::marker::Model;
+
+/// Which addresses below a bound are marked.
+#[derive(Drop)]
+pub(crate) struct Marks {
+    bits: Vec<bool>,
+}
+
+impl Model for Marks {
+    ghost use Rattle.std.specs.Prelude.{Bool, List};
+
+    ghost Value = { List Bool };
+
+    ghost view = { λ m. m.bits.items };
+}
+
+impl Marks {
+    /// None of the addresses below a bound.
+    pub fn none(alloc: Global, bound: usize) -> Result<Marks, AllocError>
+        ensures { IfOk result (λ m. m ≡ replicate bound false) }
+    {
+        let bits = vec![in alloc; false; bound]?;
+        Ok(Marks { bits })
+    }
+
+    /// Whether an address is marked.
+    pub fn has(&self, address: u32) -> bool
+        requires { address < length self.now }
+        ensures { result ≡ get_or self.now address false }
+    {
+        self.bits[address as usize]
+    }
+
+    /// Marks an address.
+    pub fn mark(&mut self, address: u32)
+        requires { address < length self.old }
+        ensures { self.new ≡ slice_set self.old address true }
+    {
+        self.bits[address as usize] = true;
+    }
+
+    /// The marked addresses.
+    pub fn list(&self, alloc: Global) -> Result<Addresses, AllocError>
+        requires { length self.now ≤ 2 ^ 20 }
+        ensures { IfOk result (λ list. IsListOf (IsMarked self.now) list) }
+    {
+        list_marked(alloc, self.bits.as_slice())
+    }
+}
+
+fn list_marked(alloc: Global, bits: &[bool]) -> Result<Addresses, AllocError>
+    requires { length bits.now ≤ 2 ^ 20 }
+    ensures { IfOk result (λ list. IsListOf (IsMarked bits.now) list) }
+{
+    let mut list = Addresses::new(alloc);
+    for i in 0..bits.len() {
+        if bits[i] {
+            list.push(i as u32)?;
+        }
+    }
+    Ok(list)
+}

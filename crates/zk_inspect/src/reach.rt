@@ -1,0 +1,241 @@
+// The code that a run can come to.
+
+ghost use Rattle.std.specs.Prelude.{◌≡◌, ◌≤◌, ◌<◌, ◌+◌, ◌^◌, ℕ, true, IfOk, OnOk, Some, Ok, length};
+ghost use Rattle.zk_code.specs.Reach.{IsReached, branch_address, constant_call, goes_on, jump_address};
+ghost use Rattle.zk_code.specs.Routines.{code_start};
+ghost use Rattle.zk_code.specs.Grammar.{IsInstruction};
+ghost use Rattle.zk_mem.specs.Map.{HasBytes};
+ghost use Rattle.zk_inspect.specs.Codes.{IsCodeOf};
+ghost use Rattle.zk_inspect.specs.Lists.{IsMarked};
+ghost use Rattle.zk_inspect.specs.Search.{Grows, IsExpanded, IsOnItsWay, IsSearch};
+
+use crate::code::{Addresses, Code};
+use crate::marks::Marks;
+use std::alloc::{AllocError, Global};
+use zk_code::decode::decode;
+use zk_code::instr::Instr;
+use zk_code::routines::code_start;
+use zk_code::ways::goes_on;
+use zk_mem::memory::Memory;
+
+/// What was found so far.
+#[derive(Drop)]
+struct Search {
+    marks: Marks,
+    routines: Marks,
+    /// The marked addresses, in the order in which they were found.
+    found: Addresses,
+}
+
+impl Search {
+    /// Nothing was found yet, of the addresses below a bound.
+    fn begun(alloc: Global, memory: &Memory, bound: usize) -> Result<Search, AllocError>
+        requires { length memory.now.bytes < bound }
+        ensures search { IfOk result (λ s. IsSearch memory.now s) }
+        ensures size { IfOk result (λ s. length s.marks ≡ bound) }
+        ensures routine_size { IfOk result (λ s. length s.routines ≡ bound) }
+    {
+        let marks = Marks::none(alloc, bound)?;
+        let routines = Marks::none(alloc, bound)?;
+        Ok(Search {
+            marks,
+            routines,
+            found: Addresses::new(alloc),
+        })
+    }
+
+    /// An address is reached.
+    fn find(&mut self, memory: &Memory, address: u32) -> Result<(), AllocError>
+        requires search { IsSearch memory.now self.old }
+        requires reached { IsReached memory.now address }
+        requires within { address < length self.old.marks }
+        ensures search { OnOk result (IsSearch memory.now self.new) }
+        ensures grows { OnOk result (Grows self.old self.new) }
+        ensures found { OnOk result (IsMarked self.new.marks address) }
+    {
+        if self.marks.has(address) {
+            return Ok(());
+        }
+        self.marks.mark(address);
+        self.found.push(address)?;
+        Ok(())
+    }
+
+    /// What stands behind an instruction is reached, where the instruction goes on.
+    fn follow_behind(
+        &mut self,
+        memory: &Memory,
+        address: u32,
+        instr: &Instr,
+    ) -> Result<(), AllocError>
+        requires search { IsSearch memory.now self.old }
+        requires reached { IsReached memory.now address }
+        requires stands { IsInstruction memory.now address instr.now instr.now.next }
+        ensures search { OnOk result (IsSearch memory.now self.new) }
+        ensures grows { OnOk result (Grows self.old self.new) }
+        ensures found { OnOk result (goes_on instr.now.opcode ≡ true → IsMarked self.new.marks instr.now.next) }
+    {
+        if !goes_on(instr.opcode) {
+            return Ok(());
+        }
+        self.find(memory, instr.next)
+    }
+
+    /// Where the branch of an instruction leads is reached, where that is in the story.
+    fn follow_branch(
+        &mut self,
+        memory: &Memory,
+        address: u32,
+        instr: &Instr,
+    ) -> Result<(), AllocError>
+        requires search { IsSearch memory.now self.old }
+        requires reached { IsReached memory.now address }
+        requires stands { IsInstruction memory.now address instr.now instr.now.next }
+        ensures search { OnOk result (IsSearch memory.now self.new) }
+        ensures grows { OnOk result (Grows self.old self.new) }
+        ensures found { OnOk result ((c : ℕ) → branch_address instr.now ≡ Some c → IsMarked self.new.marks c) }
+    {
+        match instr.branch_address() {
+            Some(target) => self.find(memory, target),
+            None => Ok(()),
+        }
+    }
+
+    /// Where an instruction jumps to by a constant is reached, where that is in the story.
+    fn follow_jump(
+        &mut self,
+        memory: &Memory,
+        address: u32,
+        instr: &Instr,
+    ) -> Result<(), AllocError>
+        requires search { IsSearch memory.now self.old }
+        requires reached { IsReached memory.now address }
+        requires stands { IsInstruction memory.now address instr.now instr.now.next }
+        requires near { instr.now.next ≤ 2 ^ 20 }
+        ensures search { OnOk result (IsSearch memory.now self.new) }
+        ensures grows { OnOk result (Grows self.old self.new) }
+        ensures found { OnOk result ((c : ℕ) → jump_address memory.now instr.now ≡ Some c → IsMarked self.new.marks c) }
+    {
+        match instr.jump_address(memory) {
+            Some(target) => self.find(memory, target),
+            None => Ok(()),
+        }
+    }
+
+    /// An instruction calls the routine at an address by a constant, if there is one.
+    fn follow_routine(
+        &mut self,
+        memory: &Memory,
+        address: u32,
+        instr: &Instr,
+        routine: u32,
+    ) -> Result<(), AllocError>
+        requires search { IsSearch memory.now self.old }
+        requires reached { IsReached memory.now address }
+        requires stands { IsInstruction memory.now address instr.now instr.now.next }
+        requires called { constant_call memory.now instr.now ≡ Some routine }
+        ensures search { OnOk result (IsSearch memory.now self.new) }
+        ensures grows { OnOk result (Grows self.old self.new) }
+        ensures found { OnOk result ((c : ℕ) → code_start memory.now routine ≡ Some c → IsMarked self.new.routines routine × IsMarked self.new.marks c) }
+    {
+        let Some(start) = code_start(memory, routine) else {
+            return Ok(());
+        };
+        self.routines.mark(routine);
+        self.find(memory, start)?;
+        Ok(())
+    }
+
+    /// The routine that an instruction calls by a constant is called, and its first instruction is reached.
+    fn follow_call(
+        &mut self,
+        memory: &Memory,
+        address: u32,
+        instr: &Instr,
+    ) -> Result<(), AllocError>
+        requires search { IsSearch memory.now self.old }
+        requires reached { IsReached memory.now address }
+        requires stands { IsInstruction memory.now address instr.now instr.now.next }
+        ensures search { OnOk result (IsSearch memory.now self.new) }
+        ensures grows { OnOk result (Grows self.old self.new) }
+        ensures found { OnOk result ((r c : ℕ) → constant_call memory.now instr.now ≡ Some r → code_start memory.now r ≡ Some c → IsMarked self.new.routines r × IsMarked self.new.marks c) }
+    {
+        match instr.constant_call(memory) {
+            Some(routine) => {
+                self.follow_routine(memory, address, instr, routine)?;
+                Ok(())
+            }
+            None => Ok(()),
+        }
+    }
+
+    /// All ways on from an instruction are reached.
+    fn follow(&mut self, memory: &Memory, address: u32, instr: &Instr) -> Result<(), AllocError>
+        requires search { IsSearch memory.now self.old }
+        requires reached { IsReached memory.now address }
+        requires stands { IsInstruction memory.now address instr.now instr.now.next }
+        requires near { instr.now.next ≤ 2 ^ 20 }
+        ensures search { OnOk result (IsSearch memory.now self.new) }
+        ensures grows { OnOk result (Grows self.old self.new) }
+        ensures expanded { OnOk result (IsExpanded memory.now self.new address) }
+    {
+        self.follow_behind(memory, address, instr)?;
+        self.follow_branch(memory, address, instr)?;
+        self.follow_jump(memory, address, instr)?;
+        self.follow_call(memory, address, instr)?;
+        Ok(())
+    }
+
+    /// All ways on from an address are reached, where there is an instruction.
+    fn expand(&mut self, memory: &Memory, address: u32) -> Result<(), AllocError>
+        requires search { IsSearch memory.now self.old }
+        requires reached { IsReached memory.now address }
+        ensures search { OnOk result (IsSearch memory.now self.new) }
+        ensures grows { OnOk result (Grows self.old self.new) }
+        ensures expanded { OnOk result (IsExpanded memory.now self.new address) }
+    {
+        memory.has_bytes();
+        match decode(memory, address) {
+            Ok(instr) => self.follow(memory, address, &instr),
+            Err(_) => Ok(()),
+        }
+    }
+}
+
+/// All that is reached.
+fn find_all(alloc: Global, memory: &Memory) -> Result<Search, AllocError>
+    ensures search { IfOk result (λ s. IsOnItsWay memory.now s (length s.found)) }
+    ensures small { IfOk result (λ s. length s.marks ≤ 2 ^ 20) }
+    ensures routines_small { IfOk result (λ s. length s.routines ≤ 2 ^ 20) }
+{
+    let first = memory.header().first_instruction as u32;
+    let bound = memory.len().max(first) as usize + 1;
+    let mut search = Search::begun(alloc, memory, bound)?;
+    search.find(memory, first)?;
+    // no address is found twice
+    for index in 0..bound {
+        match search.found.get(index) {
+            Some(address) => search.expand(memory, address)?,
+            None => return Ok(search),
+        }
+    }
+    Ok(search)
+}
+
+/// The reachable code of a story: the addresses of its first instruction and, from each instruction there, of what
+/// stands behind it unless it returns, jumps, throws, quits or restarts, of where its branch or its jump by a constant leads
+/// inside the story, and of the first instruction of a routine that it calls by a constant other than 0; and these routines
+/// (Z-Machine Standards Document 1.1, sections 4.7, 5 and 15). Code that only computed addresses lead to is not found.
+///
+/// Refused for want of memory alone.
+pub fn reach(alloc: Global, memory: &Memory) -> Result<Code, AllocError>
+    ensures { IfOk result (λ code. IsCodeOf memory.now code) }
+{
+    let search = find_all(alloc, memory)?;
+    let addresses = search.marks.list(alloc)?;
+    let routines = search.routines.list(alloc)?;
+    Ok(Code {
+        addresses,
+        routines,
+    })
+}

@@ -1,0 +1,134 @@
+// Texts, numbers and characters, written to a target.
+
+ghost use Rattle.std.specs.Prelude.{◌≡◌, ◌<◌, ◌++◌, is_err, decimal, map, codes};
+ghost use Rattle.std.specs.List.{concat};
+ghost use Rattle.zk_inspect.specs.Numbers.{address_digits, byte_digits, hex_digit, hex_digits, word_digits, zeros_left_out};
+ghost use Rattle.zk_inspect.specs.Written.{Gave};
+
+use itoa::Buffer;
+use zk_term::target::{Failed, Target, write_all};
+
+/// Writes texts one after another, up to a write that fails.
+#[tactic(auto, using(crate::proofs::Outputs::writing_rules))]
+pub(crate) fn write_texts<T: Target>(target: &mut T, texts: &[&[u8]]) -> Result<(), Failed>
+    ensures { Gave T.taken T.failed (is_err result) target.old target.new (concat (map (λ t. t.now) texts.now)) }
+{
+    let [first, rest @ ..] = texts else {
+        return Ok(());
+    };
+    match write_all(target, first) {
+        Ok(()) => write_texts(target, rest),
+        Err(Failed) => Err(Failed),
+    }
+}
+
+/// The hexadecimal digit of a number below 16.
+fn hex_digit_of(n: u32) -> u8
+    requires { n < 16 }
+    ensures { result ≡ hex_digit n }
+{
+    if n < 10 {
+        b'0' + n as u8
+    } else {
+        b'a' + (n as u8 - 10)
+    }
+}
+
+/// The hexadecimal digits of a number.
+#[tactic(auto, unfolding(crate::specs::Numbers::hex_digits))]
+fn hex_digits_of(n: u32) -> [u8; 8]
+    ensures { result ≡ hex_digits n }
+{
+    [
+        hex_digit_of(n / 0x1000_0000 % 16),
+        hex_digit_of(n / 0x100_0000 % 16),
+        hex_digit_of(n / 0x10_0000 % 16),
+        hex_digit_of(n / 0x1_0000 % 16),
+        hex_digit_of(n / 0x1000 % 16),
+        hex_digit_of(n / 0x100 % 16),
+        hex_digit_of(n / 0x10 % 16),
+        hex_digit_of(n % 16),
+    ]
+}
+
+/// How many zeros are left out of an address.
+fn zeros_before(address: u32) -> usize
+    ensures { result ≡ zeros_left_out address }
+{
+    if address < 0x10_0000 {
+        3
+    } else if address < 0x100_0000 {
+        2
+    } else if address < 0x1000_0000 {
+        1
+    } else {
+        0
+    }
+}
+
+/// Writes an address behind two texts: by its hexadecimal digits, five at least.
+#[tactic(auto, unfolding(crate::specs::Numbers::address_digits))]
+pub(crate) fn write_address<T: Target>(
+    target: &mut T,
+    before: &[u8],
+    between: &[u8],
+    address: u32,
+) -> Result<(), Failed>
+    ensures { Gave T.taken T.failed (is_err result) target.old target.new (before.now ++ between.now ++ address_digits address) }
+{
+    let digits = hex_digits_of(address);
+    let shown = &digits[zeros_before(address)..];
+    write_texts(target, &[before, between, shown])
+}
+
+/// Writes a constant behind a text: a word by its four hexadecimal digits.
+#[tactic(auto, unfolding(crate::specs::Numbers::word_digits))]
+pub(crate) fn write_word<T: Target>(target: &mut T, before: &[u8], word: u16) -> Result<(), Failed>
+    ensures { Gave T.taken T.failed (is_err result) target.old target.new (before.now ++ codes "#" ++ word_digits word) }
+{
+    let digits = hex_digits_of(word as u32);
+    let shown = &digits[4..];
+    write_texts(target, &[before, b"#", shown])
+}
+
+/// Writes a constant behind a text: a byte by its two hexadecimal digits.
+#[tactic(auto, unfolding(crate::specs::Numbers::byte_digits))]
+pub(crate) fn write_byte<T: Target>(target: &mut T, before: &[u8], byte: u8) -> Result<(), Failed>
+    ensures { Gave T.taken T.failed (is_err result) target.old target.new (before.now ++ codes "#" ++ byte_digits byte) }
+{
+    let digits = hex_digits_of(byte as u32);
+    let shown = &digits[6..];
+    write_texts(target, &[before, b"#", shown])
+}
+
+/// Writes a number behind two texts, by its decimal digits.
+pub(crate) fn write_decimal<T: Target>(
+    target: &mut T,
+    before: &[u8],
+    between: &[u8],
+    n: u32,
+) -> Result<(), Failed>
+    ensures { Gave T.taken T.failed (is_err result) target.old target.new (before.now ++ between.now ++ decimal n) }
+{
+    let mut buffer = Buffer::new();
+    write_texts(target, &[before, between, buffer.format(n).as_bytes()])
+}
+
+/// Writes an address and a number between three texts.
+#[tactic(auto, unfolding(crate::specs::Numbers::address_digits))]
+pub(crate) fn write_counted<'a, T: Target>(
+    target: &mut T,
+    before: &'a [u8],
+    address: u32,
+    between: &'a [u8],
+    n: u32,
+    after: &'a [u8],
+) -> Result<(), Failed>
+    ensures { Gave T.taken T.failed (is_err result) target.old target.new (before.now ++ address_digits address ++ between.now ++ decimal n ++ after.now) }
+{
+    let mut buffer = Buffer::new();
+    let digits = hex_digits_of(address);
+    let number = buffer.format(n).as_bytes();
+    let shown = &digits[zeros_before(address)..];
+    write_texts(target, &[before, shown, between, number, after])
+}
