@@ -154,11 +154,11 @@ one_more m before lowest e c h lt = record {
   tabled = c.tabled;
   whole = λ o some le. elim (cases_eq o (before + 1)) [ inl s ↦ (e, subst (λ (n : ℕ). entry_of m n ≡ Ok e) (sym s) h) | inr n ↦ c.whole o some (omega arith) ];
   listed = λ o f le k. elim (cases_eq o (before + 1)) [
-    inl s ↦ record { tabled = c.tabled; stands = k; below = λ p t lo at. c.low f (let same = same_ok (entry_of m (before + 1)) e f h (ap (entry_of m) (sym s) ∙ k) in omega arith) p t (omega arith) at }
+    | inl s ↦ record { tabled = c.tabled; stands = k; below = λ p t lo at. c.low f (let same = same_ok (entry_of m (before + 1)) e f h (ap (entry_of m) (sym s) ∙ k) in omega arith) p t (omega arith) at }
     | inr n ↦ c.listed o f (omega arith) k
   ];
   low = λ f less p t le at. elim (cases_eq p (before + 1)) [
-    inl s ↦ lower_table (table_of m (before + 1)) lowest t f (ap (table_of m) (sym s) ∙ at) less
+    | inl s ↦ lower_table (table_of m (before + 1)) lowest t f (ap (table_of m) (sym s) ∙ at) less
     | inr n ↦ c.low f (lower_first (table_of m (before + 1)) lowest f less) p t (omega arith) at
   ];
   lowest_is = λ f small above. lower_both (table_of m (before + 1)) lowest f (c.lowest_is f small (λ p t le at. above p t (omega arith) at)) (λ t at. above (before + 1) t (omega arith) at);
@@ -168,7 +168,7 @@ one_more m before lowest e c h lt = record {
 pub count_ends : (m : MemoryMap) (before lowest : ℕ) (f : Fault) → Counting m before lowest → entry_of m (before + 1) ≡ Err f → (o e : ℕ) → IsListed m o e ↔ ((o ≤ before) × (entry_of m o ≡ Ok e))
 count_ends m before lowest f c none o e = (
   λ h. elim (cases_lt before o) [
-    inl lt ↦ absurd (let at = lower_entry m o (before + 1) e h.stands (omega arith) (omega arith) in let b = at.1 in cc)
+    | inl lt ↦ absurd (let at = lower_entry m o (before + 1) e h.stands (omega arith) (omega arith) in let b = at.1 in cc)
     | inr le ↦ (le, h.stands)
   ],
   λ h. c.listed o e h.0 h.1,
@@ -178,14 +178,14 @@ count_ends m before lowest f c none o e = (
 pub count_meets : (m : MemoryMap) (before lowest f : ℕ) → Counting m before lowest → entry_of m (before + 1) ≡ Ok f → lowest ≤ f → (o e : ℕ) → IsListed m o e ↔ ((o ≤ before) × (entry_of m o ≡ Ok e))
 count_meets m before lowest f c at high o e = (
   λ h. elim (cases_lt before o) [
-    inl lt ↦ absurd (
-      let low = lower_entry m o (before + 1) e h.stands (omega arith) (omega arith) in
-      let same = same_ok (entry_of m (before + 1)) f low.0 at low.1 in
-      let le = low.2 in
-      let small = entry_small m o e h.stands in
-      let less = c.lowest_is e small (λ p t le at. h.below p t (omega arith) at) in
-      omega arith
-    )
+    | inl lt ↦ absurd (
+        let low = lower_entry m o (before + 1) e h.stands (omega arith) (omega arith) in
+        let same = same_ok (entry_of m (before + 1)) f low.0 at low.1 in
+        let le = low.2 in
+        let small = entry_small m o e h.stands in
+        let less = c.lowest_is e small (λ p t le at. h.below p t (omega arith) at) in
+        omega arith
+        )
     | inr le ↦ (le, h.stands)
   ],
   λ h. c.listed o e h.0 h.1,

@@ -62,7 +62,7 @@ pub fn check_abbreviation(memory: &Memory, address: u32) -> Result<(), Fault>
     memory.text_end(address).ok_or(Fault::TextPastEnd)?;
     match walk_text::<Inside, Silent>(memory, Alphabet::of(memory), address, &mut Silent) {
         Ok(()) => Ok(()),
-        Err(Trouble::Text(fault)) => Err(fault),
+        Err(Trouble::Text(reason)) => Err(reason),
         // This sink refuses nothing.
         Err(Trouble::Refused) => Ok(()),
     }
