@@ -102,7 +102,7 @@ pub record Counting (m : MemoryMap) (before lowest : ℕ) : Type 0 where
   pub low : (e : ℕ) → e < lowest → (p t : ℕ) → p ≤ before → table_of m p ≡ Ok t → e < t
   pub lowest_is : (e : ℕ) → e < 65536 → ((p t : ℕ) → p ≤ before → table_of m p ≡ Ok t → e < t) → e < lowest
 
-same_ok : (r : Result ℕ Fault) (a b : ℕ) → r ≡ Ok a → r ≡ Ok b → a ≡ b
+pub same_ok : (r : Result ℕ Fault) (a b : ℕ) → r ≡ Ok a → r ≡ Ok b → a ≡ b
 same_ok r a b h k = cc
 
 lower_table : (r : Result ℕ Fault) (lowest t f : ℕ) → r ≡ Ok t → f < lower_of r lowest → f < t
@@ -131,7 +131,7 @@ entry_small m (suc q) e h =
     omega arith
 
 -- no object has the number 0
-zero_none : (m : MemoryMap) (o e : ℕ) → o ≤ 0 → entry_of m o ≡ Ok e → ⊥
+pub zero_none : (m : MemoryMap) (o e : ℕ) → o ≤ 0 → entry_of m o ≡ Ok e → ⊥
 zero_none m o e le h = let s = (probe m o e h).some in absurd (omega arith)
 
 -- nothing was counted yet
@@ -154,11 +154,11 @@ one_more m before lowest e c h lt = record {
   tabled = c.tabled;
   whole = λ o some le. elim (cases_eq o (before + 1)) [ inl s ↦ (e, subst (λ (n : ℕ). entry_of m n ≡ Ok e) (sym s) h) | inr n ↦ c.whole o some (omega arith) ];
   listed = λ o f le k. elim (cases_eq o (before + 1)) [
-    inl s ↦ record { tabled = c.tabled; stands = k; below = λ p t lo at. c.low f (let same = same_ok (entry_of m (before + 1)) e f h (ap (entry_of m) (sym s) ∙ k) in omega arith) p t (omega arith) at }
+    | inl s ↦ record { tabled = c.tabled; stands = k; below = λ p t lo at. c.low f (let same = same_ok (entry_of m (before + 1)) e f h (ap (entry_of m) (sym s) ∙ k) in omega arith) p t (omega arith) at }
     | inr n ↦ c.listed o f (omega arith) k
   ];
   low = λ f less p t le at. elim (cases_eq p (before + 1)) [
-    inl s ↦ lower_table (table_of m (before + 1)) lowest t f (ap (table_of m) (sym s) ∙ at) less
+    | inl s ↦ lower_table (table_of m (before + 1)) lowest t f (ap (table_of m) (sym s) ∙ at) less
     | inr n ↦ c.low f (lower_first (table_of m (before + 1)) lowest f less) p t (omega arith) at
   ];
   lowest_is = λ f small above. lower_both (table_of m (before + 1)) lowest f (c.lowest_is f small (λ p t le at. above p t (omega arith) at)) (λ t at. above (before + 1) t (omega arith) at);
@@ -168,7 +168,7 @@ one_more m before lowest e c h lt = record {
 pub count_ends : (m : MemoryMap) (before lowest : ℕ) (f : Fault) → Counting m before lowest → entry_of m (before + 1) ≡ Err f → (o e : ℕ) → IsListed m o e ↔ ((o ≤ before) × (entry_of m o ≡ Ok e))
 count_ends m before lowest f c none o e = (
   λ h. elim (cases_lt before o) [
-    inl lt ↦ absurd (let at = lower_entry m o (before + 1) e h.stands (omega arith) (omega arith) in let b = at.1 in cc)
+    | inl lt ↦ absurd (let at = lower_entry m o (before + 1) e h.stands (omega arith) (omega arith) in let b = at.1 in cc)
     | inr le ↦ (le, h.stands)
   ],
   λ h. c.listed o e h.0 h.1,
@@ -178,14 +178,14 @@ count_ends m before lowest f c none o e = (
 pub count_meets : (m : MemoryMap) (before lowest f : ℕ) → Counting m before lowest → entry_of m (before + 1) ≡ Ok f → lowest ≤ f → (o e : ℕ) → IsListed m o e ↔ ((o ≤ before) × (entry_of m o ≡ Ok e))
 count_meets m before lowest f c at high o e = (
   λ h. elim (cases_lt before o) [
-    inl lt ↦ absurd (
-      let low = lower_entry m o (before + 1) e h.stands (omega arith) (omega arith) in
-      let same = same_ok (entry_of m (before + 1)) f low.0 at low.1 in
-      let le = low.2 in
-      let small = entry_small m o e h.stands in
-      let less = c.lowest_is e small (λ p t le at. h.below p t (omega arith) at) in
-      omega arith
-    )
+    | inl lt ↦ absurd (
+        let low = lower_entry m o (before + 1) e h.stands (omega arith) (omega arith) in
+        let same = same_ok (entry_of m (before + 1)) f low.0 at low.1 in
+        let le = low.2 in
+        let small = entry_small m o e h.stands in
+        let less = c.lowest_is e small (λ p t le at. h.below p t (omega arith) at) in
+        omega arith
+        )
     | inr le ↦ (le, h.stands)
   ],
   λ h. c.listed o e h.0 h.1,
