@@ -68,7 +68,7 @@ impl Target {
 }
 
 /// The first operand of an instruction, where it is a constant.
-fn first_constant(instr: &Instr) -> Option<u16>
+pub fn first_constant(instr: &Instr) -> Option<u16>
     ensures { result ≡ first_constant instr.now.operands }
 {
     match instr.operands.as_slice() {

@@ -102,7 +102,7 @@ pub record Counting (m : MemoryMap) (before lowest : ℕ) : Type 0 where
   pub low : (e : ℕ) → e < lowest → (p t : ℕ) → p ≤ before → table_of m p ≡ Ok t → e < t
   pub lowest_is : (e : ℕ) → e < 65536 → ((p t : ℕ) → p ≤ before → table_of m p ≡ Ok t → e < t) → e < lowest
 
-same_ok : (r : Result ℕ Fault) (a b : ℕ) → r ≡ Ok a → r ≡ Ok b → a ≡ b
+pub same_ok : (r : Result ℕ Fault) (a b : ℕ) → r ≡ Ok a → r ≡ Ok b → a ≡ b
 same_ok r a b h k = cc
 
 lower_table : (r : Result ℕ Fault) (lowest t f : ℕ) → r ≡ Ok t → f < lower_of r lowest → f < t
@@ -131,7 +131,7 @@ entry_small m (suc q) e h =
     omega arith
 
 -- no object has the number 0
-zero_none : (m : MemoryMap) (o e : ℕ) → o ≤ 0 → entry_of m o ≡ Ok e → ⊥
+pub zero_none : (m : MemoryMap) (o e : ℕ) → o ≤ 0 → entry_of m o ≡ Ok e → ⊥
 zero_none m o e le h = let s = (probe m o e h).some in absurd (omega arith)
 
 -- nothing was counted yet

@@ -7,3 +7,5 @@ pub mod OneList
 pub mod Listed
 pub mod Checks
 pub mod Entries
+pub mod Answered
+pub mod TextMarks

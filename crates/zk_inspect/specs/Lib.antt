@@ -10,3 +10,5 @@ pub mod Texts
 pub mod Keys
 pub mod Findings
 pub mod Tests
+pub mod ObjectTests
+pub mod TextTests

@@ -5,10 +5,12 @@ ghost use Rattle.std.specs.List.{filter};
 ghost use Rattle.zk_inspect.specs.Codes.{IsCodeOf};
 ghost use Rattle.zk_inspect.specs.Findings.{Finds};
 ghost use Rattle.zk_inspect.specs.Lists.{IsListOf};
+ghost use Rattle.zk_inspect.specs.ObjectTests.{IsCounted};
 ghost use Rattle.zk_inspect.specs.Tests.{branches_out, calls_out, instr_leads_out, is_outside, is_undecodable, jumps_out, leads_out};
 
 use crate::code::{Addresses, Code};
 use crate::finding::Number;
+use crate::objects::{Question, list_objects};
 use std::alloc::{AllocError, Global};
 use zk_code::branch::{Branch, Target};
 use zk_code::decode::decode;
@@ -160,5 +162,35 @@ fn find_leading_out(alloc: Global, memory: &Memory, code: &Code) -> Result<Addre
 {
     memory.has_bytes();
     let list = list_leading_out(alloc, memory, code.addresses.as_slice())?;
+    Ok(list)
+}
+
+/// The entries of objects with a link past the last.
+fn find_leading_past(alloc: Global, memory: &Memory, count: u16) -> Result<Addresses, AllocError>
+    requires { IsCounted memory.now count }
+    ensures { IfOk result (IsListOf (Finds memory.now Number.ObjectLinks)) }
+{
+    memory.has_bytes();
+    let list = list_objects(alloc, memory, count, Question::Links)?;
+    Ok(list)
+}
+
+/// The entries of objects whose chain of children repeats one.
+fn find_repeating(alloc: Global, memory: &Memory, count: u16) -> Result<Addresses, AllocError>
+    requires { IsCounted memory.now count }
+    ensures { IfOk result (IsListOf (Finds memory.now Number.ChainWithARepeat)) }
+{
+    memory.has_bytes();
+    let list = list_objects(alloc, memory, count, Question::Chain)?;
+    Ok(list)
+}
+
+/// The entries of objects whose property list does not lie in data.
+fn find_without_list(alloc: Global, memory: &Memory, count: u16) -> Result<Addresses, AllocError>
+    requires { IsCounted memory.now count }
+    ensures { IfOk result (IsListOf (Finds memory.now Number.PropertyList)) }
+{
+    memory.has_bytes();
+    let list = list_objects(alloc, memory, count, Question::Properties)?;
     Ok(list)
 }

@@ -14,4 +14,5 @@ mod quoting;
 pub mod reach;
 #[cfg(test)]
 mod tests;
+mod texts;
 mod writing;

@@ -1,12 +1,20 @@
 // The objects that are listed.
 
-ghost use Rattle.std.specs.Prelude.{◌≡◌, ◌≤◌, ◌<◌, ◌↔◌, ℕ, Ok, IsTrue, IfOk, IsOk};
+ghost use Rattle.std.specs.Prelude.{◌≡◌, ◌≤◌, ◌<◌, ◌↔◌, ◌+◌, ℕ, Ok, Err, IfOk, IsOk, OnOk};
 ghost use Rattle.zk_tables.specs.Properties.{table_of};
 ghost use Rattle.zk_tables.specs.Layout.{entry_of};
+ghost use Rattle.zk_tables.specs.Chain.{children_of};
+ghost use Rattle.zk_tables.specs.Properties.{properties_of};
+ghost use Rattle.zk_inspect.specs.Lists.{IsListOf};
+ghost use Rattle.zk_inspect.specs.ObjectTests.{IsAnswered, answer, is_bad_property, is_bad_tree, is_past, leads_past};
 ghost use Rattle.zk_inspect.specs.Objects.{IsListed, lower_of};
 
+use crate::code::Addresses;
+use std::alloc::{AllocError, Global};
+use zk_mem::fault::Fault;
 use zk_mem::memory::Memory;
-use zk_tables::properties::{entry_address, table_address};
+use zk_tables::properties::{check_properties, entry_address, table_address};
+use zk_tables::tree::{check_children, child, parent, sibling};
 
 /// The lower one of an address and that of the property table of an object.
 fn lower_table(memory: &Memory, object: u16, lowest: u32) -> u32
@@ -40,4 +48,105 @@ pub(crate) fn count_objects(memory: &Memory) -> u16
         lowest = lower_table(memory, before + 1, lowest);
     }
     65_535
+}
+
+/// What is asked of an object.
+#[derive(Clone, Copy)]
+pub(crate) enum Question {
+    /// Whether a link names an object past the last.
+    Links,
+    /// Whether the chain of its children repeats one.
+    Chain,
+    /// Whether its property list does not lie in data.
+    Properties,
+}
+
+/// Whether a link names an object past the last.
+fn is_past(count: u16, link: Result<u16, Fault>) -> bool
+    ensures { result ≡ is_past count link }
+{
+    match link {
+        Ok(object) => object > count,
+        Err(_) => false,
+    }
+}
+
+/// Whether one of an object's links names an object past the last.
+fn leads_past(memory: &Memory, count: u16, object: u16) -> bool
+    ensures { result ≡ leads_past memory.now count object }
+{
+    is_past(count, parent(memory, object))
+        || is_past(count, sibling(memory, object))
+        || is_past(count, child(memory, object))
+}
+
+/// Whether the chain of an object's children repeats one.
+fn has_bad_tree(memory: &Memory, object: u16) -> bool
+    ensures { result ≡ is_bad_tree (children_of memory.now object) }
+{
+    match check_children(memory, object) {
+        Ok(()) => false,
+        Err(fault) => matches!(fault, Fault::BadTree),
+    }
+}
+
+/// Whether the property list of an object does not lie in data.
+fn has_bad_properties(memory: &Memory, object: u16) -> bool
+    ensures { result ≡ is_bad_property (properties_of memory.now object) }
+{
+    match check_properties(memory, object) {
+        Ok(()) => false,
+        Err(fault) => matches!(fault, Fault::BadProperty),
+    }
+}
+
+/// The answer to a question.
+fn answer(memory: &Memory, count: u16, question: Question, object: u16) -> bool
+    ensures { result ≡ answer memory.now count question object }
+{
+    match question {
+        Question::Links => leads_past(memory, count, object),
+        Question::Chain => has_bad_tree(memory, object),
+        Question::Properties => has_bad_properties(memory, object),
+    }
+}
+
+/// Adds the entry of an object, where a question is answered with yes.
+fn add_object(
+    memory: &Memory,
+    count: u16,
+    question: Question,
+    before: u16,
+    list: &mut Addresses,
+) -> Result<(), AllocError>
+    requires few { before < 65535 }
+    requires before { IsListOf (IsAnswered memory.now count question before) list.old }
+    ensures { OnOk result (IsListOf (IsAnswered memory.now count question (before + 1)) list.new) }
+{
+    match entry_address(memory, before + 1) {
+        Ok(entry) => {
+            if answer(memory, count, question, before + 1) {
+                list.push(entry)?;
+                return Ok(());
+            }
+            Ok(())
+        }
+        Err(_) => Ok(()),
+    }
+}
+
+/// The entries of the listed objects of which a question is answered with yes.
+pub(crate) fn list_objects(
+    alloc: Global,
+    memory: &Memory,
+    count: u16,
+    question: Question,
+) -> Result<Addresses, AllocError>
+    ensures { IfOk result (IsListOf (IsAnswered memory.now count question count)) }
+{
+    let mut list = Addresses::new(alloc);
+    for before in 0..count {
+        add_object(memory, count, question, before, &mut list)?;
+    }
+    Ok(list)
 }

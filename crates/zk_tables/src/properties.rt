@@ -1,6 +1,6 @@
 // The properties and names of objects.
 
-ghost use Rattle.std.specs.Prelude.{◌≡◌, ◌<◌, Ok, Err, IfOk, IfSome, IsOk, MatchResult};
+ghost use Rattle.std.specs.Prelude.{◌≡◌, ◌≤◌, ◌<◌, Ok, Err, IfOk, IfSome, IsOk, MatchResult};
 ghost use Rattle.zk_tables.specs.Layout.{entry_of};
 ghost use Rattle.zk_tables.specs.Properties.{table_of, list_of, properties_of, property_of, default_of, value_in, value_put_in, property_value, property_address_of, next_property_of, property_put, length_by, property_length_of, name_of};
 
@@ -214,7 +214,8 @@ pub fn property_length(memory: &Memory, address: u16) -> Result<u16, Fault>
 /// table lies outside data.
 #[tactic(auto, unfolding(crate::specs::Properties::name_of))]
 pub fn name(memory: &Memory, object: u16) -> Result<Option<u32>, Fault>
-    ensures { result ≡ name_of memory.now object }
+    ensures value { result ≡ name_of memory.now object }
+    ensures bound { IfOk result (λ text. IfSome text (λ address. address ≤ 65536)) }
 {
     if object == 0 {
         return Ok(None);

@@ -1,0 +1,193 @@
+-- The objects of which a question is answered with yes.
+use Rattle.std.proofs.Common.{◌≡◌, ◌≢◌, ◌∙◌, ℕ, ◌+◌, ◌<◌, ◌≤◌, ◌⊎◌, inl, inr, Bool, true, false, ◌||◌, List, [], ◌∷◌, ◌++◌, Result, Ok, Err, refl, sym, ap, subst, arith, nat_lt}
+use Rattle.std.specs.Prelude.{◌↔◌, IsOk}
+use Rattle.std.proofs.lemmas.Bool.{cases_lt, cases_eq}
+use Rattle.zk_mem.specs.declared.fault.Fault.{Fault}
+use Rattle.zk_mem.specs.declared.fault.Fault.TheVariants.{CodePastEnd, BadOpcode, MissingOperand, StackEmpty, NoSuchLocal, BadAddress, ReadOnly, DivisionByZero, BadObject, BadProperty, BadTree, TextPastEnd, NestedAbbreviation, StreamDepth, BadFrame, ReturnFromMain, BadTarget, BadDictionary}
+use Rattle.zk_mem.specs.Results.{◌>>=◌}
+use Rattle.zk_mem.specs.Map.{MemoryMap, HasBytes}
+use Rattle.zk_tables.specs.declared.lists.Property.{Property}
+use Rattle.zk_tables.specs.Chain.{Repeats, children_of}
+use Rattle.zk_tables.specs.Layout.{entry_of}
+use Rattle.zk_tables.specs.Links.{link_at, parent_of, sibling_of, child_of}
+use Rattle.zk_tables.specs.Properties.{list_of, properties_of}
+use Rattle.zk_tables.specs.PropertyList.{LeavesData, properties_at}
+use Rattle.zk_tables.proofs.ChainLaw.{children_are_chains}
+use Rattle.zk_tables.proofs.ListLaw.{lists_are_read}
+use Rattle.zk_inspect.specs.declared.finding.Number.TheVariants.{ObjectLinks, ChainWithARepeat, PropertyList}
+use Rattle.zk_inspect.specs.declared.objects.Question.{Question}
+use Rattle.zk_inspect.specs.declared.objects.Question.TheVariants.{Links, Chain, Properties}
+use Rattle.zk_inspect.specs.Findings.{Finds}
+use Rattle.zk_inspect.specs.Lists.{IsListOf}
+use Rattle.zk_inspect.specs.Objects.{IsListed, LeadsPast, LacksList}
+use Rattle.zk_inspect.specs.ObjectTests.{IsAnswered, IsCounted, answer, is_bad_property, is_bad_tree, is_past, leads_past}
+use Rattle.zk_inspect.proofs.Entries.{probe, rising, same_ok, zero_none}
+use Rattle.zk_inspect.proofs.Listed.{list_more, list_same, list_none}
+
+up : (m : MemoryMap) (n : ℕ) (q : Question) (before b : ℕ) → IsAnswered m n q before b → IsAnswered m n q (before + 1) b
+up m n q before b h = let few = h.few in record { object = h.object; few = omega arith; stands = h.stands; yes = h.yes }
+
+pub answered_none : (m : MemoryMap) (n : ℕ) (q : Question) → IsListOf (IsAnswered m n q 0) []
+answered_none m n q = list_none (IsAnswered m n q 0) (λ a h. zero_none m h.object a h.few h.stands)
+
+pub answered_more : (m : MemoryMap) (n : ℕ) (q : Question) (before e : ℕ) (xs : List ℕ) → IsListOf (IsAnswered m n q before) xs → entry_of m (before + 1) ≡ Ok e → answer m n q (before + 1) ≡ true → IsListOf (IsAnswered m n q (before + 1)) (xs ++ e ∷ [])
+answered_more m n q before e xs h at holds = list_more (IsAnswered m n q before) (IsAnswered m n q (before + 1)) xs e h
+    (λ b p. let few = p.few in rising m (before + 1) p.object e b at p.stands (omega arith))
+    (up m n q before)
+    (λ b r. elim (cases_eq r.object (before + 1)) [
+      | inl s ↦ inr (same_ok (entry_of m (before + 1)) e b at (ap (entry_of m) (sym s) ∙ r.stands))
+      | inr ne ↦ inl (let few = r.few in record { object = r.object; few = omega arith; stands = r.stands; yes = r.yes })
+    ])
+    (record { object = before + 1; few = omega arith; stands = at; yes = holds })
+
+pub answered_still : (m : MemoryMap) (n : ℕ) (q : Question) (before : ℕ) (xs : List ℕ) → IsListOf (IsAnswered m n q before) xs → answer m n q (before + 1) ≡ false → IsListOf (IsAnswered m n q (before + 1)) xs
+answered_still m n q before xs h fails = list_same (IsAnswered m n q before) (IsAnswered m n q (before + 1)) xs h (up m n q before)
+    (λ b r. elim (cases_eq r.object (before + 1)) [
+      | inl s ↦ absurd (let y : answer m n q (before + 1) ≡ true = ap (answer m n q) (sym s) ∙ r.yes in cc)
+      | inr ne ↦ let few = r.few in record { object = r.object; few = omega arith; stands = r.stands; yes = r.yes }
+    ])
+
+pub answered_gone : (m : MemoryMap) (n : ℕ) (q : Question) (before : ℕ) (f : Fault) (xs : List ℕ) → IsListOf (IsAnswered m n q before) xs → entry_of m (before + 1) ≡ Err f → IsListOf (IsAnswered m n q (before + 1)) xs
+answered_gone m n q before f xs h none = list_same (IsAnswered m n q before) (IsAnswered m n q (before + 1)) xs h (up m n q before)
+    (λ b r. elim (cases_eq r.object (before + 1)) [
+      | inl s ↦ absurd (let y : entry_of m (before + 1) ≡ Ok b = ap (entry_of m) (sym s) ∙ r.stands in cc)
+      | inr ne ↦ let few = r.few in record { object = r.object; few = omega arith; stands = r.stands; yes = r.yes }
+    ])
+
+-- ---- what the answers say
+
+past_is : (n : ℕ) (r : Result ℕ Fault) → is_past n r ≡ true → (o : ℕ) × (r ≡ Ok o) × (n < o)
+past_is n (Ok o) h = (o, refl, grind arith)
+past_is n (Err f) h = absurd cc
+
+is_past_of : (n o : ℕ) (r : Result ℕ Fault) → r ≡ Ok o → n < o → is_past n r ≡ true
+is_past_of n o (Ok p) e lt = let same : p ≡ o = cc in grind arith
+is_past_of n o (Err f) e lt = absurd cc
+
+either : (a b c : Bool) → (a || b || c) ≡ true → (a ≡ true) ⊎ ((b ≡ true) ⊎ (c ≡ true))
+either true b c h = inl refl
+either false true c h = inr (inl refl)
+either false false true h = inr (inr refl)
+either false false false h = absurd cc
+
+any : (a b c : Bool) → (a ≡ true) ⊎ ((b ≡ true) ⊎ (c ≡ true)) → (a || b || c) ≡ true
+any true b c h = refl
+any false true c h = refl
+any false false true h = refl
+any false false false (inl h) = absurd cc
+any false false false (inr (inl h)) = absurd cc
+any false false false (inr (inr h)) = absurd cc
+
+pub ok_is : (r : Result ℕ Fault) → IsOk r → (e : ℕ) × (r ≡ Ok e)
+ok_is (Ok e) h = (e, refl)
+ok_is (Err f) h = absurd cc
+
+-- an object past the last is not listed, and the other way round
+past_last : (m : MemoryMap) (n o : ℕ) → IsCounted m n → n < o → (e : ℕ) → IsListed m o e → ⊥
+past_last m n o c lt e h = let le = ((c.listed o e).0 h).0 in absurd (omega arith)
+
+last_past : (m : MemoryMap) (n o : ℕ) → IsCounted m n → o ≢ 0 → ((e : ℕ) → IsListed m o e → ⊥) → n < o
+last_past m n o c some none = elim (cases_lt n o) [
+  | inl lt ↦ lt
+  | inr le ↦ absurd (let at = ok_is (entry_of m o) (c.whole o (omega arith) le) in none at.0 ((c.listed o at.0).1 (le, at.1)))
+]
+
+named_past : (m : MemoryMap) (n o p : ℕ) → IsCounted m n → n < p → (link_at m (parent_of o) ≡ Ok p) ⊎ ((link_at m (sibling_of o) ≡ Ok p) ⊎ (link_at m (child_of o) ≡ Ok p)) → LeadsPast m o
+named_past m n o p c lt names = record { named = p; some = omega arith; past = past_last m n p c lt; names = names }
+
+test_past : (m : MemoryMap) (n o : ℕ) → IsCounted m n → leads_past m n o ≡ true → LeadsPast m o
+test_past m n o c h = elim (either (is_past n (link_at m (parent_of o))) (is_past n (link_at m (sibling_of o))) (is_past n (link_at m (child_of o))) h) [
+  | inl a ↦ let p = past_is n (link_at m (parent_of o)) a in named_past m n o p.0 c p.2 (inl p.1)
+  | inr (inl a) ↦ let p = past_is n (link_at m (sibling_of o)) a in named_past m n o p.0 c p.2 (inr (inl p.1))
+  | inr (inr a) ↦ let p = past_is n (link_at m (child_of o)) a in named_past m n o p.0 c p.2 (inr (inr p.1))
+]
+
+past_names : (m : MemoryMap) (n o p : ℕ) → n < p → (link_at m (parent_of o) ≡ Ok p) ⊎ ((link_at m (sibling_of o) ≡ Ok p) ⊎ (link_at m (child_of o) ≡ Ok p)) → leads_past m n o ≡ true
+past_names m n o p lt (inl e) = any (is_past n (link_at m (parent_of o))) (is_past n (link_at m (sibling_of o))) (is_past n (link_at m (child_of o))) (inl (is_past_of n p (link_at m (parent_of o)) e lt))
+past_names m n o p lt (inr (inl e)) = any (is_past n (link_at m (parent_of o))) (is_past n (link_at m (sibling_of o))) (is_past n (link_at m (child_of o))) (inr (inl (is_past_of n p (link_at m (sibling_of o)) e lt)))
+past_names m n o p lt (inr (inr e)) = any (is_past n (link_at m (parent_of o))) (is_past n (link_at m (sibling_of o))) (is_past n (link_at m (child_of o))) (inr (inr (is_past_of n p (link_at m (child_of o)) e lt)))
+
+past_test : (m : MemoryMap) (n o : ℕ) → IsCounted m n → LeadsPast m o → leads_past m n o ≡ true
+past_test m n o c h = past_names m n o h.named (last_past m n h.named c h.some h.past) h.names
+
+pub object_links : (m : MemoryMap) (n : ℕ) (xs : List ℕ) → IsCounted m n → IsListOf (IsAnswered m n Links n) xs → IsListOf (Finds m ObjectLinks) xs
+unfolding Finds
+object_links m n xs c h = list_same (IsAnswered m n Links n) (Finds m ObjectLinks) xs h
+    (λ a p. (p.object, (c.listed p.object a).1 (p.few, p.stands), test_past m n p.object c p.yes))
+    (λ a p. let l = (c.listed p.0 a).0 p.1 in record { object = p.0; few = l.0; stands = l.1; yes = past_test m n p.0 c p.2 })
+
+tree_fault : (f : Fault) → is_bad_tree {A = List ℕ} (Err f) ≡ true → f ≡ BadTree
+tree_fault CodePastEnd h = absurd cc
+tree_fault BadOpcode h = absurd cc
+tree_fault MissingOperand h = absurd cc
+tree_fault StackEmpty h = absurd cc
+tree_fault NoSuchLocal h = absurd cc
+tree_fault BadAddress h = absurd cc
+tree_fault ReadOnly h = absurd cc
+tree_fault DivisionByZero h = absurd cc
+tree_fault BadObject h = absurd cc
+tree_fault BadProperty h = absurd cc
+tree_fault BadTree h = refl
+tree_fault TextPastEnd h = absurd cc
+tree_fault NestedAbbreviation h = absurd cc
+tree_fault StreamDepth h = absurd cc
+tree_fault BadFrame h = absurd cc
+tree_fault ReturnFromMain h = absurd cc
+tree_fault BadTarget h = absurd cc
+tree_fault BadDictionary h = absurd cc
+
+bad_tree : (r : Result (List ℕ) Fault) → is_bad_tree r ≡ true → r ≡ Err BadTree
+bad_tree (Ok xs) h = absurd cc
+bad_tree (Err f) h = ap (λ (g : Fault). Err g) (tree_fault f h)
+
+pub chains_repeat : (m : MemoryMap) (n : ℕ) (xs : List ℕ) → IsCounted m n → IsListOf (IsAnswered m n Chain n) xs → IsListOf (Finds m ChainWithARepeat) xs
+unfolding Finds
+chains_repeat m n xs c h = list_same (IsAnswered m n Chain n) (Finds m ChainWithARepeat) xs h
+    (λ a p. (p.object, (c.listed p.object a).1 (p.few, p.stands), (children_are_chains m p.object).repeats.0 (bad_tree (children_of m p.object) p.yes)))
+    (λ a p. let l = (c.listed p.0 a).0 p.1 in record { object = p.0; few = l.0; stands = l.1; yes = ap is_bad_tree ((children_are_chains m p.0).repeats.1 p.2) })
+
+property_fault : (f : Fault) → is_bad_property {A = List Property} (Err f) ≡ true → f ≡ BadProperty
+property_fault CodePastEnd h = absurd cc
+property_fault BadOpcode h = absurd cc
+property_fault MissingOperand h = absurd cc
+property_fault StackEmpty h = absurd cc
+property_fault NoSuchLocal h = absurd cc
+property_fault BadAddress h = absurd cc
+property_fault ReadOnly h = absurd cc
+property_fault DivisionByZero h = absurd cc
+property_fault BadObject h = absurd cc
+property_fault BadProperty h = refl
+property_fault BadTree h = absurd cc
+property_fault TextPastEnd h = absurd cc
+property_fault NestedAbbreviation h = absurd cc
+property_fault StreamDepth h = absurd cc
+property_fault BadFrame h = absurd cc
+property_fault ReturnFromMain h = absurd cc
+property_fault BadTarget h = absurd cc
+property_fault BadDictionary h = absurd cc
+
+same_err : (f g : Fault) (r s : Result (List Property) Fault) → r ≡ Err f → s ≡ Err g → r ≡ s → f ≡ g
+same_err f g r s d e h = cc
+
+bad_property : (r : Result (List Property) Fault) → is_bad_property r ≡ true → r ≡ Err BadProperty
+bad_property (Ok xs) h = absurd cc
+bad_property (Err f) h = ap (λ (g : Fault). Err g) (property_fault f h)
+
+lacks_by : (m : MemoryMap) (o : ℕ) (r : Result ℕ Fault) → HasBytes m → list_of m o ≡ r → (r >>= properties_at m) ≡ Err BadProperty → LacksList m o
+lacks_by m o (Ok a) bytes e h = inr (a, e, (lists_are_read m a bytes).leaves.0 h)
+lacks_by m o (Err f) bytes e h = inl (e ∙ ap (λ (g : Fault). Err g) (same_err f BadProperty _ _ refl refl h))
+
+lacking : (m : MemoryMap) (o : ℕ) → HasBytes m → LacksList m o → properties_of m o ≡ Err BadProperty
+unfolding properties_of
+lacking m o bytes (inl e) = rw e refl
+lacking m o bytes (inr p) = rw p.1 ((lists_are_read m p.0 bytes).leaves.1 p.2)
+
+lack_of : (m : MemoryMap) (o : ℕ) → HasBytes m → properties_of m o ≡ Err BadProperty → LacksList m o
+unfolding properties_of
+lack_of m o bytes h = lacks_by m o (list_of m o) bytes refl h
+
+pub properties_lack : (m : MemoryMap) (n : ℕ) (xs : List ℕ) → HasBytes m → IsCounted m n → IsListOf (IsAnswered m n Properties n) xs → IsListOf (Finds m PropertyList) xs
+unfolding Finds
+properties_lack m n xs bytes c h = list_same (IsAnswered m n Properties n) (Finds m PropertyList) xs h
+    (λ a p. (p.object, (c.listed p.object a).1 (p.few, p.stands), lack_of m p.object bytes (bad_property (properties_of m p.object) p.yes)))
+    (λ a p. let l = (c.listed p.0 a).0 p.1 in record { object = p.0; few = l.0; stands = l.1; yes = ap is_bad_property (lacking m p.0 bytes p.2) })

@@ -1,0 +1,48 @@
+-- Tests on the texts of a story, and marks on them.
+use Rattle.std.specs.Prelude.{◌≡◌, ◌⊎◌, ℕ, ◌<◌, ◌≤◌, Bool, true, false, ◌&&◌, ◌||◌, List, length, get_or, Option, Some, None, Result, Ok, Err}
+use Rattle.zk_mem.specs.declared.fault.Fault.{Fault}
+use Rattle.zk_mem.specs.declared.fault.Fault.TheVariants.{TextPastEnd, NestedAbbreviation}
+use Rattle.zk_mem.specs.Map.{MemoryMap}
+use Rattle.zk_text.specs.Meaning.{Units, meaning_at, no_abbreviation, text_units}
+use Rattle.zk_tables.specs.Properties.{name_of}
+use Rattle.zk_code.specs.declared.instr.Instr.{Instr}
+use Rattle.zk_code.specs.Grammar.{IsInstruction}
+use Rattle.zk_inspect.specs.declared.texts.TextFault.{TextFault}
+use Rattle.zk_inspect.specs.declared.texts.TextFault.TheVariants.{PastEnd, Nested}
+use Rattle.zk_inspect.specs.Lists.{IsMarked}
+use Rattle.zk_inspect.specs.Objects.{IsListed}
+use Rattle.zk_inspect.specs.Texts.{IsPrinted, constant_text}
+
+-- a fault is that of a kind
+abbrev pub is_of : TextFault → Fault → Bool
+is_of PastEnd TextPastEnd = true
+is_of PastEnd _ = false
+is_of Nested NestedAbbreviation = true
+is_of Nested _ = false
+
+-- a meaning has a fault of a kind
+abbrev pub has_kind : TextFault → Units → Bool
+has_kind kind (Ok us) = false
+has_kind kind (Err f) = is_of kind f
+
+-- a text at an address has one: one that is printed, or one of an abbreviation
+abbrev pub text_fails : MemoryMap → List Bool → List Bool → TextFault → ℕ → Bool
+text_fails m printed abbreviations kind a =
+    (get_or printed a false && has_kind kind (text_units m a)) || (get_or abbreviations a false && has_kind kind (meaning_at no_abbreviation m a))
+
+-- marks on texts that are printed
+pub record IsTextMarks (m : MemoryMap) (marks : List Bool) : Type 0 where
+  pub size : length marks ≡ 524289
+  pub sound : (a : ℕ) → IsMarked marks a → IsPrinted m a
+
+-- the names of the first so many objects are marked
+abbrev pub NamesMarked : MemoryMap → ℕ → List Bool → Type 0
+NamesMarked m n marks = (o entry a : ℕ) → o ≤ n → IsListed m o entry → name_of m o ≡ Ok (Some a) → IsMarked marks a
+
+-- the texts of an instruction are marked
+abbrev pub TextsMarked : MemoryMap → ℕ → List Bool → Type 0
+TextsMarked m a marks = (i : Instr) (b t : ℕ) → IsInstruction m a i b → (i.text ≡ Some t) ⊎ (constant_text m i ≡ Some t) → IsMarked marks t
+
+-- later marks
+abbrev pub Keeps : List Bool → List Bool → Type 0
+Keeps old new = (a : ℕ) → IsMarked old a → IsMarked new a
