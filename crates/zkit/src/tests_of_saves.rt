@@ -36,19 +36,24 @@ impl SaveSlot for Held {
 
 /// A saved game of a small story without a checksum: memory as the file has it, and the first frame alone.
 fn saved_at(alloc: Global, place: u8) -> Result<Vec<u8>, Fail> {
-    saved_with(alloc, place, &[])
+    saved_with(alloc, place, (0x32, 8), &[])
 }
 
-/// The same with the bytes of more frames, fewer than 200.
-fn saved_with(alloc: Global, place: u8, frames: &[u8]) -> Result<Vec<u8>, Fail> {
+/// The same with the bytes of more frames, by the lengths of the form and of the stack.
+fn saved_with(
+    alloc: Global,
+    place: u8,
+    (form, stack): (u8, u8),
+    frames: &[u8],
+) -> Result<Vec<u8>, Fail> {
     let mut file = Vec::from_slice(alloc, b"FORM\x00\x00\x00")?;
-    file.push(0x32 + frames.len() as u8)?;
+    file.push(form)?;
     file.extend_from_slice(b"IFZS")?;
     file.extend_from_slice(b"IFhd\x00\x00\x00\x0d\x00\x00000000\x00\x00\x00\x00")?;
     file.push(place)?;
     file.extend_from_slice(b"\x00CMem\x00\x00\x00\x00")?;
     file.extend_from_slice(b"Stks\x00\x00\x00")?;
-    file.push(8 + frames.len() as u8)?;
+    file.push(stack)?;
     file.extend_from_slice(b"\x00\x00\x00\x00\x00\x00\x00\x00")?;
     file.extend_from_slice(frames)?;
     Ok(file)
@@ -165,9 +170,9 @@ fn a_file_past_a_limit_ends_the_run(rt: HostRuntime) -> Result<(), Fail> {
         typed: b"",
         file,
     };
-    let file = saved_with(rt.alloc(), 0x41, frames)?;
+    let file = saved_with(rt.alloc(), 0x41, (0x3a, 16), frames)?;
     goes_on(&rt, game(file), one, "", 3, "zkit: limit 1 at 00040\n")?;
-    let file = saved_with(rt.alloc(), 0x41, frames)?;
+    let file = saved_with(rt.alloc(), 0x41, (0x3a, 16), frames)?;
     goes_on(&rt, game(file), plainly(AMPLE), "", 0, "")
 }
 
