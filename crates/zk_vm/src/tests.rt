@@ -129,7 +129,10 @@ fn nothing_is_written_after_a_failure(rt: HostRuntime) -> Result<(), Fail> {
     console.text('a');
     console.text('b');
     console.script('c');
+    console.finish();
     assert!(rt; console.has_failed());
+    console.text('d');
+    console.finish();
     let FailsOnce { taken, has_failed } = screen.into_inner();
     assert!(rt; has_failed && taken.is_empty());
     assert!(rt; script.into_inner().is_empty());
