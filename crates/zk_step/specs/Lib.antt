@@ -6,6 +6,11 @@ pub mod Control
 pub mod Effects
 pub mod Endings
 pub mod Examples
+pub mod InstructionExamples
+pub mod ObjectExamples
+pub mod PrintingExamples
+pub mod ReadingExamples
+pub mod RoutineExamples
 pub mod Restarts
 pub mod Finish
 pub mod Resuming

@@ -16,7 +16,8 @@ use Rattle.zk_step.specs.declared.ending.Wait.TheVariants as wait
 use Rattle.zk_step.specs.declared.workspace.View.TheVariants as view
 use Rattle.zk_step.specs.declared.workspace.Workspace.{Workspace}
 use Rattle.zk_step.specs.Endings.{ends, gives, tests}
-use Rattle.zk_step.specs.Examples.{memory_of, routine_with, caller_with, working, in_routine, instruction, silent, waiting}
+use Rattle.zk_step.specs.Examples.{memory_of, routine_with, caller_with, working, in_routine, instruction}
+use Rattle.zk_step.specs.InstructionExamples.{silent, waiting}
 use Rattle.zk_step.specs.Finish.{finished}
 use Rattle.zk_step.specs.Inputs.{result_answered}
 use Rattle.zk_step.specs.Instructions.{carried_out}
