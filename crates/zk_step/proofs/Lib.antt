@@ -9,6 +9,7 @@ pub mod Plain
 pub mod Pushes
 pub mod Rebounded
 pub mod Returns
+pub mod SameStory
 pub mod Steps
 pub mod Stories
 pub mod Waits

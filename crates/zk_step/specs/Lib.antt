@@ -30,6 +30,7 @@ pub mod TextBuffers
 pub mod Variables
 pub mod Words
 pub mod Random
+pub mod StoryWords
 pub mod Streams
 pub mod Selecting
 pub mod Status

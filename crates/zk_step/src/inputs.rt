@@ -2,11 +2,14 @@
 
 ghost use Rattle.zk_state.specs.Frames.{bounds_of};
 ghost use Rattle.std.specs.Prelude.{◌≡◌, ◌≤◌, ◌^◌, Ok, Err, MatchResult};
+ghost use Rattle.zk_step.specs.Laws.{fixed_parts};
+ghost use Rattle.zk_step.specs.StoryWords.{AreWordsOf};
 ghost use Rattle.zk_step.specs.Inputs.{reading, line_ending, line_answered, result_answered, character_answered};
 ghost use Rattle.zk_step.specs.Limited.{limited_next};
 
 use crate::ending::{Effect, Ending, Next, Output, Wait};
 use crate::finish::finish;
+use crate::story_words::StoryWords;
 use crate::text_buffers::put_line;
 use crate::values::Values;
 use crate::workspace::Workspace;
@@ -39,22 +42,25 @@ fn ending_of_line(version: u8) -> Ending
     }
 }
 
-/// Answers a read by a line: its codes go to the text buffer, and its words to the parse buffer.
+/// Answers a read by a line: its codes go to the text buffer, and its words to the parse buffer. `words` is what is known
+/// of the story's dictionary.
 #[tactic(auto, unfolding(crate::specs::Inputs::line_answered))]
 pub fn answer_line(
     workspace: &mut Workspace,
+    words: &StoryWords,
     i: &Instr,
     text: u16,
     parse: u16,
     line: &[u8],
 ) -> Result<Next, Refusal>
-    requires { i.now.next ≤ 2 ^ 20 }
+    requires near { i.now.next ≤ 2 ^ 20 }
+    requires words { AreWordsOf (fixed_parts workspace.old.memory) words.now }
     ensures value { MatchResult result
         (λ n. limited_next (line_answered workspace.old i.now text parse line.now) ≡ Ok (workspace.new, n))
         (λ e. limited_next (line_answered workspace.old i.now text parse line.now) ≡ Err e) }
     ensures bounds { bounds_of workspace.new.frames ≡ bounds_of workspace.old.frames }
 {
-    match put_line(&mut workspace.memory, text, parse, line) {
+    match put_line(&mut workspace.memory, words, text, parse, line) {
         Ok(()) => {}
         Err(fault) => return Err(Refusal::Fault(fault)),
     }

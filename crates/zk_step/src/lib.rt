@@ -27,6 +27,7 @@ pub mod saving_examples;
 mod screens;
 mod selecting;
 pub mod status;
+pub mod story_words;
 pub mod streams;
 mod tables;
 pub mod text_buffers;

@@ -2,13 +2,15 @@
 
 ghost use Rattle.std.specs.Prelude.{◌≡◌, ◌≤◌, ◌<◌, ◌+◌, ◌-◌, Bool, Ok, Err, MatchResult, length, take, map};
 ghost use Rattle.zk_text.specs.Extra.{own_characters, lower_code};
+ghost use Rattle.zk_step.specs.Laws.{fixed_parts};
+ghost use Rattle.zk_step.specs.StoryWords.{AreWordsOf};
 ghost use Rattle.zk_step.specs.TextBuffers.{taken_letters, ended_by_zero, early_line_put, counted_letters, later_line_put, divided, own_dictionary, line_put, is_filled, later_kept, kept_of};
 
+use crate::story_words::StoryWords;
 use arrayvec::ArrayVec;
 use zk_arrays::runs::put_bytes;
 use zk_mem::fault::Fault;
 use zk_mem::memory::Memory;
-use zk_tables::dictionary::Dictionary;
 use zk_tables::parsing::tokenise;
 use zk_text::extra::Extra;
 
@@ -61,18 +63,21 @@ fn put_later_line(memory: &mut Memory, text: u16, line: &[u8]) -> Result<(), Fau
     memory.set_byte(text + 1, count + letters.len() as u8)
 }
 
-/// Divides the text in a text buffer into words, by the dictionary at an address.
+/// Divides the text in a text buffer into words, by the dictionary at an address. `words` is what is known of the
+/// story's own.
 #[tactic(auto, unfolding(crate::specs::TextBuffers::divided))]
 pub fn divide(
     memory: &mut Memory,
+    words: &StoryWords,
     text: u16,
     parse: u16,
     dictionary: u16,
     leaves_unknown: bool,
 ) -> Result<(), Fault>
+    requires words { AreWordsOf (fixed_parts memory.old) words.now }
     ensures { MatchResult result (λ _. divided memory.old text parse dictionary leaves_unknown ≡ Ok memory.new) (λ e. divided memory.old text parse dictionary leaves_unknown ≡ Err e) }
 {
-    let dictionary = Dictionary::at(memory, dictionary as u32)?;
+    let dictionary = words.dictionary_at(memory, dictionary)?;
     tokenise(
         memory,
         text as u32,
@@ -83,21 +88,28 @@ pub fn divide(
 }
 
 /// Stores a line in a text buffer and its words in a parse buffer.
-#[tactic(auto, unfolding(crate::specs::TextBuffers::line_put))]
-pub fn put_line(memory: &mut Memory, text: u16, parse: u16, line: &[u8]) -> Result<(), Fault>
+#[tactic(auto, unfolding(crate::specs::TextBuffers::line_put), using(crate::proofs::SameStory::words_after_early, crate::proofs::SameStory::words_after_later))]
+pub fn put_line(
+    memory: &mut Memory,
+    words: &StoryWords,
+    text: u16,
+    parse: u16,
+    line: &[u8],
+) -> Result<(), Fault>
+    requires words { AreWordsOf (fixed_parts memory.old) words.now }
     ensures { MatchResult result (λ _. line_put memory.old text parse line.now ≡ Ok memory.new) (λ e. line_put memory.old text parse line.now ≡ Err e) }
 {
     if memory.version() < 5 {
         put_early_line(memory, text, line)?;
         let dictionary = memory.header().dictionary;
-        return divide(memory, text, parse, dictionary, false);
+        return divide(memory, words, text, parse, dictionary, false);
     }
     put_later_line(memory, text, line)?;
     if parse == 0 {
         return Ok(());
     }
     let dictionary = memory.header().dictionary;
-    divide(memory, text, parse, dictionary, false)
+    divide(memory, words, text, parse, dictionary, false)
 }
 
 /// The first letters of a line.

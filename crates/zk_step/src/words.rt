@@ -5,6 +5,7 @@ ghost use Rattle.zk_tables.specs.Parsing.{letters_counted};
 ghost use Rattle.zk_step.specs.TextBuffers.{own_dictionary};
 ghost use Rattle.zk_step.specs.Words.{dictionary_or_own, words_changed};
 
+use crate::story_words::StoryWords;
 use crate::text_buffers::divide;
 use crate::values::Values;
 use arrayvec::ArrayVec;
@@ -56,6 +57,7 @@ pub fn change_words(operation: Words, memory: &mut Memory, values: &Values) -> R
             let leaves_unknown = values.fourth() != 0;
             divide(
                 memory,
+                &StoryWords::unknown(),
                 values.first(),
                 values.second(),
                 dictionary,

@@ -65,7 +65,7 @@ by_inside m a s l n d h = elim (cases_Bool (nat_lt l (key_length m.version))) [
   ]
 ]
 
-dictionary_address : (m : MemoryMap) (a : ℕ) (d : Dictionary) → dictionary_at m a ≡ Ok d → d.address ≡ a
+pub dictionary_address : (m : MemoryMap) (a : ℕ) (d : Dictionary) → dictionary_at m a ≡ Ok d → d.address ≡ a
 unfolding dictionary_at
 dictionary_address m a d h =
     let s = bind_ok (dictionary_byte m a) _ d h in

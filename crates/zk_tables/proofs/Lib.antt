@@ -2,6 +2,7 @@ pub mod Steps
 pub mod ChainSteps
 pub mod ListSteps
 pub mod Writes
+pub mod Alike
 pub mod Finding
 pub mod Ordering
 pub mod Dividing

@@ -110,7 +110,7 @@ impl Machine {
         let memory = Memory::start(alloc, story, setup)?;
         let windows = Windows::new(alloc)?;
         let undo = Undo::new(alloc, limits.undo)?;
-        let cache = Cache::new(alloc)?;
+        let cache = Cache::new(alloc, &memory)?;
         let codes = Codes::new(alloc)?;
         let generators = Generators {
             free: seed,
@@ -436,8 +436,9 @@ impl Machine {
         };
         if let Wait::Line(text, parse) = waiting.wait {
             self.due = transcribe(&self.workspace, text, codes);
+            let words = self.cache.words();
             let i = &waiting.instruction;
-            let answered = answer_line(&mut self.workspace, i, text, parse, codes);
+            let answered = answer_line(&mut self.workspace, &words, i, text, parse, codes);
             count_read(&mut self.reads, &mut self.steps);
             follow(&mut self.place, &mut self.stopped, answered);
         }

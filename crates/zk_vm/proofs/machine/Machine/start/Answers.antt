@@ -11,6 +11,6 @@ invariant_of-result c = record {
   bounds = first_bounds c.in_ok-frames.frames c.args.limits.frames c.args.limits.words c.in_ok-frames.ensures;
   reads = omega arith;
   most = ap (λ (u : UndoStates). u.most) c.in_ok-undo.ensures.value;
-  story = record { are_of = c.in_ok-undo.ensures.are_of c.in_ok-memory.memory c.in_ok-frames.frames; memory = ap (λ (m : MemoryMap). m.undo_states) c.in_ok-memory.ensures ∙ first_undo c.args.story c.args.limits.undo; cache = c.in_ok-cache.ensures (fixed_parts c.in_ok-memory.memory) };
+  story = record { are_of = c.in_ok-undo.ensures.are_of c.in_ok-memory.memory c.in_ok-frames.frames; memory = ap (λ (m : MemoryMap). m.undo_states) c.in_ok-memory.ensures ∙ first_undo c.args.story c.args.limits.undo; cache = c.in_ok-cache.ensures };
   waits = tt;
 }
