@@ -92,19 +92,6 @@ impl Undo {
         Ok(())
     }
 
-    /// Lets all states go.
-    #[tactic(auto, using(crate::proofs::Wholes::none_of))]
-    pub fn clear(&mut self)
-        ensures value { self.new ≡ record { states = []; most = self.old.most } }
-        ensures are_of { (m : MemoryMap) (f : FrameList) → AreOf m f self.new }
-    {
-        let ring = match &mut self.ring {
-            Some(ring) => ring,
-            None => return,
-        };
-        ring.clear();
-    }
-
     /// The newest state, which is no longer kept.
     fn pop(&mut self) -> Option<Kept>
         ensures { MatchOption result ((self.old.states ≡ []) × (self.new ≡ self.old)) (λ k. self.old ≡ record { states = k ∷ self.new.states; most = self.new.most }) }

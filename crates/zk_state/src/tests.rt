@@ -51,6 +51,24 @@ fn frames_go_up_to_the_bound(rt: HostRuntime) -> Result<(), Fail> {
 }
 
 #[test]
+fn local_variables_behind_the_arguments_are_0(rt: HostRuntime) -> Result<(), Fail> {
+    let mut frames = Frames::new(rt.alloc(), 3, 9)?;
+    for word in [7, 8, 9] {
+        assert_eq!(rt; frames.push(word), Ok(()));
+    }
+    for word in [9, 8, 7] {
+        assert_eq!(rt; frames.pop(), Ok(word));
+    }
+    // the words stay in their room, where the local variables now lie
+    assert_eq!(rt; frames.call_with(3, &[5], 66, None, 1), Ok(()));
+    assert_eq!(rt; frames.local(1), Ok(5));
+    assert_eq!(rt; frames.local(2), Ok(0));
+    assert_eq!(rt; frames.local(3), Ok(0));
+    assert_eq!(rt; frames.supplied(), 1);
+    Ok(())
+}
+
+#[test]
 fn a_return_drops_the_words_of_its_routine(rt: HostRuntime) -> Result<(), Fail> {
     let mut frames = Frames::new(rt.alloc(), 4, 20)?;
     assert_eq!(rt; frames.push(7), Ok(()));

@@ -5,8 +5,9 @@ ghost use Rattle.std.specs.Prelude.{◌≡◌, None, IfOk};
 use crate::limits::Limits;
 use crate::machine::Machine;
 use crate::play::{play, turn};
-use crate::slot::NoSlot;
+use crate::slot::{NoSlot, SaveSlot};
 use crate::stop::{Event, Stop};
+use std::alloc::{AllocError, Global};
 use std::cell::Cell;
 use std::io::{self, Read, Write};
 use std::process::Abort;
@@ -172,5 +173,74 @@ fn all_text_is_written_before_the_reader_is_asked(rt: HostRuntime) -> Result<(),
     // each of the four bytes was asked for when one, one, three and three bytes were written
     assert_eq!(rt; noted.get(), 1133);
     assert_eq!(rt; taken.get(), 3);
+    Ok(())
+}
+
+/// Takes nothing.
+#[derive(Drop)]
+struct Full;
+
+impl Write for Full {
+    fn write(&mut self, _bytes: &[u8]) -> io::Result<usize> {
+        Err(io::Error::from(io::ErrorKind::StorageFull))
+    }
+
+    fn flush(&mut self) -> io::Result<()> {
+        Ok(())
+    }
+}
+
+/// Notes that it was asked.
+#[derive(Drop)]
+struct Asked<'a> {
+    asked: &'a Cell<bool>,
+}
+
+impl SaveSlot for Asked<'_> {
+    ghost use Rattle.std.specs.Prelude.{None};
+
+    ghost held = { λ _. None };
+
+    ghost keeps = { λ _ _. None };
+
+    fn put(&mut self, _file: &[u8]) -> bool {
+        self.asked.set(true);
+        true
+    }
+
+    fn get(&mut self, _alloc: Global) -> Result<Option<Vec<u8>>, AllocError> {
+        self.asked.set(true);
+        Ok(None)
+    }
+}
+
+#[test]
+fn nobody_is_asked_after_a_failed_write(rt: HostRuntime) -> Result<(), Fail> {
+    // print_char a, save -> sp, restore -> sp, quit
+    let code = [
+        0xe5, 0x7f, 0x61, 0xbe, 0x00, 0xff, 0x00, 0xbe, 0x01, 0xff, 0x00, 0xba,
+    ];
+    let asked = Cell::new(false);
+    let mut machine = machine_of(&rt, &code)?;
+    let mut slot = Asked { asked: &asked };
+    let first = turn(
+        rt.alloc(),
+        &mut Over::new(Full),
+        &mut Nothing,
+        &mut slot,
+        &mut machine,
+    );
+    assert_eq!(rt; first, Err(Stop::Write));
+    assert_eq!(rt; asked.get(), false);
+    let mut machine = machine_of(&rt, &code)?;
+    let second = turn(
+        rt.alloc(),
+        &mut Nothing,
+        &mut Nothing,
+        &mut slot,
+        &mut machine,
+    );
+    assert_eq!(rt; second, Err(Stop::Quit));
+    assert_eq!(rt; asked.get(), true);
     Ok(())
 }
