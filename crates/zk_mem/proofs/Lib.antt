@@ -1,4 +1,5 @@
 pub mod Again
+pub mod Below
 pub mod Bounds
 pub mod Copies
 pub mod Fields

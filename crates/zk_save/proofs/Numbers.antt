@@ -3,6 +3,7 @@ use Rattle.std.specs.Int.{trailing_ones, w8}
 use Rattle.std.proofs.Common.{◌≡◌, ◌∙◌, ℕ, zero, suc, ◌+◌, ◌*◌, ◌^◌, ◌<◌, ◌≤◌, Bool, true, false, ◌&&◌, ◌==◌, List, ◌∷◌, length, drop, get_or, refl, ap, sym, arith, add-one, drop-cons}
 use Rattle.std.proofs.lemmas.Bool.Decides.{nat_tests}
 use Rattle.std.proofs.lemmas.List.{drop_all}
+use Rattle.zk_mem.proofs.Below.{all_below, each_below}
 use Rattle.zk_save.specs.Reading.{number_behind, number_of, arguments_in}
 
 -- a byte more
@@ -26,29 +27,6 @@ number_fits n (suc zero) h lt = omega (arith, h)
 number_fits n (suc (suc zero)) h lt = omega (arith, h)
 number_fits n (suc (suc (suc zero))) h lt = omega (arith, h)
 number_fits n (suc (suc (suc (suc i)))) h lt = absurd (omega arith)
-
--- whether each number below n passes
-unfoldable pub all_below : (ℕ → Bool) → ℕ → Bool
-all_below p zero = true
-all_below p (suc n) = p n && all_below p n
-
-both : (a b : Bool) → (a && b) ≡ true → (a ≡ true) × (b ≡ true)
-both true b h = (refl, h)
-both false b h = absurd cc
-
-last_or_below : (p : ℕ → Bool) (n k : ℕ) → k < suc n → p n ≡ true → ((k : ℕ) → k < n → p k ≡ true) → p k ≡ true
-last_or_below p n k h last below = go (k == n) refl
-  where
-    go : (b : Bool) → (k == n) ≡ b → p k ≡ true
-    go true test = let same : k ≡ n = grind (arith, nat_tests) in rw same last
-    go false test = below k (grind (arith, nat_tests))
-
-pub each_below : (p : ℕ → Bool) (n : ℕ) → all_below p n ≡ true → (k : ℕ) → k < n → p k ≡ true
-unfolding all_below
-each_below p zero h k low = absurd (omega arith)
-each_below p (suc n) h k low =
-    let parts = both (p n) (all_below p n) h in
-    last_or_below p n k low parts.0 (each_below p n parts.1)
 
 pub arguments_are : (k : ℕ) → k < 128 → trailing_ones w8 k ≡ arguments_in 7 k
 unfolding all_below arguments_in lib.Count.count_trailing_zeros

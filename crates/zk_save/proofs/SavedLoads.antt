@@ -25,7 +25,7 @@ use Rattle.zk_save.proofs.Wholes.{bytes_again}
 use Rattle.zk_save.proofs.Saves.{three}
 use Rattle.zk_save.proofs.Chunks.{chunks_none, chunks_step}
 use Rattle.zk_save.proofs.FrameRuns.{frames_none, frames_step, read_is}
-use Rattle.zk_save.proofs.Numbers.{all_below, each_below}
+use Rattle.zk_mem.proofs.Below.{all_below, each_below}
 
 -- ---- numbers
 

@@ -4,6 +4,7 @@ use crate::lines::{Input, Lines};
 use crate::over::Over;
 use std::alloc::Global;
 use std::io::{self, Read};
+use std::process::Abort;
 use std::test::Fail;
 use zk_mem::memory::{Memory, Setup};
 use zk_mem::story::Story;
@@ -138,10 +139,18 @@ fn hears(alloc: Global, extra: &Extra, bytes: &[u8], wanted: &[u8]) -> Result<bo
     Ok(true)
 }
 
-#[test]
-fn new_lines_end_lines(rt: HostRuntime) -> Result<(), Fail> {
+/// Every row's bytes are heard as its answers, by the standard's extra characters.
+fn all_heard(rt: impl Abort + AllocGlobal + Copy, rows: &[(&[u8], &[u8])]) -> Result<(), Fail> {
     let memory = memory(rt.alloc(), false)?;
     let extra = Extra::of(&memory);
+    for (bytes, wanted) in rows {
+        assert!(rt; hears(rt.alloc(), &extra, bytes, wanted)?, "{bytes:?}");
+    }
+    Ok(())
+}
+
+#[test]
+fn new_lines_end_lines(rt: HostRuntime) -> Result<(), Fail> {
     let rows: [(&[u8], &[u8]); 6] = [
         (b"", b"EEEE"),
         (b"ab", b"ab|EEE"),
@@ -150,16 +159,11 @@ fn new_lines_end_lines(rt: HostRuntime) -> Result<(), Fail> {
         (b"\n", b"|EEE"),
         (b"a\n\nb\n", b"a||b|E"),
     ];
-    for (bytes, wanted) in rows {
-        assert!(rt; hears(rt.alloc(), &extra, bytes, wanted)?, "{bytes:?}");
-    }
-    Ok(())
+    all_heard(rt, &rows)
 }
 
 #[test]
 fn one_return_before_a_new_line_is_dropped(rt: HostRuntime) -> Result<(), Fail> {
-    let memory = memory(rt.alloc(), false)?;
-    let extra = Extra::of(&memory);
     let rows: [(&[u8], &[u8]); 7] = [
         (b"ab\r\nc\r\n", b"ab|c|EE"),
         (b"\r\n", b"|EEE"),
@@ -169,16 +173,11 @@ fn one_return_before_a_new_line_is_dropped(rt: HostRuntime) -> Result<(), Fail> 
         (b"a\r", b"a?|EEE"),
         (b"\r", b"?|EEE"),
     ];
-    for (bytes, wanted) in rows {
-        assert!(rt; hears(rt.alloc(), &extra, bytes, wanted)?, "{bytes:?}");
-    }
-    Ok(())
+    all_heard(rt, &rows)
 }
 
 #[test]
 fn characters_are_typed_as_codes(rt: HostRuntime) -> Result<(), Fail> {
-    let memory = memory(rt.alloc(), false)?;
-    let extra = Extra::of(&memory);
     let rows: [(&[u8], &[u8]); 10] = [
         (b"A\xc3\x84\t\xff\r\n", b"A\x9e ?|EEE"),
         (b"\x00\x1b\x7f\x7e\x20", b"???~ |EEE"),
@@ -191,16 +190,11 @@ fn characters_are_typed_as_codes(rt: HostRuntime) -> Result<(), Fail> {
         (b"\xd0\x96\xd0\x97a", b"??a|EEE"),
         (b"\xc3\n\x84", b"?|?|EE"),
     ];
-    for (bytes, wanted) in rows {
-        assert!(rt; hears(rt.alloc(), &extra, bytes, wanted)?, "{bytes:?}");
-    }
-    Ok(())
+    all_heard(rt, &rows)
 }
 
 #[test]
 fn stray_bytes_are_question_marks(rt: HostRuntime) -> Result<(), Fail> {
-    let memory = memory(rt.alloc(), false)?;
-    let extra = Extra::of(&memory);
     let rows: [(&[u8], &[u8]); 10] = [
         (b"\x80a\xfe", b"?a?|EEE"),
         (b"\xc3a", b"?a|EEE"),
@@ -213,10 +207,7 @@ fn stray_bytes_are_question_marks(rt: HostRuntime) -> Result<(), Fail> {
         (b"\xed\xa0\x80a", b"???a|EEE"),
         (b"\xf4\x90\x80\x80a", b"????a|EEE"),
     ];
-    for (bytes, wanted) in rows {
-        assert!(rt; hears(rt.alloc(), &extra, bytes, wanted)?, "{bytes:?}");
-    }
-    Ok(())
+    all_heard(rt, &rows)
 }
 
 #[test]

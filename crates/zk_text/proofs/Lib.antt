@@ -1,5 +1,4 @@
 pub mod Lists
-pub mod Below
 pub mod Joins
 pub mod TextWords
 pub mod Spells

@@ -3,7 +3,7 @@ use Rattle.std.proofs.Common.{◌≡◌, ◌≤◌, ◌<◌, ℕ, List, ◌+◌,
 use Rattle.zk_text.specs.declared.extra.TheConstants.{DEFAULT_LOWER}
 use Rattle.zk_text.specs.Standard.{standard_characters, ascii_capitals, extra_capitals}
 use Rattle.zk_text.specs.Extra.{ExtraTable, character, code_from, code_of, small_letter, lower_code}
-use Rattle.zk_text.proofs.Below.{all_below, same_between}
+use Rattle.zk_mem.proofs.Below.{all_below, same_between}
 
 pub lower_capital : (t : ExtraTable) (code : ℕ) → 65 ≤ code → code ≤ 90 → lower_code t code ≡ code + 32
 unfolding all_below lower_code small_letter code_of code_from character standard_characters ascii_capitals extra_capitals

@@ -7,7 +7,7 @@ use Rattle.std.proofs.lemmas.Grind.{common_steps}
 use Rattle.zk_text.specs.Standard.{standard_characters, ascii_capitals, extra_capitals, capitals}
 use Rattle.zk_text.specs.Extra.{ExtraTable, character, code_from, code_of, small_letter, small_code, lower_code}
 use Rattle.zk_text.specs.TableLaws.{SmallIsAbove, CapitalHasSmall, LowerIsSmall, OthersStay, OwnLowersAscii, LowerOfA1, LowerTwice}
-use Rattle.zk_text.proofs.Below.{all_below, each_below}
+use Rattle.zk_mem.proofs.Below.{all_below, each_below}
 use Rattle.zk_text.proofs.Tables.{code_is_least}
 use Rattle.zk_text.proofs.Standard.{a0_is_small, a1_is_capital, code_of_character}
 use Rattle.zk_text.proofs.Lower.{lower_capital, below_capitals}

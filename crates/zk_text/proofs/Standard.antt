@@ -7,7 +7,7 @@ use Rattle.zk_text.specs.Standard.{standard_letters, standard_characters}
 use Rattle.zk_text.specs.Alphabets.{letter_by}
 use Rattle.zk_text.specs.Extra.{character, is_ascii, code_from, code_of}
 use Rattle.zk_text.specs.TableLaws.{A0IsSmall, A1IsCapital, A2HasDigits, A2HasNewLine, ExtraIsBeyondAscii, CodesDiffer}
-use Rattle.zk_text.proofs.Below.{all_below, each_below, same_below, same_between}
+use Rattle.zk_mem.proofs.Below.{all_below, each_below, same_below, same_between}
 use Rattle.zk_text.proofs.Tables.{character_cases}
 
 pub a0_is_small : A0IsSmall

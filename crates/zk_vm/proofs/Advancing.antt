@@ -47,7 +47,8 @@ use Rattle.zk_vm.proofs.Going.{stops_by}
 use Rattle.zk_vm.proofs.Keeping.{seen, same_states}
 use Rattle.zk_vm.specs.declared.limits.Limits.{Limits}
 use Rattle.zk_vm.proofs.OnlySaveUndo.{only_save_undo_keeps}
-use Rattle.zk_vm.proofs.Sounds.{running, while_running, same_file, same_version, same_most, sound_now, story_stays}
+use Rattle.zk_step.proofs.SameStory.{same_file, same_version}
+use Rattle.zk_vm.proofs.Sounds.{running, while_running, same_most, sound_now, story_stays}
 
 -- ---- what was carried out
 

@@ -25,7 +25,8 @@ use Rattle.zk_vm.specs.Outcome.{Session}
 use Rattle.zk_vm.specs.Sound.{state_seen, IsOfStory, IsSound}
 use Rattle.zk_vm.specs.Step.{Step, back_to, goes_to, led_to, kept_answer, saved_place, with_kept}
 use Rattle.zk_vm.proofs.Going.{Told, told_on, gone_on}
-use Rattle.zk_vm.proofs.Sounds.{running, same_file, same_base, same_most, back_fixed, story_stays, sound_after}
+use Rattle.zk_step.proofs.SameStory.{same_file, same_base}
+use Rattle.zk_vm.proofs.Sounds.{running, same_most, back_fixed, story_stays, sound_after}
 
 -- the machine that contracts see
 abbrev pub seen : Inside → Session

@@ -12,6 +12,7 @@ use Rattle.zk_step.specs.declared.ending.Next.{Next}
 use Rattle.zk_step.specs.declared.ending.Next.TheVariants.{At, Waits, Keeps, Resumes, End}
 use Rattle.zk_step.specs.declared.workspace.Workspace.{Workspace}
 use Rattle.zk_step.specs.Laws.{fixed_parts}
+use Rattle.zk_step.proofs.SameStory.{same_base}
 use Rattle.zk_fast.specs.Caches.{IsCacheOf}
 use Rattle.zk_vm.specs.declared.machine.Machine.TheInside.{Inside}
 use Rattle.zk_vm.specs.declared.stop.Stop.{Stop}
@@ -35,18 +36,6 @@ can_answer_none m None e = tt
 can_answer_none m (Some w) e = absurd cc
 
 -- ---- the story's parts
-
-pub same_file : (m n : MemoryMap) → fixed_parts n ≡ fixed_parts m → n.file ≡ m.file
-unfolding fixed_parts
-same_file m n e = ap (λ (p : (ℕ × ℕ) × (List ℕ × ℕ)). p.1.0) e
-
-pub same_base : (m n : MemoryMap) → fixed_parts n ≡ fixed_parts m → n.static_base ≡ m.static_base
-unfolding fixed_parts
-same_base m n e = ap (λ (p : (ℕ × ℕ) × (List ℕ × ℕ)). p.0.1) e
-
-pub same_version : (m n : MemoryMap) → fixed_parts n ≡ fixed_parts m → n.version ≡ m.version
-unfolding fixed_parts
-same_version m n e = ap (λ (p : (ℕ × ℕ) × (List ℕ × ℕ)). p.0.0) e
 
 pub same_most : (m n : MemoryMap) → fixed_parts n ≡ fixed_parts m → n.undo_states ≡ m.undo_states
 unfolding fixed_parts

@@ -7,7 +7,6 @@ invariant_of-self g c =
     let runs = rw (← c.self.view_is) at c.requires.runs in
     let free = rw (← c.self.view_is) at c.requires.free in
     let room = rw (← c.self.view_is) at c.requires.room in
-    let fetched = rw (← c.self.view_is) at c.requires.fetched in
     let value = rw c.in-Ok-At.field-0-is at c.in-Ok-At.ensures.value in
     let more : c.self.inside.steps + 1 ≤ c.self.inside.limits.steps = omega (arith, room) in
     sound_moved c.self.inside _ c.args.i _ _ c.self.invariant runs refl free more refl refl refl value c.in-Ok-At.ensures.bounds
@@ -16,8 +15,6 @@ pub invariant_of-self-in-Ok-Waits : goal.invariant_of-self-in-Ok-Waits
 invariant_of-self-in-Ok-Waits g c =
     let runs = rw (← c.self.view_is) at c.requires.runs in
     let free = rw (← c.self.view_is) at c.requires.free in
-    let room = rw (← c.self.view_is) at c.requires.room in
-    let fetched = rw (← c.self.view_is) at c.requires.fetched in
     let value = rw c.in-Ok-Waits.field-0-is at c.in-Ok-Waits.ensures.value in
     sound_moved c.self.inside _ c.args.i _ _ c.self.invariant runs refl free c.self.invariant.steps refl refl refl value c.in-Ok-Waits.ensures.bounds
 
@@ -25,8 +22,6 @@ pub invariant_of-self-in-Ok-Keeps : goal.invariant_of-self-in-Ok-Keeps
 invariant_of-self-in-Ok-Keeps g c =
     let runs = rw (← c.self.view_is) at c.requires.runs in
     let free = rw (← c.self.view_is) at c.requires.free in
-    let room = rw (← c.self.view_is) at c.requires.room in
-    let fetched = rw (← c.self.view_is) at c.requires.fetched in
     let value = rw c.in-Ok-Keeps.field-0-is at c.in-Ok-Keeps.ensures.value in
     sound_moved c.self.inside _ c.args.i _ _ c.self.invariant runs refl free c.self.invariant.steps refl refl refl value c.in-Ok-Keeps.ensures.bounds
 
@@ -34,25 +29,17 @@ pub invariant_of-self-in-Ok-Resumes : goal.invariant_of-self-in-Ok-Resumes
 invariant_of-self-in-Ok-Resumes g c =
     let runs = rw (← c.self.view_is) at c.requires.runs in
     let free = rw (← c.self.view_is) at c.requires.free in
-    let room = rw (← c.self.view_is) at c.requires.room in
-    let fetched = rw (← c.self.view_is) at c.requires.fetched in
     let value = rw c.in-Ok-Resumes.field-0-is at c.in-Ok-Resumes.ensures.value in
     sound_moved c.self.inside _ c.args.i _ _ c.self.invariant runs refl free c.self.invariant.steps refl refl refl value c.in-Ok-Resumes.ensures.bounds
 
 pub returns-in-Ok-At-clause-step : goal.returns-in-Ok-At-clause-step
 returns-in-Ok-At-clause-step g c =
-    let runs = rw (← c.self.view_is) at c.requires.runs in
-    let free = rw (← c.self.view_is) at c.requires.free in
-    let room = rw (← c.self.view_is) at c.requires.room in
     let fetched = rw (← c.self.view_is) at c.requires.fetched in
     let value = rw c.in-Ok-At.field-0-is at c.in-Ok-At.ensures.value in
     rw (← c.self.view_is) (stepped_on g.S.Screen.shows _ _ c.self.inside c.args.i c.carry_out.new.workspace c.in-Ok-At.place _ fetched value c.in-Ok-At.ensures.text)
 
 pub returns-in-Ok-Waits-clause-step : goal.returns-in-Ok-Waits-clause-step
 returns-in-Ok-Waits-clause-step g c =
-    let runs = rw (← c.self.view_is) at c.requires.runs in
-    let free = rw (← c.self.view_is) at c.requires.free in
-    let room = rw (← c.self.view_is) at c.requires.room in
     let fetched = rw (← c.self.view_is) at c.requires.fetched in
     let value = rw c.in-Ok-Waits.field-0-is at c.in-Ok-Waits.ensures.value in
     let quiet = rw c.in-Ok-Waits.field-0-is at c.in-Ok-Waits.ensures.quiet in
@@ -60,9 +47,6 @@ returns-in-Ok-Waits-clause-step g c =
 
 pub returns-in-Ok-Keeps-clause-step : goal.returns-in-Ok-Keeps-clause-step
 returns-in-Ok-Keeps-clause-step g c =
-    let runs = rw (← c.self.view_is) at c.requires.runs in
-    let free = rw (← c.self.view_is) at c.requires.free in
-    let room = rw (← c.self.view_is) at c.requires.room in
     let fetched = rw (← c.self.view_is) at c.requires.fetched in
     let value = rw c.in-Ok-Keeps.field-0-is at c.in-Ok-Keeps.ensures.value in
     let quiet = rw c.in-Ok-Keeps.field-0-is at c.in-Ok-Keeps.ensures.quiet in
@@ -70,9 +54,6 @@ returns-in-Ok-Keeps-clause-step g c =
 
 pub returns-in-Ok-Resumes-clause-step : goal.returns-in-Ok-Resumes-clause-step
 returns-in-Ok-Resumes-clause-step g c =
-    let runs = rw (← c.self.view_is) at c.requires.runs in
-    let free = rw (← c.self.view_is) at c.requires.free in
-    let room = rw (← c.self.view_is) at c.requires.room in
     let fetched = rw (← c.self.view_is) at c.requires.fetched in
     let value = rw c.in-Ok-Resumes.field-0-is at c.in-Ok-Resumes.ensures.value in
     let quiet = rw c.in-Ok-Resumes.field-0-is at c.in-Ok-Resumes.ensures.quiet in
@@ -80,9 +61,7 @@ returns-in-Ok-Resumes-clause-step g c =
 
 pub returns-in-Ok-End-clause-step : goal.returns-in-Ok-End-clause-step
 returns-in-Ok-End-clause-step g c =
-    let runs = rw (← c.self.view_is) at c.requires.runs in
     let free = rw (← c.self.view_is) at c.requires.free in
-    let room = rw (← c.self.view_is) at c.requires.room in
     let fetched = rw (← c.self.view_is) at c.requires.fetched in
     let value = rw c.in-Ok-End.field-0-is at c.in-Ok-End.ensures.value in
     rw (← c.self.view_is) (stepped_end g.S.Screen.shows _ _ c.self.inside _ c.args.i c.carry_out.new.workspace _ _ fetched value c.halt.ensures.value free c.in-Ok-End.ensures.text)
