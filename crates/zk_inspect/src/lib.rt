@@ -16,6 +16,8 @@ pub mod reach;
 mod siblings;
 #[cfg(test)]
 mod tests;
+#[cfg(test)]
+mod tests_of_checks;
 mod text_faults;
 mod texts;
 mod writing;
