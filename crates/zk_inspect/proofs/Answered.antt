@@ -1,17 +1,17 @@
 -- The objects of which a question is answered with yes.
-use Rattle.std.proofs.Common.{◌≡◌, ◌≢◌, ◌∙◌, ℕ, ◌+◌, ◌<◌, ◌≤◌, ◌⊎◌, inl, inr, Bool, true, false, ◌||◌, List, [], ◌∷◌, ◌++◌, Result, Ok, Err, refl, sym, ap, subst, arith, nat_lt}
-use Rattle.std.specs.Prelude.{◌↔◌, IsOk}
+use Rattle.std.proofs.Common.{◌≡◌, ◌≢◌, ◌∙◌, ℕ, ◌+◌, ◌<◌, ◌⊎◌, inl, inr, Bool, true, false, ◌||◌, List, [], ◌∷◌, ◌++◌, Result, Ok, Err, refl, sym, ap, arith}
+use Rattle.std.specs.Prelude.{IsOk}
 use Rattle.std.proofs.lemmas.Bool.{cases_lt, cases_eq}
 use Rattle.zk_mem.specs.declared.fault.Fault.{Fault}
 use Rattle.zk_mem.specs.declared.fault.Fault.TheVariants.{CodePastEnd, BadOpcode, MissingOperand, StackEmpty, NoSuchLocal, BadAddress, ReadOnly, DivisionByZero, BadObject, BadProperty, BadTree, TextPastEnd, NestedAbbreviation, StreamDepth, BadFrame, ReturnFromMain, BadTarget, BadDictionary}
 use Rattle.zk_mem.specs.Results.{◌>>=◌}
 use Rattle.zk_mem.specs.Map.{MemoryMap, HasBytes}
 use Rattle.zk_tables.specs.declared.lists.Property.{Property}
-use Rattle.zk_tables.specs.Chain.{Repeats, children_of}
+use Rattle.zk_tables.specs.Chain.{children_of}
 use Rattle.zk_tables.specs.Layout.{entry_of}
 use Rattle.zk_tables.specs.Links.{link_at, parent_of, sibling_of, child_of}
 use Rattle.zk_tables.specs.Properties.{list_of, properties_of}
-use Rattle.zk_tables.specs.PropertyList.{LeavesData, properties_at}
+use Rattle.zk_tables.specs.PropertyList.{properties_at}
 use Rattle.zk_tables.proofs.ChainLaw.{children_are_chains}
 use Rattle.zk_tables.proofs.ListLaw.{lists_are_read}
 use Rattle.zk_inspect.specs.declared.finding.Number.TheVariants.{ObjectLinks, ChainWithARepeat, PropertyList}
@@ -21,7 +21,7 @@ use Rattle.zk_inspect.specs.Findings.{Finds}
 use Rattle.zk_inspect.specs.Lists.{IsListOf}
 use Rattle.zk_inspect.specs.Objects.{IsListed, LeadsPast, LacksList}
 use Rattle.zk_inspect.specs.ObjectTests.{IsAnswered, IsCounted, answer, is_bad_property, is_bad_tree, is_past, leads_past}
-use Rattle.zk_inspect.proofs.Entries.{probe, rising, same_ok, zero_none}
+use Rattle.zk_inspect.proofs.Entries.{rising, same_ok, zero_none}
 use Rattle.zk_inspect.proofs.Listed.{list_more, list_same, list_none}
 
 up : (m : MemoryMap) (n : ℕ) (q : Question) (before b : ℕ) → IsAnswered m n q before b → IsAnswered m n q (before + 1) b
@@ -136,7 +136,7 @@ tree_fault ReturnFromMain h = absurd cc
 tree_fault BadTarget h = absurd cc
 tree_fault BadDictionary h = absurd cc
 
-bad_tree : (r : Result (List ℕ) Fault) → is_bad_tree r ≡ true → r ≡ Err BadTree
+pub bad_tree : (r : Result (List ℕ) Fault) → is_bad_tree r ≡ true → r ≡ Err BadTree
 bad_tree (Ok xs) h = absurd cc
 bad_tree (Err f) h = ap (λ (g : Fault). Err g) (tree_fault f h)
 

@@ -1,7 +1,7 @@
 -- What is found of each number.
-use Rattle.std.proofs.Common.{◌≡◌, ◌≢◌, ◌∙◌, ℕ, ◌+◌, ◌*◌, ◌<◌, ◌≤◌, ◌⊎◌, inl, inr, Bool, true, false, ◌||◌, List, [], ◌∷◌, length, Option, Some, None, Result, Ok, Err, refl, sym, ap, subst, arith, nat_lt, if◌then◌else◌}
+use Rattle.std.proofs.Common.{◌≡◌, ◌∙◌, ℕ, ◌<◌, ◌⊎◌, inl, inr, Bool, true, false, ◌||◌, List, [], ◌∷◌, length, Option, Some, None, Result, Ok, Err, refl, sym, ap, subst, arith, nat_lt, if◌then◌else◌}
 use Rattle.std.specs.Prelude.{not, is_err, is_none}
-use Rattle.std.specs.List.{Contains, filter}
+use Rattle.std.specs.List.{filter}
 use Rattle.zk_mem.specs.declared.fault.Fault.{Fault}
 use Rattle.zk_mem.specs.Checksum.{has_right_sum, stated_length}
 use Rattle.zk_mem.specs.Map.{MemoryMap, HasBytes}
@@ -17,7 +17,7 @@ use Rattle.zk_code.proofs.Whole.{found_at, only_at}
 use Rattle.zk_inspect.specs.declared.code.Code.{Code}
 use Rattle.zk_inspect.specs.declared.finding.Number.TheVariants.{Checksum, Length, UndecodableCode, TargetOutOfTheStory}
 use Rattle.zk_inspect.specs.Codes.{IsCodeOf}
-use Rattle.zk_inspect.specs.Findings.{Finds, IsOutside, LeadsOut, IsUndecodable, IsLeadingOut}
+use Rattle.zk_inspect.specs.Findings.{Finds, IsOutside, LeadsOut, IsLeadingOut}
 use Rattle.zk_inspect.specs.Lists.{IsListOf}
 use Rattle.zk_inspect.specs.Tests.{is_undecodable, is_outside, branches_out, jumps_out, calls_out, instr_leads_out, found_leads_out, leads_out}
 use Rattle.zk_inspect.proofs.Listed.{list_if, list_filter}

@@ -1,5 +1,5 @@
 -- The entries of objects, one behind another, and how many are listed.
-use Rattle.std.proofs.Common.{◌≡◌, ◌≢◌, ◌∙◌, ℕ, zero, suc, ◌+◌, ◌*◌, ◌-◌, ◌<◌, ◌≤◌, ◌⊎◌, inl, inr, Bool, true, false, ◌&&◌, List, [], ◌∷◌, Option, Some, None, Result, Ok, Err, refl, sym, ap, subst, arith, nat_lt, nat_le, if◌then◌else◌, min}
+use Rattle.std.proofs.Common.{◌≡◌, ◌≢◌, ◌∙◌, ℕ, zero, suc, ◌+◌, ◌*◌, ◌-◌, ◌<◌, ◌≤◌, inl, inr, Bool, true, false, Result, Ok, Err, refl, sym, ap, subst, arith, nat_lt, if◌then◌else◌}
 use Rattle.std.specs.Prelude.{◌↔◌, IsOk}
 use Rattle.std.proofs.lemmas.Bool.{cases_lt, cases_eq}
 use Rattle.std.proofs.Math.Nat.{mul-le-mul_left}
@@ -9,7 +9,7 @@ use Rattle.zk_mem.specs.Results.{◌>>=◌}
 use Rattle.zk_mem.specs.Header.{header_of}
 use Rattle.zk_mem.specs.Map.{MemoryMap, readable_end}
 use Rattle.zk_tables.specs.declared.layout.Layout.{Layout}
-use Rattle.zk_tables.specs.Layout.{layout_of, first_entry, default_words_start, entry_of, is_entry, is_entry_in, early_layout, late_layout}
+use Rattle.zk_tables.specs.Layout.{layout_of, default_words_start, entry_of, is_entry, is_entry_in}
 use Rattle.zk_tables.specs.Properties.{table_of}
 use Rattle.zk_inspect.specs.Objects.{IsListed, lower_of}
 

@@ -1,18 +1,16 @@
 -- Ways on lead inside the story, or to its end.
-use Rattle.std.proofs.Common.{◌≡◌, ◌≢◌, ℕ, suc, ◌+◌, ◌-◌, ◌<◌, ◌≤◌, ◌⊎◌, ◌||◌, Bool, true, false, List, [], ◌∷◌, length, Option, Some, None, refl, sym, ap, ◌∙◌, subst, arith, inl, inr, nat_lt, if◌then◌else◌}
+use Rattle.std.proofs.Common.{◌≡◌, ℕ, ◌+◌, ◌<◌, ◌≤◌, ◌||◌, Bool, true, false, length, Option, Some, None, refl, arith, nat_lt, if◌then◌else◌}
 use Rattle.std.specs.Prelude.{option_map}
 use Rattle.zk_inspect.proofs.Marking.{some_same}
 use Rattle.std.proofs.lemmas.Grind.{common_steps}
-use Rattle.std.proofs.lemmas.Bool.{cases_Bool}
 use Rattle.zk_mem.specs.Map.{MemoryMap, cell_at}
-use Rattle.zk_code.specs.declared.branch.Target.{Target}
 use Rattle.zk_code.specs.declared.instr.Instr.{Instr}
 use Rattle.zk_code.specs.Grammar.{BranchData, IsInstruction, branch_of}
 use Rattle.zk_code.specs.Grammar.BranchData.{NoBranch, OneByte, TwoBytes}
 use Rattle.zk_code.specs.Reach.{IsReached, IsCalled, goes_on, address_in, branch_address, constant_jump, jump_address, constant_call, first_constant, is_jump}
 use Rattle.zk_code.specs.Reach.IsReached.{First, Behind, Branches, Jumps, Calls}
 use Rattle.zk_mem.specs.Header.{header_of}
-use Rattle.zk_code.specs.Routines.{count_at, code_start, allowed_count, values_length}
+use Rattle.zk_code.specs.Routines.{count_at, code_start, values_length}
 use Rattle.zk_code.specs.Targets.{landing, offset_target, branch_target, jump_target}
 use Rattle.zk_code.proofs.Longer.{ends_inside}
 

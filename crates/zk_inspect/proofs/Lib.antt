@@ -9,3 +9,8 @@ pub mod Checks
 pub mod Entries
 pub mod Answered
 pub mod TextMarks
+pub mod FarSiblings
+pub mod Falling
+pub mod TableMarks
+pub mod TextFaults
+pub mod AllNumbers

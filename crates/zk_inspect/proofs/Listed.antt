@@ -1,9 +1,9 @@
 -- Lists of what something holds of, made number by number.
-use Rattle.std.proofs.Common.{◌≡◌, ◌≢◌, ℕ, suc, ◌+◌, ◌<◌, ◌≤◌, ◌⊎◌, Bool, true, false, List, [], ◌∷◌, ◌++◌, length, get_or, take, refl, sym, ap, ◌∙◌, subst, arith, inl, inr, if◌then◌else◌}
+use Rattle.std.proofs.Common.{◌≡◌, ℕ, suc, ◌+◌, ◌<◌, ◌⊎◌, Bool, true, false, List, [], ◌∷◌, ◌++◌, refl, sym, subst, arith, inl, inr, if◌then◌else◌}
 use Rattle.std.specs.List.{Contains, filter}
-use Rattle.std.specs.List.Sorted.{IsStrictlyIncreasing}
 use Rattle.std.proofs.lemmas.List.Elements.{Contains-push, Contains-append_left, Contains-push_cases}
 use Rattle.std.proofs.lemmas.List.Kept.{IsStrictlyIncreasing-filter}
+use Rattle.std.proofs.lemmas.Bool.{cases_eq}
 use Rattle.zk_inspect.specs.Lists.{IsListOf}
 use Rattle.zk_inspect.proofs.OneList.{first_or}
 use Rattle.zk_inspect.proofs.Marking.{increasing_push}
@@ -19,6 +19,23 @@ list_more P R xs a h below up down now = record {
 -- the same numbers
 pub list_same : (P R : ℕ → Type 0) (xs : List ℕ) → IsListOf P xs → ((b : ℕ) → P b → R b) → ((b : ℕ) → R b → P b) → IsListOf R xs
 list_same P R xs h up down = record { listed = λ b k. up b (h.listed b k); whole = λ b r. h.whole b (down b r); ascending = h.ascending }
+
+-- a number behind those below it, or none
+pub list_next : (P : ℕ → Type 0) (xs : List ℕ) (i : ℕ) → IsListOf (λ a. (a < i) × P a) xs → P i → IsListOf (λ a. (a < i + 1) × P a) (xs ++ i ∷ [])
+list_next P xs i h now = list_more (λ a. (a < i) × P a) (λ a. (a < i + 1) × P a) xs i h
+    (λ b p. p.0)
+    (λ b p. (let lt = p.0 in omega arith, p.1))
+    (λ b p. elim (cases_eq i b) [ inl e ↦ inr e | inr ne ↦ inl (let lt = p.0 in omega arith, p.1) ])
+    (omega arith, now)
+
+pub list_skip : (P : ℕ → Type 0) (xs : List ℕ) (i : ℕ) → IsListOf (λ a. (a < i) × P a) xs → (P i → ⊥) → IsListOf (λ a. (a < i + 1) × P a) xs
+list_skip P xs i h none = list_same (λ a. (a < i) × P a) (λ a. (a < i + 1) × P a) xs h
+    (λ b p. (let lt = p.0 in omega arith, p.1))
+    (λ b p. elim (cases_eq b i) [ inl e ↦ absurd (none (subst P e p.1)) | inr ne ↦ (let lt = p.0 in omega arith, p.1) ])
+
+-- all of them
+pub list_whole : (P : ℕ → Type 0) (xs : List ℕ) (i : ℕ) → IsListOf (λ a. (a < i) × P a) xs → ((a : ℕ) → P a → a < i) → IsListOf P xs
+list_whole P xs i h near = list_same (λ a. (a < i) × P a) P xs h (λ b p. p.1) (λ b p. (near b p, p))
 
 -- no number, and one
 pub list_none : (P : ℕ → Type 0) → ((a : ℕ) → P a → ⊥) → IsListOf P []

@@ -1,13 +1,10 @@
 -- Numbers are listed, ascending and each once, in one way.
-use Rattle.std.proofs.Common.{◌≡◌, ◌∙◌, ℕ, suc, zero, ◌+◌, ◌<◌, ◌≤◌, ◌⊎◌, inl, inr, List, [], ◌∷◌, length, get_or, refl, sym, ap, ap₂, subst, arith}
+use Rattle.std.proofs.Common.{◌≡◌, ℕ, suc, zero, ◌+◌, ◌<◌, ◌≤◌, ◌⊎◌, inl, inr, List, [], ◌∷◌, length, get_or, refl, sym, ap₂, subst, arith}
 use Rattle.std.specs.List.{Contains}
 use Rattle.std.specs.List.Sorted.{IsStrictlyIncreasing}
-use Rattle.std.proofs.lemmas.Bool.{cases_lt, cases_eq, cases_order}
-use Rattle.zk_mem.specs.Map.{MemoryMap}
 use Rattle.std.proofs.lemmas.Grind.{get_or_default_zero}
 use Rattle.zk_code.specs.Reach.{IsReached, IsCalled}
-use Rattle.zk_inspect.specs.declared.code.Code.{Code}
-use Rattle.zk_inspect.specs.Codes.{IsCodeOf, OneCode}
+use Rattle.zk_inspect.specs.Codes.{OneCode}
 use Rattle.zk_inspect.specs.Lists.{IsListOf}
 
 -- the members of one list are members of the other

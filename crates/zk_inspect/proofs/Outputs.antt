@@ -1,12 +1,8 @@
 -- Texts that are written one after another.
 use Rattle.std.specs.List.{concat, flat_map}
-use Rattle.std.proofs.Common.{◌≤◌, ◌<◌, ◌+◌, ◌-◌, add-one, drop-cons, take, Bor, arith, length, get_or, drop, map, ◌≡◌, ◌∙◌, ℕ, List, [], ◌∷◌, ◌++◌, Option, Bool, true, false, ◌||◌, append_assoc, sym, refl, ap, subst}
-use Rattle.std.proofs.lemmas.List.{append-nil}
+use Rattle.std.proofs.Common.{◌≤◌, ◌<◌, ◌+◌, ◌-◌, add-one, drop-cons, take, Bor, arith, length, get_or, drop, map, ◌≡◌, ◌∙◌, ℕ, List, [], ◌∷◌, ◌++◌, Option, Bool, true, false, append_assoc, sym, refl, ap, subst}
 use Rattle.std.proofs.lemmas.List.{take_rest, take-append-drop}
 use Rattle.std.proofs.lemmas.Grind.{flat_map-append}
-use Rattle.std.proofs.KnownBytes.{Appends-nil, Appends-trans}
-use Rattle.std.specs.Io.KnownBytes.{Appends}
-use Rattle.zk_term.specs.Devices.{TookPart}
 use Rattle.std.specs.Prelude.{Result, Ok, Err, is_err, IsErr}
 use Rattle.zk_term.specs.declared.target.Failed.{Failed}
 use Rattle.zk_mem.specs.Map.{MemoryMap}

@@ -1,5 +1,5 @@
 -- A text between quotes.
-use Rattle.std.proofs.Common.{◌≡◌, ◌∙◌, ◌<◌, ℕ, List, [], ◌∷◌, ◌++◌, Option, Some, None, Bool, true, false, append_assoc, sym, refl, ap, subst}
+use Rattle.std.proofs.Common.{◌≡◌, ℕ, List, ◌++◌, Option, Some, None, append_assoc, sym, refl, ap, subst}
 use Rattle.std.specs.Prelude.{Result, Ok, Err, IsOk, codes, decimal, option_map, length, ◌+◌, ◌*◌}
 use Rattle.zk_mem.specs.Faults.{fault_number}
 use Rattle.zk_mem.specs.Results.{◌>>=◌}

@@ -1,8 +1,7 @@
 -- What a search for reachable code has found, step by step.
-use Rattle.std.proofs.Common.{◌≡◌, ◌≢◌, ℕ, suc, ◌+◌, ◌<◌, ◌≤◌, ◌⊎◌, Bool, true, false, List, [], ◌∷◌, ◌++◌, length, get_or, Option, Some, None, refl, sym, ap, ◌∙◌, subst, arith, add-one, inl, inr, append_assoc, length-append}
+use Rattle.std.proofs.Common.{◌≡◌, ℕ, ◌+◌, ◌<◌, ◌≤◌, Bool, true, false, List, [], ◌∷◌, ◌++◌, length, get_or, Some, None, refl, sym, ap, ◌∙◌, subst, arith, inl, inr, append_assoc, length-append}
 use Rattle.std.specs.Prelude.{replicate, slice_set}
-use Rattle.std.specs.List.{Contains, sum_by}
-use Rattle.std.proofs.lemmas.Grind.{common_steps}
+use Rattle.std.specs.List.{Contains}
 use Rattle.std.proofs.lemmas.Bool.{cases_eq, cases_lt}
 use Rattle.std.proofs.lemmas.Grind.{get_or_default_zero}
 use Rattle.std.proofs.lemmas.List.{append-nil, length-set, length-replicate, get_or_append_left}
@@ -23,7 +22,7 @@ use Rattle.zk_code.proofs.Reached.{in_closed}
 use Rattle.zk_inspect.specs.declared.code.Code.{Code}
 use Rattle.zk_inspect.specs.Codes.{IsCodeOf}
 use Rattle.zk_inspect.specs.Search.{one, IsSearch, Grows, IsExpanded, IsOnItsWay}
-use Rattle.zk_inspect.proofs.Marking.{counted_within, none_marked, marked_cases, marked_now, marked_still, marked_counts}
+use Rattle.zk_inspect.proofs.Marking.{counted_within, none_marked, marked_cases, marked_still, marked_counts}
 
 -- an address that was not found yet
 pub found_new : (m : MemoryMap) (s t : Search) (a : ℕ) → IsSearch m s → IsReached m a → a < length s.marks → get_or s.marks a false ≡ false

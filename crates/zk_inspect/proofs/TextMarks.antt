@@ -1,25 +1,26 @@
 -- Marks on the texts of a story.
-use Rattle.std.proofs.Common.{◌≡◌, ◌≢◌, ◌∙◌, ℕ, ◌+◌, ◌*◌, ◌<◌, ◌≤◌, ◌⊎◌, inl, inr, Bool, true, false, List, [], ◌∷◌, length, get_or, Option, Some, None, Result, Ok, Err, refl, sym, ap, subst, arith}
-use Rattle.std.specs.Prelude.{◌↔◌, IsOk}
+use Rattle.std.proofs.Common.{◌≡◌, ◌∙◌, ℕ, ◌+◌, ◌<◌, ◌≤◌, inl, inr, Bool, List, length, get_or, Option, Some, None, Result, Ok, Err, sym, ap, subst, arith}
+use Rattle.std.specs.Prelude.{◌↔◌}
 use Rattle.std.specs.List.{flat_map}
-use Rattle.std.proofs.lemmas.Bool.{cases_lt, cases_eq}
+use Rattle.std.proofs.lemmas.Bool.{cases_eq}
+use Rattle.std.proofs.lemmas.Grind.{get_or_default_zero}
 use Rattle.zk_mem.specs.declared.fault.Fault.{Fault}
 use Rattle.zk_mem.specs.Map.{MemoryMap}
 use Rattle.zk_tables.specs.Layout.{entry_of}
 use Rattle.zk_tables.specs.Properties.{name_of}
 use Rattle.zk_code.specs.declared.instr.Instr.{Instr}
-use Rattle.zk_code.specs.Grammar.{IsInstruction, IsTextAt, IsText, word}
+use Rattle.zk_code.specs.Grammar.{IsInstruction, IsTextAt, word}
 use Rattle.zk_code.specs.Reach.{IsReached}
 use Rattle.zk_code.proofs.Standing.{stands_long}
 use Rattle.zk_code.proofs.Whole.{at_most_one}
 use Rattle.zk_code.proofs.Longer.{ends_inside}
-use Rattle.zk_inspect.specs.Lists.{IsMarked}
-use Rattle.zk_inspect.specs.Objects.{IsListed}
+use Rattle.zk_inspect.specs.Lists.{IsListOf, IsMarked}
 use Rattle.zk_inspect.specs.ObjectTests.{IsCounted}
 use Rattle.zk_inspect.specs.Texts.{IsPrinted, constant_text}
 use Rattle.zk_inspect.specs.Texts.IsPrinted.{Name, Inline, Addressed}
 use Rattle.zk_inspect.specs.TextTests.{IsTextMarks, Keeps, NamesMarked, TextsMarked}
 use Rattle.zk_inspect.proofs.Answered.{ok_is}
+use Rattle.zk_inspect.proofs.Entries.{zero_none}
 
 -- a text begins where the bytes before it end
 place_by : (words : List ℕ) (t middle : ℕ) (o : Option ℕ) → o ≡ Some t → IsTextAt o words middle → t ≡ middle
@@ -77,3 +78,35 @@ name_not r o h e t k = let same : o ≡ Some t = cc in absurd cc
 
 pub name_err : (r : Result (Option ℕ) Fault) (f : Fault) → Err f ≡ r → (t : ℕ) → r ≡ Ok (Some t) → ⊥
 name_err r f h t k = absurd cc
+
+-- ---- all texts that are printed
+
+pub names_begin : (m : MemoryMap) (marks : List Bool) → NamesMarked m 0 marks
+names_begin m marks o entry a le l e = absurd (zero_none m o entry le l.stands)
+
+pub names_kept : (m : MemoryMap) (n : ℕ) (old new : List Bool) → NamesMarked m n old → Keeps old new → NamesMarked m n new
+names_kept m n old new names keeps o entry a le l e = keeps a (names o entry a le l e)
+
+-- the texts of one instruction more
+pub code_more : (m : MemoryMap) (xs : List ℕ) (i a : ℕ) (old new : List Bool) → ((k : ℕ) → k < i → TextsMarked m (get_or xs k 0) old) → Keeps old new → get_or xs i 0 ≡ a → TextsMarked m a new → (k : ℕ) → k < i + 1 → TextsMarked m (get_or xs k 0) new
+code_more m xs i a old new before keeps at now k lt = elim (cases_eq k i) [
+  | inl s ↦ subst (λ (x : ℕ). TextsMarked m x new) (sym (ap (λ (j : ℕ). get_or xs j 0) s ∙ at)) now
+  | inr ne ↦ λ j b t s e. keeps t (before k (omega arith) j b t s e)
+]
+
+pub code_end : (m : MemoryMap) (xs : List ℕ) (i : ℕ) (marks : List Bool) → IsListOf (IsReached m) xs → length xs ≤ i → ((k : ℕ) → k < i → TextsMarked m (get_or xs k 0) marks) → (a : ℕ) → IsReached m a → TextsMarked m a marks
+code_end m xs i marks h end all a r =
+    let k = h.whole a r in
+    let at : get_or xs k.0 0 ≡ a = sym (get_or_default_zero xs k.0 a k.1) ∙ k.2 in
+    subst (λ (x : ℕ). TextsMarked m x marks) at (all k.0 (let lt = k.1 in omega arith))
+
+pub none_text_marks : (m : MemoryMap) (marks : List Bool) → length marks ≡ 524289 → ((a : ℕ) → IsMarked marks a → ⊥) → IsTextMarks m marks
+none_text_marks m marks size none = record { size = size; sound = λ a h. absurd (none a h) }
+
+printed_marked : (m : MemoryMap) (n : ℕ) (marks : List Bool) → IsCounted m n → NamesMarked m n marks → ((a : ℕ) → IsReached m a → TextsMarked m a marks) → (a : ℕ) → IsPrinted m a → IsMarked marks a
+printed_marked m n marks c names texts _ (Name o entry a l e) = names o entry a ((c.listed o entry).0 l).0 l e
+printed_marked m n marks c names texts _ (Inline a b t i r s e) = texts a r i b t s (inl e)
+printed_marked m n marks c names texts _ (Addressed a b t i r s e) = texts a r i b t s (inr e)
+
+pub printed_exact : (m : MemoryMap) (n : ℕ) (marks : List Bool) → IsTextMarks m marks → IsCounted m n → NamesMarked m n marks → ((a : ℕ) → IsReached m a → TextsMarked m a marks) → (a : ℕ) → IsMarked marks a ↔ IsPrinted m a
+printed_exact m n marks h c names texts a = (h.sound a, printed_marked m n marks c names texts a)

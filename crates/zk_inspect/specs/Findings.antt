@@ -1,5 +1,5 @@
 -- What is wrong with a story, and where.
-use Rattle.std.specs.Prelude.{◌≡◌, ◌≢◌, ◌⊎◌, ℕ, ◌<◌, Bool, true, false, List, [], ◌∷◌, map, length, Option, Some, None, Err}
+use Rattle.std.specs.Prelude.{◌≡◌, ◌≢◌, ◌⊎◌, ℕ, ◌<◌, false, List, [], ◌∷◌, map, length, Some, None, Err}
 use Rattle.std.specs.List.{flat_map}
 use Rattle.zk_mem.specs.declared.fault.Fault.TheVariants.{BadDictionary, TextPastEnd as PastEnd, NestedAbbreviation as Nested}
 use Rattle.zk_mem.specs.Checksum.{has_right_sum, stated_length}
@@ -8,7 +8,7 @@ use Rattle.zk_mem.specs.Map.{MemoryMap}
 use Rattle.zk_tables.specs.Chain.{Repeats}
 use Rattle.zk_tables.specs.Dictionaries.{dictionary_at}
 use Rattle.zk_code.specs.declared.branch.Target.{Target}
-use Rattle.zk_code.specs.declared.branch.Target.TheVariants.{ReturnFalse, ReturnTrue, At, Below, Past}
+use Rattle.zk_code.specs.declared.branch.Target.TheVariants.{Below, Past}
 use Rattle.zk_code.specs.declared.branch.Branch.{Branch}
 use Rattle.zk_code.specs.declared.instr.Instr.{Instr}
 use Rattle.zk_code.specs.Grammar.{IsInstruction}

@@ -12,3 +12,5 @@ pub mod Findings
 pub mod Tests
 pub mod ObjectTests
 pub mod TextTests
+pub mod Siblings
+pub mod Parts

@@ -1,5 +1,5 @@
 -- Tests on the objects of a story.
-use Rattle.std.specs.Prelude.{◌≡◌, ◌↔◌, ℕ, ◌<◌, ◌≤◌, IsOk, Bool, true, false, ◌||◌, List, Result, Ok, Err, nat_lt}
+use Rattle.std.specs.Prelude.{◌≡◌, ◌↔◌, ℕ, ◌<◌, ◌≤◌, IsOk, Bool, true, false, ◌||◌, Result, Ok, Err, nat_lt}
 use Rattle.zk_mem.specs.declared.fault.Fault.{Fault}
 use Rattle.zk_mem.specs.declared.fault.Fault.TheVariants.{BadTree, BadProperty}
 use Rattle.zk_mem.specs.Map.{MemoryMap}
@@ -8,6 +8,8 @@ use Rattle.zk_tables.specs.Layout.{entry_of}
 use Rattle.zk_tables.specs.Links.{link_at, parent_of, sibling_of, child_of}
 use Rattle.zk_tables.specs.Properties.{properties_of}
 use Rattle.zk_inspect.specs.Objects.{IsListed}
+use Rattle.zk_inspect.specs.Siblings.{IsAhead}
+use Rattle.zk_inspect.specs.declared.objects.Objects.{Objects}
 use Rattle.zk_inspect.specs.declared.objects.Question.{Question}
 use Rattle.zk_inspect.specs.declared.objects.Question.TheVariants.{Links, Chain, Properties}
 
@@ -47,3 +49,8 @@ pub record IsAnswered (m : MemoryMap) (count : ℕ) (q : Question) (most a : ℕ
 pub record IsCounted (m : MemoryMap) (n : ℕ) : Type 0 where
   pub listed : (o e : ℕ) → IsListed m o e ↔ ((o ≤ n) × (entry_of m o ≡ Ok e))
   pub whole : (o : ℕ) → 0 < o → o ≤ n → IsOk (entry_of m o)
+
+-- how many objects there are, and where their siblings lead
+pub record AreObjects (m : MemoryMap) (objects : Objects) : Type 0 where
+  pub counted : IsCounted m objects.count
+  pub far : IsAhead m 65536 objects.far_siblings.items

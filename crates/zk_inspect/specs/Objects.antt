@@ -4,12 +4,10 @@ use Rattle.zk_mem.specs.declared.fault.Fault.{Fault}
 use Rattle.zk_mem.specs.declared.fault.Fault.TheVariants.{BadProperty}
 use Rattle.zk_mem.specs.Header.{header_of}
 use Rattle.zk_mem.specs.Map.{MemoryMap}
-use Rattle.zk_mem.specs.Results.{◌>>=◌}
-use Rattle.zk_tables.specs.Chain.{Repeats}
 use Rattle.zk_tables.specs.Layout.{entry_of}
 use Rattle.zk_tables.specs.Links.{link_at, parent_of, sibling_of, child_of}
 use Rattle.zk_tables.specs.Properties.{list_of, table_of}
-use Rattle.zk_tables.specs.PropertyList.{LeavesData, properties_at}
+use Rattle.zk_tables.specs.PropertyList.{LeavesData}
 
 -- an object that is listed, with the address of its entry: there is an object table, and the entry lies in data and begins
 -- below the property table of each object before it

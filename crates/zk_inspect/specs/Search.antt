@@ -1,5 +1,5 @@
 -- What a search for reachable code has found.
-use Rattle.std.specs.Prelude.{◌≡◌, ℕ, ◌+◌, ◌<◌, ◌≤◌, Bool, true, false, List, ◌++◌, length, get_or, Some}
+use Rattle.std.specs.Prelude.{◌≡◌, ℕ, ◌<◌, ◌≤◌, Bool, true, false, List, ◌++◌, length, get_or, Some}
 use Rattle.std.specs.List.{Contains, sum_by}
 use Rattle.zk_mem.specs.Header.{header_of}
 use Rattle.zk_mem.specs.Map.{MemoryMap}

@@ -4,11 +4,13 @@ use Rattle.zk_mem.specs.declared.fault.Fault.{Fault}
 use Rattle.zk_mem.specs.Map.{MemoryMap}
 use Rattle.zk_code.specs.declared.branch.Branch.{Branch}
 use Rattle.zk_code.specs.declared.branch.Target.{Target}
-use Rattle.zk_code.specs.declared.branch.Target.TheVariants.{ReturnFalse, ReturnTrue, At, Below, Past}
+use Rattle.zk_code.specs.declared.branch.Target.TheVariants.{Below, Past}
 use Rattle.zk_code.specs.declared.instr.Instr.{Instr}
 use Rattle.zk_code.specs.Reach.{constant_call, constant_jump}
 use Rattle.zk_code.specs.Reading.{instr_at}
 use Rattle.zk_code.specs.Routines.{count_at}
+use Rattle.zk_inspect.specs.declared.checking.CodeQuestion.{CodeQuestion}
+use Rattle.zk_inspect.specs.declared.checking.CodeQuestion.TheVariants.{Undecodable, LeadsOut}
 
 -- there is no instruction at an address
 abbrev pub is_undecodable : MemoryMap → ℕ → Bool
@@ -46,3 +48,8 @@ found_leads_out m (Err f) = false
 
 abbrev pub leads_out : MemoryMap → ℕ → Bool
 leads_out m a = found_leads_out m (instr_at m a)
+
+-- the answer to a question on an address
+abbrev pub code_answer : MemoryMap → CodeQuestion → ℕ → Bool
+code_answer m Undecodable a = is_undecodable m a
+code_answer m LeadsOut a = leads_out m a

@@ -1,5 +1,5 @@
 -- The texts of a story that are known to be texts (Standard, sections 3.3, 4.8, 12.4 and 15).
-use Rattle.std.specs.Prelude.{◌≡◌, ◌≢◌, ◌⊎◌, ℕ, ◌+◌, ◌*◌, ◌<◌, Option, Some, None, option_map, Result, Ok, Err}
+use Rattle.std.specs.Prelude.{◌≡◌, ◌≢◌, ◌⊎◌, ℕ, ◌+◌, ◌*◌, ◌<◌, Option, Some, None, option_map, Ok, Err}
 use Rattle.zk_mem.specs.declared.fault.Fault.{Fault}
 use Rattle.zk_mem.specs.declared.fault.Fault.TheVariants.{BadAddress}
 use Rattle.zk_mem.specs.Header.{header_of, unpacked}

@@ -1,16 +1,21 @@
 // What is wrong with a story.
 
-ghost use Rattle.std.specs.Prelude.{◌≡◌, ◌≤◌, ◌<◌, ◌↔◌, ◌++◌, ◌∷◌, [], ◌^◌, Bool, true, false, ℕ, Some, Ok, Err, IsTrue, IfOk, OnOk, map, length, if◌then◌else◌};
+ghost use Rattle.std.specs.Prelude.{◌≡◌, ◌≤◌, ◌++◌, ◌^◌, IfOk, OnOk, map};
 ghost use Rattle.std.specs.List.{filter};
 ghost use Rattle.zk_inspect.specs.Codes.{IsCodeOf};
-ghost use Rattle.zk_inspect.specs.Findings.{Finds};
+ghost use Rattle.zk_inspect.specs.Findings.{AreFindings, Finds, at_address};
 ghost use Rattle.zk_inspect.specs.Lists.{IsListOf};
-ghost use Rattle.zk_inspect.specs.ObjectTests.{IsCounted};
-ghost use Rattle.zk_inspect.specs.Tests.{branches_out, calls_out, instr_leads_out, is_outside, is_undecodable, jumps_out, leads_out};
+ghost use Rattle.zk_inspect.specs.ObjectTests.{AreObjects};
+ghost use Rattle.zk_inspect.specs.Parts.{Adds, AreParts};
+ghost use Rattle.zk_inspect.specs.Tests.{branches_out, calls_out, code_answer, instr_leads_out, is_outside, is_undecodable, jumps_out, leads_out};
 
 use crate::code::{Addresses, Code};
-use crate::finding::Number;
-use crate::objects::{Question, list_objects};
+use crate::finding::{Finding, Number};
+use crate::keys::{find_bad_dictionary, find_unordered};
+use crate::objects::{Objects, Question, find_objects, list_objects};
+use crate::reach::reach;
+use crate::text_faults::{find_nested, find_past_end};
+use crate::texts::{TextMarks, mark_all_texts};
 use std::alloc::{AllocError, Global};
 use zk_code::branch::{Branch, Target};
 use zk_code::decode::decode;
@@ -19,22 +24,11 @@ use zk_code::routines::local_count;
 use zk_mem::header::unpack;
 use zk_mem::memory::Memory;
 
-/// An address alone, where something holds.
-fn list_where(alloc: Global, holds: bool, address: u32) -> Result<Addresses, AllocError>
-    ensures { IfOk result (λ list. list ≡ (if holds then address ∷ [] else [])) }
-{
-    let mut list = Addresses::new(alloc);
-    if holds {
-        list.push(address)?;
-    }
-    Ok(list)
-}
-
 /// Where the checksum stands, if it is wrong.
 fn find_wrong_checksum(alloc: Global, memory: &Memory) -> Result<Addresses, AllocError>
     ensures { IfOk result (IsListOf (Finds memory.now Number.Checksum)) }
 {
-    let list = list_where(alloc, !memory.checksum_ok(), 0x1c)?;
+    let list = Addresses::only_if(alloc, !memory.checksum_ok(), 0x1c)?;
     Ok(list)
 }
 
@@ -43,7 +37,7 @@ fn find_length_past_end(alloc: Global, memory: &Memory) -> Result<Addresses, All
     ensures { IfOk result (IsListOf (Finds memory.now Number.Length)) }
 {
     let stated = unpack(memory.version(), memory.header().file_length);
-    let list = list_where(alloc, stated > memory.len(), 0x1a)?;
+    let list = Addresses::only_if(alloc, stated > memory.len(), 0x1a)?;
     Ok(list)
 }
 
@@ -52,33 +46,6 @@ fn is_undecodable(memory: &Memory, address: u32) -> bool
     ensures { result ≡ is_undecodable memory.now address }
 {
     decode(memory, address).is_err()
-}
-
-/// The addresses that have no instruction.
-fn list_undecodable(
-    alloc: Global,
-    memory: &Memory,
-    addresses: &[u32],
-) -> Result<Addresses, AllocError>
-    ensures { IfOk result (λ list. list ≡ filter (is_undecodable memory.now) addresses.now) }
-{
-    let mut list = Addresses::new(alloc);
-    for address in addresses {
-        if is_undecodable(memory, *address) {
-            list.push(*address)?;
-        }
-    }
-    Ok(list)
-}
-
-/// The reached addresses that have no instruction.
-fn find_undecodable(alloc: Global, memory: &Memory, code: &Code) -> Result<Addresses, AllocError>
-    requires { IsCodeOf memory.now code.now }
-    ensures { IfOk result (IsListOf (Finds memory.now Number.UndecodableCode)) }
-{
-    memory.has_bytes();
-    let list = list_undecodable(alloc, memory, code.addresses.as_slice())?;
-    Ok(list)
 }
 
 /// Whether a target lies outside the story.
@@ -138,20 +105,51 @@ fn leads_out(memory: &Memory, address: u32) -> bool
     }
 }
 
-/// The addresses whose instructions lead out of the story.
-fn list_leading_out(
+/// What is asked of an address that is reached.
+#[derive(Clone, Copy)]
+enum CodeQuestion {
+    /// Whether there is no instruction.
+    Undecodable,
+    /// Whether the instruction leads out of the story.
+    LeadsOut,
+}
+
+/// The answer to a question.
+fn code_answer(memory: &Memory, question: CodeQuestion, address: u32) -> bool
+    ensures { result ≡ code_answer memory.now question address }
+{
+    match question {
+        CodeQuestion::Undecodable => is_undecodable(memory, address),
+        CodeQuestion::LeadsOut => leads_out(memory, address),
+    }
+}
+
+/// The addresses of which a question is answered with yes.
+fn list_code(
     alloc: Global,
     memory: &Memory,
+    question: CodeQuestion,
     addresses: &[u32],
 ) -> Result<Addresses, AllocError>
-    ensures { IfOk result (λ list. list ≡ filter (leads_out memory.now) addresses.now) }
+    ensures { IfOk result (λ list. list ≡ filter (code_answer memory.now question) addresses.now) }
 {
     let mut list = Addresses::new(alloc);
     for address in addresses {
-        if leads_out(memory, *address) {
+        if code_answer(memory, question, *address) {
             list.push(*address)?;
         }
     }
+    Ok(list)
+}
+
+/// The reached addresses that have no instruction.
+fn find_undecodable(alloc: Global, memory: &Memory, code: &Code) -> Result<Addresses, AllocError>
+    requires { IsCodeOf memory.now code.now }
+    ensures { IfOk result (IsListOf (Finds memory.now Number.UndecodableCode)) }
+{
+    memory.has_bytes();
+    let question = CodeQuestion::Undecodable;
+    let list = list_code(alloc, memory, question, code.addresses.as_slice())?;
     Ok(list)
 }
 
@@ -161,36 +159,182 @@ fn find_leading_out(alloc: Global, memory: &Memory, code: &Code) -> Result<Addre
     ensures { IfOk result (IsListOf (Finds memory.now Number.TargetOutOfTheStory)) }
 {
     memory.has_bytes();
-    let list = list_leading_out(alloc, memory, code.addresses.as_slice())?;
+    let question = CodeQuestion::LeadsOut;
+    let list = list_code(alloc, memory, question, code.addresses.as_slice())?;
     Ok(list)
 }
 
 /// The entries of objects with a link past the last.
-fn find_leading_past(alloc: Global, memory: &Memory, count: u16) -> Result<Addresses, AllocError>
-    requires { IsCounted memory.now count }
+fn find_leading_past(
+    alloc: Global,
+    memory: &Memory,
+    objects: &Objects,
+) -> Result<Addresses, AllocError>
+    requires { AreObjects memory.now objects.now }
     ensures { IfOk result (IsListOf (Finds memory.now Number.ObjectLinks)) }
 {
-    memory.has_bytes();
-    let list = list_objects(alloc, memory, count, Question::Links)?;
+    let list = list_objects(alloc, memory, objects, Question::Links)?;
     Ok(list)
 }
 
 /// The entries of objects whose chain of children repeats one.
-fn find_repeating(alloc: Global, memory: &Memory, count: u16) -> Result<Addresses, AllocError>
-    requires { IsCounted memory.now count }
+fn find_repeating(
+    alloc: Global,
+    memory: &Memory,
+    objects: &Objects,
+) -> Result<Addresses, AllocError>
+    requires { AreObjects memory.now objects.now }
     ensures { IfOk result (IsListOf (Finds memory.now Number.ChainWithARepeat)) }
 {
-    memory.has_bytes();
-    let list = list_objects(alloc, memory, count, Question::Chain)?;
+    let list = list_objects(alloc, memory, objects, Question::Chain)?;
     Ok(list)
 }
 
 /// The entries of objects whose property list does not lie in data.
-fn find_without_list(alloc: Global, memory: &Memory, count: u16) -> Result<Addresses, AllocError>
-    requires { IsCounted memory.now count }
+fn find_without_list(
+    alloc: Global,
+    memory: &Memory,
+    objects: &Objects,
+) -> Result<Addresses, AllocError>
+    requires { AreObjects memory.now objects.now }
     ensures { IfOk result (IsListOf (Finds memory.now Number.PropertyList)) }
 {
     memory.has_bytes();
-    let list = list_objects(alloc, memory, count, Question::Properties)?;
+    let list = list_objects(alloc, memory, objects, Question::Properties)?;
     Ok(list)
+}
+
+/// What a story has that may be wrong.
+#[derive(Drop)]
+struct Parts {
+    code: Code,
+    objects: Objects,
+    texts: TextMarks,
+}
+
+/// The code, the objects and the texts of a story.
+fn find_parts(alloc: Global, memory: &Memory) -> Result<Parts, AllocError>
+    ensures { IfOk result (λ parts. AreParts memory.now parts) }
+{
+    let code = reach(alloc, memory)?;
+    let objects = find_objects(alloc, memory)?;
+    let texts = mark_all_texts(alloc, memory, objects.count, &code)?;
+    Ok(Parts {
+        code,
+        objects,
+        texts,
+    })
+}
+
+/// Where something is wrong, by its number.
+fn find(
+    alloc: Global,
+    memory: &Memory,
+    parts: &Parts,
+    number: Number,
+) -> Result<Addresses, AllocError>
+    requires { AreParts memory.now parts.now }
+    ensures { IfOk result (IsListOf (Finds memory.now number)) }
+{
+    match number {
+        Number::Checksum => find_wrong_checksum(alloc, memory),
+        Number::Length => find_length_past_end(alloc, memory),
+        Number::DictionaryOrder => find_unordered(alloc, memory),
+        Number::DictionaryExtent => find_bad_dictionary(alloc, memory),
+        Number::ObjectLinks => find_leading_past(alloc, memory, &parts.objects),
+        Number::ChainWithARepeat => find_repeating(alloc, memory, &parts.objects),
+        Number::PropertyList => find_without_list(alloc, memory, &parts.objects),
+        Number::TextPastTheEnd => find_past_end(alloc, memory, &parts.texts),
+        Number::NestedAbbreviation => find_nested(alloc, memory, &parts.texts),
+        Number::UndecodableCode => find_undecodable(alloc, memory, &parts.code),
+        Number::TargetOutOfTheStory => find_leading_out(alloc, memory, &parts.code),
+    }
+}
+
+/// Puts a finding at each address behind the others.
+fn put(findings: &mut Vec<Finding>, number: Number, addresses: &[u32]) -> Result<(), AllocError>
+    ensures { OnOk result (findings.new.items ≡ findings.old.items ++ map (at_address number) addresses.now) }
+{
+    for address in addresses {
+        findings.push(Finding {
+            number,
+            address: *address,
+        })?;
+    }
+    Ok(())
+}
+
+/// Puts all findings of a number behind the others.
+fn add(
+    alloc: Global,
+    memory: &Memory,
+    parts: &Parts,
+    number: Number,
+    findings: &mut Vec<Finding>,
+) -> Result<(), AllocError>
+    requires { AreParts memory.now parts.now }
+    ensures { OnOk result (Adds memory.now number findings.old.items findings.new.items) }
+{
+    let list = find(alloc, memory, parts, number)?;
+    put(findings, number, list.as_slice())?;
+    Ok(())
+}
+
+/// What is wrong with a story: each finding once, by number, then by address. Nothing is asked of a table whose word in the
+/// header is 0.
+///
+/// Refused for want of memory alone.
+pub fn check(alloc: Global, memory: &Memory) -> Result<Vec<Finding>, AllocError>
+    ensures { IfOk result (λ list. AreFindings memory.now list.items) }
+{
+    let parts = find_parts(alloc, memory)?;
+    let mut findings = Vec::new(alloc);
+    add(alloc, memory, &parts, Number::Checksum, &mut findings)?;
+    add(alloc, memory, &parts, Number::Length, &mut findings)?;
+    add(
+        alloc,
+        memory,
+        &parts,
+        Number::DictionaryOrder,
+        &mut findings,
+    )?;
+    add(
+        alloc,
+        memory,
+        &parts,
+        Number::DictionaryExtent,
+        &mut findings,
+    )?;
+    add(alloc, memory, &parts, Number::ObjectLinks, &mut findings)?;
+    add(
+        alloc,
+        memory,
+        &parts,
+        Number::ChainWithARepeat,
+        &mut findings,
+    )?;
+    add(alloc, memory, &parts, Number::PropertyList, &mut findings)?;
+    add(alloc, memory, &parts, Number::TextPastTheEnd, &mut findings)?;
+    add(
+        alloc,
+        memory,
+        &parts,
+        Number::NestedAbbreviation,
+        &mut findings,
+    )?;
+    add(
+        alloc,
+        memory,
+        &parts,
+        Number::UndecodableCode,
+        &mut findings,
+    )?;
+    add(
+        alloc,
+        memory,
+        &parts,
+        Number::TargetOutOfTheStory,
+        &mut findings,
+    )?;
+    Ok(findings)
 }

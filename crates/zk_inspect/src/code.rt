@@ -1,6 +1,6 @@
 // The code of a story.
 
-ghost use Rattle.std.specs.Prelude.{◌≡◌, ◌≤◌, [], ◌∷◌, ◌++◌, OnOk, length, slice_get};
+ghost use Rattle.std.specs.Prelude.{◌≡◌, [], ◌∷◌, ◌++◌, IfOk, OnOk, slice_get, if◌then◌else◌};
 
 use std::alloc::{AllocError, Global};
 use std::marker::Model;
@@ -26,6 +26,17 @@ impl Addresses {
         Addresses {
             list: Vec::new(alloc),
         }
+    }
+
+    /// An address alone, where something holds.
+    pub(crate) fn only_if(alloc: Global, holds: bool, address: u32) -> Result<Addresses, AllocError>
+        ensures { IfOk result (λ list. list ≡ (if holds then address ∷ [] else [])) }
+    {
+        let mut list = Addresses::new(alloc);
+        if holds {
+            list.push(address)?;
+        }
+        Ok(list)
     }
 
     pub(crate) fn push(&mut self, address: u32) -> Result<(), AllocError>

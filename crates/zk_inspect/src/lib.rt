@@ -1,18 +1,23 @@
 // Lists, disassembles and checks stories, without running them.
 #![tactic(auto)]
 
-mod checking;
+pub mod checking;
 pub mod code;
 pub mod disassembly;
 pub mod error;
 pub mod finding;
+mod keys;
 pub mod laws;
 mod marks;
 mod objects;
 mod operands;
 mod quoting;
 pub mod reach;
+mod siblings;
 #[cfg(test)]
 mod tests;
+#[cfg(test)]
+mod tests_of_checks;
+mod text_faults;
 mod texts;
 mod writing;

@@ -6,15 +6,16 @@ ghost use Rattle.zk_tables.specs.Layout.{entry_of};
 ghost use Rattle.zk_tables.specs.Chain.{children_of};
 ghost use Rattle.zk_tables.specs.Properties.{properties_of};
 ghost use Rattle.zk_inspect.specs.Lists.{IsListOf};
-ghost use Rattle.zk_inspect.specs.ObjectTests.{IsAnswered, answer, is_bad_property, is_bad_tree, is_past, leads_past};
+ghost use Rattle.zk_inspect.specs.ObjectTests.{AreObjects, IsAnswered, answer, is_bad_property, is_bad_tree, is_past, leads_past};
 ghost use Rattle.zk_inspect.specs.Objects.{IsListed, lower_of};
 
 use crate::code::Addresses;
+use crate::siblings::list_far_siblings;
 use std::alloc::{AllocError, Global};
 use zk_mem::fault::Fault;
 use zk_mem::memory::Memory;
 use zk_tables::properties::{check_properties, entry_address, table_address};
-use zk_tables::tree::{check_children, child, parent, sibling};
+use zk_tables::tree::{child, parent, sibling};
 
 /// The lower one of an address and that of the property table of an object.
 fn lower_table(memory: &Memory, object: u16, lowest: u32) -> u32
@@ -50,6 +51,27 @@ pub(crate) fn count_objects(memory: &Memory) -> u16
     65_535
 }
 
+/// The objects of a story.
+#[derive(Drop)]
+pub(crate) struct Objects {
+    /// How many are listed.
+    pub count: u16,
+    /// At each object's number, the one 65,536 siblings on.
+    far_siblings: Vec<u16>,
+}
+
+/// The objects of a story.
+pub(crate) fn find_objects(alloc: Global, memory: &Memory) -> Result<Objects, AllocError>
+    ensures { IfOk result (λ objects. AreObjects memory.now objects) }
+{
+    let count = count_objects(memory);
+    let far_siblings = list_far_siblings(alloc, memory)?;
+    Ok(Objects {
+        count,
+        far_siblings,
+    })
+}
+
 /// What is asked of an object.
 #[derive(Clone, Copy)]
 pub(crate) enum Question {
@@ -80,13 +102,17 @@ fn leads_past(memory: &Memory, count: u16, object: u16) -> bool
         || is_past(count, child(memory, object))
 }
 
-/// Whether the chain of an object's children repeats one.
-fn has_bad_tree(memory: &Memory, object: u16) -> bool
+/// Whether the chain of an object's children repeats one: whether it goes on 65,536 siblings behind the first.
+fn has_bad_tree(memory: &Memory, objects: &Objects, object: u16) -> bool
+    requires { AreObjects memory.now objects.now }
     ensures { result ≡ is_bad_tree (children_of memory.now object) }
 {
-    match check_children(memory, object) {
-        Ok(()) => false,
-        Err(fault) => matches!(fault, Fault::BadTree),
+    match child(memory, object) {
+        Ok(first) => {
+            let far = objects.far_siblings.get(first as usize);
+            far.copied().unwrap_or(0) != 0
+        }
+        Err(_) => false,
     }
 }
 
@@ -101,12 +127,13 @@ fn has_bad_properties(memory: &Memory, object: u16) -> bool
 }
 
 /// The answer to a question.
-fn answer(memory: &Memory, count: u16, question: Question, object: u16) -> bool
-    ensures { result ≡ answer memory.now count question object }
+fn answer(memory: &Memory, objects: &Objects, question: Question, object: u16) -> bool
+    requires { AreObjects memory.now objects.now }
+    ensures { result ≡ answer memory.now objects.now.count question object }
 {
     match question {
-        Question::Links => leads_past(memory, count, object),
-        Question::Chain => has_bad_tree(memory, object),
+        Question::Links => leads_past(memory, objects.count, object),
+        Question::Chain => has_bad_tree(memory, objects, object),
         Question::Properties => has_bad_properties(memory, object),
     }
 }
@@ -114,18 +141,19 @@ fn answer(memory: &Memory, count: u16, question: Question, object: u16) -> bool
 /// Adds the entry of an object, where a question is answered with yes.
 fn add_object(
     memory: &Memory,
-    count: u16,
+    objects: &Objects,
     question: Question,
     before: u16,
     list: &mut Addresses,
 ) -> Result<(), AllocError>
     requires few { before < 65535 }
-    requires before { IsListOf (IsAnswered memory.now count question before) list.old }
-    ensures { OnOk result (IsListOf (IsAnswered memory.now count question (before + 1)) list.new) }
+    requires objects { AreObjects memory.now objects.now }
+    requires before { IsListOf (IsAnswered memory.now objects.now.count question before) list.old }
+    ensures { OnOk result (IsListOf (IsAnswered memory.now objects.now.count question (before + 1)) list.new) }
 {
     match entry_address(memory, before + 1) {
         Ok(entry) => {
-            if answer(memory, count, question, before + 1) {
+            if answer(memory, objects, question, before + 1) {
                 list.push(entry)?;
                 return Ok(());
             }
@@ -139,14 +167,15 @@ fn add_object(
 pub(crate) fn list_objects(
     alloc: Global,
     memory: &Memory,
-    count: u16,
+    objects: &Objects,
     question: Question,
 ) -> Result<Addresses, AllocError>
-    ensures { IfOk result (IsListOf (IsAnswered memory.now count question count)) }
+    requires { AreObjects memory.now objects.now }
+    ensures { IfOk result (IsListOf (IsAnswered memory.now objects.now.count question objects.now.count)) }
 {
     let mut list = Addresses::new(alloc);
-    for before in 0..count {
-        add_object(memory, count, question, before, &mut list)?;
+    for before in 0..objects.count {
+        add_object(memory, objects, question, before, &mut list)?;
     }
     Ok(list)
 }

@@ -1,79 +1,29 @@
 // The texts of a story that are known to be texts.
 
-ghost use Rattle.std.specs.Prelude.{◌≡◌, ◌≤◌, ◌<◌, ◌*◌, ◌+◌, ℕ, IfOk, IfSome, OnOk, Some, Ok, Err, length};
-ghost use Rattle.zk_text.specs.Meaning.{meaning_at, no_abbreviation, text_units};
+ghost use Rattle.std.specs.Prelude.{◌≡◌, ◌≢◌, ◌≤◌, ◌<◌, ◌*◌, ◌+◌, ◌↔◌, ℕ, IfOk, IfSome, Some, length};
+ghost use Rattle.zk_mem.specs.Header.{header_of};
 ghost use Rattle.zk_code.specs.Grammar.{IsInstruction};
 ghost use Rattle.zk_code.specs.Reach.{IsReached};
+ghost use Rattle.zk_inspect.specs.Codes.{IsCodeOf};
 ghost use Rattle.zk_inspect.specs.ObjectTests.{IsCounted};
 ghost use Rattle.zk_inspect.specs.Texts.{IsPrinted, addressed_by, constant_text, text_named};
-ghost use Rattle.zk_inspect.specs.TextTests.{IsTextMarks, Keeps, NamesMarked, TextsMarked, has_kind, is_of, text_fails};
+ghost use Rattle.zk_inspect.specs.TextTests.{AreTableMarks, AreTextMarks, IsTableMarks, IsTextMarks, Keeps, NamesMarked, TextsMarked};
 ghost use Rattle.zk_inspect.specs.Lists.{IsMarked};
 
+use crate::code::Code;
 use crate::marks::Marks;
+use std::alloc::{AllocError, Global};
 use zk_code::decode::decode;
 use zk_code::instr::Instr;
 use zk_code::opcode::{Opcode, Printing};
 use zk_code::ways::first_constant;
-use zk_mem::fault::Fault;
 use zk_mem::header::unpack;
 use zk_mem::memory::Memory;
 use zk_tables::properties::name;
-use zk_text::text::{check_abbreviation, check_text};
 
-/// A kind of fault of a text.
-#[derive(Clone, Copy)]
-pub(crate) enum TextFault {
-    /// It has no end inside the story, or one of its abbreviations has none.
-    PastEnd,
-    /// One of its abbreviations uses an abbreviation.
-    Nested,
-}
-
-fn is_of(kind: TextFault, fault: Fault) -> bool
-    ensures { result ≡ is_of kind fault }
-{
-    match kind {
-        TextFault::PastEnd => matches!(fault, Fault::TextPastEnd),
-        TextFault::Nested => matches!(fault, Fault::NestedAbbreviation),
-    }
-}
-
-/// Whether the text at an address has a fault of a kind.
-#[tactic(auto, using(crate::proofs::Quotes::checked_fault))]
-fn text_has(memory: &Memory, kind: TextFault, address: u32) -> bool
-    ensures { result ≡ has_kind kind (text_units memory.now address) }
-{
-    match check_text(memory, address) {
-        Ok(_) => false,
-        Err(fault) => is_of(kind, fault),
-    }
-}
-
-/// Whether the text of an abbreviation at an address has a fault of a kind.
-fn abbreviation_has(memory: &Memory, kind: TextFault, address: u32) -> bool
-    ensures { result ≡ has_kind kind (meaning_at no_abbreviation memory.now address) }
-{
-    match check_abbreviation(memory, address) {
-        Ok(()) => false,
-        Err(fault) => is_of(kind, fault),
-    }
-}
-
-/// Whether a text that is marked at an address has a fault of a kind.
-pub(crate) fn text_fails(
-    memory: &Memory,
-    printed: &Marks,
-    abbreviations: &Marks,
-    kind: TextFault,
-    address: u32,
-) -> bool
-    requires printed { address < length printed.now }
-    requires abbreviations { address < length abbreviations.now }
-    ensures { result ≡ text_fails memory.now printed.now abbreviations.now kind address }
-{
-    (printed.has(address) && text_has(memory, kind, address))
-        || (abbreviations.has(address) && abbreviation_has(memory, kind, address))
-}
+/// No text is looked for at or above this address: the highest packed address is eight times 65,535, and no story has
+/// more bytes.
+pub(crate) const TEXTS_END: u32 = 524_289;
 
 /// The byte address of the text that an operation prints by a constant.
 fn addressed_by(memory: &Memory, operation: Printing, operand: Option<u16>) -> Option<u32>
@@ -115,7 +65,7 @@ fn mark_text(memory: &Memory, marks: &mut Marks, address: u32)
 }
 
 /// Marks the name of an object, where it has one.
-pub(crate) fn mark_name(memory: &Memory, count: u16, before: u16, marks: &mut Marks)
+fn mark_name(memory: &Memory, count: u16, before: u16, marks: &mut Marks)
     requires few { before < count }
     requires counted { IsCounted memory.now count }
     requires marks { IsTextMarks memory.now marks.old }
@@ -163,7 +113,7 @@ fn mark_addressed(memory: &Memory, address: u32, instr: &Instr, marks: &mut Mark
 }
 
 /// Marks the texts of the instruction at an address, where there is one.
-pub(crate) fn mark_texts(memory: &Memory, address: u32, marks: &mut Marks)
+fn mark_texts(memory: &Memory, address: u32, marks: &mut Marks)
     requires reached { IsReached memory.now address }
     requires marks { IsTextMarks memory.now marks.old }
     ensures marks { IsTextMarks memory.now marks.new }
@@ -177,4 +127,117 @@ pub(crate) fn mark_texts(memory: &Memory, address: u32, marks: &mut Marks)
         }
         Err(_) => {}
     }
+}
+
+/// Marks the names of the listed objects.
+fn mark_names(memory: &Memory, count: u16, marks: &mut Marks)
+    requires counted { IsCounted memory.now count }
+    requires marks { IsTextMarks memory.now marks.old }
+    ensures marks { IsTextMarks memory.now marks.new }
+    ensures names { NamesMarked memory.now count marks.new }
+{
+    for before in 0..count {
+        mark_name(memory, count, before, marks);
+    }
+}
+
+/// Marks the texts of the instructions that are reached.
+fn mark_code(memory: &Memory, code: &Code, marks: &mut Marks)
+    requires code { IsCodeOf memory.now code.now }
+    requires marks { IsTextMarks memory.now marks.old }
+    ensures marks { IsTextMarks memory.now marks.new }
+    ensures keeps { Keeps marks.old marks.new }
+    ensures texts { (a : ℕ) → IsReached memory.now a → TextsMarked memory.now a marks.new }
+{
+    let addresses = code.addresses.as_slice();
+    for address in addresses {
+        mark_texts(memory, *address, marks);
+    }
+}
+
+/// No marks, below a bound.
+fn unmarked(alloc: Global, bound: u32) -> Result<Marks, AllocError>
+    ensures size { IfOk result (λ marks. length marks ≡ bound) }
+    ensures none { IfOk result (λ marks. (a : ℕ) → IsMarked marks a → ⊥) }
+{
+    let marks = Marks::none(alloc, bound as usize)?;
+    Ok(marks)
+}
+
+/// Marks on all texts that are printed.
+fn mark_printed(
+    alloc: Global,
+    memory: &Memory,
+    count: u16,
+    code: &Code,
+) -> Result<Marks, AllocError>
+    requires counted { IsCounted memory.now count }
+    requires code { IsCodeOf memory.now code.now }
+    ensures size { IfOk result (λ marks. length marks ≡ 524289) }
+    ensures exact { IfOk result (λ marks. (a : ℕ) → IsMarked marks a ↔ IsPrinted memory.now a) }
+{
+    let mut marks = unmarked(alloc, TEXTS_END)?;
+    mark_names(memory, count, &mut marks);
+    mark_code(memory, code, &mut marks);
+    Ok(marks)
+}
+
+/// Marks the text that a word of the table of abbreviations names, or the word where it can't be read.
+fn mark_word(memory: &Memory, number: u8, texts: &mut Marks, unread: &mut Marks)
+    requires few { number < 96 }
+    requires tabled { (header_of memory.now.file).abbreviations ≢ 0 }
+    requires marks { IsTableMarks memory.now number texts.old unread.old }
+    ensures { IsTableMarks memory.now (number + 1) texts.new unread.new }
+{
+    let place = memory.header().abbreviations as u32 + 2 * number as u32;
+    match memory.word(place) {
+        Ok(word) => texts.mark(2 * word as u32),
+        Err(_) => unread.mark(place),
+    }
+}
+
+/// Marks the texts that the words of the table of abbreviations name, and those of these words that can't be read.
+fn mark_table(memory: &Memory, texts: &mut Marks, unread: &mut Marks)
+    requires { IsTableMarks memory.now 0 texts.old unread.old }
+    ensures { AreTableMarks memory.now texts.new unread.new }
+{
+    if memory.header().abbreviations == 0 {
+        return;
+    }
+    for number in 0..96 {
+        mark_word(memory, number, texts, unread);
+    }
+}
+
+/// Where the story has texts.
+#[derive(Drop)]
+pub(crate) struct TextMarks {
+    /// Those that are printed.
+    pub printed: Marks,
+    /// Those of abbreviations.
+    pub abbreviations: Marks,
+    /// The words of the table of abbreviations that can't be read.
+    pub unread: Marks,
+}
+
+/// Marks on all texts.
+pub(crate) fn mark_all_texts(
+    alloc: Global,
+    memory: &Memory,
+    count: u16,
+    code: &Code,
+) -> Result<TextMarks, AllocError>
+    requires counted { IsCounted memory.now count }
+    requires code { IsCodeOf memory.now code.now }
+    ensures { IfOk result (λ marks. AreTextMarks memory.now marks) }
+{
+    let printed = mark_printed(alloc, memory, count, code)?;
+    let mut abbreviations = unmarked(alloc, TEXTS_END)?;
+    let mut unread = unmarked(alloc, TEXTS_END)?;
+    mark_table(memory, &mut abbreviations, &mut unread);
+    Ok(TextMarks {
+        printed,
+        abbreviations,
+        unread,
+    })
 }

@@ -119,17 +119,17 @@ fails m (suc n) x e h = elim (chosen (eqb x 0) _ _ _ h) [
 
 -- ---- a path that comes back
 
-record Again (m : MemoryMap) (x : ℕ) : Type 0 where
-  xs : List ℕ
-  again : ℕ
-  path : IsPath m x xs again
-  among : list_any (eqb again) xs ≡ true
+pub record Again (m : MemoryMap) (x : ℕ) : Type 0 where
+  pub xs : List ℕ
+  pub again : ℕ
+  pub path : IsPath m x xs again
+  pub among : list_any (eqb again) xs ≡ true
 
-record Onward (m : MemoryMap) (x : ℕ) : Type 0 where
-  some : x ≢ 0
-  next : ℕ
-  link : link_at m (sibling_of x) ≡ Ok next
-  again : Again m next
+pub record Onward (m : MemoryMap) (x : ℕ) : Type 0 where
+  pub some : x ≢ 0
+  pub next : ℕ
+  pub link : link_at m (sibling_of x) ≡ Ok next
+  pub again : Again m next
 
 path_push : (m : MemoryMap) (x : ℕ) (xs : List ℕ) (y z : ℕ) → IsPath m x xs y → y ≢ 0 → link_at m (sibling_of y) ≡ Ok z → IsPath m x (xs ++ y ∷ []) z
 unfolding IsPath
@@ -163,7 +163,7 @@ loop_step m x (o ∷ os) again p h =
           (or_cases (eqb again o) (list_any (eqb again) os) h);
     }
 
-onward : (m : MemoryMap) (x : ℕ) → Again m x → Onward m x
+pub onward : (m : MemoryMap) (x : ℕ) → Again m x → Onward m x
 onward m x a = loop_step m x a.xs a.again a.path a.among
 
 -- a walk round a loop ends at its bound

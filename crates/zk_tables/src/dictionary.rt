@@ -193,7 +193,7 @@ impl Dictionary {
 
     /// The byte address of an entry, counted from 0.
     #[tactic(auto, using(crate::proofs::Finding::entry_inside, crate::proofs::Finding::dictionary_inside))]
-    fn start_of(&self, memory: &Memory, index: u16) -> u32
+    pub fn start_of(&self, memory: &Memory, index: u16) -> u32
         requires stands { IsDictionaryOf memory.now self.now }
         requires index { index < self.now.entries }
         ensures value { result ≡ entry_start self.now index }
@@ -201,6 +201,18 @@ impl Dictionary {
         ensures some { 0 < result }
     {
         self.address + self.separators as u32 + 4 + self.entry_length as u32 * index as u32
+    }
+
+    /// Whether the key of an entry, counted from 0, is above that of another (Standard, section 13.5).
+    pub fn is_key_above(&self, memory: &Memory, index: u16, other: u16) -> bool
+        requires stands { IsDictionaryOf memory.now self.now }
+        requires index { index < self.now.entries }
+        requires other { other < self.now.entries }
+        ensures { result ≡ is_above (entry_key memory.now self.now index) (entry_key memory.now self.now other) }
+    {
+        let start = self.start_of(memory, index);
+        let other_start = self.start_of(memory, other);
+        key_falls(memory, start, other_start)
     }
 
     /// Whether the key of an entry, counted from 0, is below another.

@@ -1,10 +1,10 @@
 // The properties and names of objects.
 
 ghost use Rattle.std.specs.Prelude.{◌≡◌, ◌≤◌, ◌<◌, Ok, Err, IfOk, IfSome, IsOk, MatchResult};
-ghost use Rattle.zk_tables.specs.Layout.{entry_of};
+ghost use Rattle.zk_tables.specs.Layout.{entries, entry_of};
 ghost use Rattle.zk_tables.specs.Properties.{table_of, list_of, properties_of, property_of, default_of, value_in, value_put_in, property_value, property_address_of, next_property_of, property_put, length_by, property_length_of, name_of};
 
-use crate::layout::{entry, layout_for};
+use crate::layout::{count_entries, entry, layout_for};
 use crate::lists::{
     Property, check_list, find, find_first_number, find_number_after, length_in, read_list_byte,
 };
@@ -17,6 +17,13 @@ pub fn entry_address(memory: &Memory, object: u16) -> Result<u32, Fault>
     ensures bound { IfOk result (λ address. address < 65536) }
 {
     entry(memory, object)
+}
+
+/// How many entries of objects fit into data (Standard, section 12.3): up to version 3 no more than 255 are counted.
+pub fn entry_count(memory: &Memory) -> u16
+    ensures { result ≡ entries memory.now }
+{
+    count_entries(memory)
 }
 
 /// The byte address of the property table of an object (Standard, section 12.4), or `BadObject` where it has no entry in

@@ -1,6 +1,3 @@
-use Rattle.std.proofs.Common.{sym, subst}
-use Rattle.zk_inspect.specs.Findings.{Finds}
-use Rattle.zk_inspect.specs.Lists.{IsListOf}
 use Rattle.zk_inspect.proofs.Checks.{wrong_checksum}
 use Rattle.zk_inspect.proofs.checking.find_wrong_checksum.Goals as goal
 

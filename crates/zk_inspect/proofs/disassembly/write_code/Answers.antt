@@ -1,4 +1,4 @@
-use Rattle.std.proofs.Common.{false, true, refl, ap, sym}
+use Rattle.std.proofs.Common.{false, true, ap, sym}
 use Rattle.std.specs.List.{flat_map}
 use Rattle.zk_inspect.specs.Listing.{address_line, routine_line, disassembly}
 use Rattle.zk_inspect.specs.Written.{gave_then, gave_part}

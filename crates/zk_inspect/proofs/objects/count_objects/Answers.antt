@@ -1,4 +1,4 @@
-use Rattle.std.proofs.Common.{◌∙◌, ◌≡◌, ◌+◌, arith, ap, sym, subst}
+use Rattle.std.proofs.Common.{◌∙◌, ◌+◌, arith, ap, sym, subst}
 use Rattle.zk_mem.specs.declared.header.Header.{Header}
 use Rattle.zk_inspect.proofs.Entries.{Counting, count_begins, count_ends, count_full, count_meets, count_whole, none_listed, one_more}
 use Rattle.zk_inspect.proofs.objects.count_objects.Goals as goal

@@ -1,4 +1,4 @@
-use Rattle.std.proofs.Common.{arith, sym}
+use Rattle.std.proofs.Common.{arith}
 use Rattle.zk_inspect.proofs.TextMarks.{inline_printed, text_inside}
 use Rattle.zk_inspect.proofs.texts.mark_inline.Goals as goal
 

@@ -1,4 +1,3 @@
-use Rattle.std.proofs.Common.{refl}
 use Rattle.zk_inspect.proofs.Searching.{expanded_by, grows_twice}
 use Rattle.zk_inspect.proofs.reach.Search.follow.Goals as goal
 

@@ -1,4 +1,4 @@
-use Rattle.std.proofs.Common.{◌≡◌, ◌∙◌, ℕ, sym, subst, Some}
+use Rattle.std.proofs.Common.{◌≡◌, ◌∙◌, sym, subst, Some}
 use Rattle.zk_inspect.proofs.Marking.{some_same}
 use Rattle.zk_code.specs.Routines.{code_start}
 use Rattle.zk_inspect.specs.Lists.{IsMarked}

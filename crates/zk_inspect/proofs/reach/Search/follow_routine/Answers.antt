@@ -1,4 +1,4 @@
-use Rattle.std.proofs.Common.{arith, refl, sym, subst, ◌∙◌, ◌≡◌, ◌<◌, ℕ, Some, length}
+use Rattle.std.proofs.Common.{arith, refl, sym, subst, ◌∙◌, ◌<◌, length}
 use Rattle.zk_inspect.proofs.Marking.{some_same}
 use Rattle.zk_inspect.proofs.Inside.{reached_call, called_by, routine_inside}
 use Rattle.zk_inspect.proofs.Marking.{marked_now}

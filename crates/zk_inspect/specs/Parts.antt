@@ -1,0 +1,23 @@
+-- What a check has at hand, and what it has found of a number.
+use Rattle.std.specs.Prelude.{◌≡◌, ℕ, List, ◌++◌, map}
+use Rattle.zk_mem.specs.Map.{MemoryMap}
+use Rattle.zk_inspect.specs.declared.checking.Parts.{Parts}
+use Rattle.zk_inspect.specs.declared.finding.Finding.{Finding}
+use Rattle.zk_inspect.specs.declared.finding.Number.{Number}
+use Rattle.zk_inspect.specs.Codes.{IsCodeOf}
+use Rattle.zk_inspect.specs.Findings.{Finds, at_address}
+use Rattle.zk_inspect.specs.Lists.{IsListOf}
+use Rattle.zk_inspect.specs.ObjectTests.{AreObjects}
+use Rattle.zk_inspect.specs.TextTests.{AreTextMarks}
+
+-- the code, the objects and the texts of a story
+pub record AreParts (m : MemoryMap) (parts : Parts) : Type 0 where
+  pub code : IsCodeOf m parts.code
+  pub objects : AreObjects m parts.objects
+  pub texts : AreTextMarks m parts.texts
+
+-- all findings of a number stand behind others
+pub record Adds (m : MemoryMap) (n : Number) (old new : List Finding) : Type 0 where
+  pub addresses : List ℕ
+  pub exact : IsListOf (Finds m n) addresses
+  pub joined : new ≡ old ++ map (at_address n) addresses

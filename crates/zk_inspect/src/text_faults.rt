@@ -1,0 +1,112 @@
+// What is wrong with the texts of a story.
+
+ghost use Rattle.std.specs.Prelude.{◌≡◌, ◌<◌, true, IfOk};
+ghost use Rattle.zk_text.specs.Meaning.{meaning_at, no_abbreviation, text_units};
+ghost use Rattle.zk_inspect.specs.Findings.{Finds};
+ghost use Rattle.zk_inspect.specs.Lists.{IsListOf};
+ghost use Rattle.zk_inspect.specs.TextTests.{AreTextMarks, has_kind, is_of, text_fails};
+
+use crate::code::Addresses;
+use crate::finding::Number;
+use crate::texts::{TEXTS_END, TextMarks};
+use std::alloc::{AllocError, Global};
+use zk_mem::fault::Fault;
+use zk_mem::memory::Memory;
+use zk_text::text::{check_abbreviation, check_text};
+
+/// A kind of fault of a text.
+#[derive(Clone, Copy)]
+pub(crate) enum TextFault {
+    /// It has no end inside the story, or one of its abbreviations has none.
+    PastEnd,
+    /// One of its abbreviations uses an abbreviation.
+    Nested,
+}
+
+fn is_of(kind: TextFault, fault: Fault) -> bool
+    ensures { result ≡ is_of kind fault }
+{
+    match kind {
+        TextFault::PastEnd => matches!(fault, Fault::TextPastEnd),
+        TextFault::Nested => matches!(fault, Fault::NestedAbbreviation),
+    }
+}
+
+/// Whether the text at an address has a fault of a kind.
+#[tactic(auto, using(crate::proofs::Quotes::checked_fault))]
+fn text_has(memory: &Memory, kind: TextFault, address: u32) -> bool
+    ensures { result ≡ has_kind kind (text_units memory.now address) }
+{
+    match check_text(memory, address) {
+        Ok(_) => false,
+        Err(fault) => is_of(kind, fault),
+    }
+}
+
+/// Whether the text of an abbreviation at an address has a fault of a kind.
+fn abbreviation_has(memory: &Memory, kind: TextFault, address: u32) -> bool
+    ensures { result ≡ has_kind kind (meaning_at no_abbreviation memory.now address) }
+{
+    match check_abbreviation(memory, address) {
+        Ok(()) => false,
+        Err(fault) => is_of(kind, fault),
+    }
+}
+
+/// Whether a text that is marked at an address has a fault of a kind, or a word of the table of abbreviations there can't be
+/// read, for which abbreviations have no end.
+fn text_fails(memory: &Memory, marks: &TextMarks, kind: TextFault, address: u32) -> bool
+    requires marks { AreTextMarks memory.now marks.now }
+    requires near { address < 524289 }
+    ensures { result ≡ text_fails memory.now marks.now kind address }
+{
+    (marks.printed.has(address) && text_has(memory, kind, address))
+        || (marks.abbreviations.has(address) && abbreviation_has(memory, kind, address))
+        || (is_of(kind, Fault::TextPastEnd) && marks.unread.has(address))
+}
+
+/// The addresses of texts that have a fault of a kind.
+fn list_failing(
+    alloc: Global,
+    memory: &Memory,
+    marks: &TextMarks,
+    kind: TextFault,
+) -> Result<Addresses, AllocError>
+    requires { AreTextMarks memory.now marks.now }
+    ensures { IfOk result (IsListOf (λ a. text_fails memory.now marks.now kind a ≡ true)) }
+{
+    let mut list = Addresses::new(alloc);
+    for address in 0..TEXTS_END {
+        if text_fails(memory, marks, kind, address) {
+            list.push(address)?;
+        }
+    }
+    Ok(list)
+}
+
+/// The addresses of texts that have no end in the story, or that use an abbreviation without one, and the words of the
+/// table of abbreviations that can't be read.
+pub(crate) fn find_past_end(
+    alloc: Global,
+    memory: &Memory,
+    marks: &TextMarks,
+) -> Result<Addresses, AllocError>
+    requires { AreTextMarks memory.now marks.now }
+    ensures { IfOk result (IsListOf (Finds memory.now Number.TextPastTheEnd)) }
+{
+    let list = list_failing(alloc, memory, marks, TextFault::PastEnd)?;
+    Ok(list)
+}
+
+/// The addresses of abbreviations that use one, and of texts that use such an abbreviation.
+pub(crate) fn find_nested(
+    alloc: Global,
+    memory: &Memory,
+    marks: &TextMarks,
+) -> Result<Addresses, AllocError>
+    requires { AreTextMarks memory.now marks.now }
+    ensures { IfOk result (IsListOf (Finds memory.now Number.NestedAbbreviation)) }
+{
+    let list = list_failing(alloc, memory, marks, TextFault::Nested)?;
+    Ok(list)
+}
