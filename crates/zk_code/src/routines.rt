@@ -6,7 +6,7 @@ ghost use Rattle.zk_code.specs.Routines.{code_start, count_at, values_length};
 use zk_mem::memory::Memory;
 
 /// How many bytes the initial values of so many local variables take.
-fn length_of_values(memory: &Memory, count: u8) -> u32
+pub fn length_of_values(memory: &Memory, count: u8) -> u32
     ensures value { result ≡ values_length memory.now count }
     ensures bound { result ≤ 510 }
 {

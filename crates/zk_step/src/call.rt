@@ -3,44 +3,17 @@
 ghost use Rattle.zk_state.specs.Frames.{bounds_of};
 ghost use Rattle.std.specs.Prelude.{◌≡◌, ◌≤◌, ◌<◌, ◌^◌, Ok, Err, IfSome, MatchResult, length, slice_index_or};
 ghost use Rattle.zk_step.specs.Limited.{limited_next};
-ghost use Rattle.zk_step.specs.Routines.{called, count_at, initial_value, initial_values, values_length, with_arguments};
+ghost use Rattle.zk_step.specs.Routines.{called, initial_value, initial_values, with_arguments};
 
 use crate::ending::Next;
 use crate::workspace::Workspace;
 use arrayvec::ArrayVec;
 use zk_code::instr::Instr;
+use zk_code::routines::{length_of_values, local_count};
 use zk_mem::fault::Fault;
 use zk_mem::header::unpack;
 use zk_mem::memory::Memory;
 use zk_state::refusal::Refusal;
-
-/// The bytes of the initial values of so many local variables.
-pub fn length_of_values(memory: &Memory, count: u8) -> u32
-    ensures value { result ≡ values_length memory.now count }
-    ensures bound { result ≤ 510 }
-{
-    if memory.version() < 5 {
-        2 * count as u32
-    } else {
-        0
-    }
-}
-
-/// How many local variables the routine at a byte address has, where it has at most 15 and lies in the
-/// story.
-#[tactic(auto, unfolding(crate::specs::Routines::count_at))]
-pub fn local_count(memory: &Memory, address: u32) -> Option<u8>
-    requires { address < 2 ^ 20 }
-    ensures value { result ≡ count_at memory.now address }
-    ensures few { IfSome result (λ n. n ≤ 15) }
-{
-    let count = memory.cell(address)?;
-    if count > 15 || address + 1 + length_of_values(memory, count) > memory.len() {
-        None
-    } else {
-        Some(count)
-    }
-}
 
 /// The initial value of a local variable: a word of the routine's, or 0 from version 5 on.
 fn initial_value(memory: &Memory, address: u32) -> u16
