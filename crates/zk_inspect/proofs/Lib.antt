@@ -9,3 +9,10 @@ pub mod Checks
 pub mod Entries
 pub mod Answered
 pub mod TextMarks
+pub mod Numbered
+pub mod Places
+pub mod Plain
+pub mod Parts
+pub mod PropertyLines
+pub mod Keyed
+pub mod Rows

@@ -12,3 +12,9 @@ pub mod Findings
 pub mod Tests
 pub mod ObjectTests
 pub mod TextTests
+pub mod HeaderLines
+pub mod MapLines
+pub mod AbbreviationLines
+pub mod ObjectLines
+pub mod DictionaryLines
+pub mod TreeLines

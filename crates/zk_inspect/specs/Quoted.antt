@@ -1,13 +1,13 @@
 -- Units of text between quotes, one after another.
 use Rattle.std.specs.Prelude.{◌≡◌, ℕ, Bool, true, false, List, [], ◌∷◌, ◌++◌, Option, map, encode_utf8_all, Ok, Err}
-use Rattle.std.proofs.Common.{◌∙◌, refl, sym, ap, subst}
+use Rattle.std.proofs.Common.{◌∙◌, sym, ap, subst}
 use Rattle.std.proofs.lemmas.Str.{encodes-append}
 use Rattle.std.proofs.lemmas.List.{map-append}
 use Rattle.zk_text.specs.declared.unit.Unit.{Unit}
 use Rattle.zk_text.specs.Extra.{ExtraTable}
 use Rattle.zk_text.specs.Meaning.{Units}
 use Rattle.zk_text.specs.Shown.{shown, shown_all}
-use Rattle.zk_text.proofs.ShownLemmas.{shown_all-append, shown_all-one, shown_all-nil}
+use Rattle.zk_text.proofs.ShownLemmas.{shown_all-append, shown_all-one}
 use Rattle.zk_inspect.specs.Listing.{quoted_bytes, quoted_character}
 use Rattle.zk_inspect.specs.Written.{Gave, gave_then, gave_part, gave_nothing}
 
