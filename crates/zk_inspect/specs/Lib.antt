@@ -18,3 +18,4 @@ pub mod AbbreviationLines
 pub mod ObjectLines
 pub mod DictionaryLines
 pub mod TreeLines
+pub mod FindingLines

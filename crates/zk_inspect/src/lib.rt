@@ -8,6 +8,7 @@ mod dictionary_lines;
 pub mod disassembly;
 pub mod error;
 pub mod finding;
+pub mod finding_lines;
 mod header_lines;
 pub mod laws;
 pub mod listings;
@@ -20,6 +21,8 @@ mod quoting;
 pub mod reach;
 #[cfg(test)]
 mod tests;
+#[cfg(test)]
+mod tests_of_listings;
 mod texts;
 mod tree_lines;
 mod writing;
