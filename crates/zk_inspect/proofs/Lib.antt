@@ -14,3 +14,10 @@ pub mod Falling
 pub mod TableMarks
 pub mod TextFaults
 pub mod AllNumbers
+pub mod Numbered
+pub mod Places
+pub mod Plain
+pub mod Parts
+pub mod PropertyLines
+pub mod Keyed
+pub mod Rows

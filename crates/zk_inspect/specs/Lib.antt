@@ -14,3 +14,10 @@ pub mod ObjectTests
 pub mod TextTests
 pub mod Siblings
 pub mod Parts
+pub mod HeaderLines
+pub mod MapLines
+pub mod AbbreviationLines
+pub mod ObjectLines
+pub mod DictionaryLines
+pub mod TreeLines
+pub mod FindingLines

@@ -15,6 +15,12 @@ pub record Gave {S : Type 0} (taken : S → Option (List ℕ)) (has_failed : S �
   pub written : Wrote failed (taken old) (taken new) text
   pub failed_by : has_failed new ≡ (failed || has_failed old)
 
+-- a target was given some text of which something holds
+pub record GaveSome {S : Type 0} (P : List ℕ → Type 0) (taken : S → Option (List ℕ)) (has_failed : S → Bool) (failed : Bool) (old new : S) : Type 0 where
+  pub text : List ℕ
+  pub is : P text
+  pub gave : Gave taken has_failed failed old new text
+
 wrote_then : (e : Bool) (a b c : Option (List ℕ)) (s t : List ℕ) → Appends a b s → Wrote e b c t → Wrote e a c (s ++ t)
 wrote_then false a b c s t h k = Appends-trans a b c s t h k
 wrote_then true a b c s t h k = record {

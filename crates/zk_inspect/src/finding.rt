@@ -1,5 +1,8 @@
 // What is wrong with a story.
 
+ghost use Rattle.std.specs.Prelude.{◌≡◌};
+ghost use Rattle.zk_inspect.specs.FindingLines.{finding_number, finding_words};
+
 /// What may be wrong, by the numbers that reports show.
 #[derive(Clone, Copy, Debug, PartialEq, Eq, Drop)]
 pub enum Number {
@@ -25,6 +28,46 @@ pub enum Number {
     UndecodableCode,
     /// An instruction leads out of the story.
     TargetOutOfTheStory,
+}
+
+impl Number {
+    /// The number that reports show behind a `C`.
+    pub fn number(self) -> u8
+        ensures { result ≡ finding_number self }
+    {
+        match self {
+            Number::Checksum => 1,
+            Number::Length => 2,
+            Number::DictionaryOrder => 3,
+            Number::DictionaryExtent => 4,
+            Number::ObjectLinks => 5,
+            Number::ChainWithARepeat => 6,
+            Number::PropertyList => 7,
+            Number::TextPastTheEnd => 8,
+            Number::NestedAbbreviation => 9,
+            Number::UndecodableCode => 10,
+            Number::TargetOutOfTheStory => 11,
+        }
+    }
+
+    /// What is wrong, in words.
+    pub fn words(self) -> &'static [u8]
+        ensures { result.now ≡ finding_words self }
+    {
+        match self {
+            Number::Checksum => b"checksum",
+            Number::Length => b"length",
+            Number::DictionaryOrder => b"dictionary order",
+            Number::DictionaryExtent => b"dictionary extent",
+            Number::ObjectLinks => b"object links",
+            Number::ChainWithARepeat => b"chain with a repeat",
+            Number::PropertyList => b"property list",
+            Number::TextPastTheEnd => b"text past the end",
+            Number::NestedAbbreviation => b"nested abbreviation",
+            Number::UndecodableCode => b"undecodable code",
+            Number::TargetOutOfTheStory => b"target out of the story",
+        }
+    }
 }
 
 /// Something that is wrong, and where: a byte address.

@@ -1,14 +1,21 @@
 // Lists, disassembles and checks stories, without running them.
 #![tactic(auto)]
 
+mod abbreviation_lines;
 pub mod checking;
 pub mod code;
+mod dictionary_lines;
 pub mod disassembly;
 pub mod error;
 pub mod finding;
+pub mod finding_lines;
+mod header_lines;
 mod keys;
 pub mod laws;
+pub mod listings;
+mod map_lines;
 mod marks;
+mod object_lines;
 mod objects;
 mod operands;
 mod quoting;
@@ -18,6 +25,9 @@ mod siblings;
 mod tests;
 #[cfg(test)]
 mod tests_of_checks;
+#[cfg(test)]
+mod tests_of_listings;
 mod text_faults;
 mod texts;
+mod tree_lines;
 mod writing;

@@ -92,6 +92,36 @@ impl<'a, T: Target> Sink for Quoting<'a, T> {
     ghost late = { λ a b c s t h k. (k.0 ∙ h.0, k.1 ∙ h.1, quoted_then T.taken T.failed true a.extra.now b.extra.now a.target.now b.target.now c.target.now s t h.1 h.2 k.2) };
 }
 
+/// Gives a unit to a sink.
+fn give_unit<K: Sink>(sink: &mut K, unit: Unit) -> Result<(), SinkFault>
+    ensures ok { OnOk result (K.gave sink.old sink.new (unit ∷ [])) }
+    ensures err { OnErr result (K.refused sink.old sink.new (unit ∷ [])) }
+{
+    match sink.put(unit) {
+        Ok(()) => Ok(()),
+        Err(SinkFault) => Err(SinkFault),
+    }
+}
+
+/// Writes a ZSCII code as it stands between quotes.
+pub(crate) fn write_code<T: Target>(
+    target: &mut T,
+    memory: &Memory,
+    code: u16,
+) -> Result<(), Failed>
+    ensures { Gave T.taken T.failed (is_err result) target.old target.new (quoted_units (own_characters memory.now) (Unit.Code code ∷ [])) }
+{
+    let extra = Extra::of(memory);
+    let mut quoting = Quoting {
+        target,
+        extra: &extra,
+    };
+    match give_unit(&mut quoting, Unit::Code(code)) {
+        Ok(()) => Ok(()),
+        Err(SinkFault) => Err(Failed),
+    }
+}
+
 /// Gives a text that has a meaning to a sink.
 fn give_text<K: Sink>(sink: &mut K, memory: &Memory, address: u32) -> Result<(), SinkFault>
     requires { IsOk (text_units memory.now address) }
@@ -132,7 +162,7 @@ fn write_up_to_quote<T: Target>(target: &mut T, memory: &Memory, address: u32) -
 }
 
 /// Writes a text that has a meaning between quotes, behind another text.
-fn write_meaning<T: Target>(
+pub(crate) fn write_meaning<T: Target>(
     target: &mut T,
     before: &[u8],
     memory: &Memory,

@@ -11,7 +11,7 @@ use zk_mem::story::Story;
 use zk_term::over::Over;
 
 /// A story that ends with this code, which begins at 0x40.
-fn story(alloc: Global, version: u8, code: &[u8]) -> Result<Memory, Fail> {
+pub(crate) fn story(alloc: Global, version: u8, code: &[u8]) -> Result<Memory, Fail> {
     let mut header = [0; 64];
     header[0] = version;
     header[0x05] = 0x40;

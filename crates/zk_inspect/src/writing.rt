@@ -36,7 +36,7 @@ fn hex_digit_of(n: u32) -> u8
 
 /// The hexadecimal digits of a number.
 #[tactic(auto, unfolding(crate::specs::Numbers::hex_digits))]
-fn hex_digits_of(n: u32) -> [u8; 8]
+pub(crate) fn hex_digits_of(n: u32) -> [u8; 8]
     ensures { result ≡ hex_digits n }
 {
     [
@@ -52,7 +52,7 @@ fn hex_digits_of(n: u32) -> [u8; 8]
 }
 
 /// How many zeros are left out of an address.
-fn zeros_before(address: u32) -> usize
+pub(crate) fn zeros_before(address: u32) -> usize
     ensures { result ≡ zeros_left_out address }
 {
     if address < 0x10_0000 {

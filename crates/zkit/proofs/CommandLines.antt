@@ -2,12 +2,15 @@
 use Rattle.std.proofs.Common.{◌≡◌, ◌∙◌, ℕ, List, Option, Some, None, IfNone, IfSome, codes, refl, sym, ap, ap₂, subst, Bool, true, false}
 use Rattle.std.specs.Prelude.{SomeIff, IsSomeAnd, if◌then◌else◌, option_map, unwrap_or}
 use Rattle.std.specs.Str.{bytes_eq}
+use Rattle.std.proofs.lemmas.Slice.Eq.{bytes_eq-Decides}
 use Rattle.clap.specs.Words.{App, HasMatchesOf, Row, Text, first_of, is_simple, is_simple_and_free, subcommand_name_of, subcommand_of, subcommand_rows_of}
 use Rattle.clap.proofs.OnLiterals.{clap_on_literals}
 use Rattle.clap.specs.declared.ArgMatches.{ArgMatches}
 use Rattle.zkit.specs.declared.manner.Manner.{Manner}
-use Rattle.zkit.specs.CommandLine.{AsksToPlay, IsNumberIn, Paths, SaysManner, SaysNumber, command_line, number_in, view_said}
-use Rattle.zk_step.specs.declared.workspace.View.TheVariants.{Plain, Upper}
+use Rattle.zkit.specs.CommandLine.{Asks, IsNumberIn, Says, SaysManner, SaysNumber, SaysStory, command_line, flag_said, number_in}
+use Rattle.zkit.specs.declared.choice.Choice.{Choice}
+use Rattle.zkit.specs.declared.choice.Choice.TheVariants.{Play, Show}
+use Rattle.zkit.specs.declared.listing.Listing.TheVariants.{Info, Code}
 
 -- the command line is simple in clap's sense
 pub command_line_is_simple : is_simple command_line ≡ true
@@ -35,18 +38,26 @@ pub paired : (o : Option (Text × List Row)) (name : Text) (rows : List Row) →
 paired None name rows e f = cc
 paired (Some p) name rows e f = ap₂ (λ (a : Text) (b : List Row). Some (a, b)) (ap (λ (o : Option Text). unwrap_or o p.0) e) (ap (λ (o : Option (List Row)). unwrap_or o p.1) f)
 
--- the rows of `play`, where clap met it
-pub play_met : (m : ArgMatches) (a : App) (words : List Text) (rows : List Row) → a ≡ command_line → HasMatchesOf a words m → subcommand_name_of m ≡ Some (codes "play")
-    → option_map (λ p. p.1) (subcommand_rows_of m) ≡ Some rows → subcommand_of command_line words ≡ Some (codes "play", rows)
-play_met m a words rows line_is has name rows_are =
-    ap (λ (b : App). subcommand_of b words) (sym line_is) ∙ sym (has (ap is_simple line_is ∙ command_line_is_simple)).1 ∙ paired (subcommand_rows_of m) (codes "play") rows (firsts _ _ ∙ name) rows_are
+-- the command and its rows, where clap met one
+pub met : (m : ArgMatches) (a : App) (words : List Text) (name : Text) (rows : List Row) → a ≡ command_line → HasMatchesOf a words m → subcommand_name_of m ≡ Some name
+    → option_map (λ p. p.1) (subcommand_rows_of m) ≡ Some rows → subcommand_of command_line words ≡ Some (name, rows)
+met m a words name rows line_is has named rows_are =
+    ap (λ (b : App). subcommand_of b words) (sym line_is) ∙ sym (has (ap is_simple line_is ∙ command_line_is_simple)).1 ∙ paired (subcommand_rows_of m) name rows (firsts _ _ ∙ named) rows_are
 
--- where clap has not met `play`, the words do not ask for it
-pub play_not_met : (m : ArgMatches) (a : App) (words : List Text) → a ≡ command_line → HasMatchesOf a words m → (subcommand_name_of m ≡ Some (codes "play") → ⊥)
-    → (paths : Paths) (n : Manner) → AsksToPlay words paths n → ⊥
-play_not_met m a words line_is has none paths n h =
-    let met : subcommand_rows_of m ≡ Some (codes "play", h.rows) = (has (ap is_simple line_is ∙ command_line_is_simple)).1 ∙ ap (λ (b : App). subcommand_of b words) line_is ∙ h.command in
-    none (sym (firsts _ _) ∙ ap (option_map (λ (p : Text × List Row). p.0)) met)
+-- where clap has met no command, the words ask for nothing
+pub without_command : (m : ArgMatches) (a : App) (words : List Text) → a ≡ command_line → HasMatchesOf a words m → subcommand_name_of m ≡ None → (c : Choice) → Asks words c → ⊥
+without_command m a words line_is has none c h =
+    let met_one : subcommand_rows_of m ≡ Some (h.name, h.rows) = (has (ap is_simple line_is ∙ command_line_is_simple)).1 ∙ ap (λ (b : App). subcommand_of b words) line_is ∙ h.command in
+    let some : None ≡ Some h.name = sym none ∙ sym (firsts _ _) ∙ ap (option_map (λ (p : Text × List Row). p.0)) met_one in
+    absurd cc
+
+-- where what clap has met says nothing, the words ask for nothing
+pub unasked : (words : List Text) (name : Text) (rows : List Row) → subcommand_of command_line words ≡ Some (name, rows) → ((c : Choice) → Says name rows c → ⊥) → (c : Choice) → Asks words c → ⊥
+unasked words name rows e none c h =
+    let both : Some (h.name, h.rows) ≡ Some (name, rows) = sym h.command ∙ e in
+    let names : h.name ≡ name = ap (λ (o : Option (Text × List Row)). unwrap_or (option_map (λ p. p.0) o) name) both in
+    let same : h.rows ≡ rows = ap (λ (o : Option (Text × List Row)). unwrap_or (option_map (λ p. p.1) o) rows) both in
+    none c (subst (λ (r : List Row). Says name r c) same (subst (λ (n : Text). Says n h.rows c) names h.says))
 
 -- an option without a text says no number
 pub none_said : (rows : List Row) (option : Text) (least most : ℕ) → first_of option rows ≡ None → (n : ℕ) → SaysNumber rows option least most n → ⊥
@@ -59,28 +70,35 @@ number_not_said rows option least most word None e h =
     λ n said. h (subst (λ (o : Option Text). IsSomeAnd o (λ w. IsNumberIn least most w × (number_in w ≡ n))) e said).0
 number_not_said rows option least most word (Some n) e h = tt
 
--- the view by the text of its flag
-pub upper_said : (rows : List Row) (word : Text) → first_of (codes "upper") rows ≡ Some word → bytes_eq word (codes "true") ≡ true → Upper ≡ view_said (first_of (codes "upper") rows)
-upper_said rows word e is = sym (ap view_said e ∙ ap (λ (b : Bool). if b then Upper else Plain) is)
+-- a flag by its text
+pub flag_by : (rows : List Row) (name word : Text) (b : Bool) → first_of name rows ≡ Some word → b ≡ bytes_eq word (codes "true") → b ≡ flag_said (first_of name rows)
+flag_by rows name word b e is = is ∙ sym (ap flag_said e)
 
-pub plain_said : (rows : List Row) (word : Text) → first_of (codes "upper") rows ≡ Some word → bytes_eq word (codes "true") ≡ false → Plain ≡ view_said (first_of (codes "upper") rows)
-plain_said rows word e is = sym (ap view_said e ∙ ap (λ (b : Bool). if b then Upper else Plain) is)
+pub no_flag : (rows : List Row) (name : Text) → first_of name rows ≡ None → false ≡ flag_said (first_of name rows)
+no_flag rows name e = sym (ap flag_said e)
 
-pub no_view_said : (rows : List Row) → first_of (codes "upper") rows ≡ None → Plain ≡ view_said (first_of (codes "upper") rows)
-no_view_said rows e = sym (ap view_said e)
+-- no path is said
+pub no_path : (rows : List Row) → first_of (codes "STORY") rows ≡ None → (path : List ℕ) → SaysStory rows path → ⊥
+no_path rows none path h = let both : None ≡ Some path = sym none ∙ h in absurd cc
 
--- the rows that words ask to play by are those that clap finds
-same_rows : (words : List Text) (rows : List Row) (paths : Paths) (m : Manner) (h : AsksToPlay words paths m)
-    → subcommand_of command_line words ≡ Some (codes "play", rows) → h.rows ≡ rows
-same_rows words rows paths m h e = ap (λ (o : Option (Text × List Row)). unwrap_or (option_map (λ p. p.1) o) rows) (sym h.command ∙ e)
+-- names are told apart by their bytes
+pub same_name : (name known : Text) → bytes_eq name known ≡ true → name ≡ known
+same_name name known test = let d = bytes_eq-Decides name known in d.0 test
 
-pub no_story : (words : List Text) (rows : List Row) → subcommand_of command_line words ≡ Some (codes "play", rows) → first_of (codes "STORY") rows ≡ None
-    → (paths : Paths) (m : Manner) → AsksToPlay words paths m → ⊥
-no_story words rows e none paths m h =
-    let path = subst (λ (r : List Row). first_of (codes "STORY") r ≡ Some paths.story) (same_rows words rows paths m h e) h.path in
-    let both : None ≡ Some paths.story = sym none ∙ path in
-    absurd cc
+other_name : (name known : Text) → bytes_eq name known ≡ false → name ≡ known → ⊥
+other_name name known test e = let d = bytes_eq-Decides name known in let both : false ≡ true = sym test ∙ d.1 e in absurd cc
 
-pub no_manner : (words : List Text) (rows : List Row) → subcommand_of command_line words ≡ Some (codes "play", rows) → ((m : Manner) → SaysManner rows m → ⊥)
-    → (paths : Paths) (m : Manner) → AsksToPlay words paths m → ⊥
-no_manner words rows e none paths m h = none m (subst (λ (r : List Row). SaysManner r m) (same_rows words rows paths m h e) h.manner)
+-- without a path, a manner or a command of this name nothing is said
+pub no_story_said : (name : Text) (rows : List Row) → ((path : List ℕ) → SaysStory rows path → ⊥) → (c : Choice) → Says name rows c → ⊥
+no_story_said name rows none (Play story save script m) h = none story.now h.1
+no_story_said name rows none (Show story listing) h = none story.now h.0
+
+pub no_manner_said : (rows : List Row) → ((m : Manner) → SaysManner rows m → ⊥) → (c : Choice) → Says (codes "play") rows c → ⊥
+no_manner_said rows none (Play story save script m) h = none m h.4
+no_manner_said rows none (Show story (Info sections)) h = other_name (codes "play") (codes "info") refl h.1.0
+no_manner_said rows none (Show story Code) h = other_name (codes "play") (codes "disasm") refl h.1
+
+pub no_command : (name : Text) (rows : List Row) → bytes_eq name (codes "play") ≡ false → bytes_eq name (codes "info") ≡ false → bytes_eq name (codes "disasm") ≡ false → (c : Choice) → Says name rows c → ⊥
+no_command name rows p i d (Play story save script m) h = other_name name (codes "play") p h.0
+no_command name rows p i d (Show story (Info sections)) h = other_name name (codes "info") i h.1.0
+no_command name rows p i d (Show story Code) h = other_name name (codes "disasm") d h.1

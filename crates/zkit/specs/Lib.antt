@@ -2,3 +2,4 @@ pub mod CommandLine
 pub mod LastLine
 pub mod Playing
 pub mod Status
+pub mod Listing

@@ -1,13 +1,15 @@
 // What the words of the command line ask for.
 
-ghost use Rattle.std.specs.Prelude.{◌≡◌, ◌≤◌, ℕ, codes, IfErr, IfNone, IfOk, IfSome, OnErr, SomeIff, false, map};
+ghost use Rattle.std.specs.Prelude.{◌≡◌, ◌≤◌, ℕ, List, codes, IfErr, IfNone, IfOk, IfSome, OnErr, SomeIff, false, map};
 ghost use Rattle.clap.specs.Words.{app_of, first_of, found_of, kind_of, rows_of, rule_of};
 ghost use Rattle.clap.specs.declared.Command.TheViews.{out-Command as fields_of};
 ghost use Rattle.zk_vm.specs.Bounds.{AreInRange};
 ghost use Rattle.zk_vm.specs.declared.limits.Limits.{Limits};
+ghost use Rattle.zkit.specs.declared.choice.Choice.{Choice};
 ghost use Rattle.zkit.specs.declared.manner.Manner.{Manner};
-ghost use Rattle.zkit.specs.CommandLine.{Asks, HasLimits, IsNumberIn, IsRefusedWith, SaysLimits, SaysManner, SaysNumber, command_line, number_in, number_option, file_option, play_command, story_word, upper_flag, usage_status, view_said};
+ghost use Rattle.zkit.specs.CommandLine.{Asks, HasLimits, IsNumberIn, IsRefusedWith, Says, SaysLimits, SaysManner, SaysNumber, SaysStory, command_line, disasm_command, file_option, flag, flag_said, info_command, number_in, number_option, play_command, sections_said, story_word, usage_status, view_said};
 
+use crate::listing::{Listing, Sections};
 use crate::manner::Manner;
 use clap::error::ErrorKind;
 use clap::{Arg, ArgAction, ArgMatches, Command, Error};
@@ -25,6 +27,11 @@ pub enum Choice<'a> {
         save: Option<&'a str>,
         script: Option<&'a str>,
         manner: Manner,
+    },
+    /// To list the story in a file.
+    Show {
+        story: &'a str,
+        listing: Listing,
     },
 }
 
@@ -51,15 +58,15 @@ fn file_option_of<'a>(alloc: Global, name: &'a str, help: &'a str) -> Arg<'a>
         .help(help)
 }
 
-/// The flag for the status line and the upper window.
-fn upper_flag_of<'a>(alloc: Global) -> Arg<'a>
-    ensures rule { rule_of result ≡ upper_flag }
+/// An option without a value.
+fn flag_of<'a>(alloc: Global, name: &'a str, help: &'a str) -> Arg<'a>
+    ensures rule { rule_of result ≡ flag name.entry.now }
     ensures local { result.global ≡ false }
 {
-    Arg::new(alloc, "upper")
-        .long("upper")
+    Arg::new(alloc, name)
+        .long(name)
         .action(ArgAction::SetTrue)
-        .help("Shows the status line and the upper window, on lines of their own")
+        .help(help)
 }
 
 /// The path of the story.
@@ -117,6 +124,11 @@ fn play_command_of<'a>(alloc: Global) -> Result<Command<'a>, AllocError>
         "script",
         "The file that the transcript is written to; what it held goes",
     );
+    let upper = flag_of(
+        alloc,
+        "upper",
+        "Shows the status line and the upper window, on lines of their own",
+    );
     Command::new(alloc, "play")
         .about("Plays a story")
         .after_help("Example: zkit play --steps 50000000 story.z5")
@@ -127,7 +139,41 @@ fn play_command_of<'a>(alloc: Global) -> Result<Command<'a>, AllocError>
         .arg(seed)?
         .arg(save)?
         .arg(script)?
-        .arg(upper_flag_of(alloc))?
+        .arg(upper)?
+        .arg(story_word_of(alloc))
+}
+
+/// The command `info`.
+fn info_command_of<'a>(alloc: Global) -> Result<Command<'a>, AllocError>
+    ensures shape { IfOk result (λ c. app_of c ≡ info_command) }
+    ensures local { IfOk result (λ c. (fields_of c).has_globals ≡ false) }
+{
+    let header = flag_of(alloc, "header", "Lists what the header says");
+    let map = flag_of(alloc, "map", "Lists where the parts of the story begin");
+    let abbreviations = flag_of(alloc, "abbreviations", "Lists the abbreviations");
+    let dictionary = flag_of(alloc, "dictionary", "Lists the words of the dictionary");
+    let objects = flag_of(alloc, "objects", "Lists the objects with their properties");
+    let tree = flag_of(alloc, "tree", "Lists the tree of objects");
+    Command::new(alloc, "info")
+        .about("Lists the tables of a story; without an option, what its header says")
+        .after_help("Example: zkit info --dictionary story.z5")
+        .arg(header)?
+        .arg(map)?
+        .arg(abbreviations)?
+        .arg(dictionary)?
+        .arg(objects)?
+        .arg(tree)?
+        .arg(story_word_of(alloc))
+}
+
+/// The command `disasm`.
+fn disasm_command_of<'a>(alloc: Global) -> Result<Command<'a>, AllocError>
+    ensures shape { IfOk result (λ c. app_of c ≡ disasm_command) }
+    ensures local { IfOk result (λ c. (fields_of c).has_globals ≡ false) }
+{
+    Command::new(alloc, "disasm")
+        .about("Lists the instructions of a story that it can come to")
+        .after_help("Example: zkit disasm story.z5")
         .arg(story_word_of(alloc))
 }
 
@@ -136,12 +182,16 @@ fn command_line_of<'a>(alloc: Global) -> Result<Command<'a>, AllocError>
     ensures { IfOk result (λ c. app_of c ≡ command_line) }
 {
     let play = play_command_of(alloc)?;
+    let info = info_command_of(alloc)?;
+    let disasm = disasm_command_of(alloc)?;
     Command::new(alloc, "zkit")
-        .about("Plays Z-machine stories")
+        .about("Plays and lists Z-machine stories")
         .version("0.1.0")
         .after_help("Example: zkit play story.z5")
         .subcommand_required(true)
-        .subcommand(play)
+        .subcommand(play)?
+        .subcommand(info)?
+        .subcommand(disasm)
 }
 
 /// The number that a word says, if it lies in a range.
@@ -225,19 +275,24 @@ fn limits_of(
     })
 }
 
+/// Whether a flag is given.
+fn has_flag(matches: &ArgMatches<'_>, name: &str) -> bool
+    ensures { result ≡ flag_said (first_of name.now (rows_of (found_of matches.now))) }
+{
+    match matches.get_str(name) {
+        Some(word) => word == "true",
+        None => false,
+    }
+}
+
 /// The view that the options of `play` say.
 fn view_of(play: &ArgMatches<'_>) -> View
-    ensures { result ≡ view_said (first_of (codes "upper") (rows_of (found_of play.now))) }
+    ensures { result ≡ view_said (rows_of (found_of play.now)) }
 {
-    match play.get_str("upper") {
-        Some(word) => {
-            if word == "true" {
-                View::Upper
-            } else {
-                View::Plain
-            }
-        }
-        None => View::Plain,
+    if has_flag(play, "upper") {
+        View::Upper
+    } else {
+        View::Plain
     }
 }
 
@@ -263,23 +318,38 @@ fn manner_of(
     Ok(Manner { limits, seed, view })
 }
 
-/// What the words ask for, the first of which is the program's name.
-pub fn choose<'a>(alloc: Global, words: &'a [&'a str]) -> Result<Choice<'a>, Error>
-    ensures asks { IfOk result (λ c. Asks (map (λ s. s.now) words.entry.now) c) }
-    ensures in_range { IfOk result (λ c. HasLimits c) }
-    ensures refused { IfErr result (λ e. IsRefusedWith (map (λ s. s.now) words.entry.now) e) }
+/// The path of the story.
+fn story_of<'a>(command: &mut Command<'_>, matches: &ArgMatches<'a>) -> Result<&'a str, Error>
+    ensures says { IfOk result (λ s. SaysStory (rows_of (found_of matches.now)) s.now) }
+    ensures mistake { IfErr result (λ e. 1 ≤ usage_status (kind_of e)) }
+    ensures says_none { OnErr result ((path : List ℕ) → SaysStory (rows_of (found_of matches.now)) path → ⊥) }
 {
-    let mut command = command_line_of(alloc)?;
-    let matches = command.try_get_matches_from_mut(words)?;
-    let Some(play) = matches.subcommand_matches("play") else {
-        let text = "the one command is 'play'";
-        return Err(usage_error(&mut command, ErrorKind::MissingSubcommand, text));
-    };
-    let Some(story) = play.get_str("STORY") else {
+    let Some(story) = matches.get_str("STORY") else {
         let text = "the story's path is missing";
-        return Err(usage_error(&mut command, ErrorKind::MissingRequiredArgument, text));
+        return Err(usage_error(command, ErrorKind::MissingRequiredArgument, text));
     };
-    let manner = manner_of(alloc, &mut command, play)?;
+    Ok(story)
+}
+
+/// What the options of `play` ask for.
+fn choose_play<'a>(
+    alloc: Global,
+    command: &mut Command<'_>,
+    play: &ArgMatches<'a>,
+) -> Result<Choice<'a>, Error>
+    ensures says { IfOk result (λ c. Says (codes "play") (rows_of (found_of play.now)) c) }
+    ensures in_range { IfOk result (λ c. HasLimits c) }
+    ensures mistake { IfErr result (λ e. 1 ≤ usage_status (kind_of e)) }
+    ensures says_none { OnErr result ((c : Choice) → Says (codes "play") (rows_of (found_of play.now)) c → ⊥) }
+{
+    let story = match story_of(command, play) {
+        Ok(story) => story,
+        Err(error) => return Err(error),
+    };
+    let manner = match manner_of(alloc, command, play) {
+        Ok(manner) => manner,
+        Err(error) => return Err(error),
+    };
     let save = play.get_str("save");
     let script = play.get_str("script");
     Ok(Choice::Play {
@@ -288,6 +358,103 @@ pub fn choose<'a>(alloc: Global, words: &'a [&'a str]) -> Result<Choice<'a>, Err
         script,
         manner,
     })
+}
+
+/// The sections that the options of `info` ask for.
+fn sections_of(info: &ArgMatches<'_>) -> Sections
+    ensures { result ≡ sections_said (rows_of (found_of info.now)) }
+{
+    let map = has_flag(info, "map");
+    let abbreviations = has_flag(info, "abbreviations");
+    let dictionary = has_flag(info, "dictionary");
+    let objects = has_flag(info, "objects");
+    let tree = has_flag(info, "tree");
+    let others = map || abbreviations || dictionary || objects || tree;
+    Sections {
+        header: has_flag(info, "header") || !others,
+        map,
+        abbreviations,
+        dictionary,
+        objects,
+        tree,
+    }
+}
+
+/// What the words behind `info` ask for.
+fn choose_info<'a>(command: &mut Command<'_>, info: &ArgMatches<'a>) -> Result<Choice<'a>, Error>
+    ensures says { IfOk result (λ c. Says (codes "info") (rows_of (found_of info.now)) c) }
+    ensures in_range { IfOk result (λ c. HasLimits c) }
+    ensures mistake { IfErr result (λ e. 1 ≤ usage_status (kind_of e)) }
+    ensures says_none { OnErr result ((c : Choice) → Says (codes "info") (rows_of (found_of info.now)) c → ⊥) }
+{
+    match story_of(command, info) {
+        Ok(story) => {
+            let listing = Listing::Info(sections_of(info));
+            Ok(Choice::Show { story, listing })
+        }
+        Err(error) => Err(error),
+    }
+}
+
+/// What the words behind `disasm` ask for.
+fn choose_disasm<'a>(
+    command: &mut Command<'_>,
+    disasm: &ArgMatches<'a>,
+) -> Result<Choice<'a>, Error>
+    ensures says { IfOk result (λ c. Says (codes "disasm") (rows_of (found_of disasm.now)) c) }
+    ensures in_range { IfOk result (λ c. HasLimits c) }
+    ensures mistake { IfErr result (λ e. 1 ≤ usage_status (kind_of e)) }
+    ensures says_none { OnErr result ((c : Choice) → Says (codes "disasm") (rows_of (found_of disasm.now)) c → ⊥) }
+{
+    match story_of(command, disasm) {
+        Ok(story) => Ok(Choice::Show {
+            story,
+            listing: Listing::Code,
+        }),
+        Err(error) => Err(error),
+    }
+}
+
+/// What a command asks for, by its name and what clap found for it.
+fn choose_by<'a>(
+    alloc: Global,
+    command: &mut Command<'_>,
+    name: &str,
+    found: &ArgMatches<'a>,
+) -> Result<Choice<'a>, Error>
+    ensures says { IfOk result (λ c. Says name.now (rows_of (found_of found.now)) c) }
+    ensures in_range { IfOk result (λ c. HasLimits c) }
+    ensures mistake { IfErr result (λ e. 1 ≤ usage_status (kind_of e)) }
+    ensures says_none { OnErr result ((c : Choice) → Says name.now (rows_of (found_of found.now)) c → ⊥) }
+{
+    if name == "play" {
+        choose_play(alloc, command, found)
+    } else if name == "info" {
+        choose_info(command, found)
+    } else if name == "disasm" {
+        choose_disasm(command, found)
+    } else {
+        let text = "the commands are 'play', 'info' and 'disasm'";
+        Err(usage_error(command, ErrorKind::InvalidSubcommand, text))
+    }
+}
+
+/// What the words ask for, the first of which is the program's name.
+pub fn choose<'a>(alloc: Global, words: &'a [&'a str]) -> Result<Choice<'a>, Error>
+    ensures asks { IfOk result (λ c. Asks (map (λ s. s.now) words.entry.now) c) }
+    ensures in_range { IfOk result (λ c. HasLimits c) }
+    ensures refused { IfErr result (λ e. IsRefusedWith (map (λ s. s.now) words.entry.now) e) }
+{
+    let mut command = command_line_of(alloc)?;
+    let matches = command.try_get_matches_from_mut(words)?;
+    let Some((name, found)) = matches.subcommand() else {
+        let text = "a command is missing";
+        return Err(usage_error(&mut command, ErrorKind::MissingSubcommand, text));
+    };
+    match choose_by(alloc, &mut command, name, found) {
+        Ok(choice) => Ok(choice),
+        Err(error) => Err(error),
+    }
 }
 
 /// The program's status after an error of the command line: 0 for help and the version, 5 for want of memory, and

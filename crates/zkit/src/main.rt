@@ -1,4 +1,4 @@
-// Plays Z-machine stories.
+// Plays and lists Z-machine stories.
 #![tactic(auto)]
 
 ghost use Rattle.std.specs.Prelude.{◌≡◌, ◌⊎◌, false};
@@ -8,6 +8,8 @@ ghost use Rattle.zkit.specs.CommandLine.{usage_status};
 
 mod choice;
 mod ending;
+mod gathered;
+mod listing;
 mod manner;
 mod playing;
 mod report;
@@ -16,13 +18,22 @@ mod script;
 #[cfg(test)]
 mod tests;
 #[cfg(test)]
+mod tests_of_devices;
+#[cfg(test)]
+mod tests_of_listings;
+#[cfg(test)]
+mod tests_of_reports;
+#[cfg(test)]
 mod tests_of_saves;
+#[cfg(test)]
+mod tests_of_words;
 
 use crate::choice::{Choice, choose, usage_status_of};
 use crate::ending::Ending;
+use crate::listing::{Listing, list_and_report};
 use crate::manner::Manner;
 use crate::playing::play_and_report;
-use crate::report::{report, report_briefly};
+use crate::report::{report, report_briefly, report_listing};
 use crate::save_file::SaveFile;
 use crate::script::ScriptFile;
 use clap::Error;
@@ -104,6 +115,21 @@ fn play_file(
     }
 }
 
+/// Lists the story in a file, and answers the program's status.
+fn list_file(rt: &HostRuntime, path: &str, listing: Listing) -> u8 {
+    let mut errors = Over::new(rt.stderr());
+    match File::open(rt, path) {
+        Err(error) => report_listing(rt.alloc(), &Ending::Unread(error), &mut errors),
+        Ok(file) => list_and_report(
+            rt.alloc(),
+            file,
+            listing,
+            &mut Over::new(io::writer(rt)),
+            &mut errors,
+        ),
+    }
+}
+
 /// Tells that there is no memory, and answers the program's status.
 fn out_of_memory(rt: &HostRuntime) -> u8
     ensures { result ≡ 5 }
@@ -143,6 +169,7 @@ fn answer(rt: &HostRuntime, words: &[String]) -> u8 {
                 manner,
             },
         ) => play_file(rt, story, save, script, manner),
+        Ok(Choice::Show { story, listing }) => list_file(rt, story, listing),
         Err(error) => tell_usage(rt, &error),
     }
 }

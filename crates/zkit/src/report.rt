@@ -243,3 +243,19 @@ pub fn report<E: Target>(alloc: Global, ending: &Ending, limits: &Limits, errors
         Err(Failed) => status(ending),
     }
 }
+
+/// Writes why a listing has ended, unless it was written to its end, and answers the program's status, as `report` does.
+pub fn report_listing<E: Target>(alloc: Global, ending: &Ending, errors: &mut E) -> u8
+    requires { E.failed errors.old ≡ false }
+    ensures status { result ≡ ending_status ending.now }
+    ensures lines { TookExplained ending.now (last_line ending.now) (record { taken = E.taken errors.old; failed = E.failed errors.old }) (record { taken = E.taken errors.new; failed = E.failed errors.new }) }
+{
+    // a listing meets no limits
+    let none = Limits {
+        frames: 1,
+        words: 0,
+        undo: 0,
+        steps: 1,
+    };
+    report(alloc, ending, &none, errors)
+}

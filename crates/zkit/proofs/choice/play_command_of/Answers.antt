@@ -16,7 +16,7 @@ returns-clause-shape c =
     let five = c.in_ok-arg-5.ensures.shape c.number_option_of-seed.ensures.local ∙ ap₂ with_rule four c.number_option_of-seed.ensures.rule in
     let six = c.in_ok-arg-6.ensures.shape c.file_option_of-save.ensures.local ∙ ap₂ with_rule five c.file_option_of-save.ensures.rule in
     let seven = c.in_ok-arg-7.ensures.shape c.file_option_of-script.ensures.local ∙ ap₂ with_rule six c.file_option_of-script.ensures.rule in
-    let eight = c.in_ok-arg-8.ensures.shape c.upper_flag_of.ensures.local ∙ ap₂ with_rule seven c.upper_flag_of.ensures.rule in
+    let eight = c.in_ok-arg-8.ensures.shape c.flag_of-upper.ensures.local ∙ ap₂ with_rule seven c.flag_of-upper.ensures.rule in
     IfOk-weaker c.arg-9.result _ _ (λ r h. h.shape c.story_word_of.ensures.local ∙ ap₂ with_rule eight c.story_word_of.ensures.rule) c.arg-9.ensures
 
 pub returns-clause-local : goal.returns-clause-local
@@ -29,5 +29,5 @@ returns-clause-local c =
     let five = c.in_ok-arg-5.ensures.globals ∙ ap₂ (λ (a b : Bool). a || b) four c.number_option_of-seed.ensures.local in
     let six = c.in_ok-arg-6.ensures.globals ∙ ap₂ (λ (a b : Bool). a || b) five c.file_option_of-save.ensures.local in
     let seven = c.in_ok-arg-7.ensures.globals ∙ ap₂ (λ (a b : Bool). a || b) six c.file_option_of-script.ensures.local in
-    let eight = c.in_ok-arg-8.ensures.globals ∙ ap₂ (λ (a b : Bool). a || b) seven c.upper_flag_of.ensures.local in
+    let eight = c.in_ok-arg-8.ensures.globals ∙ ap₂ (λ (a b : Bool). a || b) seven c.flag_of-upper.ensures.local in
     IfOk-weaker c.arg-9.result _ _ (λ r h. h.globals ∙ ap₂ (λ (a b : Bool). a || b) eight c.story_word_of.ensures.local) c.arg-9.ensures

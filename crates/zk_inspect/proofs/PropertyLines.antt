@@ -1,0 +1,172 @@
+-- The properties of a list, one after another.
+use Rattle.std.specs.List.{flat_map}
+use Rattle.std.proofs.Common.{arith, ◌≤◌, ◌-◌, length, get_or, take, drop, ◌≡◌, ◌∙◌, ℕ, zero, suc, List, [], ◌∷◌, ◌++◌, Option, Some, None, Bool, true, false, append_assoc, append-nil, codes, refl, sym, ap}
+use Rattle.std.specs.Prelude.{◌+◌, decimal, Result, Ok, Err, IsOk, IsErr, is_err}
+use Rattle.std.proofs.lemmas.List.{take_rest}
+use Rattle.zk_mem.specs.Faults.{fault_number}
+use Rattle.zk_mem.specs.Map.{MemoryMap, readable_end}
+use Rattle.zk_tables.specs.Properties.{list_of, properties_of}
+use Rattle.zk_mem.specs.Results.{◌>>=◌}
+use Rattle.zk_mem.specs.declared.fault.Fault.{Fault}
+use Rattle.zk_tables.specs.PropertyList.{properties_at, properties_from, property_at}
+use Rattle.zk_tables.specs.declared.lists.Property.{Property}
+use Rattle.zk_term.specs.declared.target.Failed.{Failed}
+use Rattle.zk_inspect.specs.ObjectLines.{properties_or_none, properties_text, property_text, separated}
+use Rattle.zk_inspect.specs.Written.{Gave, gave_then, gave_nothing}
+use Rattle.zk_inspect.proofs.Outputs.{gave_as, gave_err}
+
+-- a property behind a comma
+abbrev pub behind_comma : Property → List ℕ
+behind_comma p = codes "," ++ property_text p
+
+-- what was written of some properties, and what is left of them
+pub record IsWritten {S : Type 0} (taken : S → Option (List ℕ)) (has_failed : S → Bool) (m : MemoryMap) (old new : S) (all : List ℕ) (n a : ℕ) : Type 0 where
+  pub rest : List Property
+  pub done : List ℕ
+  pub left : properties_from m n a ≡ Ok rest
+  pub whole : all ≡ done ++ flat_map behind_comma rest
+  pub gave : Gave taken has_failed false old new done
+
+value_of : {A : Type 0} (r : Result A Fault) → IsOk r → (x : A) × (r ≡ Ok x)
+value_of {A} (Ok x) h = (x, refl)
+value_of {A} (Err f) h = absurd cc
+
+pub begun : {S : Type 0} (taken : S → Option (List ℕ)) (has_failed : S → Bool) (m : MemoryMap) (s : S) (n k a : ℕ) → k ≡ n → IsOk (properties_from m n a)
+    → IsWritten taken has_failed m s s (flat_map behind_comma (properties_or_none (properties_from m n a))) k a
+begun {S} taken has_failed m s n k a same h =
+    let v = value_of (properties_from m n a) h in
+    record {
+      rest = v.0;
+      done = [];
+      left = ap (λ (i : ℕ). properties_from m i a) same ∙ v.1;
+      whole = ap (λ (r : Result (List Property) Fault). flat_map behind_comma (properties_or_none r)) v.1;
+      gave = gave_nothing taken has_failed s;
+    }
+
+tail_of : (p : Property) (r : Result (List Property) Fault) (all : List Property) → (r >>= λ ps. Ok (p ∷ ps)) ≡ Ok all → (ps : List Property) × (r ≡ Ok ps) × (all ≡ p ∷ ps)
+tail_of p (Ok ps) all h = (ps, refl, let e : p ∷ ps ≡ all = cc in sym e)
+tail_of p (Err f) all h = absurd cc
+
+same_ok : (xs ys : List Property) → (let r : Result (List Property) Fault = Ok xs in r) ≡ Ok ys → xs ≡ ys
+same_ok xs ys h = cc
+
+-- the first property of a list, and the others
+pub first_one : (m : MemoryMap) (n a : ℕ) (p : Property) (all : List Property) → property_at m a ≡ Ok (Some p) → properties_from m (suc n) a ≡ Ok all
+    → (ps : List Property) × (properties_from m n (p.address + p.length) ≡ Ok ps) × (all ≡ p ∷ ps)
+unfolding properties_from
+first_one m n a p all there h = tail_of p (properties_from m n (p.address + p.length)) all (rw there at h)
+
+pub no_more : (m : MemoryMap) (n a : ℕ) (all : List Property) → property_at m a ≡ Ok None → properties_from m (suc n) a ≡ Ok all → all ≡ []
+unfolding properties_from
+no_more m n a all there h = sym (same_ok [] all (rw there at h))
+
+pub no_fault : (m : MemoryMap) (n a : ℕ) (f : Fault) (all : List Property) → property_at m a ≡ Err f → properties_from m (suc n) a ≡ Ok all → ⊥
+unfolding properties_from
+no_fault m n a f all there h = let e : Err f ≡ Ok all = rw there at h in absurd cc
+
+pub not_none : (m : MemoryMap) (a : ℕ) (all : List Property) → properties_from m zero a ≡ Ok all → ⊥
+unfolding properties_from
+not_none m a all h = absurd cc
+
+-- one more property was written
+pub written_more : {S : Type 0} (taken : S → Option (List ℕ)) (has_failed : S → Bool) (m : MemoryMap) (x y z : S) (all : List ℕ) (n k a : ℕ) (p : Property) → n ≡ suc k → property_at m a ≡ Ok (Some p)
+    → IsWritten taken has_failed m x y all n a → Gave taken has_failed false y z (behind_comma p) → IsWritten taken has_failed m x z all k (p.address + p.length)
+written_more {S} taken has_failed m x y z all n k a p is there h g =
+    let f = first_one m k a p h.rest there (ap (λ (i : ℕ). properties_from m i a) (sym is) ∙ h.left) in
+    record {
+      rest = f.0;
+      done = h.done ++ behind_comma p;
+      left = f.1;
+      whole = h.whole ∙ ap (λ (l : List Property). h.done ++ flat_map behind_comma l) f.2 ∙ sym (append_assoc h.done (behind_comma p) (flat_map behind_comma f.0));
+      gave = gave_then taken has_failed false x y z h.done (behind_comma p) h.gave g;
+    }
+
+-- a property could not be written
+pub written_failed : {S : Type 0} (taken : S → Option (List ℕ)) (has_failed : S → Bool) (m : MemoryMap) (r : Result (Unit {0}) Failed) (x y z : S) (all : List ℕ) (n k a : ℕ) (p : Property) → n ≡ suc k → property_at m a ≡ Ok (Some p) → IsErr r
+    → IsWritten taken has_failed m x y all n a → Gave taken has_failed true y z (behind_comma p) → Gave taken has_failed (is_err r) x z all
+written_failed {S} taken has_failed m r x y z all n k a p is there err h g =
+    let f = first_one m k a p h.rest there (ap (λ (i : ℕ). properties_from m i a) (sym is) ∙ h.left) in
+    let whole : all ≡ (h.done ++ behind_comma p) ++ flat_map behind_comma f.0 = h.whole ∙ ap (λ (l : List Property). h.done ++ flat_map behind_comma l) f.2 ∙ sym (append_assoc h.done (behind_comma p) (flat_map behind_comma f.0)) in
+    gave_as taken has_failed (is_err r) x z _ _ whole (gave_err taken has_failed r x z _ _ err (gave_then taken has_failed true x y z h.done (behind_comma p) h.gave g))
+
+-- the list has ended
+pub written_all : {S : Type 0} (taken : S → Option (List ℕ)) (has_failed : S → Bool) (m : MemoryMap) (x y : S) (all : List ℕ) (n k a : ℕ) → n ≡ suc k → property_at m a ≡ Ok None
+    → IsWritten taken has_failed m x y all n a → Gave taken has_failed false x y all
+written_all {S} taken has_failed m x y all n k a is there h =
+    let none = no_more m k a h.rest there (ap (λ (i : ℕ). properties_from m i a) (sym is) ∙ h.left) in
+    gave_as taken has_failed false x y _ _ (h.whole ∙ ap (λ (l : List Property). h.done ++ flat_map behind_comma l) none ∙ append-nil h.done) h.gave
+
+pub never_faulty : {S : Type 0} (taken : S → Option (List ℕ)) (has_failed : S → Bool) (m : MemoryMap) (x y : S) (all : List ℕ) (n k a : ℕ) (f : Fault) → n ≡ suc k → property_at m a ≡ Err f
+    → IsWritten taken has_failed m x y all n a → ⊥
+never_faulty {S} taken has_failed m x y all n k a f is there h = no_fault m k a f h.rest there (ap (λ (i : ℕ). properties_from m i a) (sym is) ∙ h.left)
+
+pub never_without_end : {S : Type 0} (taken : S → Option (List ℕ)) (has_failed : S → Bool) (m : MemoryMap) (x y : S) (all : List ℕ) (n a : ℕ) → n ≡ zero → IsWritten taken has_failed m x y all n a → ⊥
+never_without_end {S} taken has_failed m x y all n a is h = not_none m a h.rest (ap (λ (i : ℕ). properties_from m i a) (sym is) ∙ h.left)
+
+-- there is room for the end of a list
+pub reaches : (m : MemoryMap) (n a : ℕ) → IsOk (properties_from m n a) → 1 ≤ n
+unfolding properties_from
+reaches m zero a h = absurd cc
+reaches m (suc n) a h = omega arith
+
+pub reaches_data : (m : MemoryMap) (a : ℕ) → IsOk (properties_at m a) → 1 ≤ readable_end m
+unfolding properties_at
+reaches_data m a h = reaches m (readable_end m) a h
+
+-- ---- a list by its first property
+
+pub rest_is_list : (m : MemoryMap) (a k : ℕ) (p : Property) → readable_end m ≡ suc k → property_at m a ≡ Ok (Some p) → IsOk (properties_at m a) → IsOk (properties_from m k (p.address + p.length))
+unfolding properties_at
+rest_is_list m a k p is there h =
+    let v = value_of (properties_at m a) h in
+    let f = first_one m k a p v.0 there (ap (λ (i : ℕ). properties_from m i a) (sym is) ∙ v.1) in
+    rw f.1 refl
+
+pub by_first : (m : MemoryMap) (b : List ℕ) (a k : ℕ) (p : Property) → readable_end m ≡ suc k → property_at m a ≡ Ok (Some p) → IsOk (properties_at m a)
+    → b ++ separated property_text (properties_or_none (properties_at m a)) ≡ (b ++ property_text p) ++ flat_map behind_comma (properties_or_none (properties_from m k (p.address + p.length)))
+unfolding properties_at
+by_first m b a k p is there h =
+    let v = value_of (properties_at m a) h in
+    let f = first_one m k a p v.0 there (ap (λ (i : ℕ). properties_from m i a) (sym is) ∙ v.1) in
+    ap (λ (r : Result (List Property) Fault). b ++ separated property_text (properties_or_none r)) v.1
+    ∙ ap (λ (l : List Property). b ++ separated property_text l) f.2
+    ∙ sym (append_assoc b (property_text p) (flat_map behind_comma f.0))
+    ∙ ap (λ (r : Result (List Property) Fault). (b ++ property_text p) ++ flat_map behind_comma (properties_or_none r)) (sym f.1)
+
+pub without_first : (m : MemoryMap) (b : List ℕ) (a k : ℕ) → readable_end m ≡ suc k → property_at m a ≡ Ok None → IsOk (properties_at m a) → b ++ separated property_text (properties_or_none (properties_at m a)) ≡ b ++ codes "-"
+unfolding properties_at
+without_first m b a k is there h =
+    let v = value_of (properties_at m a) h in
+    let none = no_more m k a v.0 there (ap (λ (i : ℕ). properties_from m i a) (sym is) ∙ v.1) in
+    ap (λ (r : Result (List Property) Fault). b ++ separated property_text (properties_or_none r)) v.1 ∙ ap (λ (l : List Property). b ++ separated property_text l) none
+
+pub no_list_fault : (m : MemoryMap) (a k : ℕ) (f : Fault) → readable_end m ≡ suc k → property_at m a ≡ Err f → IsOk (properties_at m a) → ⊥
+unfolding properties_at
+no_list_fault m a k f is there h =
+    let v = value_of (properties_at m a) h in
+    no_fault m k a f v.0 there (ap (λ (i : ℕ). properties_from m i a) (sym is) ∙ v.1)
+
+-- ---- the properties of an object
+
+pub with_list : (m : MemoryMap) (o a : ℕ) → list_of m o ≡ Ok a → properties_of m o ≡ properties_at m a
+unfolding properties_of
+with_list m o a h = rw h refl
+
+pub without_list : (m : MemoryMap) (o : ℕ) (f : Fault) → list_of m o ≡ Err f → properties_of m o ≡ Err f
+unfolding properties_of
+without_list m o f h = rw h refl
+
+pub text_of_list : (b : List ℕ) (r s : Result (List Property) Fault) → r ≡ s → IsOk s → b ++ properties_text r ≡ b ++ separated property_text (properties_or_none s)
+unfolding properties_text
+text_of_list b r (Ok ps) e h = rw e refl
+text_of_list b r (Err f) e h = absurd cc
+
+pub text_of_fault : (b : List ℕ) (r : Result (List Property) Fault) (f : Fault) → r ≡ Err f → b ++ properties_text r ≡ (b ++ codes "! F") ++ decimal (fault_number f)
+unfolding properties_text
+text_of_fault b r f e = rw e (sym (append_assoc b (codes "! F") (decimal (fault_number f))))
+
+-- the first of some things with commas between them, and the others
+pub first_separated : {A : Type 0} (f : A → List ℕ) (b : List ℕ) (xs : List A) (d : A) → 1 ≤ length xs
+    → b ++ separated f xs ≡ ((b ++ []) ++ f (get_or xs 0 d)) ++ flat_map (λ y. codes "," ++ f y) (take (length xs - 1) (drop 1 xs))
+first_separated {A} f b [] d le = absurd (omega arith)
+first_separated {A} f b (x ∷ xs) d le = rw (append-nil, take_rest) (sym (append_assoc b (f x) (flat_map (λ y. codes "," ++ f y) xs)))

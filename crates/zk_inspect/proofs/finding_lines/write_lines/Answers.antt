@@ -1,0 +1,11 @@
+use Rattle.std.proofs.Common.{true, arith}
+use Rattle.zk_inspect.specs.FindingLines.{finding_line}
+use Rattle.zk_inspect.specs.Written.{gave_then}
+use Rattle.zk_inspect.proofs.Outputs.{gave_as, gave_err, lines_rest}
+use Rattle.zk_inspect.proofs.finding_lines.write_lines.Goals as goal
+
+pub returns-in_err-write_finding : goal.returns-in_err-write_finding
+returns-in_err-write_finding g c =
+    let w = g.T.Target.taken in let f = g.T.Target.failed in let a = c.args.target.now in
+    let first = gave_then w f true a _ _ _ _ c.loop-finding.invariant c.in_err-write_finding.ensures in
+    gave_as w f _ a _ _ _ (lines_rest finding_line c.args.findings.now _ c.loop-finding.finding-index (omega arith)) (gave_err w f c.from_residual.result a _ _ _ c.from_residual.ensures.0 first)

@@ -1,0 +1,38 @@
+-- The lines of findings. Their numbers and words are zkit's choice.
+use Rattle.std.specs.Prelude.{ℕ, List, ◌++◌, codes, decimal}
+use Rattle.zk_inspect.specs.declared.finding.Finding.{Finding}
+use Rattle.zk_inspect.specs.declared.finding.Number.{Number}
+use Rattle.zk_inspect.specs.declared.finding.Number.TheVariants.{Checksum, Length, DictionaryOrder, DictionaryExtent, ObjectLinks, ChainWithARepeat, PropertyList, TextPastTheEnd, NestedAbbreviation, UndecodableCode, TargetOutOfTheStory}
+use Rattle.zk_inspect.specs.Numbers.{address_digits}
+
+-- the number that a report shows
+abbrev pub finding_number : Number → ℕ
+finding_number Checksum = 1
+finding_number Length = 2
+finding_number DictionaryOrder = 3
+finding_number DictionaryExtent = 4
+finding_number ObjectLinks = 5
+finding_number ChainWithARepeat = 6
+finding_number PropertyList = 7
+finding_number TextPastTheEnd = 8
+finding_number NestedAbbreviation = 9
+finding_number UndecodableCode = 10
+finding_number TargetOutOfTheStory = 11
+
+-- what is wrong, in words
+abbrev pub finding_words : Number → List ℕ
+finding_words Checksum = codes "checksum"
+finding_words Length = codes "length"
+finding_words DictionaryOrder = codes "dictionary order"
+finding_words DictionaryExtent = codes "dictionary extent"
+finding_words ObjectLinks = codes "object links"
+finding_words ChainWithARepeat = codes "chain with a repeat"
+finding_words PropertyList = codes "property list"
+finding_words TextPastTheEnd = codes "text past the end"
+finding_words NestedAbbreviation = codes "nested abbreviation"
+finding_words UndecodableCode = codes "undecodable code"
+finding_words TargetOutOfTheStory = codes "target out of the story"
+
+-- the line of a finding: its number, its address, and what is wrong
+unfoldable pub finding_line : Finding → List ℕ
+finding_line f = codes "C" ++ decimal (finding_number f.number) ++ codes " " ++ address_digits f.address ++ codes " " ++ finding_words f.number ++ codes "\n"

@@ -1,0 +1,245 @@
+// The lines of a header.
+
+ghost use Rattle.std.specs.Prelude.{◌≡◌, ◌++◌, codes, is_err};
+ghost use Rattle.std.specs.List.{flat_map};
+ghost use Rattle.zk_inspect.specs.HeaderLines.{common_lines, field_line, header_lines, late_lines, serial_shown, value_text, visible_byte};
+ghost use Rattle.zk_inspect.specs.Written.{Gave};
+
+use crate::writing::{hex_digits_of, write_address, write_decimal, write_texts};
+use zk_mem::header::unpack;
+use zk_mem::memory::Memory;
+use zk_term::target::{Failed, Target};
+
+/// What a header says in one of its fields.
+#[derive(Clone, Copy)]
+pub(crate) enum Value {
+    /// A number, shown by its decimal digits.
+    Number(u32),
+    /// A byte address.
+    Address(u16),
+    /// A word, shown by four digits.
+    Word(u16),
+    /// A byte, shown by two digits.
+    Byte(u8),
+    /// The serial number.
+    Serial([u8; 6]),
+    /// The checksum, and whether it is right.
+    Checksum(u16, bool),
+}
+
+/// A field of a header by its name.
+#[derive(Clone, Copy)]
+pub(crate) struct Field<'a> {
+    name: &'a [u8],
+    value: Value,
+}
+
+/// A byte of a serial number, or a question mark for one that can't be shown.
+fn visible(byte: u8) -> u8
+    ensures { result ≡ visible_byte byte }
+{
+    if byte > 32 && byte < 127 { byte } else { b'?' }
+}
+
+/// A serial number as it is shown.
+fn shown_serial(serial: [u8; 6]) -> [u8; 6]
+    ensures { result ≡ serial_shown serial }
+{
+    [
+        visible(serial[0]),
+        visible(serial[1]),
+        visible(serial[2]),
+        visible(serial[3]),
+        visible(serial[4]),
+        visible(serial[5]),
+    ]
+}
+
+/// Writes a word behind a name: its four digits.
+#[tactic(auto, unfolding(crate::specs::HeaderLines::value_text, crate::specs::Numbers::word_digits))]
+fn write_digits<T: Target>(target: &mut T, name: &[u8], word: u16) -> Result<(), Failed>
+    ensures { Gave T.taken T.failed (is_err result) target.old target.new (name.now ++ codes " " ++ value_text (Value.Word word)) }
+{
+    let digits = hex_digits_of(word as u32);
+    let shown = &digits[4..];
+    write_texts(target, &[name, b" ", shown])
+}
+
+/// Writes a byte behind a name: its two digits.
+#[tactic(auto, unfolding(crate::specs::HeaderLines::value_text, crate::specs::Numbers::byte_digits))]
+fn write_two_digits<T: Target>(target: &mut T, name: &[u8], byte: u8) -> Result<(), Failed>
+    ensures { Gave T.taken T.failed (is_err result) target.old target.new (name.now ++ codes " " ++ value_text (Value.Byte byte)) }
+{
+    let digits = hex_digits_of(byte as u32);
+    let shown = &digits[6..];
+    write_texts(target, &[name, b" ", shown])
+}
+
+/// Writes a serial number behind a name.
+#[tactic(auto, unfolding(crate::specs::HeaderLines::value_text))]
+fn write_serial<T: Target>(target: &mut T, name: &[u8], serial: [u8; 6]) -> Result<(), Failed>
+    ensures { Gave T.taken T.failed (is_err result) target.old target.new (name.now ++ codes " " ++ value_text (Value.Serial serial)) }
+{
+    let digits = shown_serial(serial);
+    let shown = &digits[..];
+    write_texts(target, &[name, b" ", shown])
+}
+
+/// Writes a checksum behind a name, and whether it is right.
+#[tactic(auto, unfolding(crate::specs::HeaderLines::value_text, crate::specs::Numbers::word_digits))]
+fn write_sum<T: Target>(target: &mut T, name: &[u8], sum: u16, right: bool) -> Result<(), Failed>
+    ensures { Gave T.taken T.failed (is_err result) target.old target.new (name.now ++ codes " " ++ value_text (Value.Checksum sum right)) }
+{
+    let digits = hex_digits_of(sum as u32);
+    let shown = &digits[4..];
+    if right {
+        write_texts(target, &[name, b" ", shown, b" ok"])
+    } else {
+        write_texts(target, &[name, b" ", shown, b" wrong"])
+    }
+}
+
+/// Writes what a field says, behind its name.
+#[tactic(auto, unfolding(crate::specs::HeaderLines::value_text))]
+fn write_value<T: Target>(target: &mut T, name: &[u8], value: Value) -> Result<(), Failed>
+    ensures { Gave T.taken T.failed (is_err result) target.old target.new (name.now ++ codes " " ++ value_text value) }
+{
+    match value {
+        Value::Number(number) => write_decimal(target, name, b" ", number),
+        Value::Address(address) => write_address(target, name, b" ", address as u32),
+        Value::Word(word) => write_digits(target, name, word),
+        Value::Byte(byte) => write_two_digits(target, name, byte),
+        Value::Serial(serial) => write_serial(target, name, serial),
+        Value::Checksum(sum, right) => write_sum(target, name, sum, right),
+    }
+}
+
+/// Writes the line of a field.
+fn write_field<T: Target>(target: &mut T, name: &[u8], value: Value) -> Result<(), Failed>
+    ensures { Gave T.taken T.failed (is_err result) target.old target.new (field_line name.now value) }
+{
+    match write_value(target, name, value) {
+        Ok(()) => write_texts(target, &[b"\n"]),
+        Err(Failed) => Err(Failed),
+    }
+}
+
+/// Writes the lines of fields.
+fn write_fields<T: Target>(target: &mut T, fields: &[Field<'_>]) -> Result<(), Failed>
+    ensures { Gave T.taken T.failed (is_err result) target.old target.new (flat_map (λ f. field_line f.name.now f.value) fields.now) }
+{
+    for field in fields {
+        write_field(target, field.name, field.value)?;
+    }
+    Ok(())
+}
+
+/// Writes the lines of the fields that every version has.
+#[tactic(auto, unfolding(crate::specs::HeaderLines::common_lines))]
+fn write_common_fields<T: Target>(target: &mut T, memory: &Memory) -> Result<(), Failed>
+    ensures { Gave T.taken T.failed (is_err result) target.old target.new (common_lines memory.now) }
+{
+    let header = memory.header();
+    let length = unpack(header.version, header.file_length);
+    let sum = Value::Checksum(header.checksum, memory.checksum_ok());
+    write_fields(
+        target,
+        &[
+            Field {
+                name: b"version",
+                value: Value::Number(header.version as u32),
+            },
+            Field {
+                name: b"release",
+                value: Value::Number(header.release as u32),
+            },
+            Field {
+                name: b"serial",
+                value: Value::Serial(header.serial),
+            },
+            Field {
+                name: b"length",
+                value: Value::Number(length),
+            },
+            Field {
+                name: b"file",
+                value: Value::Number(memory.len()),
+            },
+            Field {
+                name: b"checksum",
+                value: sum,
+            },
+            Field {
+                name: b"start",
+                value: Value::Address(header.first_instruction),
+            },
+            Field {
+                name: b"high",
+                value: Value::Address(header.high_memory),
+            },
+            Field {
+                name: b"static",
+                value: Value::Address(header.static_base),
+            },
+            Field {
+                name: b"dictionary",
+                value: Value::Address(header.dictionary),
+            },
+            Field {
+                name: b"objects",
+                value: Value::Address(header.objects),
+            },
+            Field {
+                name: b"globals",
+                value: Value::Address(header.globals),
+            },
+            Field {
+                name: b"abbreviations",
+                value: Value::Address(header.abbreviations),
+            },
+            Field {
+                name: b"flags1",
+                value: Value::Byte(header.flags_1),
+            },
+            Field {
+                name: b"flags2",
+                value: Value::Word(header.flags_2),
+            },
+        ],
+    )
+}
+
+/// Writes the lines of the fields that versions from 5 on have.
+#[tactic(auto, unfolding(crate::specs::HeaderLines::late_lines))]
+fn write_late_fields<T: Target>(target: &mut T, memory: &Memory) -> Result<(), Failed>
+    ensures { Gave T.taken T.failed (is_err result) target.old target.new (late_lines memory.now) }
+{
+    let header = memory.header();
+    if header.version < 5 {
+        return Ok(());
+    }
+    write_fields(
+        target,
+        &[
+            Field {
+                name: b"alphabet",
+                value: Value::Address(header.alphabet),
+            },
+            Field {
+                name: b"extension",
+                value: Value::Address(header.extension),
+            },
+        ],
+    )
+}
+
+/// Writes the lines of a header.
+#[tactic(auto, unfolding(crate::specs::HeaderLines::header_lines), using(crate::proofs::Outputs::writing_rules))]
+pub(crate) fn write_header<T: Target>(target: &mut T, memory: &Memory) -> Result<(), Failed>
+    ensures { Gave T.taken T.failed (is_err result) target.old target.new (header_lines memory.now) }
+{
+    match write_common_fields(target, memory) {
+        Ok(()) => write_late_fields(target, memory),
+        Err(Failed) => Err(Failed),
+    }
+}

@@ -1,0 +1,240 @@
+// The lines of the tree of objects.
+
+ghost use Rattle.std.specs.Prelude.{◌≡◌, ◌<◌, is_err, length, OnOk};
+ghost use Rattle.zk_inspect.specs.TreeLines.{AreRows, again_text, has_failed, indent, row_line, row_text};
+ghost use Rattle.zk_inspect.specs.Written.{Gave, GaveSome};
+
+use crate::error::ListError;
+use crate::marks::Marks;
+use crate::object_lines::{number_or_none, write_label};
+use crate::writing::write_texts;
+use itoa::Buffer;
+use std::alloc::{AllocError, Global};
+use zk_mem::memory::Memory;
+use zk_tables::tree::{child, parent, sibling};
+use zk_term::target::{Failed, Target};
+
+/// An object as it stands in the tree.
+#[derive(Clone, Copy)]
+pub(crate) struct Row {
+    /// How many objects stand above it.
+    level: usize,
+    object: u16,
+    /// Whether it was listed before.
+    again: bool,
+}
+
+/// Writes two spaces for each level.
+fn write_indent<T: Target>(target: &mut T, level: usize) -> Result<(), Failed>
+    ensures { Gave T.taken T.failed (is_err result) target.old target.new (indent level) }
+{
+    for _level in 0..level {
+        write_texts(target, &[b"  "])?;
+    }
+    Ok(())
+}
+
+/// Writes an object as it stands in the tree, without the spaces before it.
+#[tactic(auto, unfolding(crate::specs::TreeLines::row_text))]
+fn write_object<T: Target>(target: &mut T, memory: &Memory, row: Row) -> Result<(), Failed>
+    ensures { Gave T.taken T.failed (is_err result) target.old target.new (row_text memory.now row) }
+{
+    if row.again {
+        write_number_again(target, row.object)
+    } else {
+        write_label(target, b"", memory, row.object)
+    }
+}
+
+/// Writes the number of an object that was listed before.
+#[tactic(auto, unfolding(crate::specs::TreeLines::again_text))]
+fn write_number_again<T: Target>(target: &mut T, object: u16) -> Result<(), Failed>
+    ensures { Gave T.taken T.failed (is_err result) target.old target.new (again_text object) }
+{
+    let mut buffer = Buffer::new();
+    write_texts(target, &[buffer.format(object).as_bytes(), b" *"])
+}
+
+/// Writes a line of the tree.
+fn write_row<T: Target>(target: &mut T, memory: &Memory, row: Row) -> Result<(), Failed>
+    ensures { Gave T.taken T.failed (is_err result) target.old target.new (row_line memory.now row) }
+{
+    write_indent(target, row.level)?;
+    write_object(target, memory, row)?;
+    write_texts(target, &[b"\n"])
+}
+
+/// Writes a line of the tree, or tells that a write failed.
+fn list_row<T: Target>(target: &mut T, memory: &Memory, row: Row) -> Result<(), ListError>
+    ensures { GaveSome (AreRows memory.now) T.taken T.failed (has_failed result) target.old target.new }
+{
+    match write_row(target, memory, row) {
+        Ok(()) => Ok(()),
+        Err(Failed) => Err(ListError::Write),
+    }
+}
+
+/// Where a walk over the tree stands.
+#[derive(Drop)]
+struct Walk {
+    /// How many objects there are.
+    count: u16,
+    /// Which of them were listed.
+    listed: Marks,
+    /// The objects above the next one, from a root on.
+    above: Vec<u16>,
+}
+
+impl Walk {
+    /// Goes from the last object above to its sibling. That of a root is no part of the tree below the root.
+    fn go_beside(&mut self, memory: &Memory) -> Option<u16>
+        ensures listed { self.new.listed ≡ self.old.listed }
+        ensures count { self.new.count ≡ self.old.count }
+    {
+        let Some(object) = self.above.pop() else {
+            return None;
+        };
+        if self.above.is_empty() {
+            return None;
+        }
+        Some(number_or_none(sibling(memory, object)))
+    }
+
+    /// Goes from an object, which is listed now, to its child.
+    fn go_below(&mut self, memory: &Memory, object: u16) -> Result<u16, AllocError>
+        requires { object < length self.old.listed }
+        ensures listed { OnOk result (length self.new.listed ≡ length self.old.listed) }
+        ensures count { OnOk result (self.new.count ≡ self.old.count) }
+    {
+        self.listed.mark(object as u32);
+        self.above.push(object)?;
+        Ok(number_or_none(child(memory, object)))
+    }
+
+    /// Lists an object, if there is one of its number, and goes on: to its child where it is listed for the first time, and
+    /// else to where its chain of siblings goes on above.
+    fn step<T: Target>(
+        &mut self,
+        target: &mut T,
+        memory: &Memory,
+        object: u16,
+    ) -> Result<Option<u16>, ListError>
+        requires { self.old.count < length self.old.listed }
+        ensures kept { OnOk result (self.new.count < length self.new.listed) }
+        ensures rows { GaveSome (AreRows memory.now) T.taken T.failed (has_failed result) target.old target.new }
+    {
+        if object == 0 || object > self.count {
+            return Ok(self.go_beside(memory));
+        }
+        let again = self.listed.has(object as u32);
+        let level = self.above.len();
+        match list_row(
+            target,
+            memory,
+            Row {
+                level,
+                object,
+                again,
+            },
+        ) {
+            Ok(()) => {}
+            Err(error) => return Err(error),
+        }
+        if again {
+            return Ok(self.go_beside(memory));
+        }
+        match self.go_below(memory, object) {
+            Ok(child) => Ok(Some(child)),
+            Err(_) => Err(ListError::Memory),
+        }
+    }
+
+    /// Lists a root, and the tree below it.
+    fn list_below<T: Target>(
+        &mut self,
+        target: &mut T,
+        memory: &Memory,
+        root: u16,
+    ) -> Result<(), ListError>
+        requires { self.old.count < length self.old.listed }
+        ensures kept { OnOk result (self.new.count < length self.new.listed) }
+        ensures rows { GaveSome (AreRows memory.now) T.taken T.failed (has_failed result) target.old target.new }
+    {
+        let mut next = Some(root);
+        // each turn lists an object, or ends a chain of siblings that one has begun
+        for _turn in 0..2 * self.count as u32 + 1 {
+            let Some(object) = next else {
+                return Ok(());
+            };
+            match self.step(target, memory, object) {
+                Ok(further) => next = further,
+                Err(error) => return Err(error),
+            }
+        }
+        Ok(())
+    }
+}
+
+/// Whether an object is a root: it has no parent.
+fn is_root(memory: &Memory, object: u16) -> bool {
+    number_or_none(parent(memory, object)) == 0
+}
+
+/// Lists an object with the tree below it, if it is a root.
+fn list_root<T: Target>(
+    walk: &mut Walk,
+    memory: &Memory,
+    object: u16,
+    target: &mut T,
+) -> Result<(), ListError>
+    requires { walk.old.count < length walk.old.listed }
+    ensures kept { OnOk result (walk.new.count < length walk.new.listed) }
+    ensures rows { GaveSome (AreRows memory.now) T.taken T.failed (has_failed result) target.old target.new }
+{
+    if !is_root(memory, object) {
+        return Ok(());
+    }
+    match walk.list_below(target, memory, object) {
+        Ok(()) => Ok(()),
+        Err(error) => Err(error),
+    }
+}
+
+/// Lists the trees of so many objects.
+fn list_trees<T: Target>(
+    walk: &mut Walk,
+    memory: &Memory,
+    count: u16,
+    target: &mut T,
+) -> Result<(), ListError>
+    requires { walk.old.count < length walk.old.listed }
+    ensures { GaveSome (AreRows memory.now) T.taken T.failed (has_failed result) target.old target.new }
+{
+    for before in 0..count {
+        match list_root(walk, memory, before + 1, target) {
+            Ok(()) => {}
+            Err(error) => return Err(error),
+        }
+    }
+    Ok(())
+}
+
+/// Writes the lines of the tree of so many objects.
+pub(crate) fn write_tree<T: Target>(
+    alloc: Global,
+    memory: &Memory,
+    count: u16,
+    target: &mut T,
+) -> Result<(), ListError>
+    ensures { GaveSome (AreRows memory.now) T.taken T.failed (has_failed result) target.old target.new }
+{
+    let Ok(listed) = Marks::none(alloc, count as usize + 1) else {
+        return Err(ListError::Memory);
+    };
+    let mut walk = Walk {
+        count,
+        listed,
+        above: Vec::new(alloc),
+    };
+    list_trees(&mut walk, memory, count, target)
+}
