@@ -14,3 +14,4 @@ pub mod Falling
 pub mod TableMarks
 pub mod TextFaults
 pub mod AllNumbers
+pub mod FindingLaw

@@ -14,3 +14,4 @@ pub mod ObjectTests
 pub mod TextTests
 pub mod Siblings
 pub mod Parts
+pub mod FindingLaws
