@@ -98,9 +98,10 @@ InOrder (f ∷ fs) = ((g : Finding) → Contains fs g → Precedes f g) × InOrd
 
 order_append : (fs gs : List Finding) → InOrder fs → InOrder gs → ((f g : Finding) → Contains fs f → Contains gs g → Precedes f g) → InOrder (fs ++ gs)
 order_append [] gs h k across = k
-order_append (f ∷ fs) gs h k across =
-    (λ g c. elim (Contains-append_cases fs gs g c) [ inl l ↦ h.0 g l | inr r ↦ across f g (in_first f fs) r ],
-    order_append fs gs h.1 k (λ e g c d. across e g (in_rest f e fs c) d))
+order_append (f ∷ fs) gs h k across = (
+  λ g c. elim (Contains-append_cases fs gs g c) [ inl l ↦ h.0 g l | inr r ↦ across f g (in_first f fs) r ],
+  order_append fs gs h.1 k (λ e g c d. across e g (in_rest f e fs c) d),
+)
 
 order_map : (n : Number) (xs : List ℕ) → IsStrictlyIncreasing xs → InOrder (map (at_address n) xs)
 order_map n [] up = tt
@@ -144,9 +145,10 @@ order_two before between behind_them f g h = (order_behind before (f ∷ (betwee
 -- ---- the laws
 
 finding_exact : (m : MemoryMap) (fs : List Finding) → AreFindings m fs → (n : Number) (a : ℕ) → Contains fs (at_address n a) ↔ Finds m n a
-finding_exact m fs h n a =
-    (λ c. (let p = is_of h.addresses numbers (at_address n a) (subst (λ (l : List Finding). Contains l (at_address n a)) h.joined c) in (h.exact n).listed a p.address),
-    λ p. subst (λ (l : List Finding). Contains l (at_address n a)) (sym h.joined) (of_it h.addresses numbers n a (each n) ((h.exact n).whole a p)))
+finding_exact m fs h n a = (
+  λ c. (let p = is_of h.addresses numbers (at_address n a) (subst (λ (l : List Finding). Contains l (at_address n a)) h.joined c) in (h.exact n).listed a p.address),
+  λ p. subst (λ (l : List Finding). Contains l (at_address n a)) (sym h.joined) (of_it h.addresses numbers n a (each n) ((h.exact n).whole a p)),
+)
 
 no_findings : (m : MemoryMap) (fs : List Finding) → ((n : Number) (a : ℕ) → Contains fs (at_address n a) ↔ Finds m n a) → ((n : Number) (a : ℕ) → Finds m n a → ⊥) → fs ≡ []
 no_findings m [] h none = refl
