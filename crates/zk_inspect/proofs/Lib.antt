@@ -21,3 +21,4 @@ pub mod Parts
 pub mod PropertyLines
 pub mod Keyed
 pub mod Rows
+pub mod FindingLaw

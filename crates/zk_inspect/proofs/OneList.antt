@@ -12,7 +12,7 @@ abbrev Within : List ℕ → List ℕ → Type 0
 Within xs ys = (a : ℕ) → Contains xs a → Contains ys a
 
 -- the list behind the first
-behind : (x : ℕ) (xs : List ℕ) → IsStrictlyIncreasing (x ∷ xs) → IsStrictlyIncreasing xs
+pub behind : (x : ℕ) (xs : List ℕ) → IsStrictlyIncreasing (x ∷ xs) → IsStrictlyIncreasing xs
 behind x xs up k lt =
     let e : suc k + 1 ≡ suc (k + 1) = omega arith in
     subst (λ (j : ℕ). get_or xs k 0 < get_or (x ∷ xs) j 0) e (up (suc k) (omega arith))
@@ -32,7 +32,7 @@ first_or x a xs (zero, lt, e) = inl e
 first_or x a xs (suc k, lt, e) = inr (k, omega arith, e)
 
 -- which is above it
-behind_above : (x a : ℕ) (xs : List ℕ) → IsStrictlyIncreasing (x ∷ xs) → Contains xs a → x < a
+pub behind_above : (x a : ℕ) (xs : List ℕ) → IsStrictlyIncreasing (x ∷ xs) → Contains xs a → x < a
 behind_above x a xs up (k, lt, e) =
     let low = above x xs up k lt in
     let d : get_or xs k a ≡ get_or xs k 0 = get_or_default_zero xs k a lt in
@@ -60,7 +60,7 @@ same_lists (x ∷ xs) (y ∷ ys) up vp in_ys in_xs =
     ap₂ (λ (a : ℕ) (bs : List ℕ). a ∷ bs) same
     (same_lists xs ys (behind x xs up) (behind y ys vp) (within_behind x y xs ys up same in_ys) (within_behind y x ys xs vp (sym same) in_xs))
 
-one_list : (P : ℕ → Type 0) (xs ys : List ℕ) → IsListOf P xs → IsListOf P ys → xs ≡ ys
+pub one_list : (P : ℕ → Type 0) (xs ys : List ℕ) → IsListOf P xs → IsListOf P ys → xs ≡ ys
 one_list P xs ys h k = same_lists xs ys h.ascending k.ascending (λ a c. k.whole a (h.listed a c)) (λ a c. h.whole a (k.listed a c))
 
 pub one_code : OneCode

@@ -21,3 +21,4 @@ pub mod ObjectLines
 pub mod DictionaryLines
 pub mod TreeLines
 pub mod FindingLines
+pub mod FindingLaws

@@ -288,53 +288,17 @@ pub fn check(alloc: Global, memory: &Memory) -> Result<Vec<Finding>, AllocError>
     ensures { IfOk result (λ list. AreFindings memory.now list.items) }
 {
     let parts = find_parts(alloc, memory)?;
-    let mut findings = Vec::new(alloc);
-    add(alloc, memory, &parts, Number::Checksum, &mut findings)?;
-    add(alloc, memory, &parts, Number::Length, &mut findings)?;
-    add(
-        alloc,
-        memory,
-        &parts,
-        Number::DictionaryOrder,
-        &mut findings,
-    )?;
-    add(
-        alloc,
-        memory,
-        &parts,
-        Number::DictionaryExtent,
-        &mut findings,
-    )?;
-    add(alloc, memory, &parts, Number::ObjectLinks, &mut findings)?;
-    add(
-        alloc,
-        memory,
-        &parts,
-        Number::ChainWithARepeat,
-        &mut findings,
-    )?;
-    add(alloc, memory, &parts, Number::PropertyList, &mut findings)?;
-    add(alloc, memory, &parts, Number::TextPastTheEnd, &mut findings)?;
-    add(
-        alloc,
-        memory,
-        &parts,
-        Number::NestedAbbreviation,
-        &mut findings,
-    )?;
-    add(
-        alloc,
-        memory,
-        &parts,
-        Number::UndecodableCode,
-        &mut findings,
-    )?;
-    add(
-        alloc,
-        memory,
-        &parts,
-        Number::TargetOutOfTheStory,
-        &mut findings,
-    )?;
-    Ok(findings)
+    let mut all = Vec::new(alloc);
+    add(alloc, memory, &parts, Number::Checksum, &mut all)?;
+    add(alloc, memory, &parts, Number::Length, &mut all)?;
+    add(alloc, memory, &parts, Number::DictionaryOrder, &mut all)?;
+    add(alloc, memory, &parts, Number::DictionaryExtent, &mut all)?;
+    add(alloc, memory, &parts, Number::ObjectLinks, &mut all)?;
+    add(alloc, memory, &parts, Number::ChainWithARepeat, &mut all)?;
+    add(alloc, memory, &parts, Number::PropertyList, &mut all)?;
+    add(alloc, memory, &parts, Number::TextPastTheEnd, &mut all)?;
+    add(alloc, memory, &parts, Number::NestedAbbreviation, &mut all)?;
+    add(alloc, memory, &parts, Number::UndecodableCode, &mut all)?;
+    add(alloc, memory, &parts, Number::TargetOutOfTheStory, &mut all)?;
+    Ok(all)
 }

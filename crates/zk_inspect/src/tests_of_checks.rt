@@ -91,6 +91,9 @@ fn a_length_past_the_end_is_found(rt: HostRuntime) -> Result<(), Fail> {
         list.as_slice(),
         [at(Number::Checksum, 0x1c), at(Number::Length, 0x1a)].as_slice()
     );
+    // and one more byte is enough
+    let list = checked_otherwise(rt.alloc(), 70, &[(0x1a, &[0, 35]), (0x40, &PRINTS_HI)])?;
+    assert_eq!(rt; list.as_slice(), [].as_slice());
     Ok(())
 }
 
@@ -129,6 +132,16 @@ fn targets_may_lie_outside(rt: HostRuntime) -> Result<(), Fail> {
     // jz #00 ?0044
     let last = checked_otherwise(rt.alloc(), 69, &[(0x40, &[0x90, 0, 0x80, 2, 0xba])])?;
     assert_eq!(rt; last.as_slice(), [].as_slice());
+    // call #7fff -> sp; quit
+    let call = checked_otherwise(
+        rt.alloc(),
+        70,
+        &[(0x40, &[0xe0, 0x3f, 0x7f, 0xff, 0, 0xba])],
+    )?;
+    assert_eq!(rt;
+        call.as_slice(),
+        [at(Number::TargetOutOfTheStory, 0x40)].as_slice()
+    );
     // jump #0050
     let jump = checked_otherwise(rt.alloc(), 66, &[(0x40, &[0x9c, 0x50])])?;
     assert_eq!(rt;
@@ -254,6 +267,13 @@ fn chains_end(rt: HostRuntime) -> Result<(), Fail> {
         ]
         .as_slice()
     );
+    // all others are in object 1
+    let list = checked_objects(
+        rt.alloc(),
+        0xb2,
+        &[(0x84, &[2]), (0x8c, &[3]), (0x95, &[4]), (0x9e, &[5])],
+    )?;
+    assert_eq!(rt; list.as_slice(), [].as_slice());
     // object 1 is in itself, alone
     let list = checked_objects(rt.alloc(), 0xb2, &[(0x84, &[1])])?;
     assert_eq!(rt; list.as_slice(), [].as_slice());
@@ -362,6 +382,14 @@ fn abbreviations_use_none(rt: HostRuntime) -> Result<(), Fail> {
         ]
         .as_slice()
     );
+    // the same as another abbreviation, which nothing prints and which uses a plain one
+    let mut table = abbreviations([0, 0x20]);
+    table[3] = 0x21;
+    let unused = checked_table(rt.alloc(), table)?;
+    assert_eq!(rt;
+        unused.as_slice(),
+        [at(Number::NestedAbbreviation, 0x42)].as_slice()
+    );
     let outside = checked_table(rt.alloc(), abbreviations([0x7f, 0xff]))?;
     assert_eq!(rt;
         outside.as_slice(),
@@ -413,6 +441,33 @@ fn printed_texts_end(rt: HostRuntime) -> Result<(), Fail> {
         list.as_slice(),
         [at(Number::TextPastTheEnd, 0x44)].as_slice()
     );
+    Ok(())
+}
+
+/// A story of version 5 with so many objects, each the sibling of the one before it and each with the first as its child; the
+/// last one's sibling is given. Its property tables stand where the story's last bytes do.
+fn siblings(alloc: Global, objects: u8, last: u8) -> Result<Vec<u8>, Fail> {
+    let mut file = bytes_of(5, &[(0x0b, &[0x42]), (0x40, &[0xba])]).to_vec(alloc)?;
+    file.truncate(0x42);
+    for _default in 0..126 {
+        file.push(0)?;
+    }
+    let table = 0xc0 + 14 * objects as u16;
+    for object in 1..=objects {
+        let sibling = if object == objects { last } else { object + 1 };
+        file.extend_from_slice(&[0; 9])?;
+        file.extend_from_slice(&[sibling, 0, 1, (table / 256) as u8, (table % 256) as u8])?;
+    }
+    file.extend_from_slice(&[0; 2])?;
+    Ok(file)
+}
+
+#[test]
+fn long_chains_end(rt: HostRuntime) -> Result<(), Fail> {
+    let ends = found(rt.alloc(), siblings(rt.alloc(), 200, 0)?.as_slice())?;
+    assert_eq!(rt; ends.as_slice(), [at(Number::Checksum, 0x1c)].as_slice());
+    let repeats = found(rt.alloc(), siblings(rt.alloc(), 200, 1)?.as_slice())?;
+    assert_eq!(rt; repeats.len(), 201);
     Ok(())
 }
 

@@ -1,0 +1,40 @@
+-- What the findings of a story are, all together.
+use Rattle.std.specs.Prelude.{◌≡◌, ◌⊎◌, ◌↔◌, ℕ, ◌<◌, List, [], ◌∷◌, ◌++◌}
+use Rattle.std.specs.List.{Contains}
+use Rattle.zk_mem.specs.Map.{MemoryMap}
+use Rattle.zk_inspect.specs.declared.finding.Finding.{Finding}
+use Rattle.zk_inspect.specs.declared.finding.Number.{Number}
+use Rattle.zk_inspect.specs.declared.finding.Number.TheVariants.{Checksum, Length, DictionaryOrder, DictionaryExtent, ObjectLinks, ChainWithARepeat, PropertyList, TextPastTheEnd, NestedAbbreviation, UndecodableCode, TargetOutOfTheStory}
+use Rattle.zk_inspect.specs.Findings.{AreFindings, Finds, at_address}
+
+-- the numbers that reports show
+abbrev pub rank_of : Number → ℕ
+rank_of Checksum = 1
+rank_of Length = 2
+rank_of DictionaryOrder = 3
+rank_of DictionaryExtent = 4
+rank_of ObjectLinks = 5
+rank_of ChainWithARepeat = 6
+rank_of PropertyList = 7
+rank_of TextPastTheEnd = 8
+rank_of NestedAbbreviation = 9
+rank_of UndecodableCode = 10
+rank_of TargetOutOfTheStory = 11
+
+-- a finding comes before another: by its number, then by its address
+abbrev pub Precedes : Finding → Finding → Type 0
+Precedes f g = (rank_of f.number < rank_of g.number) ⊎ ((f.number ≡ g.number) × (f.address < g.address))
+
+-- the findings are all that is wrong, each comes before those behind it, and there are none where nothing is wrong
+pub record AreAllFindings (m : MemoryMap) (fs : List Finding) : Type 0 where
+  pub exact : (n : Number) (a : ℕ) → Contains fs (at_address n a) ↔ Finds m n a
+  pub ascending : (before between behind : List Finding) (f g : Finding) → fs ≡ before ++ f ∷ (between ++ g ∷ behind) → Precedes f g
+  pub none : (fs ≡ []) ↔ ((n : Number) (a : ℕ) → Finds m n a → ⊥)
+
+-- of each story
+abbrev pub FindingsAreAll : Type 0
+FindingsAreAll = (m : MemoryMap) (fs : List Finding) → AreFindings m fs → AreAllFindings m fs
+
+-- a story has one list of them
+abbrev pub OneListOfFindings : Type 0
+OneListOfFindings = (m : MemoryMap) (fs gs : List Finding) → AreFindings m fs → AreFindings m gs → fs ≡ gs
