@@ -10,7 +10,7 @@ use Rattle.zkit.specs.declared.manner.Manner.{Manner}
 use Rattle.zkit.specs.CommandLine.{Asks, IsNumberIn, Says, SaysManner, SaysNumber, SaysStory, command_line, flag_said, number_in}
 use Rattle.zkit.specs.declared.choice.Choice.{Choice}
 use Rattle.zkit.specs.declared.choice.Choice.TheVariants.{Play, Show}
-use Rattle.zkit.specs.declared.listing.Listing.TheVariants.{Info, Code}
+use Rattle.zkit.specs.declared.listing.Listing.TheVariants.{Info, Code, Findings}
 
 -- the command line is simple in clap's sense
 pub command_line_is_simple : is_simple command_line ≡ true
@@ -97,8 +97,10 @@ pub no_manner_said : (rows : List Row) → ((m : Manner) → SaysManner rows m �
 no_manner_said rows none (Play story save script m) h = none m h.4
 no_manner_said rows none (Show story (Info sections)) h = other_name (codes "play") (codes "info") refl h.1.0
 no_manner_said rows none (Show story Code) h = other_name (codes "play") (codes "disasm") refl h.1
+no_manner_said rows none (Show story Findings) h = other_name (codes "play") (codes "check") refl h.1
 
-pub no_command : (name : Text) (rows : List Row) → bytes_eq name (codes "play") ≡ false → bytes_eq name (codes "info") ≡ false → bytes_eq name (codes "disasm") ≡ false → (c : Choice) → Says name rows c → ⊥
-no_command name rows p i d (Play story save script m) h = other_name name (codes "play") p h.0
-no_command name rows p i d (Show story (Info sections)) h = other_name name (codes "info") i h.1.0
-no_command name rows p i d (Show story Code) h = other_name name (codes "disasm") d h.1
+pub no_command : (name : Text) (rows : List Row) → bytes_eq name (codes "play") ≡ false → bytes_eq name (codes "info") ≡ false → bytes_eq name (codes "disasm") ≡ false → bytes_eq name (codes "check") ≡ false → (c : Choice) → Says name rows c → ⊥
+no_command name rows p i d k (Play story save script m) h = other_name name (codes "play") p h.0
+no_command name rows p i d k (Show story (Info sections)) h = other_name name (codes "info") i h.1.0
+no_command name rows p i d k (Show story Code) h = other_name name (codes "disasm") d h.1
+no_command name rows p i d k (Show story Findings) h = other_name name (codes "check") k h.1

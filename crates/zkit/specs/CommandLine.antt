@@ -16,7 +16,7 @@ use Rattle.zkit.specs.declared.manner.Manner.{Manner}
 use Rattle.zkit.specs.declared.choice.Choice.{Choice}
 use Rattle.zkit.specs.declared.choice.Choice.TheVariants.{Play, Show}
 use Rattle.zkit.specs.declared.listing.Listing.{Listing}
-use Rattle.zkit.specs.declared.listing.Listing.TheVariants.{Info, Code}
+use Rattle.zkit.specs.declared.listing.Listing.TheVariants.{Info, Code, Findings}
 use Rattle.zkit.specs.declared.listing.Sections.{Sections}
 
 -- the option `--name n`, with what it is where it is not given
@@ -50,11 +50,15 @@ info_command = with_rule (with_rule (with_rule (with_rule (with_rule (with_rule 
 abbrev pub disasm_command : App
 disasm_command = with_rule (new_app (codes "disasm")) story_word
 
+-- `check STORY`
+abbrev pub check_command : App
+check_command = with_rule (new_app (codes "check")) story_word
+
 -- zkit's command line: these commands; help and the version are clap's
 abbrev pub command_line : App
 command_line =
-    with_subcommand (with_subcommand (with_subcommand (on_top (λ s. record s { has_version = true; subcommand_required = true }) (new_app (codes "zkit")))
-    play_command.top) info_command.top) disasm_command.top
+    with_subcommand (with_subcommand (with_subcommand (with_subcommand (on_top (λ s. record s { has_version = true; subcommand_required = true }) (new_app (codes "zkit")))
+    play_command.top) info_command.top) disasm_command.top) check_command.top
 
 -- the number that a word's digits say, with or without a plus before them
 abbrev pub number_in : Text → ℕ
@@ -113,6 +117,7 @@ SaysStory rows path = first_of (codes "STORY") rows ≡ Some path
 abbrev pub SaysListing : Text → List Row → Listing → Type 0
 SaysListing name rows (Info sections) = (name ≡ codes "info") × (sections ≡ sections_said rows)
 SaysListing name rows Code = name ≡ codes "disasm"
+SaysListing name rows Findings = name ≡ codes "check"
 
 abbrev pub Says : Text → List Row → Choice → Type 0
 Says name rows (Play story save script m) =

@@ -12,7 +12,7 @@ use Rattle.zk_term.specs.Devices.{Device, Took}
 use Rattle.zk_vm.specs.declared.stop.Stop.{Stop}
 use Rattle.zk_vm.specs.declared.stop.Stop.TheVariants.{Quit, Fault, Limit, EndOfInput, Read, Write, Memory}
 use Rattle.zkit.specs.declared.ending.Ending.{Ending}
-use Rattle.zkit.specs.declared.ending.Ending.TheVariants.{Unread, Refused, Stopped}
+use Rattle.zkit.specs.declared.ending.Ending.TheVariants.{Unread, Refused, Stopped, Found}
 
 -- the hexadecimal digit of a number below 16: 0 to 9 (48 on) and a to f (97 on)
 abbrev pub hex_digit : ℕ → ℕ
@@ -58,11 +58,12 @@ abbrev pub unread_line : ErrorKind → List ℕ
 unread_line kind.OutOfMemory = line (codes "out of memory")
 unread_line _ = line (codes "read failed")
 
--- after a play
+-- after a play, a listing or a check; what was found stands on the screen
 abbrev pub last_line : Ending → List ℕ
 last_line (Unread e) = unread_line (error_kind e)
 last_line (Refused e) = refused_line e
 last_line (Stopped stop) = stop_line stop
+last_line Found = []
 
 -- more can be said of an ending than its last line says
 abbrev pub IsExplained : Ending → Type 0

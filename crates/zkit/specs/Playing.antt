@@ -12,7 +12,7 @@ use Rattle.zk_vm.specs.Plays.{IsPlay, IsAnswered}
 use Rattle.zkit.specs.LastLine.{TookExplained, last_line}
 use Rattle.zkit.specs.Status.{ending_status}
 use Rattle.zkit.specs.declared.ending.Ending.{Ending}
-use Rattle.zkit.specs.declared.ending.Ending.TheVariants.{Unread, Refused, Stopped}
+use Rattle.zkit.specs.declared.ending.Ending.TheVariants.{Unread, Refused, Stopped, Found}
 use Rattle.zkit.specs.declared.manner.Manner.{Manner}
 
 -- what is read of a file: all of its bytes, or one byte more than the longest story has
@@ -59,6 +59,7 @@ abbrev pub EndsBy : Outcomes → Player → List ℕ → Manner → Outputs → 
 EndsBy Played player bytes manner old new (Unread e) = ⊥
 EndsBy Played player bytes manner old new (Refused e) = IsRefusedFor bytes e × (new ≡ old)
 EndsBy Played player bytes manner old new (Stopped stop) = (refusal bytes ≡ None) × IsRun Played player bytes manner old new stop
+EndsBy Played player bytes manner old new Found = ⊥
 
 -- a reader's bytes, where it tells them, end a play; or it can't be read, and the screen and the script get nothing
 abbrev pub EndsFrom : Outcomes → Player → Option (List ℕ) → Manner → Outputs → Outputs → Ending → Type 0

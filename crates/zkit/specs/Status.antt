@@ -8,7 +8,7 @@ use Rattle.zk_mem.specs.declared.story.OpenError.TheVariants.{OutOfMemory}
 use Rattle.zk_vm.specs.declared.stop.Stop.{Stop}
 use Rattle.zk_vm.specs.declared.stop.Stop.TheVariants.{Quit, Fault, Limit, EndOfInput, Read, Write, Memory}
 use Rattle.zkit.specs.declared.ending.Ending.{Ending}
-use Rattle.zkit.specs.declared.ending.Ending.TheVariants.{Unread, Refused, Stopped}
+use Rattle.zkit.specs.declared.ending.Ending.TheVariants.{Unread, Refused, Stopped, Found}
 
 -- after a run
 abbrev pub status_of : Stop → ℕ
@@ -30,8 +30,9 @@ abbrev pub unread_status : ErrorKind → ℕ
 unread_status kind.OutOfMemory = 5
 unread_status _ = 4
 
--- after a play
+-- after a play, a listing or a check
 abbrev pub ending_status : Ending → ℕ
 ending_status (Unread e) = unread_status (error_kind e)
 ending_status (Refused e) = refused_status e
 ending_status (Stopped stop) = status_of stop
+ending_status Found = 6

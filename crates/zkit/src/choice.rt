@@ -7,7 +7,7 @@ ghost use Rattle.zk_vm.specs.Bounds.{AreInRange};
 ghost use Rattle.zk_vm.specs.declared.limits.Limits.{Limits};
 ghost use Rattle.zkit.specs.declared.choice.Choice.{Choice};
 ghost use Rattle.zkit.specs.declared.manner.Manner.{Manner};
-ghost use Rattle.zkit.specs.CommandLine.{Asks, HasLimits, IsNumberIn, IsRefusedWith, Says, SaysLimits, SaysManner, SaysNumber, SaysStory, command_line, disasm_command, file_option, flag, flag_said, info_command, number_in, number_option, play_command, sections_said, story_word, usage_status, view_said};
+ghost use Rattle.zkit.specs.CommandLine.{Asks, HasLimits, IsNumberIn, IsRefusedWith, Says, SaysLimits, SaysManner, SaysNumber, SaysStory, check_command, command_line, disasm_command, file_option, flag, flag_said, info_command, number_in, number_option, play_command, sections_said, story_word, usage_status, view_said};
 
 use crate::listing::{Listing, Sections};
 use crate::manner::Manner;
@@ -177,6 +177,17 @@ fn disasm_command_of<'a>(alloc: Global) -> Result<Command<'a>, AllocError>
         .arg(story_word_of(alloc))
 }
 
+/// The command `check`.
+fn check_command_of<'a>(alloc: Global) -> Result<Command<'a>, AllocError>
+    ensures shape { IfOk result (λ c. app_of c ≡ check_command) }
+    ensures local { IfOk result (λ c. (fields_of c).has_globals ≡ false) }
+{
+    Command::new(alloc, "check")
+        .about("Lists what is wrong with a story, and ends with status 6 where something is")
+        .after_help("Example: zkit check story.z5")
+        .arg(story_word_of(alloc))
+}
+
 /// zkit's command line.
 fn command_line_of<'a>(alloc: Global) -> Result<Command<'a>, AllocError>
     ensures { IfOk result (λ c. app_of c ≡ command_line) }
@@ -184,14 +195,16 @@ fn command_line_of<'a>(alloc: Global) -> Result<Command<'a>, AllocError>
     let play = play_command_of(alloc)?;
     let info = info_command_of(alloc)?;
     let disasm = disasm_command_of(alloc)?;
+    let check = check_command_of(alloc)?;
     Command::new(alloc, "zkit")
-        .about("Plays and lists Z-machine stories")
+        .about("Plays, lists and checks Z-machine stories")
         .version("0.1.0")
         .after_help("Example: zkit play story.z5")
         .subcommand_required(true)
         .subcommand(play)?
         .subcommand(info)?
-        .subcommand(disasm)
+        .subcommand(disasm)?
+        .subcommand(check)
 }
 
 /// The number that a word says, if it lies in a range.
@@ -415,6 +428,22 @@ fn choose_disasm<'a>(
     }
 }
 
+/// What the words behind `check` ask for.
+fn choose_check<'a>(command: &mut Command<'_>, check: &ArgMatches<'a>) -> Result<Choice<'a>, Error>
+    ensures says { IfOk result (λ c. Says (codes "check") (rows_of (found_of check.now)) c) }
+    ensures in_range { IfOk result (λ c. HasLimits c) }
+    ensures mistake { IfErr result (λ e. 1 ≤ usage_status (kind_of e)) }
+    ensures says_none { OnErr result ((c : Choice) → Says (codes "check") (rows_of (found_of check.now)) c → ⊥) }
+{
+    match story_of(command, check) {
+        Ok(story) => Ok(Choice::Show {
+            story,
+            listing: Listing::Findings,
+        }),
+        Err(error) => Err(error),
+    }
+}
+
 /// What a command asks for, by its name and what clap found for it.
 fn choose_by<'a>(
     alloc: Global,
@@ -433,8 +462,10 @@ fn choose_by<'a>(
         choose_info(command, found)
     } else if name == "disasm" {
         choose_disasm(command, found)
+    } else if name == "check" {
+        choose_check(command, found)
     } else {
-        let text = "the commands are 'play', 'info' and 'disasm'";
+        let text = "the commands are 'play', 'info', 'disasm' and 'check'";
         Err(usage_error(command, ErrorKind::InvalidSubcommand, text))
     }
 }

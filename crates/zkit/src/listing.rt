@@ -1,7 +1,9 @@
 // Listings of a story, from the bytes of its file to the screen.
 
-ghost use Rattle.std.specs.Prelude.{◌≡◌, false};
-ghost use Rattle.zkit.specs.Listing.{EndsListing, EndsListingFrom, IsListedFrom, IsListingStop};
+ghost use Rattle.std.specs.Prelude.{◌≡◌, false, IfOk};
+ghost use Rattle.zk_mem.specs.Fresh.{fresh};
+ghost use Rattle.zkit.specs.Listing.{EndsListing, EndsListingFrom, IsListed, IsListedFrom, Tells};
+ghost use Rattle.zkit.specs.declared.listing.Listing.TheVariants as listing;
 
 use crate::ending::Ending;
 use crate::gathered::Gathered;
@@ -9,8 +11,10 @@ use crate::playing::read_story;
 use crate::report::report_listing;
 use std::alloc::Global;
 use std::io::Read;
+use zk_inspect::checking::check;
 use zk_inspect::disassembly::disassemble;
 use zk_inspect::error::ListError;
+use zk_inspect::finding_lines::write_findings;
 use zk_inspect::listings::{abbreviations, dictionary, header, map, objects, tree};
 use zk_inspect::reach::reach;
 use zk_mem::memory::{Memory, Setup};
@@ -74,6 +78,8 @@ pub enum Listing {
     Info(Sections),
     /// Its disassembly.
     Code,
+    /// What is wrong with it.
+    Findings,
 }
 
 /// The line that begins a section.
@@ -131,53 +137,83 @@ fn list_code<T: Target>(alloc: Global, memory: &Memory, target: &mut T) -> Resul
     disassemble(memory, &code, target)
 }
 
-/// Writes a listing.
+/// Writes what is wrong with a story, and tells whether something is.
+fn list_findings<T: Target>(
+    alloc: Global,
+    memory: &Memory,
+    target: &mut T,
+) -> Result<bool, ListError>
+    ensures { IfOk result (λ found. Tells listing.Findings memory.now found) }
+{
+    let Ok(findings) = check(alloc, memory) else {
+        return Err(ListError::Memory);
+    };
+    match write_findings(findings.as_slice(), target) {
+        Ok(()) => Ok(!findings.is_empty()),
+        Err(error) => Err(error),
+    }
+}
+
+/// Writes a listing, and tells whether it says that something is wrong.
 fn list<T: Target>(
     alloc: Global,
     memory: &Memory,
     listing: Listing,
     target: &mut T,
-) -> Result<(), ListError> {
+) -> Result<bool, ListError>
+    ensures { IfOk result (λ found. Tells listing memory.now found) }
+{
     match listing {
-        Listing::Info(sections) => list_sections(alloc, memory, sections, target),
-        Listing::Code => list_code(alloc, memory, target),
+        Listing::Info(sections) => {
+            list_sections(alloc, memory, sections, target)?;
+            Ok(false)
+        }
+        Listing::Code => {
+            list_code(alloc, memory, target)?;
+            Ok(false)
+        }
+        Listing::Findings => list_findings(alloc, memory, target),
     }
 }
 
 /// How a listing ends.
-fn stop_after(listed: Result<(), ListError>) -> Stop
-    ensures { IsListingStop result }
-{
+fn ending_after(listed: Result<bool, ListError>) -> Ending {
     match listed {
-        Ok(()) => Stop::Quit,
-        Err(ListError::Memory) => Stop::Memory,
-        Err(ListError::Write) => Stop::Write,
+        Ok(true) => Ending::Found,
+        Ok(false) => Ending::Stopped(Stop::Quit),
+        Err(ListError::Memory) => Ending::Stopped(Stop::Memory),
+        Err(ListError::Write) => Ending::Stopped(Stop::Write),
     }
 }
 
 /// Writes a listing to the screen, some of it at a time, and tells how that ends. Once a write has failed nothing more is
 /// written.
-fn list_memory<S: Target>(alloc: Global, memory: &Memory, listing: Listing, screen: &mut S) -> Stop
-    ensures { IsListingStop result }
+fn list_memory<S: Target>(
+    alloc: Global,
+    memory: &Memory,
+    listing: Listing,
+    screen: &mut S,
+) -> Ending
+    ensures { IsListed listing memory.now result }
 {
     let mut gathered = Gathered::new(screen);
     let listed = list(alloc, memory, listing, &mut gathered);
     match gathered.finish() {
-        Ok(()) => stop_after(listed),
-        Err(Failed) => Stop::Write,
+        Ok(()) => ending_after(listed),
+        Err(Failed) => Ending::Stopped(Stop::Write),
     }
 }
 
 /// Lists a story.
-fn list_story<S: Target>(alloc: Global, story: Story, listing: Listing, screen: &mut S) -> Stop
-    ensures { IsListingStop result }
+fn list_story<S: Target>(alloc: Global, story: Story, listing: Listing, screen: &mut S) -> Ending
+    ensures { IsListed listing (fresh story 16) result }
 {
     let setup = Setup {
         undo_states: UNDO_STATES,
     };
     match Memory::start(alloc, story, setup) {
         Ok(memory) => list_memory(alloc, &memory, listing, screen),
-        Err(_) => Stop::Memory,
+        Err(_) => Ending::Stopped(Stop::Memory),
     }
 }
 
@@ -188,11 +224,11 @@ pub fn list_bytes<S: Target>(
     listing: Listing,
     screen: &mut S,
 ) -> Ending
-    ensures { EndsListing bytes.now result }
+    ensures { EndsListing listing bytes.now result }
 {
     match Story::open(alloc, bytes) {
         Err(error) => Ending::Refused(error),
-        Ok(story) => Ending::Stopped(list_story(alloc, story, listing, screen)),
+        Ok(story) => list_story(alloc, story, listing, screen),
     }
 }
 
@@ -203,7 +239,7 @@ pub fn list_from<R: Read + Drop, S: Target>(
     listing: Listing,
     screen: &mut S,
 ) -> Ending
-    ensures { EndsListingFrom (R.remaining reader) result }
+    ensures { EndsListingFrom listing (R.remaining reader) result }
 {
     match read_story(alloc, reader) {
         Err(error) => Ending::Unread(error),
@@ -220,7 +256,7 @@ pub fn list_and_report<R: Read + Drop, S: Target, E: Target>(
     errors: &mut E,
 ) -> u8
     requires { E.failed errors.old ≡ false }
-    ensures { IsListedFrom (R.remaining reader) (record { taken = E.taken errors.old; failed = E.failed errors.old }) (record { taken = E.taken errors.new; failed = E.failed errors.new }) result }
+    ensures { IsListedFrom listing (R.remaining reader) (record { taken = E.taken errors.old; failed = E.failed errors.old }) (record { taken = E.taken errors.new; failed = E.failed errors.new }) result }
 {
     let ending = list_from(alloc, reader, listing, screen);
     report_listing(alloc, &ending, errors)

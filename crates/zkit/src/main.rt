@@ -1,4 +1,4 @@
-// Plays and lists Z-machine stories.
+// Plays, lists and checks Z-machine stories.
 #![tactic(auto)]
 
 ghost use Rattle.std.specs.Prelude.{◌≡◌, ◌⊎◌, false};

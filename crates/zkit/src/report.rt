@@ -142,6 +142,7 @@ fn write_last<E: Target>(errors: &mut E, ending: &Ending) -> Result<(), Failed>
         Ending::Unread(error) => write_unread(errors, error.kind()),
         Ending::Refused(error) => write_refusal(errors, error),
         Ending::Stopped(stop) => write_stop(errors, stop),
+        Ending::Found => Ok(()),
     }
 }
 
@@ -217,6 +218,7 @@ fn status(ending: &Ending) -> u8
         Ending::Stopped(Stop::Limit(_, _)) => 3,
         Ending::Stopped(Stop::Read | Stop::Write) => 4,
         Ending::Stopped(Stop::Memory) => 5,
+        Ending::Found => 6,
     }
 }
 
@@ -232,7 +234,7 @@ pub fn report_briefly<E: Target>(ending: &Ending, errors: &mut E) -> u8
 
 /// Writes why a play has ended, unless the story or its input has, and answers the program's status: 0 for an end,
 /// 1 for a file that is no story, 2 for a fault, 3 for a limit, 4 for a read or a write that failed, 5 for want of
-/// memory. Before the last line it writes what has happened in words.
+/// memory, 6 for something that a check has found. Before the last line it writes what has happened in words.
 pub fn report<E: Target>(alloc: Global, ending: &Ending, limits: &Limits, errors: &mut E) -> u8
     requires { E.failed errors.old ≡ false }
     ensures status { result ≡ ending_status ending.now }

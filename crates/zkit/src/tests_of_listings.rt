@@ -131,10 +131,32 @@ fn trees_are_listed(rt: HostRuntime) -> Result<(), Fail> {
 }
 
 #[test]
+fn findings_are_listed(rt: HostRuntime) -> Result<(), Fail> {
+    let mut bytes = story_bytes(rt.alloc(), 3, "B2 B5C5 BB BA")?;
+    is_listed(
+        &rt,
+        bytes.as_slice(),
+        Listing::Findings,
+        "C1 0001c checksum\n",
+        6,
+        "",
+    )?;
+    assert!(rt; bytes.len() >= 0x1e);
+    bytes[0x1c] = 0x03;
+    bytes[0x1d] = 0xa1;
+    is_listed(&rt, bytes.as_slice(), Listing::Findings, "", 0, "")?;
+    // jump to 0040 + 3 + 0100 - 2, past the story's end
+    let bytes = story_bytes(rt.alloc(), 3, "8C 0100")?;
+    let shown = "C1 0001c checksum\nC11 00040 target out of the story\n";
+    is_listed(&rt, bytes.as_slice(), Listing::Findings, shown, 6, "")
+}
+
+#[test]
 fn files_that_are_no_story_are_not_listed(rt: HostRuntime) -> Result<(), Fail> {
     let short = "zkit: the file is shorter than a header\nzkit: refused 1\n";
     is_listed(&rt, b"", Listing::Code, "", 1, short)?;
-    is_listed(&rt, b"", Listing::Info(ALL), "", 1, short)
+    is_listed(&rt, b"", Listing::Info(ALL), "", 1, short)?;
+    is_listed(&rt, b"", Listing::Findings, "", 1, short)
 }
 
 // What goes out before a write fails is a first part of the listing, and nothing follows.

@@ -202,6 +202,11 @@ fn listings_are_asked_for(rt: HostRuntime) {
     };
     let words = ["zkit", "disasm", "hello.z3"];
     assert_eq!(rt; listing_asked(alloc, words.as_slice()), Some(Listing::Code));
+    let words = ["zkit", "check", "hello.z3"];
+    assert_eq!(rt;
+        listing_asked(alloc, words.as_slice()),
+        Some(Listing::Findings)
+    );
     let words = ["zkit", "info", "hello.z3"];
     assert_eq!(rt;
         listing_asked(alloc, words.as_slice()),
@@ -253,6 +258,7 @@ fn listings_are_not_understood(rt: HostRuntime) {
     let alloc = rt.alloc();
     assert_eq!(rt; status_of_words(alloc, &["zkit", "info"]), 1);
     assert_eq!(rt; status_of_words(alloc, &["zkit", "disasm"]), 1);
+    assert_eq!(rt; status_of_words(alloc, &["zkit", "check"]), 1);
     assert_eq!(rt;
         status_of_words(alloc, &["zkit", "disasm", "--map", "a"]),
         1
