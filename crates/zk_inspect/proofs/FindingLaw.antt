@@ -1,5 +1,5 @@
 -- What the findings of a story are, all together.
-use Rattle.std.proofs.Common.{◌≡◌, ◌∙◌, ℕ, zero, suc, ◌+◌, ◌<◌, ◌≤◌, ◌⊎◌, inl, inr, List, [], ◌∷◌, ◌++◌, length, get_or, map, refl, sym, ap, ap₂, subst, arith}
+use Rattle.std.proofs.Common.{◌≡◌, ◌∙◌, ℕ, zero, suc, ◌+◌, ◌≤◌, ◌⊎◌, inl, inr, List, [], ◌∷◌, ◌++◌, map, refl, sym, ap, ap₂, subst, arith}
 use Rattle.std.specs.Prelude.{◌↔◌}
 use Rattle.std.specs.List.{Contains, flat_map}
 use Rattle.std.specs.List.Sorted.{IsStrictlyIncreasing}
@@ -9,8 +9,7 @@ use Rattle.zk_inspect.specs.declared.finding.Finding.{Finding}
 use Rattle.zk_inspect.specs.declared.finding.Number.{Number}
 use Rattle.zk_inspect.specs.declared.finding.Number.TheVariants.{Checksum, Length, DictionaryOrder, DictionaryExtent, ObjectLinks, ChainWithARepeat, PropertyList, TextPastTheEnd, NestedAbbreviation, UndecodableCode, TargetOutOfTheStory}
 use Rattle.zk_inspect.specs.Findings.{AreFindings, Finds, at_address, numbers}
-use Rattle.zk_inspect.specs.FindingLaws.{AreAllFindings, FindingsAreAll, OneListOfFindings, Precedes, rank_of}
-use Rattle.zk_inspect.specs.Lists.{IsListOf}
+use Rattle.zk_inspect.specs.FindingLaws.{FindingsAreAll, OneListOfFindings, Precedes, rank_of}
 use Rattle.zk_inspect.proofs.OneList.{behind, behind_above, first_or, one_list}
 
 -- ---- members
