@@ -187,10 +187,10 @@ fn maps_are_in_order(rt: HostRuntime) -> Result<(), Fail> {
 
 /// How many lines of a text are those of abbreviations that are faults of a number.
 fn faulty_abbreviations(text: &[u8], digit: u8) -> usize {
-    let mut count = 0;
+    let mut count = 0usize;
     for i in 3..text.len() {
         if text[i] == b'\n' && text[i - 1] == digit && text[i - 3] == b'F' {
-            count += 1;
+            count = count.saturating_add(1);
         }
     }
     count
