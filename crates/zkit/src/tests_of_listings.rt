@@ -123,7 +123,9 @@ fn trees_are_listed(rt: HostRuntime) -> Result<(), Fail> {
         (0xa1, 0xab),
         (0xaa, 0xab),
     ] {
-        bytes[address] = byte;
+        if address < bytes.len() {
+            bytes[address] = byte;
+        }
     }
     let sections = Sections { tree: true, ..NONE };
     let shown = "[tree]\n1 \"\"\n  2 \"\"\n  3 \"\"\n4 \"\"\n5 \"\"\n";
