@@ -2,7 +2,9 @@
 
 ghost use Rattle.std.specs.Prelude.{◌≡◌, false, IfOk};
 ghost use Rattle.zk_mem.specs.Fresh.{fresh};
+ghost use Rattle.zk_mem.specs.Map.{MemoryMap};
 ghost use Rattle.zkit.specs.Listing.{EndsListing, EndsListingFrom, IsListed, IsListedFrom, Tells};
+ghost use Rattle.zkit.specs.declared.listing.Listing.{Listing};
 ghost use Rattle.zkit.specs.declared.listing.Listing.TheVariants as listing;
 
 use crate::ending::Ending;
@@ -177,7 +179,9 @@ fn list<T: Target>(
 }
 
 /// How a listing ends.
-fn ending_after(listed: Result<bool, ListError>) -> Ending {
+fn ending_after(listed: Result<bool, ListError>) -> Ending
+    ensures { (listing : Listing) (m : MemoryMap) → IfOk listed (λ found. Tells listing m found) → IsListed listing m result }
+{
     match listed {
         Ok(true) => Ending::Found,
         Ok(false) => Ending::Stopped(Stop::Quit),
