@@ -13,5 +13,6 @@ pub mod Tests
 pub mod ObjectTests
 pub mod TextTests
 pub mod Siblings
+pub mod ListMarks
 pub mod Parts
 pub mod FindingLaws

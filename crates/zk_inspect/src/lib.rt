@@ -11,6 +11,7 @@ pub mod laws;
 mod marks;
 mod objects;
 mod operands;
+mod property_lists;
 mod quoting;
 pub mod reach;
 mod siblings;
