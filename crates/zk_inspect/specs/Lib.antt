@@ -13,6 +13,7 @@ pub mod Tests
 pub mod ObjectTests
 pub mod TextTests
 pub mod Siblings
+pub mod ListMarks
 pub mod Parts
 pub mod HeaderLines
 pub mod MapLines

@@ -8,6 +8,7 @@ use Rattle.zk_tables.specs.Layout.{entry_of}
 use Rattle.zk_tables.specs.Links.{link_at, parent_of, sibling_of, child_of}
 use Rattle.zk_tables.specs.Properties.{properties_of}
 use Rattle.zk_inspect.specs.Objects.{IsListed}
+use Rattle.zk_inspect.specs.ListMarks.{AreListMarks}
 use Rattle.zk_inspect.specs.Siblings.{IsAhead}
 use Rattle.zk_inspect.specs.declared.objects.Objects.{Objects}
 use Rattle.zk_inspect.specs.declared.objects.Question.{Question}
@@ -54,3 +55,4 @@ pub record IsCounted (m : MemoryMap) (n : ℕ) : Type 0 where
 pub record AreObjects (m : MemoryMap) (objects : Objects) : Type 0 where
   pub counted : IsCounted m objects.count
   pub far : IsAhead m 65536 objects.far_siblings.items
+  pub lists : AreListMarks m objects.lists

@@ -18,6 +18,7 @@ mod marks;
 mod object_lines;
 mod objects;
 mod operands;
+mod property_lists;
 mod quoting;
 pub mod reach;
 mod siblings;

@@ -1,6 +1,6 @@
 // Marks on addresses.
 
-ghost use Rattle.std.specs.Prelude.{◌≡◌, ◌<◌, ◌≤◌, ◌^◌, true, false, IfOk, length, get_or, replicate, slice_set};
+ghost use Rattle.std.specs.Prelude.{◌≡◌, ◌<◌, ◌≤◌, ◌^◌, ℕ, true, false, IfOk, length, get_or, replicate, slice_set};
 ghost use Rattle.zk_inspect.specs.Lists.{IsListOf, IsMarked};
 
 use crate::code::Addresses;
@@ -38,6 +38,13 @@ impl Marks {
         self.bits[address as usize]
     }
 
+    /// Whether an address is marked. At or above the bound none is.
+    pub fn is_marked(&self, address: u32) -> bool
+        ensures { result ≡ get_or self.now address false }
+    {
+        self.bits.get(address as usize).copied().unwrap_or(false)
+    }
+
     /// Marks an address.
     pub fn mark(&mut self, address: u32)
         requires { address < length self.old }
@@ -66,4 +73,13 @@ fn list_marked(alloc: Global, bits: &[bool]) -> Result<Addresses, AllocError>
         }
     }
     Ok(list)
+}
+
+/// No marks, below a bound.
+pub(crate) fn unmarked(alloc: Global, bound: u32) -> Result<Marks, AllocError>
+    ensures size { IfOk result (λ marks. length marks ≡ bound) }
+    ensures none { IfOk result (λ marks. (a : ℕ) → IsMarked marks a → ⊥) }
+{
+    let marks = Marks::none(alloc, bound as usize)?;
+    Ok(marks)
 }

@@ -10,11 +10,13 @@ ghost use Rattle.zk_inspect.specs.ObjectTests.{AreObjects, IsAnswered, answer, i
 ghost use Rattle.zk_inspect.specs.Objects.{IsListed, lower_of};
 
 use crate::code::Addresses;
+use crate::marks::Marks;
+use crate::property_lists::mark_lists;
 use crate::siblings::list_far_siblings;
 use std::alloc::{AllocError, Global};
 use zk_mem::fault::Fault;
 use zk_mem::memory::Memory;
-use zk_tables::properties::{check_properties, entry_address, table_address};
+use zk_tables::properties::{entry_address, list_address, table_address};
 use zk_tables::tree::{child, parent, sibling};
 
 /// The lower one of an address and that of the property table of an object.
@@ -58,6 +60,8 @@ pub(crate) struct Objects {
     pub count: u16,
     /// At each object's number, the one 65,536 siblings on.
     far_siblings: Vec<u16>,
+    /// Where property lists begin that lie in data.
+    lists: Marks,
 }
 
 /// The objects of a story.
@@ -66,9 +70,11 @@ pub(crate) fn find_objects(alloc: Global, memory: &Memory) -> Result<Objects, Al
 {
     let count = count_objects(memory);
     let far_siblings = list_far_siblings(alloc, memory)?;
+    let lists = mark_lists(alloc, memory)?;
     Ok(Objects {
         count,
         far_siblings,
+        lists,
     })
 }
 
@@ -117,11 +123,14 @@ fn has_bad_tree(memory: &Memory, objects: &Objects, object: u16) -> bool
 }
 
 /// Whether the property list of an object does not lie in data.
-fn has_bad_properties(memory: &Memory, object: u16) -> bool
+#[tactic(auto, using(crate::proofs::LastLists::no_list))]
+fn has_bad_properties(memory: &Memory, objects: &Objects, object: u16) -> bool
+    requires { AreObjects memory.now objects.now }
     ensures { result ≡ is_bad_property (properties_of memory.now object) }
 {
-    match check_properties(memory, object) {
-        Ok(()) => false,
+    memory.has_bytes();
+    match list_address(memory, object) {
+        Ok(list) => !objects.lists.is_marked(list),
         Err(fault) => matches!(fault, Fault::BadProperty),
     }
 }
@@ -134,7 +143,7 @@ fn answer(memory: &Memory, objects: &Objects, question: Question, object: u16) -
     match question {
         Question::Links => leads_past(memory, objects.count, object),
         Question::Chain => has_bad_tree(memory, objects, object),
-        Question::Properties => has_bad_properties(memory, object),
+        Question::Properties => has_bad_properties(memory, objects, object),
     }
 }
 

@@ -11,7 +11,7 @@ ghost use Rattle.zk_inspect.specs.TextTests.{AreTableMarks, AreTextMarks, IsTabl
 ghost use Rattle.zk_inspect.specs.Lists.{IsMarked};
 
 use crate::code::Code;
-use crate::marks::Marks;
+use crate::marks::{Marks, unmarked};
 use std::alloc::{AllocError, Global};
 use zk_code::decode::decode;
 use zk_code::instr::Instr;
@@ -153,15 +153,6 @@ fn mark_code(memory: &Memory, code: &Code, marks: &mut Marks)
     for address in addresses {
         mark_texts(memory, *address, marks);
     }
-}
-
-/// No marks, below a bound.
-fn unmarked(alloc: Global, bound: u32) -> Result<Marks, AllocError>
-    ensures size { IfOk result (λ marks. length marks ≡ bound) }
-    ensures none { IfOk result (λ marks. (a : ℕ) → IsMarked marks a → ⊥) }
-{
-    let marks = Marks::none(alloc, bound as usize)?;
-    Ok(marks)
 }
 
 /// Marks on all texts that are printed.

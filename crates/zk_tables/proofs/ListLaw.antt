@@ -20,7 +20,7 @@ byte_found : (m : MemoryMap) (a x : ℕ) → byte_at m a ≡ Ok x → (nat_lt a 
 unfolding byte_at
 byte_found m a x h = elim (chosen (nat_lt a (readable_end m)) _ _ _ h) [ inl t ↦ (t.0, same_value _ x t.1) | inr t ↦ absurd cc ]
 
-byte_below : (m : MemoryMap) (a x : ℕ) → byte_at m a ≡ Ok x → a < readable_end m
+pub byte_below : (m : MemoryMap) (a x : ℕ) → byte_at m a ≡ Ok x → a < readable_end m
 byte_below m a x h = ltb-true a (readable_end m) (byte_found m a x h).0
 
 pub byte_small : (m : MemoryMap) (a x : ℕ) → HasBytes m → byte_at m a ≡ Ok x → x < 256
@@ -115,7 +115,7 @@ two_takes m a first second small high low h k =
       more = λ z. (let none : first ≡ 0 = same_value first 0 (sym h ∙ z) in omega arith);
     }
 
-property_takes : (m : MemoryMap) (a : ℕ) (p : Property) → HasBytes m → property_at m a ≡ Ok (Some p) → IsProperty m a p
+pub property_takes : (m : MemoryMap) (a : ℕ) (p : Property) → HasBytes m → property_at m a ≡ Ok (Some p) → IsProperty m a p
 unfolding property_at property_by
 property_takes m a p fits h =
     let e = bind_ok (list_byte m a) (property_by m a) (Some p) h in
@@ -140,7 +140,7 @@ byte_not_zero : (m : MemoryMap) (a x : ℕ) → byte_at m a ≡ Ok x → byte_at
 byte_not_zero m a x h ne = ne_eqb x 0 (λ z. ne (h ∙ ap (λ (y : ℕ). byte_done y) z))
 
 -- the property that its bytes spell is read
-spelled_again : (m : MemoryMap) (a : ℕ) (p : Property) (s : Spelling) → IsWithin m.version s p → Stands m a (size_bytes s p) p.address → byte_at m a ≢ Ok 0 → property_at m a ≡ Ok (Some p)
+pub spelled_again : (m : MemoryMap) (a : ℕ) (p : Property) (s : Spelling) → IsWithin m.version s p → Stands m a (size_bytes s p) p.address → byte_at m a ≢ Ok 0 → property_at m a ≡ Ok (Some p)
 unfolding property_at property_by
 spelled_again m a p Early w h ne =
     let test = byte_not_zero m a (32 * (p.length - 1) + p.number) h.0 ne in
@@ -168,7 +168,7 @@ spelled_again m a p (Two x y) w h ne =
 
 -- ---- the end of a list, and where it is cut off
 
-end_takes : (m : MemoryMap) (a : ℕ) → property_at m a ≡ Ok None → byte_at m a ≡ Ok 0
+pub end_takes : (m : MemoryMap) (a : ℕ) → property_at m a ≡ Ok None → byte_at m a ≡ Ok 0
 unfolding property_at property_by
 end_takes m a h =
     let e = bind_ok (list_byte m a) (property_by m a) None h in
@@ -183,7 +183,7 @@ end_takes m a h =
       ]
     ]
 
-end_again : (m : MemoryMap) (a : ℕ) → byte_at m a ≡ Ok 0 → property_at m a ≡ Ok None
+pub end_again : (m : MemoryMap) (a : ℕ) → byte_at m a ≡ Ok 0 → property_at m a ≡ Ok None
 unfolding property_at property_by
 end_again m a h = rw (byte_again m a 0 h) refl
 
@@ -294,7 +294,7 @@ cut_reads m (suc n) a (p ∷ ps) b q h =
     rw (spelled_again m a p q.0.spelling q.0.within q.0.bytes q.0.more, rest) refl
 
 -- a property takes its size byte and a byte of data
-onward_two : (m : MemoryMap) (a : ℕ) (p : Property) (s : Spelling) → IsWithin m.version s p → Stands m a (size_bytes s p) p.address → a + 2 ≤ p.address + p.length
+pub onward_two : (m : MemoryMap) (a : ℕ) (p : Property) (s : Spelling) → IsWithin m.version s p → Stands m a (size_bytes s p) p.address → a + 2 ≤ p.address + p.length
 onward_two m a p Early w h = omega (arith, h.1)
 onward_two m a p One w h = omega (arith, h.1)
 onward_two m a p (Two x y) w h = omega (arith, h.1.1)

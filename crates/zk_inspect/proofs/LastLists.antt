@@ -1,0 +1,122 @@
+-- Property lists, from the last one on.
+use Rattle.std.proofs.Common.{◌≡◌, ◌∙◌, ℕ, ◌+◌, ◌<◌, ◌≤◌, inl, inr, ⊎_elim, Bool, true, false, List, [], ◌∷◌, length, get_or, Option, Some, None, Result, Ok, Err, refl, sym, ap, subst, arith}
+use Rattle.std.specs.Prelude.{◌↔◌, not, slice_set}
+use Rattle.std.proofs.lemmas.Bool.{cases_eq}
+use Rattle.std.proofs.lemmas.List.{length-set}
+use Rattle.zk_mem.specs.declared.fault.Fault.{Fault}
+use Rattle.zk_mem.specs.Map.{MemoryMap, HasBytes, byte_at, readable_end}
+use Rattle.zk_tables.specs.declared.lists.Property.{Property}
+use Rattle.zk_tables.specs.Properties.{list_of, properties_of}
+use Rattle.zk_tables.specs.PropertyList.{AreProperties, IsPropertyList, properties_at, property_at}
+use Rattle.zk_tables.proofs.ListLaw.{byte_below, end_again, end_takes, lists_are_read, onward_two, property_takes, spelled_again}
+use Rattle.zk_inspect.specs.Lists.{IsMarked}
+use Rattle.zk_inspect.specs.ListMarks.{AreLastMarks, AreListMarks, HasList}
+use Rattle.zk_inspect.specs.ObjectTests.{is_bad_property}
+use Rattle.zk_inspect.proofs.Marking.{marked_cases, marked_now, marked_still}
+
+-- a list that has ended
+pub ended : (m : MemoryMap) (a : ℕ) → property_at m a ≡ Ok None → HasList m a
+ended m a h = ([], (a, refl, end_takes m a h))
+
+same_property : (r : Result (Option Property) Fault) (p q : Property) → r ≡ Ok (Some p) → r ≡ Ok (Some q) → p ≡ q
+same_property r p q h k = let e : Some p ≡ Some q = cc in cc
+
+-- a list goes on behind its first property
+behind_by : (m : MemoryMap) (a : ℕ) (p : Property) (ps : List Property) → property_at m a ≡ Ok (Some p) → IsPropertyList m a ps → HasList m (p.address + p.length)
+behind_by m a p [] h (b, s, z) = absurd (let zero : byte_at m a ≡ Ok 0 = rw s z in let none = end_again m a zero in cc)
+behind_by m a p (q ∷ qs) h (b, s, z) =
+    let again = spelled_again m a q s.0.spelling s.0.within s.0.bytes s.0.more in
+    let same = same_property (property_at m a) q p again h in
+    (qs, (b, subst (λ (x : Property). AreProperties m (x.address + x.length) qs b) same s.1, z))
+
+pub goes_on : (m : MemoryMap) (a : ℕ) (p : Property) → HasBytes m → property_at m a ≡ Ok (Some p) → HasList m a ↔ HasList m (p.address + p.length)
+goes_on m a p bytes h = (λ l. behind_by m a p l.0 h l.1, λ l. (p ∷ l.0, (l.1.0, (property_takes m a p bytes h, l.1.1), l.1.2)))
+
+-- its first property takes bytes
+pub onward : (m : MemoryMap) (a : ℕ) (p : Property) → HasBytes m → property_at m a ≡ Ok (Some p) → a < p.address + p.length
+onward m a p bytes h = let s = property_takes m a p bytes h in let le = onward_two m a p s.spelling s.within s.bytes in omega arith
+
+cut_by : (m : MemoryMap) (a : ℕ) (f : Fault) (ps : List Property) → property_at m a ≡ Err f → IsPropertyList m a ps → ⊥
+cut_by m a f [] h (b, s, z) = let zero : byte_at m a ≡ Ok 0 = rw s z in let none = end_again m a zero in cc
+cut_by m a f (q ∷ qs) h (b, s, z) = let again = spelled_again m a q s.0.spelling s.0.within s.0.bytes s.0.more in cc
+
+pub cut_off : (m : MemoryMap) (a : ℕ) (f : Fault) → property_at m a ≡ Err f → HasList m a → ⊥
+cut_off m a f h l = cut_by m a f l.0 h l.1
+
+past_by : (m : MemoryMap) (a : ℕ) (ps : List Property) → HasBytes m → readable_end m ≤ a → IsPropertyList m a ps → ⊥
+past_by m a [] bytes le (b, s, z) = let lt = byte_below m b 0 z in let e : a ≡ b = s in omega arith
+past_by m a (q ∷ qs) bytes le (b, s, z) =
+    let here = spelled_again m a q s.0.spelling s.0.within s.0.bytes s.0.more in
+    let on = onward m a q bytes here in
+    past_by m (q.address + q.length) qs bytes (omega arith) (b, s.1, z)
+
+-- none begins past data
+pub past_data : (m : MemoryMap) (a : ℕ) → HasBytes m → readable_end m ≤ a → HasList m a → ⊥
+past_data m a bytes le l = past_by m a l.0 bytes le l.1
+
+-- what is read of a list
+pub read_is : (r : Result (Option Property) Fault) (o p : Option Property) → Ok o ≡ r → o ≡ p → r ≡ Ok p
+read_is r o p h e = sym h ∙ ap (λ (x : Option Property). Ok x) e
+
+pub begins_on : (m : MemoryMap) (a : ℕ) (p : Property) (marks : List Bool) (marked : Bool) → HasBytes m → property_at m a ≡ Ok (Some p) → ((b : ℕ) → a < b → IsMarked marks b ↔ HasList m b) → marked ≡ get_or marks (p.address + p.length) false → (marked ≡ true) ↔ HasList m a
+begins_on m a p marks marked bytes read known is =
+    let k = known (p.address + p.length) (onward m a p bytes read) in
+    let g = goes_on m a p bytes read in
+    (λ t. g.1 (k.0 (sym is ∙ t)), λ l. is ∙ k.1 (g.0 l))
+
+-- ---- marks
+
+pub last_begin : (m : MemoryMap) (marks : List Bool) (end : ℕ) → HasBytes m → end ≡ readable_end m → length marks ≡ 66100 → ((a : ℕ) → IsMarked marks a → ⊥) → AreLastMarks m end 0 marks
+last_begin m marks end bytes e size none = record {
+  size = size;
+  known = λ a le. (λ h. absurd (none a h), λ l. absurd (past_data m a bytes (omega arith) l));
+  free = λ a lt. none a;
+}
+
+-- one list more
+pub last_more : (m : MemoryMap) (end behind a : ℕ) (old new : List Bool) → a + behind + 1 ≡ end → end ≤ 65536 → HasList m a → AreLastMarks m end behind old → new ≡ slice_set old a true → AreLastMarks m end (behind + 1) new
+last_more m end behind a old new at near now h is =
+    let size = h.size in
+    let inside : a < length old = omega arith in
+    record {
+      size = ap length is ∙ length-set old a true ∙ h.size;
+      known = λ b le. elim (cases_eq b a) [
+        | inl s ↦ (λ k. subst (HasList m) (sym s) now, λ l. subst (λ (bs : List Bool). IsMarked bs b) (sym is) (subst (λ (x : ℕ). IsMarked (slice_set old a true) x) (sym s) (marked_now old a inside)))
+        | inr ne ↦ (
+          λ k. elim (marked_cases old a b (subst (λ (bs : List Bool). IsMarked bs b) is k)) [ inl s ↦ absurd (ne s) | inr o ↦ (h.known b (omega arith)).0 o ],
+          λ l. subst (λ (bs : List Bool). IsMarked bs b) (sym is) (marked_still old a b inside ((h.known b (omega arith)).1 l)),
+        )
+      ];
+      free = λ b lt k. elim (marked_cases old a b (subst (λ (bs : List Bool). IsMarked bs b) is k)) [ inl s ↦ omega arith | inr o ↦ h.free b (omega arith) o ];
+    }
+
+-- no list begins there
+pub last_none : (m : MemoryMap) (end behind a : ℕ) (marks : List Bool) → a + behind + 1 ≡ end → (HasList m a → ⊥) → AreLastMarks m end behind marks → AreLastMarks m end (behind + 1) marks
+last_none m end behind a marks at none h = record {
+  size = h.size;
+  known = λ b le. elim (cases_eq b a) [
+    | inl s ↦ (λ k. absurd (h.free b (omega arith) k), λ l. absurd (none (subst (HasList m) s l)))
+    | inr ne ↦ h.known b (omega arith)
+  ];
+  free = λ b lt k. h.free b (omega arith) k;
+}
+
+pub last_end : (m : MemoryMap) (end behind : ℕ) (marks : List Bool) → end ≤ behind → AreLastMarks m end behind marks → AreListMarks m marks
+last_end m end behind marks le h = record { exact = λ a. h.known a (omega arith) }
+
+-- ---- the list of an object
+
+bad_by : (m : MemoryMap) (a : ℕ) (marked : Bool) → HasBytes m → (marked ≡ true ↔ HasList m a) → not marked ≡ is_bad_property (properties_at m a)
+bad_by m a true bytes h = let l = h.0 refl in sym (ap is_bad_property (((lists_are_read m a bytes).list l.0).1 l.1))
+bad_by m a false bytes h = ⊎_elim
+    (λ l. absurd (let yes = h.1 l in cc))
+    (λ l. sym (ap is_bad_property ((lists_are_read m a bytes).leaves.1 l)))
+    (lists_are_read m a bytes).one
+
+pub bad_list : (m : MemoryMap) (o a : ℕ) (marks : List Bool) → HasBytes m → AreListMarks m marks → list_of m o ≡ Ok a → not (get_or marks a false) ≡ is_bad_property (properties_of m o)
+unfolding properties_of
+bad_list m o a marks bytes h e = rw e (bad_by m a (get_or marks a false) bytes (h.exact a))
+
+pub no_list : (m : MemoryMap) (o : ℕ) (f : Fault) → list_of m o ≡ Err f → properties_of m o ≡ Err f
+unfolding properties_of
+no_list m o f e = rw e refl
