@@ -10,8 +10,6 @@ use Rattle.zk_state.specs.declared.refusal.Refusal.TheVariants as refusal
 use Rattle.zk_state.specs.declared.refusal.Limit.TheVariants.{Reads}
 use Rattle.zk_state.specs.Frames.{FrameList, bounds_of, within_bounds}
 use Rattle.zk_code.specs.declared.instr.Instr.{Instr}
-use Rattle.zk_code.specs.declared.opcode.Opcode.TheVariants.{Saving}
-use Rattle.zk_code.specs.declared.opcode.Saving.TheVariants.{SaveUndo}
 use Rattle.zk_code.specs.Reading.{instr_at}
 use Rattle.zk_save.specs.States.{AreOf, UndoStates, WholeState, gone_back, state_of, states_in}
 use Rattle.zk_step.specs.declared.ending.Next.{Next}
@@ -21,7 +19,7 @@ use Rattle.zk_step.specs.declared.workspace.Workspace.{Workspace}
 use Rattle.zk_step.specs.Inputs.{result_answered}
 use Rattle.zk_step.specs.Instructions.{carried_out}
 use Rattle.zk_step.specs.Laws.{fixed_parts}
-use Rattle.zk_step.specs.Limited.{kept, limited_move, limited_on, text_in}
+use Rattle.zk_step.specs.Limited.{kept, limited_move, text_in}
 use Rattle.zk_step.specs.Resuming.{resumed}
 use Rattle.zk_step.specs.Routing.{Texts, no_text}
 use Rattle.zk_step.proofs.Stories.{stories_stay}
@@ -34,7 +32,7 @@ use Rattle.zk_vm.specs.declared.waiting.Halt.{Halt}
 use Rattle.zk_vm.specs.declared.waiting.Halt.TheVariants as halt
 use Rattle.zk_vm.specs.declared.waiting.Waiting.{Waiting}
 use Rattle.zk_vm.specs.Going.{stop_by, IsPut, Settles, LacksMemory}
-use Rattle.zk_vm.specs.Halts.{CanAnswer, IsAnswerable, IsKeeping, IsLeftAt, IsQuiet, IsStep, halt_by}
+use Rattle.zk_vm.specs.Halts.{IsKeeping, IsLeftAt, IsStep, halt_by}
 use Rattle.zk_vm.specs.Outcome.{Session}
 use Rattle.zk_vm.specs.Sound.{state_seen, IsOfStory, IsSound}
 use Rattle.zk_vm.specs.Step.{State, Step, Verdict, back_to, fetched, settled, goes_by, goes_to, is_past_reads, is_read, kept_answer, led_to, most_reads, state_after, step, text_of, text_within, verdict_of, view_before, waits_by, with_kept}
@@ -47,7 +45,7 @@ use Rattle.zk_vm.proofs.Going.{stops_by}
 use Rattle.zk_vm.proofs.Keeping.{seen, same_states}
 use Rattle.zk_vm.specs.declared.limits.Limits.{Limits}
 use Rattle.zk_vm.proofs.OnlySaveUndo.{only_save_undo_keeps}
-use Rattle.zk_step.proofs.SameStory.{same_file, same_version}
+use Rattle.zk_step.proofs.SameStory.{same_version}
 use Rattle.zk_vm.proofs.Sounds.{running, while_running, same_most, sound_now, story_stays}
 
 -- ---- what was carried out

@@ -1,16 +1,14 @@
 -- Steps that are made in silence, by instructions that were decoded before.
-use Rattle.std.proofs.Common.{◌≡◌, ◌∙◌, ◌≤◌, ◌<◌, ℕ, zero, suc, ◌+◌, ◌-◌, List, [], ◌++◌, Option, Some, None, Result, Ok, Err, refl, ap, sym, subst, inl, arith}
+use Rattle.std.proofs.Common.{◌≡◌, ◌∙◌, ◌≤◌, ◌<◌, ℕ, zero, suc, ◌+◌, ◌-◌, List, [], None, Result, Err, refl, ap, sym, subst, inl, arith}
 use Rattle.zk_state.specs.declared.refusal.Refusal.{Refusal}
-use Rattle.zk_state.specs.Frames.{FrameList, bounds_of, within_bounds}
+use Rattle.zk_state.specs.Frames.{FrameList, bounds_of}
 use Rattle.zk_save.specs.States.{AreOf, UndoStates, WholeState}
 use Rattle.zk_step.specs.declared.ending.Next.TheVariants.{At}
 use Rattle.zk_step.specs.Laws.{fixed_parts}
-use Rattle.zk_fast.specs.declared.cache.Cache.{Cache}
 use Rattle.zk_fast.specs.Caches.{IsCacheOf}
 use Rattle.zk_step.specs.declared.workspace.Workspace.{Workspace}
 use Rattle.zk_step.specs.Instructions.{carried_out}
-use Rattle.zk_step.specs.Limited.{limited_move}
-use Rattle.zk_step.specs.Routing.{Texts, no_text, text_joined}
+use Rattle.zk_step.specs.Routing.{Texts, no_text}
 use Rattle.zk_fast.specs.Strides.{IsRefused, IsRefusedBehind, IsStride, Strides}
 use Rattle.zk_fast.specs.Strides.Strides.{none, more}
 use Rattle.zk_vm.specs.declared.limits.Limits.{Limits}
@@ -21,10 +19,9 @@ use Rattle.zk_vm.specs.declared.waiting.Halt.TheVariants as halt
 use Rattle.zk_vm.specs.declared.waiting.Waiting.{Waiting}
 use Rattle.zk_vm.specs.Going.{GoesAhead, IsAhead, IsHalted, StopsAhead, behind_strides, steps_left, stop_by}
 use Rattle.zk_vm.specs.Halts.{ComesToKeep, IsLeftBy, halt_of}
-use Rattle.zk_vm.specs.Outcome.{Segment, Session, continued, segment}
-use Rattle.zk_vm.specs.Step.{State, Step, Verdict, goes_by, settled, step, state_after, text_of, text_within, verdict_of}
-use Rattle.zk_vm.specs.Step.Step.{Goes}
-use Rattle.zk_vm.specs.Step.Verdict.{GoesOn, WaitsFor, StopsBy}
+use Rattle.zk_vm.specs.Outcome.{Segment, Session, segment}
+use Rattle.zk_vm.specs.Step.{State, goes_by, step, state_after, text_of, text_within, verdict_of}
+use Rattle.zk_vm.specs.Step.Verdict.{GoesOn, StopsBy}
 use Rattle.zk_vm.specs.Sound.{IsOfStory, IsSound, state_seen}
 use Rattle.zk_vm.proofs.Advancing.{at_step, carried_fixed, err_step, fetched_is}
 use Rattle.zk_vm.proofs.Halting.{comes_before}
@@ -144,12 +141,11 @@ strides_fixed _ _ _ _ _ none = refl
 strides_fixed _ _ _ _ _ (more {n} {w} {v} {end} {place} {next} {last} stride rest) =
     strides_fixed n v end next last rest ∙ carried_fixed w stride.instruction v (At next) no_text stride.carried
 
-pub sound_ahead : (m n : Inside) (k : ℕ) → Strides k m.workspace m.place n.workspace n.place → IsSound m → m.stopped ≡ None → n.limits ≡ m.limits → n.waiting ≡ None → n.steps ≤ m.limits.steps → n.reads ≡ m.reads → n.undo ≡ m.undo → n.cache ≡ m.cache
+pub sound_ahead : (m n : Inside) (k : ℕ) → Strides k m.workspace m.place n.workspace n.place → IsSound m → m.stopped ≡ None → n.limits ≡ m.limits → n.waiting ≡ None → n.steps ≤ m.limits.steps → n.reads ≡ m.reads → n.undo ≡ m.undo → IsCacheOf (fixed_parts m.workspace.memory) n.cache
     → bounds_of n.workspace.frames ≡ bounds_of m.workspace.frames → IsSound n
-sound_ahead m n k strides is runs limits free steps reads undo same bounds =
+sound_ahead m n k strides is runs limits free steps reads undo cache bounds =
     let has = running m.stopped (IsOfStory m) runs is.story in
     let are = subst (λ (u : UndoStates). AreOf m.workspace.memory m.workspace.frames u) (sym undo) has.are_of in
-    let cache = subst (λ (k : Cache). IsCacheOf (fixed_parts m.workspace.memory) k) (sym same) has.cache in
     sound_now m n is limits free steps (rw reads is.reads) (ap (λ (u : UndoStates). u.most) undo) bounds
     (λ e. story_stays n m.workspace are (has.memory ∙ ap (λ (l : Limits). l.undo) (sym limits)) cache (strides_fixed k m.workspace n.workspace m.place n.place strides) bounds)
 

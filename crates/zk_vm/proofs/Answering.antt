@@ -1,6 +1,5 @@
 -- A machine that waits is answered.
-use Rattle.std.specs.Prelude.{◌&&◌}
-use Rattle.std.proofs.Common.{◌≡◌, ◌∙◌, ◌≤◌, ◌<◌, ◌⊎◌, ℕ, ◌+◌, List, [], ◌∷◌, Bool, true, false, Option, Some, None, Result, Ok, Err, refl, ap, sym, subst, arith, nat_le}
+use Rattle.std.proofs.Common.{◌≡◌, ◌∙◌, ◌≤◌, ◌<◌, ℕ, ◌+◌, List, [], ◌∷◌, Bool, true, false, Option, Some, None, Result, Ok, Err, refl, ap, sym, subst, arith, nat_le}
 use Rattle.std.proofs.lemmas.Bool.Decides.{nat_tests}
 use Rattle.zk_mem.specs.Map.{MemoryMap}
 use Rattle.zk_code.specs.declared.instr.Instr.{Instr}
@@ -29,15 +28,15 @@ use Rattle.zk_vm.specs.declared.machine.Machine.TheInside.{Inside}
 use Rattle.zk_vm.specs.declared.stop.Event.TheVariants as event
 use Rattle.zk_vm.specs.declared.stop.Stop.{Stop}
 use Rattle.zk_vm.specs.declared.waiting.Waiting.{Waiting}
-use Rattle.zk_vm.specs.Answers.{Answer, answered, answer_settled, codes_of, file_of, first_code, is_kept, restored_from, restored_to, transcribed, truth_word}
+use Rattle.zk_vm.specs.Answers.{Answer, answered, answer_settled, restored_from, restored_to, transcribed, truth_word}
 use Rattle.zk_vm.specs.Answers.Answer.{Typed, Kept, File}
 use Rattle.zk_vm.specs.Going.{verdict_by, place_by, steps_by, stopped_by, limit_of, restored_by, restored_on}
 use Rattle.zk_vm.specs.Halts.{CanAnswer, IsAnswerable, IsLeftAs, event_by, event_waited}
-use Rattle.zk_vm.specs.Outcome.{Session, given}
+use Rattle.zk_vm.specs.Outcome.{given}
 use Rattle.zk_vm.specs.Sound.{state_seen, IsOfStory, IsSound}
 use Rattle.zk_vm.specs.Step.{State, goes_to, is_read, is_past_reads, most_reads}
 use Rattle.zk_vm.proofs.Going.{Told, told_on, file_answered, limit_answered, read_answered, reading}
-use Rattle.zk_vm.proofs.Keeping.{seen, behind, same_states, sound_behind}
+use Rattle.zk_vm.proofs.Keeping.{seen, behind, same_states}
 use Rattle.zk_vm.proofs.Sounds.{back_fixed, running, sound_now, sound_after, story_stays, going_led}
 
 answerable_by : (s : State) (l : Limits) (stopped : Option Stop) (x : Option Waiting) (w : Waiting) → x ≡ Some w → CanAnswer s l stopped x → IsAnswerable s l stopped w

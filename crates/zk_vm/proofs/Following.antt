@@ -1,7 +1,7 @@
 -- A run, from the machine that it began with to where it has come.
-use Rattle.std.proofs.Common.{◌≡◌, ◌∙◌, ◌≤◌, ◌<◌, ℕ, ◌+◌, ◌-◌, List, [], ◌++◌, Option, Some, None, Result, Ok, Err, refl, ap, sym, subst, arith}
+use Rattle.std.proofs.Common.{◌≡◌, ◌∙◌, ◌≤◌, ◌<◌, ℕ, ◌+◌, ◌-◌, List, [], ◌++◌, None, Ok, Err, refl, ap, sym, subst, arith}
 use Rattle.zk_state.specs.declared.refusal.Limit.TheVariants.{Steps}
-use Rattle.zk_step.specs.Routing.{Texts, no_text, text_joined}
+use Rattle.zk_step.specs.Routing.{Texts, text_joined}
 use Rattle.zk_vm.specs.declared.stop.Stop.TheVariants as stops
 use Rattle.zk_vm.specs.declared.waiting.Halt.{Halt}
 use Rattle.zk_vm.specs.declared.waiting.Halt.TheVariants as halt

@@ -22,7 +22,7 @@ use Rattle.zk_step.specs.declared.workspace.View.TheVariants as view
 use Rattle.zk_step.specs.declared.workspace.Workspace.{Workspace}
 use Rattle.zk_step.specs.Instructions.{carried_out}
 use Rattle.zk_mem.specs.Map.{MemoryMap}
-use Rattle.zk_save.specs.States.{WholeState, gone_back, memory_back, state_of}
+use Rattle.zk_save.specs.States.{WholeState, gone_back, memory_back}
 use Rattle.zk_step.specs.Inputs.{result_answered}
 use Rattle.zk_step.specs.Laws.{fixed_parts, rebounded, led_in, moved_in}
 use Rattle.zk_step.specs.Resuming.{resumed}

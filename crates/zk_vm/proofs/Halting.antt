@@ -1,5 +1,5 @@
 -- Steps of a machine up to an event or a stop.
-use Rattle.std.proofs.Common.{◌≡◌, ◌∙◌, ◌≤◌, ◌<◌, ◌⊎◌, inl, inr, ℕ, zero, suc, ◌+◌, ◌-◌, List, [], ◌++◌, Option, Some, None, Result, Ok, Err, refl, ap, sym, subst, arith}
+use Rattle.std.proofs.Common.{◌≡◌, ◌∙◌, ◌≤◌, ◌<◌, inl, inr, ℕ, suc, ◌+◌, ◌-◌, List, [], ◌++◌, Option, Some, None, Result, Ok, Err, refl, ap, sym, subst, arith}
 use Rattle.zk_state.specs.declared.refusal.Limit.TheVariants.{Steps}
 use Rattle.zk_step.specs.Routing.{Texts, no_text, on_script, text_joined}
 use Rattle.zk_step.specs.declared.ending.Wait.{Wait}
@@ -12,9 +12,9 @@ use Rattle.zk_vm.specs.declared.waiting.Waiting.{Waiting}
 use Rattle.zk_vm.specs.Going.{IsHalted, steps_left}
 use Rattle.zk_vm.specs.Halts.{ComesToKeep, IsKeeping, IsLeftAs, IsLeftAt, IsLeftBy, IsRun, IsStep, event_by, event_of, halt_by, halt_of}
 use Rattle.zk_vm.specs.Outcome.{Leads, Segment, Session, behind_due, ended, ran, segment, segment_by, segment_of}
-use Rattle.zk_vm.specs.Step.{State, Verdict, step, state_after, text_of, verdict_of}
-use Rattle.zk_vm.specs.Step.Verdict.{GoesOn, WaitsFor, StopsBy}
-use Rattle.zk_vm.proofs.Runs.{ShowsRest, goes_by_halt, left_goes, left_on, last_shown, rest_shown, run_ends, run_goes, run_limit}
+use Rattle.zk_vm.specs.Step.{State, step, state_after, text_of, verdict_of}
+use Rattle.zk_vm.specs.Step.Verdict.{GoesOn}
+use Rattle.zk_vm.proofs.Runs.{ShowsRest, last_shown, run_ends, run_limit}
 
 -- where a machine comes to keep a state, so does one that has led to it, and what shows the rest shows the whole
 abbrev pub ComesOn : {S : Type 0} → (S → S → List ℕ → List ℕ → Type 0) → S → S → Session → Session → Type 0

@@ -1,6 +1,6 @@
 -- States that are kept, and gone back to.
 use Rattle.std.specs.Prelude.{◌==◌, if◌then◌else◌, map}
-use Rattle.std.proofs.Common.{◌≡◌, ◌∙◌, ◌≤◌, ◌<◌, ℕ, ◌+◌, ◌-◌, List, [], ◌∷◌, take, length, Option, Some, None, Bool, true, false, Result, Ok, Err, refl, ap, sym, subst, arith, nat_lt}
+use Rattle.std.proofs.Common.{◌≡◌, ◌∙◌, ◌≤◌, ◌<◌, ℕ, ◌+◌, ◌-◌, List, [], ◌∷◌, take, length, Option, Some, None, Bool, true, false, Result, Ok, refl, ap, sym, subst, arith, nat_lt}
 use Rattle.std.proofs.lemmas.Bool.Decides.{nat_tests}
 use Rattle.zk_mem.specs.Map.{MemoryMap}
 use Rattle.zk_state.specs.Frames.{Frame, FrameList, bounds_of, with_frames}
@@ -8,13 +8,13 @@ use Rattle.zk_code.specs.declared.instr.Instr.{Instr}
 use Rattle.zk_save.specs.States.{WholeState, KeptState, UndoStates, whole_state, AreOf, gone_back, memory_back, state_of, states_in}
 use Rattle.zk_state.specs.declared.refusal.Refusal.{Refusal}
 use Rattle.zk_step.specs.declared.ending.Next.{Next}
-use Rattle.zk_step.specs.declared.ending.Next.TheVariants.{At, Waits, Keeps, Resumes, End}
+use Rattle.zk_step.specs.declared.ending.Next.TheVariants.{Keeps, Resumes}
 use Rattle.zk_step.specs.declared.workspace.Workspace.{Workspace}
 use Rattle.zk_step.specs.Inputs.{result_answered}
 use Rattle.zk_step.specs.Laws.{fixed_parts}
 use Rattle.zk_step.specs.Limited.{limited_next}
 use Rattle.zk_step.specs.Resuming.{resumed}
-use Rattle.zk_step.specs.Routing.{Texts, no_text}
+use Rattle.zk_step.specs.Routing.{no_text}
 use Rattle.zk_step.proofs.Stories.{answers_leave_stories}
 use Rattle.zk_vm.specs.declared.machine.Machine.TheInside.{Inside}
 use Rattle.zk_vm.specs.declared.stop.Stop.{Stop}
@@ -25,7 +25,7 @@ use Rattle.zk_vm.specs.Outcome.{Session}
 use Rattle.zk_vm.specs.Sound.{state_seen, IsOfStory, IsSound}
 use Rattle.zk_vm.specs.Step.{Step, back_to, goes_to, led_to, kept_answer, saved_place, with_kept}
 use Rattle.zk_vm.proofs.Going.{Told, told_on, gone_on}
-use Rattle.zk_step.proofs.SameStory.{same_file, same_base}
+use Rattle.zk_step.proofs.SameStory.{same_file}
 use Rattle.zk_vm.proofs.Sounds.{running, same_most, back_fixed, story_stays, sound_after}
 
 -- the machine that contracts see

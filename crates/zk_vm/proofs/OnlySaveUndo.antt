@@ -1,9 +1,8 @@
 -- One opcode alone keeps a state.
-use Rattle.std.specs.Prelude.{◌==◌, if◌then◌else◌, slice_get}
-use Rattle.std.proofs.Common.{◌≡◌, ◌∙◌, ℕ, ◌%◌, Bool, true, false, List, [], ◌∷◌, Option, Some, None, Result, Ok, Err, refl, subst}
+use Rattle.std.specs.Prelude.{◌==◌, if◌then◌else◌}
+use Rattle.std.proofs.Common.{◌≡◌, ℕ, Bool, true, false, List, [], ◌∷◌, Option, Some, None, Result, Ok, Err, refl, subst}
 use Rattle.zk_mem.specs.declared.fault.Fault.{Fault}
-use Rattle.zk_mem.specs.Map.{MemoryMap, byte_at, byte_put, word_at, word_put}
-use Rattle.zk_mem.specs.Results.{◌>>=◌}
+use Rattle.zk_mem.specs.Map.{MemoryMap}
 use Rattle.zk_state.specs.Frames.{popped}
 use Rattle.zk_code.specs.declared.instr.Instr.{Instr}
 use Rattle.zk_code.specs.declared.opcode.Opcode.{Opcode}
@@ -46,7 +45,7 @@ use Rattle.zk_step.specs.declared.ending.Wait.{Wait}
 use Rattle.zk_step.specs.declared.workspace.View.{View}
 use Rattle.zk_step.specs.declared.workspace.View.TheVariants as view
 use Rattle.zk_step.specs.declared.workspace.Workspace.{Workspace}
-use Rattle.zk_step.specs.Arithmetic.{arithmetic, divided}
+use Rattle.zk_step.specs.Arithmetic.{arithmetic}
 use Rattle.zk_step.specs.Arrays.{array_effect}
 use Rattle.zk_step.specs.Assignment.{assignment}
 use Rattle.zk_step.specs.Comparison.{comparison}
@@ -56,8 +55,8 @@ use Rattle.zk_step.specs.Idle.{idle}
 use Rattle.zk_step.specs.Inputs.{reading}
 use Rattle.zk_step.specs.Instructions.{carried_out}
 use Rattle.zk_step.specs.Finish.{finished}
-use Rattle.zk_step.specs.Objects.{changed, object_answer, object_changed}
-use Rattle.zk_step.specs.Printing.{printing, prints_inline, prints_line, prints_text}
+use Rattle.zk_step.specs.Objects.{object_answer, object_changed}
+use Rattle.zk_step.specs.Printing.{printing, prints_inline, prints_line}
 use Rattle.zk_step.specs.Routines.{call_effect, calls, routine_effect}
 use Rattle.zk_step.specs.Routing.{Texts, routed}
 use Rattle.zk_step.specs.Saving.{saving, waits_whole}

@@ -1,5 +1,5 @@
 -- Outcomes of machines that wait, and of those that have stopped.
-use Rattle.std.proofs.Common.{◌≡◌, ◌∙◌, ◌≤◌, ◌<◌, ◌⊎◌, inl, inr, ℕ, zero, suc, ◌+◌, ◌-◌, Bool, true, false, List, [], ◌∷◌, Option, Some, None, Result, Ok, Err, refl, ap, sym, subst, arith}
+use Rattle.std.proofs.Common.{◌≡◌, ◌∙◌, ◌≤◌, ◌<◌, ℕ, zero, suc, ◌+◌, ◌-◌, Bool, true, false, List, [], ◌∷◌, Option, Some, None, Result, Ok, Err, refl, ap, sym, arith}
 use Rattle.std.specs.Prelude.{if◌then◌else◌}
 use Rattle.zk_mem.specs.declared.fault.Fault.{Fault}
 use Rattle.zk_mem.specs.Map.{MemoryMap}
@@ -17,15 +17,15 @@ use Rattle.zk_step.specs.declared.workspace.Workspace.{Workspace}
 use Rattle.zk_step.specs.Inputs.{result_answered}
 use Rattle.zk_step.specs.Instructions.{carried_out}
 use Rattle.zk_step.specs.Resuming.{resumed}
-use Rattle.zk_step.specs.Routing.{Texts, no_text, text_joined}
+use Rattle.zk_step.specs.Routing.{Texts, no_text}
 use Rattle.zk_vm.specs.declared.stop.Stop.{Stop}
 use Rattle.zk_vm.specs.declared.stop.Stop.TheVariants.{Limit}
 use Rattle.zk_vm.specs.declared.waiting.Waiting.{Waiting}
 use Rattle.zk_vm.specs.Answers.{Answer}
-use Rattle.zk_vm.specs.Outcome.{Outcome, Segment, Session, continued, ended, followed, given, outcome, ran, segment, segment_by, segment_of}
-use Rattle.zk_vm.specs.Step.{State, Step, Verdict, back_to, fetched, goes_by, goes_to, is_past_reads, kept_answer, led_to, settled, state_after, step, text_of, text_within, verdict_of, view_before, waits_by, with_kept}
+use Rattle.zk_vm.specs.Outcome.{Outcome, Segment, Session, continued, ended, outcome, ran, segment, segment_by, segment_of}
+use Rattle.zk_vm.specs.Step.{State, Step, back_to, fetched, goes_by, goes_to, is_past_reads, kept_answer, led_to, settled, state_after, step, text_of, text_within, verdict_of, view_before, waits_by, with_kept}
 use Rattle.zk_vm.specs.Step.Step.{Goes, Waits, Quits, Faults, Exceeds}
-use Rattle.zk_vm.specs.Step.Verdict.{GoesOn, WaitsFor, StopsBy}
+use Rattle.zk_vm.specs.Step.Verdict.{WaitsFor, StopsBy}
 use Rattle.zk_vm.proofs.FrameLimits.{counts}
 
 pub ran_waiting : (s : Session) (w : Waiting) → (segment_of s).end ≡ Ok w → (ran s).waiting ≡ Some w

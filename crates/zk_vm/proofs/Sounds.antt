@@ -1,12 +1,12 @@
 -- What the parts of a machine keep to, step by step.
-use Rattle.std.proofs.Common.{◌≡◌, ◌∙◌, ◌≤◌, ◌<◌, ℕ, ◌+◌, List, [], ◌∷◌, length, Option, Some, None, Result, Ok, Err, refl, ap, sym, arith}
+use Rattle.std.proofs.Common.{◌≡◌, ◌∙◌, ◌≤◌, ◌<◌, ℕ, List, [], ◌∷◌, length, Option, Some, None, Result, Ok, Err, refl, ap, arith}
 use Rattle.std.specs.Prelude.{map}
 use Rattle.zk_mem.specs.Fresh.{fresh}
 use Rattle.zk_mem.specs.Map.{MemoryMap}
 use Rattle.zk_mem.specs.Again.{again, settled}
 use Rattle.zk_state.specs.declared.refusal.Refusal.{Refusal}
-use Rattle.zk_state.specs.Frames.{FrameList, IsBounded, bounds_of, first_frames, with_frames}
-use Rattle.zk_save.specs.States.{WholeState, KeptState, UndoStates, whole_state, AreOf, gone_back, memory_back, states_in}
+use Rattle.zk_state.specs.Frames.{FrameList, IsBounded, bounds_of, first_frames}
+use Rattle.zk_save.specs.States.{WholeState, KeptState, UndoStates, whole_state, AreOf, memory_back, states_in}
 use Rattle.zk_save.proofs.Wholes.{same_of}
 use Rattle.zk_step.specs.declared.ending.Next.{Next}
 use Rattle.zk_step.specs.declared.ending.Next.TheVariants.{At, Waits, Keeps, Resumes, End}

@@ -319,16 +319,12 @@ impl Machine {
             return self.advance(i, screen);
         }
         match decode(&self.workspace.memory, self.place) {
-            Ok(i) => {
-                self.cache
-                    .keep(&self.workspace.memory, self.place, i.copy());
-                self.advance(i, screen)
-            }
+            Ok(i) => self.advance(i, screen),
             Err(fault) => halt(&mut self.stopped, Stop::Fault(self.place, fault)),
         }
     }
 
-    /// Makes the steps that are made by instructions that were decoded before and show nothing, as many as there may be.
+    /// Makes the steps that show nothing and go on in the story, as many as there may be, by instructions that are kept.
     fn go_ahead(&mut self) -> Result<(), Halt>
         requires free { self.old.waiting ≡ None }
         requires runs { self.old.stopped ≡ None }
@@ -338,7 +334,7 @@ impl Machine {
         ensures limits { self.new.limits ≡ self.old.limits }
     {
         let most = self.limits.steps - self.steps;
-        let stretch = run_ahead(&mut self.workspace, &self.cache, self.place, most);
+        let stretch = run_ahead(&mut self.workspace, &mut self.cache, self.place, most);
         self.place = stretch.place;
         self.steps += stretch.made;
         match stretch.refused {

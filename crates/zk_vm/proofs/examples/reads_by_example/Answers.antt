@@ -2,7 +2,6 @@ use Rattle.std.proofs.Common.{refl}
 use Rattle.std.specs.Str.{is_utf8, chars}
 use Rattle.std.specs.Char.{encode_utf8}
 use Rattle.zk_vm.specs.Outcome.{outcome, segment, segment_of, begun, ran, given}
-use Rattle.zk_vm.specs.Plays.{codes_read}
 use Rattle.zk_term.specs.Characters.{begins_with_characters, character_length, characters_past, characters_of, line_codes}
 use Rattle.zk_mem.specs.Header.{header_of, unit_length}
 use Rattle.zk_mem.specs.Fresh.{with_fields, fresh}

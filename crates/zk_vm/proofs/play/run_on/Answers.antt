@@ -1,4 +1,4 @@
-use Rattle.std.proofs.Common.{rules, ◌≡◌, ◌∙◌, Some, None, true, false, sym, refl, ap}
+use Rattle.std.proofs.Common.{rules, ◌≡◌, ◌∙◌, Some, None, true, false, sym, ap}
 use Rattle.zk_vm.specs.declared.stop.Stop.TheVariants as stop
 use Rattle.zk_vm.specs.Outcome.{Session}
 use Rattle.zk_vm.proofs.RunningOn.{ran_into, ran_on}

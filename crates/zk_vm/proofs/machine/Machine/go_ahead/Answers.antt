@@ -8,7 +8,7 @@ invariant_of-self c =
     let free = rw (← c.self.view_is) at c.requires.free in
     let strides = rw c.in-None.is at c.run_ahead-stretch.ensures.goes in
     let more : c.self.inside.steps + c.run_ahead-stretch.result.made ≤ c.self.inside.limits.steps = omega (arith, c.run_ahead-stretch.ensures.few, c.self.invariant.steps) in
-    sound_ahead c.self.inside _ c.run_ahead-stretch.result.made strides c.self.invariant runs refl free more refl refl refl c.run_ahead-stretch.ensures.bounds
+    sound_ahead c.self.inside _ c.run_ahead-stretch.result.made strides c.self.invariant runs refl free more refl refl c.run_ahead-stretch.ensures.cache c.run_ahead-stretch.ensures.bounds
 
 pub returns-in-None-clause-ahead : goal.returns-in-None-clause-ahead
 returns-in-None-clause-ahead c =

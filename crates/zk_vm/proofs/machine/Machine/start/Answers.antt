@@ -1,7 +1,6 @@
 use Rattle.std.proofs.Common.{◌∙◌, ap, arith}
 use Rattle.zk_mem.specs.Map.{MemoryMap}
 use Rattle.zk_save.specs.States.{UndoStates}
-use Rattle.zk_step.specs.Laws.{fixed_parts}
 use Rattle.zk_vm.proofs.Sounds.{first_bounds, first_undo}
 use Rattle.zk_vm.proofs.machine.Machine.start.Goals as goal
 

@@ -3,21 +3,13 @@ use Rattle.zk_code.proofs.Longer.{ends_inside}
 use Rattle.zk_vm.proofs.Advancing.{stepped_fault}
 use Rattle.zk_vm.proofs.machine.Machine.step.Goals as goal
 
-pub keep-requires-clause-behind : goal.keep-requires-clause-behind
-keep-requires-clause-behind g c =
-    let ends = ends_inside c.self.inside.workspace.memory c.self.inside.place c.in-Ok.i c.in-Ok.i.next c.in-Ok.ensures.found in
-    rw c.copy.ensures ends.0
-
 pub advance-requires-in-Ok-clause-inside : goal.advance-requires-in-Ok-clause-inside
 advance-requires-in-Ok-clause-inside g c =
     let ends = ends_inside c.self.inside.workspace.memory c.self.inside.place c.in-Ok.i c.in-Ok.i.next c.in-Ok.ensures.found in
-    ends.0
+    rw (← c.self.view_is) ends.0
 
 pub returns-in-Err-clause-step : goal.returns-in-Err-clause-step
 returns-in-Err-clause-step g c =
     let free = rw (← c.self.view_is) at c.requires.free in
     let fault = sym c.in-Err.ensures.value in
     rw (← c.self.view_is) (stepped_fault g.S.Screen.shows _ c.self.inside _ c.in-Err.fault _ fault c.halt.ensures.value free (g.met.S.Screen.nothing _))
-
-pub returns-in-Ok-clause-step : goal.returns-in-Ok-clause-step
-returns-in-Ok-clause-step g c = rw (← c.self.view_is) c.advance-in-Ok.ensures.step

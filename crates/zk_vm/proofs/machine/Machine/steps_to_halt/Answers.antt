@@ -1,4 +1,4 @@
-use Rattle.std.proofs.Common.{◌≡◌, ◌∙◌, ◌≤◌, ◌<◌, ap, sym, arith}
+use Rattle.std.proofs.Common.{◌∙◌, ◌≤◌, ◌<◌, ap, arith}
 use Rattle.zk_vm.specs.Outcome.{Session}
 use Rattle.zk_vm.proofs.Following.{follows_ahead, follows_end, follows_limit, follows_step, follows_stop}
 use Rattle.zk_vm.proofs.machine.Machine.steps_to_halt.Goals as goal
