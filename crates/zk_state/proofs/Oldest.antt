@@ -2,7 +2,7 @@
 use Rattle.std.specs.Prelude.{reverse}
 use Rattle.std.proofs.Common.{◌≡◌, ℕ, ◌+◌, ◌≤◌, List, [], ◌∷◌, ◌++◌, length, take, refl, arith}
 use Rattle.std.proofs.lemmas.List.{reverse-append}
-use Rattle.zk_state.specs.declared.frames.FrameRecord.{FrameRecord}
+use Rattle.zk_state.specs.declared.records.FrameRecord.{FrameRecord}
 use Rattle.zk_state.specs.Frames.{Frame, first_frame, oldest_of, sizes_of, BeginsFirst}
 use Rattle.zk_state.specs.Flat.{frame_of, frames_in, list_of, Chain, oldest_record, first_record}
 use Rattle.zk_state.proofs.Calls.{depth_is, total_is}

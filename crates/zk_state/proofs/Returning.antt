@@ -6,7 +6,7 @@ use Rattle.std.proofs.lemmas.Bool.Decides.{nat_tests}
 use Rattle.std.proofs.Math.ListN.{set, length-set}
 use Rattle.zk_mem.specs.declared.fault.Fault.{Fault}
 use Rattle.zk_mem.specs.declared.fault.Fault.TheVariants.{NoSuchLocal, ReturnFromMain}
-use Rattle.zk_state.specs.declared.frames.FrameRecord.{FrameRecord}
+use Rattle.zk_state.specs.declared.records.FrameRecord.{FrameRecord}
 use Rattle.zk_state.specs.declared.refusal.Limit.TheVariants.{Words}
 use Rattle.zk_state.specs.declared.refusal.Refusal.TheVariants.{Limit}
 use Rattle.zk_state.specs.declared.refusal.Refusal.TheVariants as refusal

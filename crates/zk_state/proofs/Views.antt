@@ -3,7 +3,7 @@ use Rattle.std.specs.Prelude.{reverse, slice_get, if◌then◌else◌}
 use Rattle.std.proofs.Common.{◌≡◌, ◌∙◌, ℕ, Bool, true, false, nat_eq, zero, suc, ◌+◌, ◌-◌, ◌<◌, ◌≤◌, List, [], ◌∷◌, ◌++◌, length, take, drop, get_or, Some, refl, ap, sym, arith, length-append}
 use Rattle.std.proofs.lemmas.List.{drop-take, length-reverse, length-take-le, take_all, take-take, get_or-reverse, reverse-append}
 use Rattle.std.proofs.lemmas.Option.{slice_get-get_or}
-use Rattle.zk_state.specs.declared.frames.FrameRecord.{FrameRecord}
+use Rattle.zk_state.specs.declared.records.FrameRecord.{FrameRecord}
 use Rattle.zk_state.specs.Frames.{Frame, FrameList, frames_of, IsFrame}
 use Rattle.zk_state.specs.declared.frames.Frames.TheInside.{Inside}
 use Rattle.zk_state.specs.Flat.{frame_of, frames_in, seen, Chain, IsRecord, IsKept}

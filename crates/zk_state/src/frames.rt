@@ -4,6 +4,7 @@ ghost use Rattle.std.specs.Prelude.{ℕ, ◌≡◌, ◌+◌, ◌<◌, ◌≤◌,
 ghost use Rattle.zk_state.specs.Flat.{frame_of};
 ghost use Rattle.zk_state.specs.Frames.{frames_of, first_frames, with_frames, sizes_of, BeginsFirst, IsFrame, total_of, pushed, popped, top_of, with_top, local_of, with_local, called, filled, left, unwound, IsBounded, GivesBack, RefusesBack};
 
+use crate::records::{FrameRecord, Records};
 use crate::refusal::{Limit, Refusal};
 use std::alloc::{AllocError, Global};
 use std::marker::Model;
@@ -14,17 +15,6 @@ use zk_mem::fault::Fault;
 pub struct Return {
     pub place: u32,
     pub result: Option<u8>,
-}
-
-/// A frame: its local variables are the words from `base` to `floor`, and its evaluation stack is all that
-/// lies between them and the next frame.
-#[derive(Clone, Copy, Debug, PartialEq, Eq, Drop)]
-struct FrameRecord {
-    base: usize,
-    floor: usize,
-    place: u32,
-    result: Option<u8>,
-    supplied: u8,
 }
 
 /// The record of the first frame (Standard, section 5.5).
@@ -42,7 +32,7 @@ const FIRST: FrameRecord = FrameRecord {
 #[derive(Drop)]
 pub struct Frames {
     current: FrameRecord,
-    callers: Vec<FrameRecord>,
+    callers: Records,
     words: Vec<u16>,
     top: usize,
     most_frames: usize,
@@ -167,7 +157,7 @@ impl Frames {
         requires { 1 ≤ most_frames }
         ensures { IfOk result (λ s. s ≡ first_frames most_frames most_words) }
     {
-        let callers = Vec::with_capacity(alloc, most_frames as usize)?;
+        let callers = Records::new(alloc, most_frames as usize)?;
         let words = vec![in alloc; 0; most_words as usize]?;
         Ok(Frames {
             current: FIRST,
@@ -253,10 +243,7 @@ impl Frames {
         requires words { sizes_of copy.now ≤ self.old.most_words }
         ensures { self.new ≡ with_frames self.old copy.now }
     {
-        self.callers.clear();
-        self.callers
-            .extend_from_slice(copy.callers.as_slice())
-            .unwrap();
+        self.callers.put(copy.callers.as_slice());
         copy_words(&mut self.words, 0, copy.words.as_slice());
         self.top = copy.words.len();
         self.current = copy.current;
@@ -462,7 +449,7 @@ impl Frames {
             return Err(Refusal::Limit(Limit::Words));
         }
         fill_words(&mut self.words, self.top, count as usize, arguments);
-        self.callers.push(self.current).unwrap();
+        self.callers.push(self.current);
         self.current = FrameRecord {
             base: self.top,
             floor,
@@ -509,7 +496,7 @@ impl Frames {
         if depth == 0 {
             return Err(Refusal::Fault(Fault::ReturnFromMain));
         }
-        let caller = self.callers[depth - 1];
+        let caller = self.callers.at(depth - 1);
         let Some(variable) = self.current.result else {
             return Ok(None);
         };

@@ -3,6 +3,7 @@
 
 pub mod examples;
 pub mod frames;
+mod records;
 pub mod refusal;
 #[cfg(test)]
 mod tests;

@@ -1,15 +1,15 @@
-use Rattle.std.proofs.Common.{◌≡◌, ◌∙◌, length, arith, ap, rules}
+use Rattle.std.proofs.Common.{◌≡◌, ◌∙◌, length, arith, ap}
 use Rattle.std.proofs.lemmas.List.Elements.{All-same}
 use Rattle.zk_state.specs.Flat.{IsRecord}
+use Rattle.zk_state.specs.Records.{RecordList}
 use Rattle.zk_state.proofs.Oldest.{copy_length, copy_size}
 use Rattle.zk_state.proofs.frames.Frames.put_back.Goals as goal
 
-pub unwrap-requires : goal.unwrap-requires
-unwrap-requires c =
-    let s = c.self.inside in
+pub put-requires : goal.put-requires
+put-requires c =
     let k = c.copy.inside in
     let few = rw (← c.self.view_is, ← c.copy.view_is) at c.requires.frames in
-    c.extend_from_slice.ensures.succeeds (omega (arith, few, copy_length k.current k.callers.items k.words.items, c.clear.ensures.len, c.clear.ensures.capacity, c.as_slice.ensures.len, k.callers.ok.0, c.self.invariant.frame_room))
+    omega (arith, few, copy_length k.current k.callers.items k.words.items, ap length c.as_slice.ensures.value, c.self.invariant.frame_room)
 
 pub copy_words-requires : goal.copy_words-requires
 copy_words-requires c =
@@ -27,7 +27,7 @@ invariant_of-self c =
     let j = c.copy.invariant in
     let few = rw (← c.self.view_is, ← c.copy.view_is) at c.requires.frames in
     let short = rw (← c.self.view_is, ← c.copy.view_is) at c.requires.words in
-    let callers : c.extend_from_slice.new.self.items ≡ k.callers.items = search rules in
+    let callers : c.put.new.self.items ≡ k.callers.items = ap (λ (r : RecordList). r.items) c.put.ensures ∙ c.as_slice.ensures.value in
     let words : c.len-self-inside.result ≡ length k.words.items = c.len-self-inside.ensures ∙ k.words.ok.0 in
     record {
       base = j.base;
@@ -36,9 +36,9 @@ invariant_of-self c =
       top = omega (arith, short, copy_size k.current k.callers.items k.words.items j.base j.floor j.below, words);
       size = c.copy_words.ensures.len ∙ i.size;
       frames = omega (arith, few, copy_length k.current k.callers.items k.words.items, ap length callers);
-      frame_room = omega (arith, c.extend_from_slice.ensures.capacity, c.clear.ensures.capacity, i.frame_room);
+      frame_room = ap (λ (r : RecordList). r.most) c.put.ensures ∙ i.frame_room;
       current = j.current;
-      callers = All-same IsRecord c.extend_from_slice.new.self.items k.callers.items callers j.callers;
+      callers = All-same IsRecord c.put.new.self.items k.callers.items callers j.callers;
       first = rw callers j.first;
       few_frames = i.few_frames;
       few_words = i.few_words;
