@@ -5,6 +5,7 @@ pub mod Rows
 pub mod Units
 pub mod Puts
 pub mod Copies
+pub mod Moves
 pub mod Passes
 pub mod ScanLaw
 pub mod CopyLaw

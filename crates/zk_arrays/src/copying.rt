@@ -1,6 +1,7 @@
 // Tables are copied and cleared.
 
-ghost use Rattle.std.specs.Prelude.{◌≡◌, ◌≤◌, ◌<◌, ◌+◌, ◌%◌, ◌-◌, ℕ, List, Ok, Err, IsOk, OnOk, IfErr, MatchResult, length};
+ghost use Rattle.std.specs.Prelude.{◌≡◌, ◌≤◌, ◌<◌, ◌+◌, ◌%◌, ◌-◌, ◌⊎◌, ℕ, List, Ok, Err, IsOk, OnOk, IfErr, MatchResult, length, min, true};
+ghost use Rattle.zk_mem.specs.Map.{readable_end};
 ghost use Rattle.zk_arrays.specs.Runs.{places, bytes_stored};
 ghost use Rattle.zk_arrays.specs.Copying.{byte_copied, copied_at_once, copied_forwards, cleared, magnitude, table_copied};
 
@@ -38,6 +39,18 @@ fn copy_byte(memory: &mut Memory, first: u16, second: u16, index: u16) -> Result
     memory.set_byte(place(second, index), byte)
 }
 
+/// Whether so many bytes of the first table can be read and of the second be stored, and no sum of 16 bits wraps.
+fn lie_inside(memory: &Memory, first: u16, second: u16, size: u16) -> bool
+    ensures readable { result ≡ true → first + size ≤ readable_end memory.now }
+    ensures writable { result ≡ true → second + size ≤ min memory.now.static_base (readable_end memory.now) }
+{
+    memory.is_of_file();
+    let end = memory.data_end();
+    let writable = (memory.header().static_base as u32).min(end);
+    let size = size as u32;
+    first as u32 + size <= end && second as u32 + size <= writable
+}
+
 /// Copies a table from its first byte to its last.
 #[tactic(auto, using(crate::proofs::Passes::forwards_on, crate::proofs::Passes::forwards_end))]
 fn copy_forwards(memory: &mut Memory, first: u16, second: u16, size: u16) -> Result<(), Fault>
@@ -47,6 +60,27 @@ fn copy_forwards(memory: &mut Memory, first: u16, second: u16, size: u16) -> Res
         copy_byte(memory, first, second, i)?;
     }
     Ok(())
+}
+
+/// Whether each byte of the first table is read before another is stored over it, where it is copied forwards.
+fn reads_before_stores(first: u16, second: u16, size: u16) -> bool
+    ensures { result ≡ true → (second ≤ first) ⊎ (first + size ≤ second) }
+{
+    if second <= first {
+        return true;
+    }
+    first as u32 + size as u32 <= second as u32
+}
+
+/// Copies a table as from its first byte to its last: at once, where no byte is stored over before it is read.
+fn copy_in_order(memory: &mut Memory, first: u16, second: u16, size: u16) -> Result<(), Fault>
+    ensures { MatchResult result (λ _. copied_forwards memory.old (places first size) (places second size) ≡ Ok memory.new) (λ e. copied_forwards memory.old (places first size) (places second size) ≡ Err e) }
+{
+    if reads_before_stores(first, second, size) && lie_inside(memory, first, second, size) {
+        memory.move_bytes(first as u32, second as u32, size as u32);
+        return Ok(());
+    }
+    copy_forwards(memory, first, second, size)
 }
 
 /// Copies a table that can be copied, from its last byte to its first, where that stores over no byte before it is
@@ -62,12 +96,16 @@ fn copy_backwards(memory: &mut Memory, first: u16, second: u16, size: u16)
     }
 }
 
-/// Copies a table as if at once: all bytes are tested first, and then they are copied in the direction that stores over
-/// no byte before it is read.
+/// Copies a table as if at once: all bytes are tested first. Those of tables that lie inside are moved, and others are
+/// copied in the direction that stores over no byte before it is read.
 fn copy_at_once(memory: &mut Memory, first: u16, second: u16, size: u16) -> Result<(), Fault>
     requires { size < 32768 }
     ensures { MatchResult result (λ _. copied_at_once memory.old (places first size) (places second size) ≡ Ok memory.new) (λ e. copied_at_once memory.old (places first size) (places second size) ≡ Err e) }
 {
+    if lie_inside(memory, first, second, size) {
+        memory.move_bytes(first as u32, second as u32, size as u32);
+        return Ok(());
+    }
     check_bytes(memory, first, size)?;
     check_stores(memory, second, size)?;
     if second.wrapping_sub(first) < size {
@@ -115,6 +153,6 @@ pub fn copy_table(memory: &mut Memory, first: u16, second: u16, size: u16) -> Re
     } else if size < 32768 {
         copy_at_once(memory, first, second, size)
     } else {
-        copy_forwards(memory, first, second, without_sign(size))
+        copy_in_order(memory, first, second, without_sign(size))
     }
 }

@@ -3,6 +3,7 @@ pub mod Below
 pub mod Bounds
 pub mod Copies
 pub mod Fields
+pub mod Moves
 pub mod Restarts
 pub mod Settling
 pub mod Starts

@@ -8,7 +8,7 @@ use Rattle.zk_mem.specs.Checksum.{file_sum, has_right_sum}
 use Rattle.zk_mem.specs.Faults.{fault_number}
 use Rattle.zk_mem.specs.Fresh.{with_fields, fresh}
 use Rattle.zk_mem.specs.Header.{header_of, unpacked}
-use Rattle.zk_mem.specs.Map.{MemoryMap, readable_end, byte_at, word_at, byte_put, word_put, cell_at, code_word_at}
+use Rattle.zk_mem.specs.Map.{MemoryMap, readable_end, byte_at, word_at, byte_put, word_put, with_copy, cell_at, code_word_at}
 use Rattle.zk_mem.specs.Story.{greatest_length, is_over, refusal, refusal_number}
 use Rattle.zk_mem.specs.Words.{words_in, words_at, text_end_at}
 
@@ -101,6 +101,14 @@ WordsArePut =
     (word_put four 1 0x1234 ≡ Ok (three_dynamic (0x11 ∷ 0x12 ∷ 0x34 ∷ 0x44 ∷ [])))
     × (word_put four 2 0x1234 ≡ Err ReadOnly)
     × (word_put four 3 0x1234 ≡ Err BadAddress)
+
+-- bytes are copied as if at once, also where they overlap
+abbrev pub BytesAreCopied : Type 0
+BytesAreCopied =
+    (with_copy four 0 1 2 ≡ three_dynamic (0x11 ∷ 0x11 ∷ 0x22 ∷ 0x44 ∷ []))
+    × (with_copy four 1 0 3 ≡ three_dynamic (0x22 ∷ 0x33 ∷ 0x44 ∷ 0x44 ∷ []))
+    × (with_copy four 3 2 1 ≡ three_dynamic (0x11 ∷ 0x22 ∷ 0x44 ∷ 0x44 ∷ []))
+    × (with_copy four 4 3 0 ≡ four)
 
 -- of 70,000 bytes, data is read below 65,536 (section 1.1)
 abbrev pub DataEndsAt65536 : Type 0

@@ -1,6 +1,6 @@
 // Worked examples of the definitions, which refuse one that is turned together with its body.
 
-ghost use Rattle.zk_mem.specs.Examples.{FieldsStand, LateFields, PackedByVersion, DataIsRead, CodeIsRead, BytesArePut, WordsArePut, DataEndsAt65536, DataEndsWithTheStory, WordAt65535IsOutside, TextsEndAtTheMark, TextsHaveAnEnd, GreatestLengths, StoriesAreOpened, ReasonsInOrder, RefusalsHaveNumbers, FaultsHaveNumbers, FieldsOfVersion3, FieldsOfVersion3SetABit, FieldsOfVersion4, FieldsOfVersion5, FieldsOfVersion8, MemoryStartsSo, SumsGoToTheStatedLength, SumsAreModulo65536, SumsAreCompared, RestartsSo, BytesArePutBack, SettlesSo, SettlesLaterVersions};
+ghost use Rattle.zk_mem.specs.Examples.{FieldsStand, LateFields, PackedByVersion, DataIsRead, CodeIsRead, BytesArePut, WordsArePut, BytesAreCopied, DataEndsAt65536, DataEndsWithTheStory, WordAt65535IsOutside, TextsEndAtTheMark, TextsHaveAnEnd, GreatestLengths, StoriesAreOpened, ReasonsInOrder, RefusalsHaveNumbers, FaultsHaveNumbers, FieldsOfVersion3, FieldsOfVersion3SetABit, FieldsOfVersion4, FieldsOfVersion5, FieldsOfVersion8, MemoryStartsSo, SumsGoToTheStatedLength, SumsAreModulo65536, SumsAreCompared, RestartsSo, BytesArePutBack, SettlesSo, SettlesLaterVersions};
 
 /// The header, and packed addresses (Standard, sections 1.2.3 and 11.1).
 #[tactic(auto, unfolding(crate::specs::Header::header_of, crate::specs::Header::unit_length))]
@@ -17,6 +17,7 @@ pub fn data_by_example()
     ensures code_is_read { CodeIsRead }
     ensures bytes_are_put { BytesArePut }
     ensures words_are_put { WordsArePut }
+    ensures bytes_are_copied { BytesAreCopied }
     ensures data_ends_at65536 { DataEndsAt65536 }
     ensures data_ends_with_the_story { DataEndsWithTheStory }
     ensures word_at65535_is_outside { WordAt65535IsOutside }

@@ -1,8 +1,8 @@
 // The memory of a story that runs.
 
-ghost use Rattle.std.specs.Prelude.{◌≡◌, ◌≤◌, ◌<◌, ℕ, ◌++◌, Ok, Err, IfOk, IfErr, IfSome, IsOk, OnOk, OnSome, MatchResult, length, take, drop, get_or, slice_index, bit_xor, nat_lt, if◌then◌else◌};
+ghost use Rattle.std.specs.Prelude.{◌≡◌, ◌≤◌, ◌<◌, ℕ, ◌+◌, ◌++◌, Ok, Err, IfOk, IfErr, IfSome, IsOk, OnOk, OnSome, MatchResult, length, take, drop, get_or, slice_index, bit_xor, nat_lt, if◌then◌else◌};
 ghost use Rattle.zk_mem.specs.Header.{header_of};
-ghost use Rattle.zk_mem.specs.Map.{readable_end, with_byte, byte_at, word_at, byte_put, word_put, cell_at, code_word_at, HasBytes, KeepsFile, IsOfFile};
+ghost use Rattle.zk_mem.specs.Map.{readable_end, with_byte, with_copy, byte_at, word_at, byte_put, word_put, cell_at, code_word_at, HasBytes, KeepsFile, IsOfFile};
 ghost use Rattle.zk_mem.specs.Words.{text_end_at};
 ghost use Rattle.zk_mem.specs.Again.{with_flags, with_bytes, settled, restarted};
 ghost use Rattle.zk_mem.specs.Checksum.{file_sum, has_right_sum};
@@ -247,6 +247,17 @@ impl Memory {
         ensures { self.new ≡ with_byte self.old address (bit_xor (slice_index self.old.bytes address) bits) }
     {
         self.bytes[address as usize] ^= bits;
+    }
+
+    /// Copies so many bytes of the story to dynamic memory, as if at once, also where they overlap.
+    pub fn move_bytes(&mut self, from: u32, to: u32, count: u32)
+        requires readable { from + count ≤ length self.old.bytes }
+        requires dynamic { to + count ≤ self.old.static_base }
+        ensures { self.new ≡ with_copy self.old from to count }
+    {
+        let first = from as usize;
+        let end = first + count as usize;
+        self.bytes.copy_within(first..end, to as usize);
     }
 
     /// The low byte of Flags 2, as it stands (Standard, section 11.1).

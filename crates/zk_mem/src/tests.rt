@@ -98,6 +98,41 @@ fn dynamic_memory_alone_is_written(rt: HostRuntime) -> Result<(), Fail> {
     Ok(())
 }
 
+/// Moves bytes where they lie inside, and tells whether they do.
+fn moved(memory: &mut Memory, from: u16, to: u16, count: u16) -> bool {
+    let (from, to, count) = (from as u32, to as u32, count as u32);
+    if from + count > memory.len() || (to + count) as usize > memory.dynamic().len() {
+        return false;
+    }
+    memory.move_bytes(from, to, count);
+    true
+}
+
+// Bytes 0x40 to 0x47 have their own values, and the static base is 0x48.
+#[test]
+fn bytes_are_moved_as_if_at_once(rt: HostRuntime) -> Result<(), Fail> {
+    let rows: [(u16, u16, u16, [u8; 8]); 6] = [
+        (0x40, 0x42, 3, [1, 2, 1, 2, 3, 6, 7, 8]),
+        (0x42, 0x40, 3, [3, 4, 5, 4, 5, 6, 7, 8]),
+        (0x41, 0x47, 1, [1, 2, 3, 4, 5, 6, 7, 2]),
+        (0x40, 0x41, 7, [1, 1, 2, 3, 4, 5, 6, 7]),
+        (0x41, 0x40, 7, [2, 3, 4, 5, 6, 7, 8, 8]),
+        (0x50, 0x48, 0, [1, 2, 3, 4, 5, 6, 7, 8]),
+    ];
+    for (from, to, count, bytes) in rows {
+        let mut memory = started(&rt, 5, 0x48, 0)?;
+        for i in 0..8u8 {
+            memory.set_byte(0x40 + i as u32, i + 1)?;
+        }
+        assert!(rt; moved(&mut memory, from, to, count));
+        assert!(rt;
+            memory.dynamic().ends_with(&bytes),
+            "{from} to {to}, {count}"
+        );
+    }
+    Ok(())
+}
+
 #[test]
 fn packed_addresses(rt: HostRuntime) {
     for (version, address) in [(3, 0x1fffe), (4, 0x3fffc), (5, 0x3fffc), (8, 0x7fff8)] {

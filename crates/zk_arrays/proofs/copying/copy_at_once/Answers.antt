@@ -1,7 +1,13 @@
-use Rattle.std.proofs.Common.{arith}
+use Rattle.std.proofs.Common.{arith, Ok, sym, ap, ◌∙◌}
 use Rattle.std.proofs.lemmas.Result.{err_from_is_err_and}
+use Rattle.zk_arrays.proofs.Moves.{moved}
 use Rattle.zk_arrays.proofs.Passes.{at_once_refused, at_once_can, at_once_forwards}
 use Rattle.zk_arrays.proofs.copying.copy_at_once.Goals as goal
+
+pub returns-then-lie_inside : goal.returns-then-lie_inside
+returns-then-lie_inside c =
+    let inside = c.if-lie_inside.true in
+    moved c.args.memory.now c.args.first c.args.second c.args.size (c.lie_inside.ensures.readable inside) (c.lie_inside.ensures.writable inside) ∙ ap Ok (sym c.move_bytes.ensures)
 
 pub returns-in_err-check_stores : goal.returns-in_err-check_stores
 returns-in_err-check_stores c =
