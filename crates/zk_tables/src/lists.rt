@@ -9,9 +9,9 @@ use zk_mem::memory::Memory;
 /// A property in a property list (Standard, section 12.4).
 #[derive(Clone, Copy)]
 pub struct Property {
-    pub number: u8,
     /// The byte address of its data.
     pub address: u32,
+    pub number: u8,
     /// The length of its data, in bytes.
     pub length: u8,
 }

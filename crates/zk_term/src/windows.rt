@@ -1,6 +1,6 @@
 // The upper window: a grid of characters with a cursor.
 
-ghost use Rattle.std.specs.Prelude.{◌≡◌, ◌≤◌, ◌<◌, ◌&&◌, ℕ, IfOk, if◌then◌else◌, length, nat_le, nat_lt, slice_index};
+ghost use Rattle.std.specs.Prelude.{◌≡◌, ◌≤◌, ◌<◌, ◌&&◌, ◌*◌, ℕ, IfOk, if◌then◌else◌, length, nat_le, nat_lt, slice_index};
 ghost use Rattle.zk_term.specs.Windows.{first_windows, homed, past, split, window_selected, cleared, unsplit, line_erased, cursor_set, next_row, character_put, character_printed, row_text, without_last_blanks};
 ghost use Rattle.zk_term.specs.Grid.{emptied};
 ghost use Rattle.zk_term.specs.Places.{place_of};
@@ -26,7 +26,7 @@ pub enum Window {
 /// it is made, and none later.
 #[derive(Drop)]
 pub struct Windows {
-    // the rows one after another
+    // the rows one after another, with spaces alone in those that are not shown
     cells: Vec<char>,
     height: u8,
     row: u16,
@@ -66,6 +66,14 @@ fn empty(cells: &mut Vec<char>, from: usize, to: usize)
     for k in from..end {
         cells[k] = ' ';
     }
+}
+
+/// Empties the rows up to a height.
+fn empty_shown(cells: &mut Vec<char>, height: u8)
+    ensures len { length cells.new.items ≡ length cells.old.items }
+    ensures value { (k : ℕ) → k < length cells.old.items → slice_index cells.new.items k ≡ (if nat_le 0 k && nat_lt k (height * 80) then 32 else slice_index cells.old.items k) }
+{
+    empty(cells, 0, height as usize * COLUMNS);
 }
 
 /// The characters of a row without the spaces at its end.
@@ -112,16 +120,18 @@ impl Windows {
         self.column = 1;
     }
 
-    /// Empties the rows past a height, in version 3 all.
-    fn empty_past(&mut self, version: u8, height: u8)
-        ensures { self.new ≡ record self.old { cells = emptied (past version height) self.old.cells } }
+    /// Shows so many rows, and empties those past them, in version 3 all.
+    fn set_height(&mut self, version: u8, height: u8)
+        ensures { self.new ≡ record self.old { cells = emptied (past version height) self.old.cells; height = height } }
     {
         let from = if version == 3 {
             0
         } else {
             height as usize * COLUMNS
         };
-        empty(&mut self.cells, from, ROWS * COLUMNS);
+        // past the rows that were shown there are spaces alone
+        empty(&mut self.cells, from, self.height as usize * COLUMNS);
+        self.height = height;
     }
 
     /// Gives the upper window so many rows, 255 at most (Standard, section 15, split_window). The rows past them
@@ -131,8 +141,7 @@ impl Windows {
         ensures { self.new ≡ split version lines self.old }
     {
         let height = lines.min(255) as u8;
-        self.empty_past(version, height);
-        self.height = height;
+        self.set_height(version, height);
         if self.row > height as u16 {
             self.home();
         }
@@ -154,7 +163,7 @@ impl Windows {
     pub fn clear(&mut self)
         ensures { self.new ≡ cleared self.old }
     {
-        empty(&mut self.cells, 0, ROWS * COLUMNS);
+        empty_shown(&mut self.cells, self.height);
         self.home();
     }
 
@@ -163,9 +172,10 @@ impl Windows {
     pub fn unsplit(&mut self)
         ensures { self.new ≡ unsplit self.old }
     {
-        self.clear();
+        empty_shown(&mut self.cells, self.height);
         self.height = 0;
         self.selected = Window::Lower;
+        self.home();
     }
 
     /// Empties the cursor's row from the cursor on (Standard, section 15, erase_line). Where the cursor stands
