@@ -4,6 +4,7 @@ pub mod Steps
 pub mod Texts
 pub mod Tails
 pub mod Heads
+pub mod Blocks
 pub mod Whole
 pub mod Longer
 pub mod Room

@@ -2,6 +2,7 @@ pub mod Table
 pub mod Operands
 pub mod Targets
 pub mod Reading
+pub mod Ends
 pub mod Grammar
 pub mod Laws
 pub mod Routines

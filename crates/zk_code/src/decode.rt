@@ -4,10 +4,12 @@ ghost use Rattle.std.specs.Prelude.{ℕ, Ok, Err, IfErr, ◌≡◌, ◌≤◌, �
 ghost use Rattle.zk_mem.specs.declared.fault.Fault.{Fault};
 ghost use Rattle.zk_code.specs.declared.instr.Instr.{Instr};
 ghost use Rattle.zk_code.specs.Grammar.{IsInstruction, IsRefusal};
+ghost use Rattle.zk_code.specs.Ends.{AreEnds};
 ghost use Rattle.zk_code.specs.Reading.{operand_at, operands_at, store_at, branch_by, branch_here, branch_at, text_at, instr_at};
 
 use crate::branch::{Branch, target_of_branch};
 use crate::bytes::{read_byte, read_word};
+use crate::ends::{BlockEnds, TextEnds, text_end};
 use crate::head::read_head;
 use crate::instr::Instr;
 use crate::operands::{Operand, OperandType, Operands};
@@ -128,15 +130,21 @@ fn read_branch(
 }
 
 #[tactic(auto, unfolding(crate::specs::Reading::text_at))]
-fn read_text(memory: &Memory, follows: Follows, address: u32) -> Result<(Option<u32>, u32), Fault>
-    requires { address ≤ 2 ^ 20 }
+fn read_text(
+    memory: &Memory,
+    blocks: &[Option<BlockEnds>],
+    follows: Follows,
+    address: u32,
+) -> Result<(Option<u32>, u32), Fault>
+    requires near { address ≤ 2 ^ 20 }
+    requires known { AreEnds memory.now blocks.now }
     ensures value { result ≡ text_at memory.now follows address }
     ensures near { IfOk result (λ x. x.1 ≤ 2 ^ 20) }
 {
     if follows.has_text() {
         // the end lies inside the story
         memory.len();
-        let end = memory.text_end(address).ok_or(Fault::CodePastEnd)?;
+        let end = text_end(memory, blocks, address).ok_or(Fault::CodePastEnd)?;
         Ok((Some(address), end))
     } else {
         Ok((None, address))
@@ -144,7 +152,8 @@ fn read_text(memory: &Memory, follows: Follows, address: u32) -> Result<(Option<
 }
 
 #[tactic(auto, unfolding(crate::specs::Reading::instr_at))]
-fn read_instr(memory: &Memory, address: u32) -> Result<Instr, Fault>
+fn read_instr(memory: &Memory, blocks: &[Option<BlockEnds>], address: u32) -> Result<Instr, Fault>
+    requires { AreEnds memory.now blocks.now }
     ensures value { result ≡ instr_at memory.now address }
     ensures near { IfOk result (λ i. i.next ≤ 2 ^ 20) }
 {
@@ -153,7 +162,7 @@ fn read_instr(memory: &Memory, address: u32) -> Result<Instr, Fault>
     let (operands, at) = read_operands(memory, &head.types, head.next)?;
     let (store, at) = read_store(memory, follows, at)?;
     let (branch, at) = read_branch(memory, follows, at)?;
-    let (text, next) = read_text(memory, follows, at)?;
+    let (text, next) = read_text(memory, blocks, follows, at)?;
     if operands.len() < head.entry.least as usize {
         return Err(Fault::MissingOperand);
     }
@@ -187,5 +196,19 @@ pub fn decode(memory: &Memory, address: u32) -> Result<Instr, Fault>
     ensures near { IfOk result (λ i. i.next ≤ 2 ^ 20) }
 {
     memory.has_bytes();
-    read_instr(memory, address)
+    read_instr(memory, &[], address)
+}
+
+/// The instruction at an address, as `decode` has it, by what is known of where texts end: so a text is not read to its end
+/// for each instruction that it belongs to.
+#[tactic(auto, using(crate::proofs::Whole::is_found, crate::proofs::Whole::is_only, crate::proofs::Cut::is_refused))]
+pub fn decode_by(memory: &Memory, ends: &TextEnds, address: u32) -> Result<Instr, Fault>
+    requires { AreEnds memory.now ends.now.blocks.items }
+    ensures found { IfOk result (λ i. IsInstruction memory.now address i i.next) }
+    ensures only { (i : Instr) (b : ℕ) → IsInstruction memory.now address i b → (result ≡ Ok i) × (i.next ≡ b) }
+    ensures value { result ≡ instr_at memory.now address }
+    ensures near { IfOk result (λ i. i.next ≤ 2 ^ 20) }
+{
+    memory.has_bytes();
+    read_instr(memory, ends.blocks.as_slice(), address)
 }

@@ -4,6 +4,7 @@
 pub mod branch;
 mod bytes;
 pub mod decode;
+pub mod ends;
 pub mod examples;
 mod head;
 pub mod instr;

@@ -1,8 +1,6 @@
 -- Property lists, from the last one on.
 use Rattle.std.proofs.Common.{◌≡◌, ◌∙◌, ℕ, ◌+◌, ◌<◌, ◌≤◌, inl, inr, ⊎_elim, Bool, true, false, List, [], ◌∷◌, length, get_or, Option, Some, None, Result, Ok, Err, refl, sym, ap, subst, arith}
-use Rattle.std.specs.Prelude.{◌↔◌, not, slice_set}
-use Rattle.std.proofs.lemmas.Bool.{cases_eq}
-use Rattle.std.proofs.lemmas.List.{length-set}
+use Rattle.std.specs.Prelude.{◌↔◌, not}
 use Rattle.zk_mem.specs.declared.fault.Fault.{Fault}
 use Rattle.zk_mem.specs.Map.{MemoryMap, HasBytes, byte_at, readable_end}
 use Rattle.zk_tables.specs.declared.lists.Property.{Property}
@@ -10,9 +8,8 @@ use Rattle.zk_tables.specs.Properties.{list_of, properties_of}
 use Rattle.zk_tables.specs.PropertyList.{AreProperties, IsPropertyList, properties_at, property_at}
 use Rattle.zk_tables.proofs.ListLaw.{byte_below, end_again, end_takes, lists_are_read, onward_two, property_takes, spelled_again}
 use Rattle.zk_inspect.specs.Lists.{IsMarked}
-use Rattle.zk_inspect.specs.ListMarks.{AreLastMarks, AreListMarks, HasList}
+use Rattle.zk_inspect.specs.ListMarks.{AreListMarks, HasList}
 use Rattle.zk_inspect.specs.ObjectTests.{is_bad_property}
-use Rattle.zk_inspect.proofs.Marking.{marked_cases, marked_now, marked_still}
 
 -- a list that has ended
 pub ended : (m : MemoryMap) (a : ℕ) → property_at m a ≡ Ok None → HasList m a
@@ -63,46 +60,6 @@ begins_on m a p marks marked bytes read known is =
     let k = known (p.address + p.length) (onward m a p bytes read) in
     let g = goes_on m a p bytes read in
     (λ t. g.1 (k.0 (sym is ∙ t)), λ l. is ∙ k.1 (g.0 l))
-
--- ---- marks
-
-pub last_begin : (m : MemoryMap) (marks : List Bool) (end : ℕ) → HasBytes m → end ≡ readable_end m → length marks ≡ 66100 → ((a : ℕ) → IsMarked marks a → ⊥) → AreLastMarks m end 0 marks
-last_begin m marks end bytes e size none = record {
-  size = size;
-  known = λ a le. (λ h. absurd (none a h), λ l. absurd (past_data m a bytes (omega arith) l));
-  free = λ a lt. none a;
-}
-
--- one list more
-pub last_more : (m : MemoryMap) (end behind a : ℕ) (old new : List Bool) → a + behind + 1 ≡ end → end ≤ 65536 → HasList m a → AreLastMarks m end behind old → new ≡ slice_set old a true → AreLastMarks m end (behind + 1) new
-last_more m end behind a old new at near now h is =
-    let size = h.size in
-    let inside : a < length old = omega arith in
-    record {
-      size = ap length is ∙ length-set old a true ∙ h.size;
-      known = λ b le. elim (cases_eq b a) [
-        | inl s ↦ (λ k. subst (HasList m) (sym s) now, λ l. subst (λ (bs : List Bool). IsMarked bs b) (sym is) (subst (λ (x : ℕ). IsMarked (slice_set old a true) x) (sym s) (marked_now old a inside)))
-        | inr ne ↦ (
-          λ k. elim (marked_cases old a b (subst (λ (bs : List Bool). IsMarked bs b) is k)) [ inl s ↦ absurd (ne s) | inr o ↦ (h.known b (omega arith)).0 o ],
-          λ l. subst (λ (bs : List Bool). IsMarked bs b) (sym is) (marked_still old a b inside ((h.known b (omega arith)).1 l)),
-        )
-      ];
-      free = λ b lt k. elim (marked_cases old a b (subst (λ (bs : List Bool). IsMarked bs b) is k)) [ inl s ↦ omega arith | inr o ↦ h.free b (omega arith) o ];
-    }
-
--- no list begins there
-pub last_none : (m : MemoryMap) (end behind a : ℕ) (marks : List Bool) → a + behind + 1 ≡ end → (HasList m a → ⊥) → AreLastMarks m end behind marks → AreLastMarks m end (behind + 1) marks
-last_none m end behind a marks at none h = record {
-  size = h.size;
-  known = λ b le. elim (cases_eq b a) [
-    | inl s ↦ (λ k. absurd (h.free b (omega arith) k), λ l. absurd (none (subst (HasList m) s l)))
-    | inr ne ↦ h.known b (omega arith)
-  ];
-  free = λ b lt k. h.free b (omega arith) k;
-}
-
-pub last_end : (m : MemoryMap) (end behind : ℕ) (marks : List Bool) → end ≤ behind → AreLastMarks m end behind marks → AreListMarks m marks
-last_end m end behind marks le h = record { exact = λ a. h.known a (omega arith) }
 
 -- ---- the list of an object
 

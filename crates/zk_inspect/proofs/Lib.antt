@@ -10,6 +10,7 @@ pub mod Entries
 pub mod Answered
 pub mod TextMarks
 pub mod FarSiblings
+pub mod LastMarks
 pub mod LastLists
 pub mod Falling
 pub mod TableMarks

@@ -1,5 +1,5 @@
 -- Marks on property lists.
-use Rattle.std.specs.Prelude.{◌≡◌, ◌↔◌, ℕ, ◌+◌, ◌<◌, ◌≤◌, Bool, List, length}
+use Rattle.std.specs.Prelude.{◌↔◌, ℕ, Bool, List}
 use Rattle.zk_mem.specs.Map.{MemoryMap}
 use Rattle.zk_tables.specs.declared.lists.Property.{Property}
 use Rattle.zk_tables.specs.PropertyList.{IsPropertyList}
@@ -12,9 +12,3 @@ HasList m a = (ps : List Property) × IsPropertyList m a ps
 -- marks on all of them
 pub record AreListMarks (m : MemoryMap) (marks : List Bool) : Type 0 where
   pub exact : (a : ℕ) → IsMarked marks a ↔ HasList m a
-
--- marks on those that begin at one of the last so many addresses below an end
-pub record AreLastMarks (m : MemoryMap) (end behind : ℕ) (marks : List Bool) : Type 0 where
-  pub size : length marks ≡ 66100
-  pub known : (a : ℕ) → end ≤ a + behind → IsMarked marks a ↔ HasList m a
-  pub free : (a : ℕ) → a + behind < end → IsMarked marks a → ⊥

@@ -1,5 +1,5 @@
 -- Lists of addresses, and marks on them.
-use Rattle.std.specs.Prelude.{◌≡◌, ℕ, Bool, true, false, List, get_or}
+use Rattle.std.specs.Prelude.{◌≡◌, ◌↔◌, ℕ, ◌+◌, ◌<◌, ◌≤◌, Bool, true, false, List, length, get_or}
 use Rattle.std.specs.List.{Contains}
 use Rattle.std.specs.List.Sorted.{IsStrictlyIncreasing}
 
@@ -12,3 +12,9 @@ pub record IsListOf (P : ℕ → Type 0) (xs : List ℕ) : Type 0 where
 -- a number is marked
 abbrev pub IsMarked : List Bool → ℕ → Type 0
 IsMarked marks a = get_or marks a false ≡ true
+
+-- marks on the numbers that something holds of, of the last so many below an end and of those behind it
+pub record AreLastMarks (P : ℕ → Type 0) (size end behind : ℕ) (marks : List Bool) : Type 0 where
+  pub size_is : length marks ≡ size
+  pub known : (a : ℕ) → end ≤ a + behind → IsMarked marks a ↔ P a
+  pub free : (a : ℕ) → a + behind < end → IsMarked marks a → ⊥

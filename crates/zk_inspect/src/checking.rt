@@ -2,6 +2,7 @@
 
 ghost use Rattle.std.specs.Prelude.{◌≡◌, ◌≤◌, ◌++◌, ◌^◌, IfOk, OnOk, map};
 ghost use Rattle.std.specs.List.{filter};
+ghost use Rattle.zk_code.specs.Ends.{AreEnds};
 ghost use Rattle.zk_inspect.specs.Codes.{IsCodeOf};
 ghost use Rattle.zk_inspect.specs.Findings.{AreFindings, Finds, at_address};
 ghost use Rattle.zk_inspect.specs.Lists.{IsListOf};
@@ -18,7 +19,8 @@ use crate::text_faults::{find_nested, find_past_end};
 use crate::texts::{TextMarks, mark_all_texts};
 use std::alloc::{AllocError, Global};
 use zk_code::branch::{Branch, Target};
-use zk_code::decode::decode;
+use zk_code::decode::decode_by;
+use zk_code::ends::TextEnds;
 use zk_code::instr::Instr;
 use zk_code::routines::local_count;
 use zk_mem::header::unpack;
@@ -42,10 +44,11 @@ fn find_length_past_end(alloc: Global, memory: &Memory) -> Result<Addresses, All
 }
 
 /// Whether there is no instruction at an address.
-fn is_undecodable(memory: &Memory, address: u32) -> bool
+fn is_undecodable(memory: &Memory, ends: &TextEnds, address: u32) -> bool
+    requires { AreEnds memory.now ends.now.blocks.items }
     ensures { result ≡ is_undecodable memory.now address }
 {
-    decode(memory, address).is_err()
+    decode_by(memory, ends, address).is_err()
 }
 
 /// Whether a target lies outside the story.
@@ -96,10 +99,11 @@ fn instr_leads_out(memory: &Memory, instr: &Instr) -> bool
 }
 
 /// Whether the instruction at an address leads out of the story.
-fn leads_out(memory: &Memory, address: u32) -> bool
+fn leads_out(memory: &Memory, ends: &TextEnds, address: u32) -> bool
+    requires { AreEnds memory.now ends.now.blocks.items }
     ensures { result ≡ leads_out memory.now address }
 {
-    match decode(memory, address) {
+    match decode_by(memory, ends, address) {
         Ok(instr) => instr_leads_out(memory, &instr),
         Err(_) => false,
     }
@@ -115,12 +119,13 @@ enum CodeQuestion {
 }
 
 /// The answer to a question.
-fn code_answer(memory: &Memory, question: CodeQuestion, address: u32) -> bool
+fn code_answer(memory: &Memory, ends: &TextEnds, question: CodeQuestion, address: u32) -> bool
+    requires { AreEnds memory.now ends.now.blocks.items }
     ensures { result ≡ code_answer memory.now question address }
 {
     match question {
-        CodeQuestion::Undecodable => is_undecodable(memory, address),
-        CodeQuestion::LeadsOut => leads_out(memory, address),
+        CodeQuestion::Undecodable => is_undecodable(memory, ends, address),
+        CodeQuestion::LeadsOut => leads_out(memory, ends, address),
     }
 }
 
@@ -128,14 +133,16 @@ fn code_answer(memory: &Memory, question: CodeQuestion, address: u32) -> bool
 fn list_code(
     alloc: Global,
     memory: &Memory,
+    ends: &TextEnds,
     question: CodeQuestion,
     addresses: &[u32],
 ) -> Result<Addresses, AllocError>
+    requires { AreEnds memory.now ends.now.blocks.items }
     ensures { IfOk result (λ list. list ≡ filter (code_answer memory.now question) addresses.now) }
 {
     let mut list = Addresses::new(alloc);
     for address in addresses {
-        if code_answer(memory, question, *address) {
+        if code_answer(memory, ends, question, *address) {
             list.push(*address)?;
         }
     }
@@ -143,24 +150,36 @@ fn list_code(
 }
 
 /// The reached addresses that have no instruction.
-fn find_undecodable(alloc: Global, memory: &Memory, code: &Code) -> Result<Addresses, AllocError>
-    requires { IsCodeOf memory.now code.now }
+fn find_undecodable(
+    alloc: Global,
+    memory: &Memory,
+    ends: &TextEnds,
+    code: &Code,
+) -> Result<Addresses, AllocError>
+    requires ends { AreEnds memory.now ends.now.blocks.items }
+    requires code { IsCodeOf memory.now code.now }
     ensures { IfOk result (IsListOf (Finds memory.now Number.UndecodableCode)) }
 {
     memory.has_bytes();
     let question = CodeQuestion::Undecodable;
-    let list = list_code(alloc, memory, question, code.addresses.as_slice())?;
+    let list = list_code(alloc, memory, ends, question, code.addresses.as_slice())?;
     Ok(list)
 }
 
 /// The addresses of reached instructions that lead out of the story.
-fn find_leading_out(alloc: Global, memory: &Memory, code: &Code) -> Result<Addresses, AllocError>
-    requires { IsCodeOf memory.now code.now }
+fn find_leading_out(
+    alloc: Global,
+    memory: &Memory,
+    ends: &TextEnds,
+    code: &Code,
+) -> Result<Addresses, AllocError>
+    requires ends { AreEnds memory.now ends.now.blocks.items }
+    requires code { IsCodeOf memory.now code.now }
     ensures { IfOk result (IsListOf (Finds memory.now Number.TargetOutOfTheStory)) }
 {
     memory.has_bytes();
     let question = CodeQuestion::LeadsOut;
-    let list = list_code(alloc, memory, question, code.addresses.as_slice())?;
+    let list = list_code(alloc, memory, ends, question, code.addresses.as_slice())?;
     Ok(list)
 }
 
@@ -207,19 +226,22 @@ fn find_without_list(
 /// What a story has that may be wrong.
 #[derive(Drop)]
 struct Parts {
+    ends: TextEnds,
     code: Code,
     objects: Objects,
     texts: TextMarks,
 }
 
-/// The code, the objects and the texts of a story.
+/// The ends of texts, the code, the objects and the texts of a story.
 fn find_parts(alloc: Global, memory: &Memory) -> Result<Parts, AllocError>
     ensures { IfOk result (λ parts. AreParts memory.now parts) }
 {
+    let ends = TextEnds::find(alloc, memory)?;
     let code = reach(alloc, memory)?;
     let objects = find_objects(alloc, memory)?;
-    let texts = mark_all_texts(alloc, memory, objects.count, &code)?;
+    let texts = mark_all_texts(alloc, memory, &ends, objects.count, &code)?;
     Ok(Parts {
+        ends,
         code,
         objects,
         texts,
@@ -246,8 +268,8 @@ fn find(
         Number::PropertyList => find_without_list(alloc, memory, &parts.objects),
         Number::TextPastTheEnd => find_past_end(alloc, memory, &parts.texts),
         Number::NestedAbbreviation => find_nested(alloc, memory, &parts.texts),
-        Number::UndecodableCode => find_undecodable(alloc, memory, &parts.code),
-        Number::TargetOutOfTheStory => find_leading_out(alloc, memory, &parts.code),
+        Number::UndecodableCode => find_undecodable(alloc, memory, &parts.ends, &parts.code),
+        Number::TargetOutOfTheStory => find_leading_out(alloc, memory, &parts.ends, &parts.code),
     }
 }
 

@@ -3,6 +3,7 @@
 ghost use Rattle.std.specs.Prelude.{◌≡◌, ◌≤◌, ◌<◌, ◌+◌, ◌^◌, ℕ, true, IfOk, OnOk, Some, Ok, length};
 ghost use Rattle.zk_code.specs.Reach.{IsReached, branch_address, constant_call, goes_on, jump_address};
 ghost use Rattle.zk_code.specs.Routines.{code_start};
+ghost use Rattle.zk_code.specs.Ends.{AreEnds};
 ghost use Rattle.zk_code.specs.Grammar.{IsInstruction};
 ghost use Rattle.zk_mem.specs.Map.{HasBytes};
 ghost use Rattle.zk_inspect.specs.Codes.{IsCodeOf};
@@ -12,7 +13,8 @@ ghost use Rattle.zk_inspect.specs.Search.{Grows, IsExpanded, IsOnItsWay, IsSearc
 use crate::code::{Addresses, Code};
 use crate::marks::Marks;
 use std::alloc::{AllocError, Global};
-use zk_code::decode::decode;
+use zk_code::decode::decode_by;
+use zk_code::ends::TextEnds;
 use zk_code::instr::Instr;
 use zk_code::routines::code_start;
 use zk_code::ways::goes_on;
@@ -187,7 +189,8 @@ impl Search {
     }
 
     /// All ways on from an address are reached, where there is an instruction.
-    fn expand(&mut self, memory: &Memory, address: u32) -> Result<(), AllocError>
+    fn expand(&mut self, memory: &Memory, ends: &TextEnds, address: u32) -> Result<(), AllocError>
+        requires ends { AreEnds memory.now ends.now.blocks.items }
         requires search { IsSearch memory.now self.old }
         requires reached { IsReached memory.now address }
         ensures search { OnOk result (IsSearch memory.now self.new) }
@@ -195,7 +198,7 @@ impl Search {
         ensures expanded { OnOk result (IsExpanded memory.now self.new address) }
     {
         memory.has_bytes();
-        match decode(memory, address) {
+        match decode_by(memory, ends, address) {
             Ok(instr) => self.follow(memory, address, &instr),
             Err(_) => Ok(()),
         }
@@ -210,12 +213,13 @@ fn find_all(alloc: Global, memory: &Memory) -> Result<Search, AllocError>
 {
     let first = memory.header().first_instruction as u32;
     let bound = memory.len().max(first) as usize + 1;
+    let ends = TextEnds::find(alloc, memory)?;
     let mut search = Search::begun(alloc, memory, bound)?;
     search.find(memory, first)?;
     // no address is found twice
     for index in 0..bound {
         match search.found.get(index) {
-            Some(address) => search.expand(memory, address)?,
+            Some(address) => search.expand(memory, &ends, address)?,
             None => return Ok(search),
         }
     }

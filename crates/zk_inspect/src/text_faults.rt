@@ -1,18 +1,21 @@
 // What is wrong with the texts of a story.
 
-ghost use Rattle.std.specs.Prelude.{◌≡◌, ◌<◌, true, IfOk};
+ghost use Rattle.std.specs.Prelude.{◌≡◌, ◌≤◌, ◌<◌, ◌↔◌, ◌^◌, ℕ, true, IfOk, length};
 ghost use Rattle.zk_text.specs.Meaning.{meaning_at, no_abbreviation, text_units};
+ghost use Rattle.zk_text.specs.Sweeps.{IsSweptTo};
 ghost use Rattle.zk_inspect.specs.Findings.{Finds};
-ghost use Rattle.zk_inspect.specs.Lists.{IsListOf};
+ghost use Rattle.zk_inspect.specs.Lists.{IsListOf, IsMarked};
 ghost use Rattle.zk_inspect.specs.TextTests.{AreTextMarks, has_kind, is_of, text_fails};
 
 use crate::code::Addresses;
 use crate::finding::Number;
+use crate::marks::{Marks, unmarked};
 use crate::texts::{TEXTS_END, TextMarks};
 use std::alloc::{AllocError, Global};
 use zk_mem::fault::Fault;
 use zk_mem::memory::Memory;
-use zk_text::text::{check_abbreviation, check_text};
+use zk_text::sweep::Sweep;
+use zk_text::text::check_abbreviation;
 
 /// A kind of fault of a text.
 #[derive(Clone, Copy)]
@@ -32,14 +35,14 @@ fn is_of(kind: TextFault, fault: Fault) -> bool
     }
 }
 
-/// Whether the text at an address has a fault of a kind.
-#[tactic(auto, using(crate::proofs::Quotes::checked_fault))]
-fn text_has(memory: &Memory, kind: TextFault, address: u32) -> bool
+/// Whether the text at the address that a sweep has come to has a fault of a kind.
+fn text_has(memory: &Memory, sweep: &Sweep, kind: TextFault, address: u32) -> bool
+    requires { IsSweptTo memory.now address sweep.now }
     ensures { result ≡ has_kind kind (text_units memory.now address) }
 {
-    match check_text(memory, address) {
-        Ok(_) => false,
-        Err(fault) => is_of(kind, fault),
+    match sweep.fault(memory, address) {
+        Some(fault) => is_of(kind, fault),
+        None => false,
     }
 }
 
@@ -53,16 +56,48 @@ fn abbreviation_has(memory: &Memory, kind: TextFault, address: u32) -> bool
     }
 }
 
-/// Whether a text that is marked at an address has a fault of a kind, or a word of the table of abbreviations there can't be
-/// read, for which abbreviations have no end.
-fn text_fails(memory: &Memory, marks: &TextMarks, kind: TextFault, address: u32) -> bool
+/// Whether a text that is marked at the address that a sweep has come to has a fault of a kind, or a word of the table of
+/// abbreviations there can't be read, for which abbreviations have no end.
+fn text_fails(
+    memory: &Memory,
+    marks: &TextMarks,
+    sweep: &Sweep,
+    kind: TextFault,
+    address: u32,
+) -> bool
+    requires swept { IsSweptTo memory.now address sweep.now }
     requires marks { AreTextMarks memory.now marks.now }
     requires near { address < 524289 }
     ensures { result ≡ text_fails memory.now marks.now kind address }
 {
-    (marks.printed.has(address) && text_has(memory, kind, address))
+    (marks.printed.has(address) && text_has(memory, sweep, kind, address))
         || (marks.abbreviations.has(address) && abbreviation_has(memory, kind, address))
         || (is_of(kind, Fault::TextPastEnd) && marks.unread.has(address))
+}
+
+/// Marks the texts that have a fault of a kind, from the last address on.
+fn mark_failing(
+    alloc: Global,
+    memory: &Memory,
+    marks: &TextMarks,
+    kind: TextFault,
+) -> Result<Marks, AllocError>
+    requires { AreTextMarks memory.now marks.now }
+    ensures size { IfOk result (λ failing. length failing ≤ 2 ^ 20) }
+    ensures exact { IfOk result (λ failing. (a : ℕ) → IsMarked failing a ↔ text_fails memory.now marks.now kind a ≡ true) }
+{
+    // no story is longer
+    memory.len();
+    let mut failing = unmarked(alloc, TEXTS_END)?;
+    let mut sweep = Sweep::begin(alloc, memory)?;
+    for behind in 0..TEXTS_END {
+        let address = TEXTS_END - 1 - behind;
+        sweep.back(memory, address);
+        if text_fails(memory, marks, &sweep, kind, address) {
+            failing.mark(address);
+        }
+    }
+    Ok(failing)
 }
 
 /// The addresses of texts that have a fault of a kind.
@@ -75,12 +110,8 @@ fn list_failing(
     requires { AreTextMarks memory.now marks.now }
     ensures { IfOk result (IsListOf (λ a. text_fails memory.now marks.now kind a ≡ true)) }
 {
-    let mut list = Addresses::new(alloc);
-    for address in 0..TEXTS_END {
-        if text_fails(memory, marks, kind, address) {
-            list.push(address)?;
-        }
-    }
+    let failing = mark_failing(alloc, memory, marks, kind)?;
+    let list = failing.list(alloc)?;
     Ok(list)
 }
 

@@ -2,6 +2,7 @@
 
 ghost use Rattle.std.specs.Prelude.{◌≡◌, ◌≢◌, ◌≤◌, ◌<◌, ◌*◌, ◌+◌, ◌↔◌, ℕ, IfOk, IfSome, Some, length};
 ghost use Rattle.zk_mem.specs.Header.{header_of};
+ghost use Rattle.zk_code.specs.Ends.{AreEnds};
 ghost use Rattle.zk_code.specs.Grammar.{IsInstruction};
 ghost use Rattle.zk_code.specs.Reach.{IsReached};
 ghost use Rattle.zk_inspect.specs.Codes.{IsCodeOf};
@@ -13,7 +14,8 @@ ghost use Rattle.zk_inspect.specs.Lists.{IsMarked};
 use crate::code::Code;
 use crate::marks::{Marks, unmarked};
 use std::alloc::{AllocError, Global};
-use zk_code::decode::decode;
+use zk_code::decode::decode_by;
+use zk_code::ends::TextEnds;
 use zk_code::instr::Instr;
 use zk_code::opcode::{Opcode, Printing};
 use zk_code::ways::first_constant;
@@ -113,14 +115,15 @@ fn mark_addressed(memory: &Memory, address: u32, instr: &Instr, marks: &mut Mark
 }
 
 /// Marks the texts of the instruction at an address, where there is one.
-fn mark_texts(memory: &Memory, address: u32, marks: &mut Marks)
+fn mark_texts(memory: &Memory, ends: &TextEnds, address: u32, marks: &mut Marks)
+    requires ends { AreEnds memory.now ends.now.blocks.items }
     requires reached { IsReached memory.now address }
     requires marks { IsTextMarks memory.now marks.old }
     ensures marks { IsTextMarks memory.now marks.new }
     ensures keeps { Keeps marks.old marks.new }
     ensures texts { TextsMarked memory.now address marks.new }
 {
-    match decode(memory, address) {
+    match decode_by(memory, ends, address) {
         Ok(instr) => {
             mark_inline(memory, address, &instr, marks);
             mark_addressed(memory, address, &instr, marks);
@@ -142,7 +145,8 @@ fn mark_names(memory: &Memory, count: u16, marks: &mut Marks)
 }
 
 /// Marks the texts of the instructions that are reached.
-fn mark_code(memory: &Memory, code: &Code, marks: &mut Marks)
+fn mark_code(memory: &Memory, ends: &TextEnds, code: &Code, marks: &mut Marks)
+    requires ends { AreEnds memory.now ends.now.blocks.items }
     requires code { IsCodeOf memory.now code.now }
     requires marks { IsTextMarks memory.now marks.old }
     ensures marks { IsTextMarks memory.now marks.new }
@@ -151,7 +155,7 @@ fn mark_code(memory: &Memory, code: &Code, marks: &mut Marks)
 {
     let addresses = code.addresses.as_slice();
     for address in addresses {
-        mark_texts(memory, *address, marks);
+        mark_texts(memory, ends, *address, marks);
     }
 }
 
@@ -159,9 +163,11 @@ fn mark_code(memory: &Memory, code: &Code, marks: &mut Marks)
 fn mark_printed(
     alloc: Global,
     memory: &Memory,
+    ends: &TextEnds,
     count: u16,
     code: &Code,
 ) -> Result<Marks, AllocError>
+    requires ends { AreEnds memory.now ends.now.blocks.items }
     requires counted { IsCounted memory.now count }
     requires code { IsCodeOf memory.now code.now }
     ensures size { IfOk result (λ marks. length marks ≡ 524289) }
@@ -169,7 +175,7 @@ fn mark_printed(
 {
     let mut marks = unmarked(alloc, TEXTS_END)?;
     mark_names(memory, count, &mut marks);
-    mark_code(memory, code, &mut marks);
+    mark_code(memory, ends, code, &mut marks);
     Ok(marks)
 }
 
@@ -215,14 +221,16 @@ pub(crate) struct TextMarks {
 pub(crate) fn mark_all_texts(
     alloc: Global,
     memory: &Memory,
+    ends: &TextEnds,
     count: u16,
     code: &Code,
 ) -> Result<TextMarks, AllocError>
+    requires ends { AreEnds memory.now ends.now.blocks.items }
     requires counted { IsCounted memory.now count }
     requires code { IsCodeOf memory.now code.now }
     ensures { IfOk result (λ marks. AreTextMarks memory.now marks) }
 {
-    let printed = mark_printed(alloc, memory, count, code)?;
+    let printed = mark_printed(alloc, memory, ends, count, code)?;
     let mut abbreviations = unmarked(alloc, TEXTS_END)?;
     let mut unread = unmarked(alloc, TEXTS_END)?;
     mark_table(memory, &mut abbreviations, &mut unread);

@@ -1,6 +1,7 @@
 pub mod Lists
 pub mod Joins
 pub mod TextWords
+pub mod Sweeping
 pub mod Spells
 pub mod Places
 pub mod SpellLaws

@@ -5,6 +5,7 @@ pub mod Pieces
 pub mod Reading
 pub mod Meaning
 pub mod Walks
+pub mod Sweeps
 pub mod Extra
 pub mod Shown
 pub mod Keys

@@ -10,6 +10,7 @@ pub mod laws;
 pub mod pieces;
 pub mod shown;
 pub mod sink;
+pub mod sweep;
 #[cfg(test)]
 mod tests;
 pub mod text;

@@ -5,8 +5,8 @@ use Rattle.zk_inspect.proofs.Inside.{reached_first}
 use Rattle.zk_inspect.proofs.Searching.{on_its_way, all_done, few_found, taken, none_left}
 use Rattle.zk_inspect.proofs.reach.find_all.Goals as goal
 
-pub find-requires-clause-reached : goal.find-requires-clause-reached
-find-requires-clause-reached c = subst (λ h. IsReached c.args.memory.now h.first_instruction) (sym c.header-first.ensures) (reached_first c.args.memory.now)
+pub find-requires-2-clause-reached : goal.find-requires-2-clause-reached
+find-requires-2-clause-reached c = subst (λ h. IsReached c.args.memory.now h.first_instruction) (sym c.header-first.ensures) (reached_first c.args.memory.now)
 
 pub expand-requires-clause-reached : goal.expand-requires-clause-reached
 expand-requires-clause-reached c = (taken c.args.memory.now c.loop-index.search c.loop-index.index _ c.loop-index.invariant.search.search (sym c.in-Some.ensures)).2

@@ -1,0 +1,63 @@
+-- The faults of texts, found from the story's end backwards.
+use Rattle.std.specs.Prelude.{◌≡◌, ℕ, ◌+◌, List, ◌++◌, Option, Some, None, Ok, Err, slice_get}
+use Rattle.zk_mem.specs.declared.fault.Fault.{Fault}
+use Rattle.zk_mem.specs.Map.{MemoryMap}
+use Rattle.zk_mem.specs.Words.{words_at}
+use Rattle.zk_text.specs.declared.pieces.Held.{Held}
+use Rattle.zk_text.specs.declared.pieces.Held.TheVariants as held
+use Rattle.zk_text.specs.declared.pieces.Piece.{Piece}
+use Rattle.zk_text.specs.declared.sweep.Rest.{Rest}
+use Rattle.zk_text.specs.declared.sweep.Sweep.{Sweep}
+use Rattle.zk_text.specs.Alphabets.{letter_of}
+use Rattle.zk_text.specs.Meaning.{Units, abbreviation, meaning, value}
+use Rattle.zk_text.specs.Reading.{held_back}
+use Rattle.zk_text.specs.Words.{z_characters}
+
+-- why a text has no meaning, where it has none
+abbrev pub fault_of : Units → Option Fault
+fault_of (Ok us) = None
+fault_of (Err f) = Some f
+
+-- the first of two faults
+abbrev pub first_of : Option Fault → Option Fault → Option Fault
+first_of None later = later
+first_of (Some f) later = Some f
+
+-- the faults of abbreviations, by their numbers
+abbrev pub AreFaults : MemoryMap → List (Option Fault) → Type 0
+AreFaults m faults = (n : ℕ) (f : Option Fault) → slice_get faults n ≡ Some f → f ≡ fault_of (abbreviation m n)
+
+-- the fault of what a piece stands for, where there is a piece
+abbrev pub piece_fault : MemoryMap → Option Piece → Option Fault
+piece_fault m None = None
+piece_fault m (Some p) = fault_of (value (letter_of m) (abbreviation m) p)
+
+-- the fault of the Z-characters that are held back and those that follow
+abbrev pub fault_behind : MemoryMap → Held → List ℕ → Option Fault
+fault_behind m h zs = fault_of (meaning m (abbreviation m) (held_back h ++ zs))
+
+-- what is kept of a rest, by what is held back before it
+abbrev pub kept_for : Rest → Held → Option Fault
+kept_for r held.Nothing = r.nothing
+kept_for r held.First = r.first
+kept_for r held.Second = r.second
+kept_for r held.Third = r.third
+kept_for r held.ShiftToA1 = r.shift_to_a1
+kept_for r held.ShiftToA2 = r.shift_to_a2
+kept_for r held.Escape = r.escape
+kept_for r (held.UpperHalf high) = r.upper_half
+
+-- what is kept is of these Z-characters
+abbrev pub IsRestOf : MemoryMap → List ℕ → Rest → Type 0
+IsRestOf m zs r = (h : Held) → kept_for r h ≡ fault_behind m h zs
+
+-- what is kept is of the text at an address, where it has an end
+abbrev pub IsTextRest : MemoryMap → ℕ → Option Rest → Type 0
+IsTextRest m a None = words_at m a ≡ None
+IsTextRest m a (Some r) = (ws : List ℕ) × (words_at m a ≡ Some ws) × IsRestOf m (z_characters ws) r
+
+-- a sweep has come down to an address
+pub record IsSweptTo (m : MemoryMap) (a : ℕ) (s : Sweep) : Type 0 where
+  pub faults : AreFaults m s.faults.items
+  pub here : IsTextRest m a s.here
+  pub behind : IsTextRest m (a + 1) s.behind

@@ -1,0 +1,239 @@
+// The faults of all texts of a story, in one sweep: a text has those of its rest, and all texts share their rests.
+
+ghost use Rattle.std.specs.Prelude.{◌≡◌, ◌≤◌, ◌+◌, ◌∷◌, ◌++◌, [], List, ℕ, IfOk, length, slice_get};
+ghost use Rattle.zk_mem.specs.Map.{MemoryMap};
+ghost use Rattle.zk_text.specs.Meaning.{abbreviation, text_units};
+ghost use Rattle.zk_text.specs.Words.{z_characters};
+ghost use Rattle.zk_text.specs.Sweeps.{AreFaults, IsRestOf, IsSweptTo, IsTextRest, fault_behind, fault_of, first_of, kept_for, piece_fault};
+
+use crate::pieces::{Held, Piece, advance};
+use crate::text::check_abbreviation;
+use std::alloc::{AllocError, Global};
+use zk_mem::fault::Fault;
+use zk_mem::memory::Memory;
+
+/// The fault of the text of an abbreviation, if it has one.
+#[tactic(auto, unfolding(crate::specs::Meaning::abbreviation))]
+fn abbreviation_fault(memory: &Memory, number: u16) -> Option<Fault>
+    ensures { result ≡ fault_of (abbreviation memory.now number) }
+{
+    let Ok(word) = memory.word(memory.header().abbreviations as u32 + 2 * number as u32) else {
+        return Some(Fault::TextPastEnd);
+    };
+    match check_abbreviation(memory, 2 * word as u32) {
+        Ok(()) => None,
+        Err(fault) => Some(fault),
+    }
+}
+
+/// The faults of the texts of the 96 abbreviations.
+fn list_faults(alloc: Global, memory: &Memory) -> Result<Vec<Option<Fault>>, AllocError>
+    ensures { IfOk result (λ faults. AreFaults memory.now faults.items) }
+{
+    let mut faults = Vec::new(alloc);
+    for number in 0..96 {
+        faults.push(abbreviation_fault(memory, number))?;
+    }
+    Ok(faults)
+}
+
+fn listed(faults: &[Option<Fault>], number: u16) -> Option<Option<Fault>>
+    ensures { result ≡ slice_get faults.now number }
+{
+    faults.get(number as usize).copied()
+}
+
+/// The fault of the text of an abbreviation, by those that are listed.
+fn listed_fault(memory: &Memory, faults: &[Option<Fault>], number: u16) -> Option<Fault>
+    requires { AreFaults memory.now faults.now }
+    ensures { result ≡ fault_of (abbreviation memory.now number) }
+{
+    match listed(faults, number) {
+        Some(fault) => fault,
+        None => abbreviation_fault(memory, number),
+    }
+}
+
+/// The fault of what a piece stands for, if it has one.
+fn piece_fault(memory: &Memory, faults: &[Option<Fault>], piece: Option<Piece>) -> Option<Fault>
+    requires { AreFaults memory.now faults.now }
+    ensures { result ≡ piece_fault memory.now piece }
+{
+    match piece {
+        Some(Piece::Abbreviation(number)) => listed_fault(memory, faults, number),
+        _ => None,
+    }
+}
+
+/// One Z-character: what is held back then, and the fault of the piece that it ends.
+fn pass(
+    memory: &Memory,
+    faults: &[Option<Fault>],
+    held: Held,
+    character: u8,
+) -> (Held, Option<Fault>)
+    requires { AreFaults memory.now faults.now }
+    ensures { (zs : List ℕ) → fault_behind memory.now held (character ∷ zs) ≡ first_of result.1 (fault_behind memory.now result.0 zs) }
+{
+    let (next, piece) = advance(held, character);
+    (next, piece_fault(memory, faults, piece))
+}
+
+/// What is known of the rest of a text: the fault that there is, by what is held back before it.
+#[derive(Clone, Copy)]
+struct Rest {
+    nothing: Option<Fault>,
+    first: Option<Fault>,
+    second: Option<Fault>,
+    third: Option<Fault>,
+    shift_to_a1: Option<Fault>,
+    shift_to_a2: Option<Fault>,
+    escape: Option<Fault>,
+    upper_half: Option<Fault>,
+}
+
+impl Rest {
+    /// Behind the last word.
+    fn none() -> Rest
+        ensures { (m : MemoryMap) → IsRestOf m [] result }
+    {
+        Rest {
+            nothing: None,
+            first: None,
+            second: None,
+            third: None,
+            shift_to_a1: None,
+            shift_to_a2: None,
+            escape: None,
+            upper_half: None,
+        }
+    }
+
+    fn kept_for(&self, held: Held) -> Option<Fault>
+        ensures { result ≡ kept_for self.now held }
+    {
+        match held {
+            Held::Nothing => self.nothing,
+            Held::First => self.first,
+            Held::Second => self.second,
+            Held::Third => self.third,
+            Held::ShiftToA1 => self.shift_to_a1,
+            Held::ShiftToA2 => self.shift_to_a2,
+            Held::Escape => self.escape,
+            Held::UpperHalf(_) => self.upper_half,
+        }
+    }
+}
+
+/// The fault of a word and the rest behind it.
+#[tactic(auto, unfolding(crate::specs::Words::z_characters))]
+fn word_fault(
+    memory: &Memory,
+    faults: &[Option<Fault>],
+    held: Held,
+    word: u16,
+    rest: &Rest,
+) -> Option<Fault>
+    requires { AreFaults memory.now faults.now }
+    ensures { (ws : List ℕ) → IsRestOf memory.now (z_characters ws) rest.now → result ≡ fault_behind memory.now held (z_characters (word ∷ ws)) }
+{
+    let (held, fault) = pass(memory, faults, held, (word / 1024 % 32) as u8);
+    if fault.is_some() {
+        return fault;
+    }
+    let (held, fault) = pass(memory, faults, held, (word / 32 % 32) as u8);
+    if fault.is_some() {
+        return fault;
+    }
+    let (held, fault) = pass(memory, faults, held, (word % 32) as u8);
+    if fault.is_some() {
+        return fault;
+    }
+    rest.kept_for(held)
+}
+
+/// What is known of a word and the rest behind it.
+fn rest_before(memory: &Memory, faults: &[Option<Fault>], word: u16, rest: &Rest) -> Rest
+    requires { AreFaults memory.now faults.now }
+    ensures { (ws : List ℕ) → IsRestOf memory.now (z_characters ws) rest.now → IsRestOf memory.now (z_characters (word ∷ ws)) result }
+{
+    Rest {
+        nothing: word_fault(memory, faults, Held::Nothing, word, rest),
+        first: word_fault(memory, faults, Held::First, word, rest),
+        second: word_fault(memory, faults, Held::Second, word, rest),
+        third: word_fault(memory, faults, Held::Third, word, rest),
+        shift_to_a1: word_fault(memory, faults, Held::ShiftToA1, word, rest),
+        shift_to_a2: word_fault(memory, faults, Held::ShiftToA2, word, rest),
+        escape: word_fault(memory, faults, Held::Escape, word, rest),
+        // which half it is shows in no fault
+        upper_half: word_fault(memory, faults, Held::UpperHalf(0), word, rest),
+    }
+}
+
+/// What is known of the text at an address, by the text of its second word.
+fn text_rest(
+    memory: &Memory,
+    faults: &[Option<Fault>],
+    address: u32,
+    further: Option<Rest>,
+) -> Option<Rest>
+    requires faults { AreFaults memory.now faults.now }
+    requires further { IsTextRest memory.now (address + 2) further }
+    ensures { IsTextRest memory.now address result }
+{
+    let Some(word) = memory.code_word(address) else {
+        return None;
+    };
+    if word >= 0x8000 {
+        return Some(rest_before(memory, faults, word, &Rest::none()));
+    }
+    match further {
+        Some(rest) => Some(rest_before(memory, faults, word, &rest)),
+        None => None,
+    }
+}
+
+/// The faults of all texts of a story, from an address past its end down to 0: a sweep knows that of the text at the address
+/// that it has come to. It looks at each word once, where `check_text` goes from each address to the text's end.
+#[derive(Drop)]
+pub struct Sweep {
+    faults: Vec<Option<Fault>>,
+    here: Option<Rest>,
+    behind: Option<Rest>,
+}
+
+impl Sweep {
+    /// A sweep at any address past the story's end. Refused for want of memory alone.
+    pub fn begin(alloc: Global, memory: &Memory) -> Result<Sweep, AllocError>
+        ensures { IfOk result (λ sweep. (a : ℕ) → length memory.now.bytes ≤ a → IsSweptTo memory.now a sweep) }
+    {
+        let faults = list_faults(alloc, memory)?;
+        Ok(Sweep {
+            faults,
+            here: None,
+            behind: None,
+        })
+    }
+
+    /// Goes down to an address.
+    pub fn back(&mut self, memory: &Memory, address: u32)
+        requires { IsSweptTo memory.now (address + 1) self.old }
+        ensures { IsSweptTo memory.now address self.new }
+    {
+        let rest = text_rest(memory, self.faults.as_slice(), address, self.behind);
+        self.behind = self.here;
+        self.here = rest;
+    }
+
+    /// Why the text at the address that the sweep has come to has no meaning, where it has none (see `check_text`).
+    #[tactic(auto, unfolding(crate::specs::Meaning::text_units))]
+    pub fn fault(&self, memory: &Memory, address: u32) -> Option<Fault>
+        requires { IsSweptTo memory.now address self.now }
+        ensures { result ≡ fault_of (text_units memory.now address) }
+    {
+        match self.here {
+            Some(rest) => rest.nothing,
+            None => Some(Fault::TextPastEnd),
+        }
+    }
+}
