@@ -1,4 +1,4 @@
-use Rattle.std.proofs.Common.{◌≡◌, ℕ, true}
+use Rattle.std.proofs.Common.{◌≡◌, true}
 use Rattle.zk_inspect.specs.Lists.{IsMarked}
 use Rattle.zk_inspect.specs.TextTests.{text_fails}
 use Rattle.zk_inspect.proofs.Listed.{list_same}
