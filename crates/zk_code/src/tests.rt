@@ -1,7 +1,8 @@
 // The decoder against the opcode tables and worked examples.
 
 use crate::branch::{Branch, Target, jump_target};
-use crate::decode::decode;
+use crate::decode::{decode, decode_by};
+use crate::ends::TextEnds;
 use crate::instr::Instr;
 use crate::opcode::{Call, Opcode, Saving, name};
 use crate::operands::Operand::{self, Large, Small, Variable};
@@ -269,6 +270,38 @@ fn check(
         Some(Fault::BadOpcode),
         "{count:?} {number} in version {version}"
     );
+    Ok(())
+}
+
+/// The address behind the instruction at an address, and why there is none, by what is known of where texts end.
+fn behind(alloc: Global, memory: &Memory, address: u32) -> Result<Result<u32, Fault>, Fail> {
+    let ends = TextEnds::find(alloc, memory)?;
+    match decode_by(memory, &ends, address) {
+        Ok(instr) => Ok(Ok(instr.next)),
+        Err(fault) => Ok(Err(fault)),
+    }
+}
+
+#[test]
+fn texts_end_by_the_ends_that_are_known(rt: HostRuntime) -> Result<(), Fail> {
+    // nop, print, 150 words without the mark of the last
+    let mut code = [0; 304];
+    code[0] = 0xb4;
+    code[1] = 0xb2;
+    code[302] = 0x80;
+    let memory = story(rt.alloc(), 5, &code)?;
+    assert_eq!(rt; behind(rt.alloc(), &memory, 0x40)?, Ok(0x41));
+    assert_eq!(rt; behind(rt.alloc(), &memory, 0x41)?, Ok(0x170));
+    // a byte later, so that the words stand at odd addresses
+    let mut code = [0; 305];
+    code[2] = 0xb2;
+    code[303] = 0x80;
+    let memory = story(rt.alloc(), 5, &code)?;
+    assert_eq!(rt; behind(rt.alloc(), &memory, 0x42)?, Ok(0x171));
+    // and no word has the mark
+    code[303] = 0;
+    let memory = story(rt.alloc(), 5, &code)?;
+    assert_eq!(rt; behind(rt.alloc(), &memory, 0x42)?, Err(Fault::CodePastEnd));
     Ok(())
 }
 

@@ -5,9 +5,10 @@ use crate::buffer::UnitBuffer;
 use crate::extra::Extra;
 use crate::key::key;
 use crate::shown::Shown;
+use crate::sweep::Sweep;
 use crate::text::{check_text, print_text};
 use crate::unit::Unit;
-use std::alloc::Global;
+use std::alloc::{AllocError, Global};
 use std::test::Fail;
 use zk_mem::fault::Fault;
 use zk_mem::memory::{Memory, Setup};
@@ -88,6 +89,37 @@ fn refuses_texts(rt: HostRuntime) -> Result<(), Fail> {
         let memory = memory_of(rt.alloc(), &[(0, 3), (0x19, 0x40)], bytes)?;
         assert_eq!(rt; check_text(&memory, address), Err(fault));
     }
+    Ok(())
+}
+
+/// The fault of the text at an address, by a sweep from the story's end.
+fn swept(alloc: Global, memory: &Memory, address: u32) -> Result<Option<Fault>, AllocError> {
+    let end = memory.len();
+    let mut sweep = Sweep::begin(alloc, memory)?;
+    if address >= end {
+        return Ok(None);
+    }
+    for behind in 0..end - address {
+        sweep.back(memory, end - 1 - behind);
+    }
+    Ok(sweep.fault(memory, address))
+}
+
+#[test]
+fn a_sweep_comes_to_the_fault_of_each_text(rt: HostRuntime) -> Result<(), Fail> {
+    let memory = memory_of(rt.alloc(), &[(0, 3), (0x19, 0x40)], &NESTED)?;
+    for (address, fault) in [
+        (0x47, Some(Fault::TextPastEnd)),
+        (0x46, None),
+        (0x45, None),
+        (0x44, Some(Fault::NestedAbbreviation)),
+        (0x42, Some(Fault::NestedAbbreviation)),
+    ] {
+        assert_eq!(rt; swept(rt.alloc(), &memory, address)?, fault);
+    }
+    // the same text, with an abbreviation that uses none
+    let memory = memory_of(rt.alloc(), &[(0, 3), (0x19, 0x40)], &EXPANDED)?;
+    assert_eq!(rt; swept(rt.alloc(), &memory, 0x44)?, None);
     Ok(())
 }
 
