@@ -1,11 +1,12 @@
 -- Worked examples of this crate's definitions. Their values come from the Standard and from the layout of the listings, by
 -- hand, and no definition made them.
-use Rattle.std.specs.Prelude.{◌≡◌, [], codes, Some, None, true, false}
+use Rattle.std.specs.Prelude.{◌≡◌, ℕ, List, [], ◌∷◌, codes, Some, None, true, false}
+use Rattle.zk_mem.specs.Map.{MemoryMap}
 use Rattle.zk_code.specs.declared.branch.Target.TheVariants.{ReturnFalse, ReturnTrue, At, Below, Past}
 use Rattle.zk_code.specs.declared.operands.Operand.TheVariants.{Large, Small, Variable}
 use Rattle.zk_inspect.specs.declared.finding.Number.TheVariants.{Checksum, Length, DictionaryOrder, DictionaryExtent, ObjectLinks, ChainWithARepeat, PropertyList, TextPastTheEnd, NestedAbbreviation, UndecodableCode, TargetOutOfTheStory}
 use Rattle.zk_inspect.specs.FindingLines.{finding_line}
-use Rattle.zk_inspect.specs.Listing.{variable_text, operand_text, store_text, branch_text}
+use Rattle.zk_inspect.specs.Listing.{variable_text, operand_text, store_text, branch_text, quoted_bytes, address_line, routine_line, disassembly}
 use Rattle.zk_inspect.specs.Numbers.{address_digits, word_digits, byte_digits}
 
 -- ---- numbers
@@ -87,3 +88,76 @@ BranchesBehindAMark =
     × (branch_text (Some (record { on = false; target = ReturnFalse })) ≡ codes " ?~rfalse")
     × (branch_text (Some (record { on = true; target = Past 0x80000 })) ≡ codes " ?80000")
     × (branch_text (Some (record { on = false; target = Below 10 })) ≡ codes " ?~-0000a")
+
+-- memory of a version with these bytes, whose header names no tables
+abbrev pub memory_of : ℕ → List ℕ → MemoryMap
+memory_of version bytes = record { version = version; static_base = 0; bytes = bytes; file = []; undo_states = 0 }
+
+-- the line of address 0 of a story of a version with these bytes
+abbrev pub line_of : ℕ → List ℕ → List ℕ
+line_of version bytes = address_line (memory_of version bytes) 0
+
+-- the address, the name, the operands, and the variable of the result; a question mark where there is no instruction
+abbrev pub LinesOfOperands : Type 0
+LinesOfOperands =
+    (line_of 5 (0x15 ∷ 7 ∷ 2 ∷ 3 ∷ []) ≡ codes "00000 sub #07 #02 -> l3\n")
+    × (line_of 5 (0x55 ∷ 7 ∷ 2 ∷ 0 ∷ []) ≡ codes "00000 sub l7 #02 -> sp\n")
+    × (line_of 5 (0xd4 ∷ 0x1f ∷ 0x12 ∷ 0x34 ∷ 7 ∷ 16 ∷ []) ≡ codes "00000 add #1234 #07 -> g0\n")
+    × (line_of 3 (0xe0 ∷ 0x3f ∷ 0x12 ∷ 0x34 ∷ 0 ∷ []) ≡ codes "00000 call #1234 -> sp\n")
+    × (line_of 5 (0xe0 ∷ 0x3f ∷ 0x12 ∷ 0x34 ∷ 0 ∷ []) ≡ codes "00000 call_vs #1234 -> sp\n")
+    × (line_of 5 (0xba ∷ []) ≡ codes "00000 quit\n")
+    × (line_of 5 (0 ∷ []) ≡ codes "00000 ?\n")
+
+-- behind the variable of a result a branch, whose address has five digits (section 4.7)
+abbrev pub LinesOfBranches : Type 0
+LinesOfBranches =
+    (line_of 5 (0x90 ∷ 1 ∷ 0xc5 ∷ 0 ∷ 0 ∷ 0 ∷ 0 ∷ []) ≡ codes "00000 jz #01 ?00006\n")
+    × (line_of 5 (0x90 ∷ 1 ∷ 0x45 ∷ 0 ∷ 0 ∷ 0 ∷ 0 ∷ []) ≡ codes "00000 jz #01 ?~00006\n")
+    × (line_of 5 (0x90 ∷ 1 ∷ 0x40 ∷ []) ≡ codes "00000 jz #01 ?~rfalse\n")
+    × (line_of 3 (0x92 ∷ 9 ∷ 0x11 ∷ 0xc1 ∷ []) ≡ codes "00000 get_child #09 -> g1 ?rtrue\n")
+
+-- a constant that is the number of a variable shows that variable: the first operand of `store`, `load`, `inc` and `pull`, and
+-- no other operand; a number over 255 is none (section 15)
+abbrev pub LinesOfVariables : Type 0
+LinesOfVariables =
+    (line_of 5 (0x0d ∷ 5 ∷ 9 ∷ []) ≡ codes "00000 store &l5 #09\n")
+    × (line_of 5 (0x2d ∷ 5 ∷ 9 ∷ []) ≡ codes "00000 store &l5 l9\n")
+    × (line_of 5 (0x4d ∷ 5 ∷ 9 ∷ []) ≡ codes "00000 store l5 #09\n")
+    × (line_of 5 (0x9e ∷ 16 ∷ 3 ∷ []) ≡ codes "00000 load &g0 -> l3\n")
+    × (line_of 5 (0x8e ∷ 1 ∷ 5 ∷ 3 ∷ []) ≡ codes "00000 load #0105 -> l3\n")
+    × (line_of 5 (0x95 ∷ 0 ∷ []) ≡ codes "00000 inc &sp\n")
+    × (line_of 5 (0xe9 ∷ 0x7f ∷ 1 ∷ []) ≡ codes "00000 pull &l1\n")
+    × (line_of 5 (0xe8 ∷ 0x7f ∷ 1 ∷ []) ≡ codes "00000 push #01\n")
+
+-- the constant of a `jump` shows where it leads, where that is in the story (section 15, `jump`)
+abbrev pub LinesOfJumps : Type 0
+LinesOfJumps =
+    (line_of 5 (0x8c ∷ 0 ∷ 3 ∷ 0 ∷ 0 ∷ []) ≡ codes "00000 jump 00004\n")
+    × (line_of 5 (0x8c ∷ 0xff ∷ 0xff ∷ 0 ∷ 0 ∷ []) ≡ codes "00000 jump 00000\n")
+    × (line_of 5 (0x8c ∷ 0 ∷ 4 ∷ 0 ∷ 0 ∷ []) ≡ codes "00000 jump #0004\n")
+    × (line_of 5 (0xac ∷ 5 ∷ []) ≡ codes "00000 jump l5\n")
+
+-- 64 D0 A8 A5 is "take"; 17 25 9C A5 is a quote and a new line, which a tilde and a circumflex show; 87 E5 is an
+-- abbreviation that has no word (sections 3.2, 3.3 and 3.5.3)
+abbrev pub LinesOfTexts : Type 0
+LinesOfTexts =
+    (line_of 5 (0xb2 ∷ 0x64 ∷ 0xd0 ∷ 0xa8 ∷ 0xa5 ∷ []) ≡ codes "00000 print \"take\"\n")
+    × (line_of 5 (0xb3 ∷ 0x17 ∷ 0x25 ∷ 0x9c ∷ 0xa5 ∷ []) ≡ codes "00000 print_ret \"~^\"\n")
+    × (line_of 5 (0xb2 ∷ 0x87 ∷ 0xe5 ∷ []) ≡ codes "00000 print ! F12\n")
+
+-- characters past 127 are written in UTF-8: U+00E4 in two bytes; a tilde stays
+abbrev pub CharactersBetweenQuotes : Type 0
+CharactersBetweenQuotes =
+    (quoted_bytes (34 ∷ 10 ∷ 126 ∷ 94 ∷ []) ≡ codes "~^~^")
+    × (quoted_bytes (0xe4 ∷ 0x153 ∷ 63 ∷ []) ≡ 0xc3 ∷ 0xa4 ∷ 0xc5 ∷ 0x93 ∷ 63 ∷ [])
+
+-- a routine has its address and the count of its local variables, which its first byte says (section 5.2)
+abbrev pub LinesOfRoutines : Type 0
+LinesOfRoutines =
+    (routine_line (memory_of 5 (9 ∷ 15 ∷ 0xb0 ∷ [])) 1 ≡ codes "routine 00001 locals 15\n")
+    × (routine_line (memory_of 3 (1 ∷ 0 ∷ 7 ∷ 0xb0 ∷ [])) 0 ≡ codes "routine 00000 locals 1\n")
+
+-- the lines of addresses stand before those of routines
+abbrev pub RoutinesBehindCode : Type 0
+RoutinesBehindCode =
+    (disassembly (memory_of 5 (0xb0 ∷ 0xba ∷ 2 ∷ 0xb1 ∷ [])) (record { addresses = 0 ∷ 1 ∷ 3 ∷ []; routines = 2 ∷ [] }) ≡ codes "00000 rtrue\n00001 quit\n00003 rfalse\nroutine 00002 locals 2\n")
