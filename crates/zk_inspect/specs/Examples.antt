@@ -1,13 +1,19 @@
 -- Worked examples of this crate's definitions. Their values come from the Standard and from the layout of the listings, by
 -- hand, and no definition made them.
-use Rattle.std.specs.Prelude.{◌≡◌, ℕ, List, [], ◌∷◌, codes, Some, None, true, false}
+use Rattle.std.specs.Prelude.{◌≡◌, ℕ, List, [], ◌∷◌, ◌++◌, replicate, codes, Some, None, true, false}
 use Rattle.zk_mem.specs.Map.{MemoryMap}
 use Rattle.zk_code.specs.declared.branch.Target.TheVariants.{ReturnFalse, ReturnTrue, At, Below, Past}
 use Rattle.zk_code.specs.declared.operands.Operand.TheVariants.{Large, Small, Variable}
 use Rattle.zk_inspect.specs.declared.finding.Number.TheVariants.{Checksum, Length, DictionaryOrder, DictionaryExtent, ObjectLinks, ChainWithARepeat, PropertyList, TextPastTheEnd, NestedAbbreviation, UndecodableCode, TargetOutOfTheStory}
 use Rattle.zk_inspect.specs.FindingLines.{finding_line}
 use Rattle.zk_inspect.specs.Listing.{variable_text, operand_text, store_text, branch_text, quoted_bytes, address_line, routine_line, disassembly}
+use Rattle.zk_inspect.specs.AbbreviationLines.{abbreviation_line, abbreviation_lines}
+use Rattle.zk_inspect.specs.DictionaryLines.{dictionary_lines, entry_text}
+use Rattle.zk_inspect.specs.HeaderLines.{header_lines}
+use Rattle.zk_inspect.specs.MapLines.{map_lines}
+use Rattle.zk_inspect.specs.ObjectLines.{object_line}
 use Rattle.zk_inspect.specs.Numbers.{address_digits, word_digits, byte_digits}
+use Rattle.zk_inspect.specs.Tests.{is_undecodable, leads_out}
 
 -- ---- numbers
 
@@ -161,3 +167,107 @@ LinesOfRoutines =
 abbrev pub RoutinesBehindCode : Type 0
 RoutinesBehindCode =
     (disassembly (memory_of 5 (0xb0 ∷ 0xba ∷ 2 ∷ 0xb1 ∷ [])) (record { addresses = 0 ∷ 1 ∷ 3 ∷ []; routines = 2 ∷ [] }) ≡ codes "00000 rtrue\n00001 quit\n00003 rfalse\nroutine 00002 locals 2\n")
+
+-- ---- listings (sections 3.3, 11.1, 12 and 13)
+
+-- memory with a file whose header names tables
+abbrev pub memory_by : ℕ → List ℕ → List ℕ → MemoryMap
+memory_by version file bytes = record { version = version; static_base = 0; bytes = bytes; file = file; undo_states = 0 }
+
+-- a file of 72 bytes, whose header states 18 units; behind it stand 1 to 5
+abbrev pub file_of : ℕ → List ℕ
+file_of version =
+    version ∷ 0x1a ∷ 1 ∷ 2 ∷ 4 ∷ 0x80 ∷ 4 ∷ 0x81 ∷ 3 ∷ 0x10 ∷ 1 ∷ 0 ∷ 2 ∷ 0 ∷ 3 ∷ 0 ∷ 0x80 ∷ 0x1c ∷ 50 ∷ 54 ∷ 49 ∷ 127 ∷ 50 ∷ 32
+    ∷ 0 ∷ 0x40 ∷ 0 ∷ 18 ∷ 0 ∷ 15 ∷ replicate 22 0 ++ 0 ∷ 0x42 ∷ 1 ∷ 0x23 ∷ replicate 8 0 ++ 1 ∷ 2 ∷ 3 ∷ 4 ∷ 5 ∷ 0 ∷ 0 ∷ 0 ∷ []
+
+-- the length is stated in units of 4 bytes, and in units of 2 up to version 3; the sum of the bytes behind the header up to
+-- there is 15, or 0; from version 5 on there are two lines more (sections 11.1 and 11.1.6)
+abbrev pub HeadersAreLines : Type 0
+HeadersAreLines =
+    (header_lines (memory_by 5 (file_of 5) []) ≡ codes "version 5\nrelease 258\nserial 261?2?\nlength 72\nfile 72\nchecksum 000f ok\nstart 00481\nhigh 00480\nstatic 00300\ndictionary 00310\nobjects 00100\nglobals 00200\nabbreviations 00040\nflags1 1a\nflags2 801c\nalphabet 00042\nextension 00123\n")
+    × (header_lines (memory_by 3 (file_of 3) []) ≡ codes "version 3\nrelease 258\nserial 261?2?\nlength 36\nfile 72\nchecksum 000f wrong\nstart 00481\nhigh 00480\nstatic 00300\ndictionary 00310\nobjects 00100\nglobals 00200\nabbreviations 00040\nflags1 1a\nflags2 801c\n")
+
+-- parts by their addresses, and those of one address in an order of their own
+abbrev pub MapsAreInOrder : Type 0
+MapsAreInOrder =
+    (map_lines (memory_by 5 (file_of 5) []) ≡ codes "00000 header\n00040 abbreviations\n00100 objects\n00200 globals\n00300 static\n00310 dictionary\n00480 high\n00481 start\n")
+    × (map_lines (memory_by 5 [] []) ≡ codes "00000 header\n00000 abbreviations\n00000 globals\n00000 objects\n00000 dictionary\n00000 static\n00000 high\n00000 start\n")
+
+-- a table of abbreviations at 2: the first is the text of an `a` at 0, the second at 8 has an abbreviation in it, the third
+-- lies outside the story, and from the fifth on no words are there
+abbrev pub abbreviating : MemoryMap
+abbreviating = memory_by 3 (replicate 24 0 ++ 0 ∷ 2 ∷ []) (0x98 ∷ 0xa5 ∷ 0 ∷ 0 ∷ 0 ∷ 4 ∷ 0 ∷ 32 ∷ 0x84 ∷ 0x05 ∷ [])
+
+-- an abbreviation counts from 0, by word addresses, and stands between quotes (sections 3.3 and 1.2.2)
+abbrev pub AbbreviationsAreLines : Type 0
+AbbreviationsAreLines =
+    (abbreviation_line abbreviating 0 ≡ codes "0 \"a\"\n")
+    × (abbreviation_line abbreviating 1 ≡ codes "1 ! F13\n")
+    × (abbreviation_line abbreviating 2 ≡ codes "2 ! F12\n")
+    × (abbreviation_line abbreviating 95 ≡ codes "95 ! F12\n")
+
+-- where the header names no table there are no lines
+abbrev pub NoTableNoLines : Type 0
+NoTableNoLines =
+    (abbreviation_lines (memory_by 3 [] []) ≡ [])
+
+-- a dictionary at 4 of version 3: a comma and a quote part words, entries have 5 bytes, and they are `take` and `x`
+abbrev pub listing_words : List ℕ → MemoryMap
+listing_words bytes = memory_by 3 (replicate 8 0 ++ 0 ∷ 4 ∷ []) bytes
+
+-- separators, the size, and each word by its index and its address, both from 0 and in order (section 13.2)
+abbrev pub DictionariesAreLines : Type 0
+DictionariesAreLines =
+    (dictionary_lines (listing_words (0 ∷ 0 ∷ 0 ∷ 0 ∷ 2 ∷ 44 ∷ 34 ∷ 5 ∷ 0 ∷ 2 ∷ 0x64 ∷ 0xd0 ∷ 0xa8 ∷ 0xa5 ∷ 1 ∷ 0x74 ∷ 0xa5 ∷ 0x94 ∷ 0xa5 ∷ 0 ∷ [])) ≡ codes "separators \",~\"\nentries 2 length 5\n0 0000a \"take\"\n1 0000f \"x\"\n")
+    × (dictionary_lines (listing_words (0 ∷ 0 ∷ 0 ∷ 0 ∷ 2 ∷ 44 ∷ [])) ≡ codes "! F18\n")
+    × (dictionary_lines (memory_by 3 [] []) ≡ [])
+
+-- a key has six letters up to version 3 and nine from 4 on, and an abbreviation in it shows nothing (sections 13.3, 13.4 and
+-- 3.7)
+abbrev pub KeysAreWords : Type 0
+KeysAreWords =
+    (entry_text (memory_of 3 (0x18 ∷ 0xe8 ∷ 0x25 ∷ 0x4b ∷ 0xb1 ∷ 0xae ∷ [])) 7 0 ≡ codes "7 00000 \"abcdef\"\n")
+    × (entry_text (memory_of 4 (0x18 ∷ 0xe8 ∷ 0x25 ∷ 0x4b ∷ 0xb1 ∷ 0xae ∷ [])) 7 0 ≡ codes "7 00000 \"abcdefghi\"\n")
+    × (entry_text (memory_of 3 (0x04 ∷ 0xc7 ∷ 0x94 ∷ 0xa5 ∷ [])) 0 0 ≡ codes "0 00000 \"b\"\n")
+
+-- object 1 of version 3, whose table is at 4, with these attributes, links and property table, which is at 75
+abbrev pub listing_object : List ℕ → List ℕ → List ℕ → MemoryMap
+listing_object attributes links properties =
+    memory_by 3 (replicate 10 0 ++ 0 ∷ 4 ∷ []) (replicate 66 0 ++ attributes ++ links ++ 0 ∷ 75 ∷ properties)
+
+-- links by parent, sibling and child; attributes from the top bit; a property by its number and the length of its data
+-- (sections 12.3.1, 12.4 and 12.4.1)
+abbrev pub ObjectsAreLines : Type 0
+ObjectsAreLines =
+    (object_line (listing_object (0x48 ∷ 0 ∷ 0 ∷ 1 ∷ []) (7 ∷ 8 ∷ 9 ∷ []) (1 ∷ 0x98 ∷ 0xa5 ∷ 0x72 ∷ 1 ∷ 2 ∷ 3 ∷ 4 ∷ 0x31 ∷ 1 ∷ 2 ∷ 0 ∷ [])) 1 ≡ codes "1 \"a\" parent 7 sibling 8 child 9 attributes 1,4,31 properties 18:4,17:2\n")
+    × (object_line (listing_object (0 ∷ 0 ∷ 0 ∷ 0 ∷ []) (0 ∷ 0 ∷ 0 ∷ []) (0 ∷ 0 ∷ [])) 1 ≡ codes "1 \"\" parent 0 sibling 0 child 0 attributes - properties -\n")
+
+-- a list that does not lie in data is a fault (section 12.4)
+abbrev pub ListsPastTheEnd : Type 0
+ListsPastTheEnd =
+    (object_line (listing_object (0 ∷ 0 ∷ 0 ∷ 0 ∷ []) (0 ∷ 0 ∷ 0 ∷ []) (0 ∷ 0x72 ∷ 1 ∷ [])) 1 ≡ codes "1 \"\" parent 0 sibling 0 child 0 attributes - properties ! F10\n")
+
+-- ---- checks
+
+-- 0 is no instruction, and behind the last byte there is none (section 4)
+abbrev pub UndecodableAddresses : Type 0
+UndecodableAddresses =
+    (is_undecodable (memory_of 5 (0xba ∷ 0 ∷ [])) 0 ≡ false)
+    × (is_undecodable (memory_of 5 (0xba ∷ 0 ∷ [])) 1 ≡ true)
+    × (is_undecodable (memory_of 5 (0xba ∷ 0 ∷ [])) 2 ≡ true)
+    × (is_undecodable (memory_of 4 (0xbe ∷ 0 ∷ 0xff ∷ 0 ∷ [])) 0 ≡ true)
+    × (is_undecodable (memory_of 5 (0xbe ∷ 0 ∷ 0xff ∷ 0 ∷ [])) 0 ≡ false)
+
+-- a branch, a jump and a call lead out of a story of five bytes at its end, and not before; packed address 0 is no call, and a
+-- routine has at most 15 local variables (sections 4.7, 5.2 and 6.4.3)
+abbrev pub LeadingOut : Type 0
+LeadingOut =
+    (leads_out (memory_of 5 (0x90 ∷ 1 ∷ 0xc3 ∷ 0 ∷ 0 ∷ [])) 0 ≡ false)
+    × (leads_out (memory_of 5 (0x90 ∷ 1 ∷ 0xc4 ∷ 0 ∷ 0 ∷ [])) 0 ≡ true)
+    × (leads_out (memory_of 5 (0x8c ∷ 0 ∷ 3 ∷ 0 ∷ 0 ∷ [])) 0 ≡ false)
+    × (leads_out (memory_of 5 (0x8c ∷ 0 ∷ 4 ∷ 0 ∷ 0 ∷ [])) 0 ≡ true)
+    × (leads_out (memory_of 5 (0x8f ∷ 0 ∷ 1 ∷ 0 ∷ 15 ∷ [])) 0 ≡ false)
+    × (leads_out (memory_of 5 (0x8f ∷ 0 ∷ 1 ∷ 0 ∷ 16 ∷ [])) 0 ≡ true)
+    × (leads_out (memory_of 5 (0x8f ∷ 0 ∷ 2 ∷ 0 ∷ 15 ∷ [])) 0 ≡ true)
+    × (leads_out (memory_of 5 (0x8f ∷ 0 ∷ 0 ∷ [])) 0 ≡ false)
+    × (leads_out (memory_of 5 (0 ∷ [])) 0 ≡ false)
