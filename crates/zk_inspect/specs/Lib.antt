@@ -23,3 +23,4 @@ pub mod DictionaryLines
 pub mod TreeLines
 pub mod FindingLines
 pub mod FindingLaws
+pub mod Examples

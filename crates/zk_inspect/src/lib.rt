@@ -7,6 +7,7 @@ pub mod code;
 mod dictionary_lines;
 pub mod disassembly;
 pub mod error;
+pub mod examples;
 pub mod finding;
 pub mod finding_lines;
 mod header_lines;

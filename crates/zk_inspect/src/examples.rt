@@ -1,0 +1,74 @@
+// Worked examples of the definitions, which refuse one that is turned together with its body.
+
+ghost use Rattle.zk_inspect.specs.Examples.{AddressesHaveFiveDigits, WordsHaveFourDigits, FindingsOfTables, FindingsOfTextsAndCode, VariablesByNumber, OperandsByType, StoresBehindAnArrow, BranchesBehindAMark, LinesOfOperands, LinesOfBranches, LinesOfVariables, LinesOfJumps, LinesOfTexts, CharactersBetweenQuotes, LinesOfRoutines, RoutinesBehindCode, HeadersAreLines, MapsAreInOrder, AbbreviationsAreLines, NoTableNoLines, DictionariesAreLines, KeysAreWords, ObjectsAreLines, ListsPastTheEnd, UndecodableAddresses, LeadingOut};
+
+/// Addresses, words and bytes by their digits.
+#[tactic(auto, unfolding(crate::specs::Numbers::hex_digits, crate::specs::Numbers::address_digits, crate::specs::Numbers::word_digits, crate::specs::Numbers::byte_digits))]
+pub fn numbers_by_example()
+    ensures addresses_have_five_digits { AddressesHaveFiveDigits }
+    ensures words_have_four_digits { WordsHaveFourDigits }
+{}
+
+/// The lines of findings.
+pub fn findings_by_example()
+    ensures findings_of_tables { FindingsOfTables }
+    ensures findings_of_texts_and_code { FindingsOfTextsAndCode }
+{}
+
+/// Operands, stores and branches in a disassembly (Standard, sections 4.2, 4.6 and 4.7).
+pub fn parts_by_example()
+    ensures variables_by_number { VariablesByNumber }
+    ensures operands_by_type { OperandsByType }
+    ensures stores_behind_an_arrow { StoresBehindAnArrow }
+    ensures branches_behind_a_mark { BranchesBehindAMark }
+{}
+
+/// Lines of instructions (Standard, sections 4 and 14).
+pub fn instructions_by_example()
+    ensures lines_of_operands { LinesOfOperands }
+    ensures lines_of_branches { LinesOfBranches }
+    ensures lines_of_variables { LinesOfVariables }
+    ensures lines_of_jumps { LinesOfJumps }
+{}
+
+/// Texts in a disassembly (Standard, sections 3 and 4.8).
+pub fn quotes_by_example()
+    ensures lines_of_texts { LinesOfTexts }
+    ensures characters_between_quotes { CharactersBetweenQuotes }
+{}
+
+/// Routines in a disassembly (Standard, section 5.2).
+pub fn routines_by_example()
+    ensures lines_of_routines { LinesOfRoutines }
+    ensures routines_behind_code { RoutinesBehindCode }
+{}
+
+/// Headers and maps (Standard, sections 1.1 and 11.1).
+pub fn headers_by_example()
+    ensures headers_are_lines { HeadersAreLines }
+    ensures maps_are_in_order { MapsAreInOrder }
+{}
+
+/// Abbreviations (Standard, section 3.3).
+pub fn abbreviations_by_example()
+    ensures abbreviations_are_lines { AbbreviationsAreLines }
+    ensures no_table_no_lines { NoTableNoLines }
+{}
+
+/// Dictionaries (Standard, sections 13.2 to 13.4).
+pub fn dictionaries_by_example()
+    ensures dictionaries_are_lines { DictionariesAreLines }
+    ensures keys_are_words { KeysAreWords }
+{}
+
+/// Objects (Standard, sections 12.3 and 12.4).
+pub fn objects_by_example()
+    ensures objects_are_lines { ObjectsAreLines }
+    ensures lists_past_the_end { ListsPastTheEnd }
+{}
+
+/// What is wrong with code (Standard, sections 4, 5 and 6).
+pub fn checks_by_example()
+    ensures undecodable_addresses { UndecodableAddresses }
+    ensures leading_out { LeadingOut }
+{}
