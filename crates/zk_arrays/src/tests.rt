@@ -56,20 +56,32 @@ fn puts_bytes(rt: HostRuntime) -> Result<(), Fail> {
 
 #[test]
 fn copies_tables(rt: HostRuntime) -> Result<(), Fail> {
-    let rows: [(u16, u16, u16, [u8; 8]); 13] = [
+    let rows: [(u16, u16, u16, [u8; 8]); 8] = [
         (0x41, 0x43, 3, [10, 11, 12, 11, 12, 13, 16, 17]),
         (0x43, 0x41, 3, [10, 13, 14, 15, 14, 15, 16, 17]),
         (0x41, 0x43, 0xfffd, [10, 11, 12, 11, 12, 11, 16, 17]),
         (0x41, 0x42, 0xfffd, [10, 11, 11, 11, 11, 15, 16, 17]),
         (0x42, 0, 3, [10, 11, 0, 0, 0, 15, 16, 17]),
         (0x42, 0, 0xfffe, [10, 11, 0, 0, 14, 15, 16, 17]),
+        (0x40, 0x4e, 2, EIGHT),
+        (0xffff, 0xfffe, 0, EIGHT),
+    ];
+    for (first, second, size, bytes) in rows {
+        let mut memory = memory_of(rt.alloc(), 0x50, 0x50, &EIGHT)?;
+        copy_table(&mut memory, first, second, size)?;
+        assert!(rt; holds(&memory, 0x40, &bytes), "{first} to {second}, {size}");
+    }
+    Ok(())
+}
+
+#[test]
+fn copies_tables_that_lie_apart_or_at_an_end(rt: HostRuntime) -> Result<(), Fail> {
+    let rows: [(u16, u16, u16, [u8; 8]); 5] = [
         (0x41, 0x43, 1, [10, 11, 12, 11, 14, 15, 16, 17]),
         (0x40, 0x44, 0xfffc, [10, 11, 12, 13, 10, 11, 12, 13]),
         (0x43, 0x41, 0xfffd, [10, 13, 14, 15, 14, 15, 16, 17]),
         (0x40, 0x4f, 1, EIGHT),
         (0x4f, 0x47, 1, [10, 11, 12, 13, 14, 15, 16, 0]),
-        (0x40, 0x4e, 2, EIGHT),
-        (0xffff, 0xfffe, 0, EIGHT),
     ];
     for (first, second, size, bytes) in rows {
         let mut memory = memory_of(rt.alloc(), 0x50, 0x50, &EIGHT)?;
