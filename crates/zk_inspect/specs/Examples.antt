@@ -2,6 +2,7 @@
 -- hand, and no definition made them.
 use Rattle.std.specs.Prelude.{◌≡◌, ℕ, List, [], ◌∷◌, ◌++◌, replicate, codes, Some, None, true, false}
 use Rattle.zk_mem.specs.Map.{MemoryMap}
+use Rattle.zk_mem.specs.declared.fault.Fault.TheVariants.{CodePastEnd, TextPastEnd, NestedAbbreviation as NestedFault}
 use Rattle.zk_code.specs.declared.branch.Target.TheVariants.{ReturnFalse, ReturnTrue, At, Below, Past}
 use Rattle.zk_code.specs.declared.operands.Operand.TheVariants.{Large, Small, Variable}
 use Rattle.zk_inspect.specs.declared.finding.Number.TheVariants.{Checksum, Length, DictionaryOrder, DictionaryExtent, ObjectLinks, ChainWithARepeat, PropertyList, TextPastTheEnd, NestedAbbreviation, UndecodableCode, TargetOutOfTheStory}
@@ -13,7 +14,11 @@ use Rattle.zk_inspect.specs.HeaderLines.{header_lines}
 use Rattle.zk_inspect.specs.MapLines.{map_lines}
 use Rattle.zk_inspect.specs.ObjectLines.{object_line}
 use Rattle.zk_inspect.specs.Numbers.{address_digits, word_digits, byte_digits}
+use Rattle.zk_inspect.specs.TreeLines.{row_line}
 use Rattle.zk_inspect.specs.Tests.{is_undecodable, leads_out}
+use Rattle.zk_inspect.specs.TextTests.{is_of, text_fails}
+use Rattle.zk_inspect.specs.declared.texts.TextMarks.{TextMarks}
+use Rattle.zk_inspect.specs.declared.text_faults.TextFault.TheVariants.{PastEnd, Nested}
 
 -- ---- numbers
 
@@ -271,3 +276,54 @@ LeadingOut =
     × (leads_out (memory_of 5 (0x8f ∷ 0 ∷ 2 ∷ 0 ∷ 15 ∷ [])) 0 ≡ true)
     × (leads_out (memory_of 5 (0x8f ∷ 0 ∷ 0 ∷ [])) 0 ≡ false)
     × (leads_out (memory_of 5 (0 ∷ [])) 0 ≡ false)
+
+-- marks on the text at 0: one that is printed, one of an abbreviation, and a word of the table that can't be read
+abbrev pub printed_mark : TextMarks
+printed_mark = record { printed = true ∷ []; abbreviations = false ∷ []; unread = false ∷ [] }
+
+abbrev pub abbreviation_mark : TextMarks
+abbreviation_mark = record { printed = false ∷ []; abbreviations = true ∷ []; unread = false ∷ [] }
+
+abbrev pub unread_mark : TextMarks
+unread_mark = record { printed = false ∷ []; abbreviations = false ∷ []; unread = true ∷ [] }
+
+-- each kind is of one fault
+abbrev pub KindsOfFaults : Type 0
+KindsOfFaults =
+    (is_of PastEnd TextPastEnd ≡ true)
+    × (is_of PastEnd NestedFault ≡ false)
+    × (is_of Nested TextPastEnd ≡ false)
+    × (is_of Nested NestedFault ≡ true)
+    × (is_of PastEnd CodePastEnd ≡ false)
+    × (is_of Nested CodePastEnd ≡ false)
+
+-- a text without an end; one that is an abbreviation with an abbreviation in it, which is no fault where it is printed: there
+-- that abbreviation lies outside the story; a word that is not there (section 3.3)
+abbrev pub TextsThatFail : Type 0
+TextsThatFail =
+    (text_fails (memory_of 3 (0x64 ∷ 0xd0 ∷ 0x28 ∷ 0xa5 ∷ [])) printed_mark PastEnd 0 ≡ true)
+    × (text_fails (memory_of 3 (0x64 ∷ 0xd0 ∷ 0x28 ∷ 0xa5 ∷ [])) printed_mark Nested 0 ≡ false)
+    × (text_fails (memory_of 3 (0x64 ∷ 0xd0 ∷ 0x28 ∷ 0xa5 ∷ [])) printed_mark PastEnd 1 ≡ false)
+    × (text_fails (memory_of 3 (0x64 ∷ 0xd0 ∷ 0xa8 ∷ 0xa5 ∷ [])) printed_mark PastEnd 0 ≡ false)
+    × (text_fails (memory_of 3 (0x84 ∷ 0x05 ∷ [])) abbreviation_mark Nested 0 ≡ true)
+    × (text_fails (memory_of 3 (0x84 ∷ 0x05 ∷ [])) abbreviation_mark PastEnd 0 ≡ false)
+    × (text_fails (memory_of 3 (0x84 ∷ 0x05 ∷ [])) printed_mark Nested 0 ≡ false)
+    × (text_fails (memory_of 3 (0x84 ∷ 0x05 ∷ [])) printed_mark PastEnd 0 ≡ true)
+    × (text_fails (memory_of 3 (0x98 ∷ 0xa5 ∷ [])) unread_mark PastEnd 0 ≡ true)
+    × (text_fails (memory_of 3 (0x98 ∷ 0xa5 ∷ [])) unread_mark Nested 0 ≡ false)
+
+-- object 1 of version 3, named `a`
+abbrev pub named_object : MemoryMap
+named_object = listing_object (0 ∷ 0 ∷ 0 ∷ 0 ∷ []) (0 ∷ 0 ∷ 0 ∷ []) (1 ∷ 0x98 ∷ 0xa5 ∷ 0 ∷ [])
+
+-- two spaces for each level, and a name
+abbrev pub RowsAreIndented : Type 0
+RowsAreIndented =
+    (row_line named_object (record { level = 0; object = 1; again = false }) ≡ codes "1 \"a\"\n")
+    × (row_line named_object (record { level = 2; object = 1; again = false }) ≡ codes "    1 \"a\"\n")
+
+-- a star in place of the name of an object that was listed before
+abbrev pub RowsAgain : Type 0
+RowsAgain =
+    (row_line named_object (record { level = 1; object = 1; again = true }) ≡ codes "  1 *\n")
+    × (row_line named_object (record { level = 0; object = 12; again = true }) ≡ codes "12 *\n")

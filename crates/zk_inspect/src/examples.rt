@@ -1,6 +1,6 @@
 // Worked examples of the definitions, which refuse one that is turned together with its body.
 
-ghost use Rattle.zk_inspect.specs.Examples.{AddressesHaveFiveDigits, WordsHaveFourDigits, FindingsOfTables, FindingsOfTextsAndCode, VariablesByNumber, OperandsByType, StoresBehindAnArrow, BranchesBehindAMark, LinesOfOperands, LinesOfBranches, LinesOfVariables, LinesOfJumps, LinesOfTexts, CharactersBetweenQuotes, LinesOfRoutines, RoutinesBehindCode, HeadersAreLines, MapsAreInOrder, AbbreviationsAreLines, NoTableNoLines, DictionariesAreLines, KeysAreWords, ObjectsAreLines, ListsPastTheEnd, UndecodableAddresses, LeadingOut};
+ghost use Rattle.zk_inspect.specs.Examples.{AddressesHaveFiveDigits, WordsHaveFourDigits, FindingsOfTables, FindingsOfTextsAndCode, VariablesByNumber, OperandsByType, StoresBehindAnArrow, BranchesBehindAMark, LinesOfOperands, LinesOfBranches, LinesOfVariables, LinesOfJumps, LinesOfTexts, CharactersBetweenQuotes, LinesOfRoutines, RoutinesBehindCode, HeadersAreLines, MapsAreInOrder, AbbreviationsAreLines, NoTableNoLines, DictionariesAreLines, KeysAreWords, ObjectsAreLines, ListsPastTheEnd, UndecodableAddresses, LeadingOut, KindsOfFaults, TextsThatFail, RowsAreIndented, RowsAgain};
 
 /// Addresses, words and bytes by their digits.
 #[tactic(auto, unfolding(crate::specs::Numbers::hex_digits, crate::specs::Numbers::address_digits, crate::specs::Numbers::word_digits, crate::specs::Numbers::byte_digits))]
@@ -71,4 +71,16 @@ pub fn objects_by_example()
 pub fn checks_by_example()
     ensures undecodable_addresses { UndecodableAddresses }
     ensures leading_out { LeadingOut }
+{}
+
+/// What is wrong with texts (Standard, sections 3.2 and 3.3).
+pub fn failing_texts_by_example()
+    ensures kinds_of_faults { KindsOfFaults }
+    ensures texts_that_fail { TextsThatFail }
+{}
+
+/// The tree of objects (Standard, section 12.3).
+pub fn trees_by_example()
+    ensures rows_are_indented { RowsAreIndented }
+    ensures rows_again { RowsAgain }
 {}

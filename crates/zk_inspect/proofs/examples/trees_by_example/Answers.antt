@@ -1,0 +1,30 @@
+-- The digits of numbers are computed.
+use Rattle.std.proofs.Common.{refl}
+use Rattle.std.specs.Fmt.{digits}
+use Rattle.std.specs.Char.{encode_utf8}
+use Rattle.zk_mem.specs.Map.{byte_at, word_at, cell_at, code_word_at}
+use Rattle.zk_mem.specs.Header.{header_of, unit_length}
+use Rattle.zk_mem.specs.Words.{words_in, words_at, text_end_at}
+use Rattle.zk_text.specs.Alphabets.{alphabet_table, letter_by}
+use Rattle.zk_text.specs.Standard.{standard_letters, standard_characters}
+use Rattle.zk_text.specs.Extra.{unicode_table, own_characters, character}
+use Rattle.zk_text.specs.Meaning.{values, abbreviation, text_units}
+use Rattle.zk_text.specs.Pieces.{pieces_past}
+use Rattle.zk_text.specs.Words.{z_characters}
+use Rattle.zk_text.specs.Shown.{shown, shown_all}
+use Rattle.zk_inspect.specs.Numbers.{hex_digits, address_digits, word_digits, byte_digits}
+use Rattle.zk_inspect.specs.Listing.{quoted_bytes, units_text}
+use Rattle.zk_tables.specs.Layout.{layout_of, is_entry_in, is_entry, entry_of}
+use Rattle.zk_tables.specs.PropertyList.{list_byte}
+use Rattle.zk_tables.specs.Properties.{table_of, name_of}
+use Rattle.zk_inspect.specs.ObjectLines.{name_text, label_text}
+use Rattle.zk_inspect.specs.TreeLines.{indent, again_text, row_text, row_line}
+use Rattle.zk_inspect.proofs.examples.trees_by_example.Goals as goal
+
+pub returns-clause-rows_are_indented : goal.returns-clause-rows_are_indented
+unfolding digits encode_utf8 byte_at word_at cell_at code_word_at header_of unit_length words_in words_at text_end_at alphabet_table letter_by standard_letters standard_characters unicode_table own_characters character values abbreviation text_units pieces_past z_characters shown shown_all hex_digits address_digits word_digits byte_digits quoted_bytes units_text layout_of is_entry_in is_entry entry_of list_byte table_of name_of name_text label_text indent again_text row_text row_line
+returns-clause-rows_are_indented c = (refl, refl)
+
+pub returns-clause-rows_again : goal.returns-clause-rows_again
+unfolding digits encode_utf8 byte_at word_at cell_at code_word_at header_of unit_length words_in words_at text_end_at alphabet_table letter_by standard_letters standard_characters unicode_table own_characters character values abbreviation text_units pieces_past z_characters shown shown_all hex_digits address_digits word_digits byte_digits quoted_bytes units_text layout_of is_entry_in is_entry entry_of list_byte table_of name_of name_text label_text indent again_text row_text row_line
+returns-clause-rows_again c = (refl, refl)
