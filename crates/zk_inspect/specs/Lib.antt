@@ -24,3 +24,4 @@ pub mod TreeLines
 pub mod FindingLines
 pub mod FindingLaws
 pub mod Examples
+pub mod ListExamples

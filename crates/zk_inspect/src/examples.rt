@@ -1,6 +1,7 @@
 // Worked examples of the definitions, which refuse one that is turned together with its body.
 
 ghost use Rattle.zk_inspect.specs.Examples.{AddressesHaveFiveDigits, WordsHaveFourDigits, FindingsOfTables, FindingsOfTextsAndCode, VariablesByNumber, OperandsByType, StoresBehindAnArrow, BranchesBehindAMark, LinesOfOperands, LinesOfBranches, LinesOfVariables, LinesOfJumps, LinesOfTexts, CharactersBetweenQuotes, LinesOfRoutines, RoutinesBehindCode, HeadersAreLines, MapsAreInOrder, AbbreviationsAreLines, NoTableNoLines, DictionariesAreLines, KeysAreWords, ObjectsAreLines, ListsPastTheEnd, UndecodableAddresses, LeadingOut, KindsOfFaults, TextsThatFail, RowsAreIndented, RowsAgain};
+ghost use Rattle.zk_inspect.specs.ListExamples.{FindingsAreLines, AllAbbreviationsAreLines, KeysAreInOrder, KeysBeginEntries, LinksPastTheLast, QuestionsOnObjects, LateObjectsAreLines};
 
 /// Addresses, words and bytes by their digits.
 #[tactic(auto, unfolding(crate::specs::Numbers::hex_digits, crate::specs::Numbers::address_digits, crate::specs::Numbers::word_digits, crate::specs::Numbers::byte_digits))]
@@ -13,6 +14,7 @@ pub fn numbers_by_example()
 pub fn findings_by_example()
     ensures findings_of_tables { FindingsOfTables }
     ensures findings_of_texts_and_code { FindingsOfTextsAndCode }
+    ensures findings_are_lines { FindingsAreLines }
 {}
 
 /// Operands, stores and branches in a disassembly (Standard, sections 4.2, 4.6 and 4.7).
@@ -53,6 +55,7 @@ pub fn headers_by_example()
 pub fn abbreviations_by_example()
     ensures abbreviations_are_lines { AbbreviationsAreLines }
     ensures no_table_no_lines { NoTableNoLines }
+    ensures all_abbreviations_are_lines { AllAbbreviationsAreLines }
 {}
 
 /// Dictionaries (Standard, sections 13.2 to 13.4).
@@ -65,6 +68,19 @@ pub fn dictionaries_by_example()
 pub fn objects_by_example()
     ensures objects_are_lines { ObjectsAreLines }
     ensures lists_past_the_end { ListsPastTheEnd }
+    ensures late_objects_are_lines { LateObjectsAreLines }
+{}
+
+/// The order of a dictionary's keys (Standard, sections 13.2 to 13.5).
+pub fn keys_by_example()
+    ensures keys_are_in_order { KeysAreInOrder }
+    ensures keys_begin_entries { KeysBeginEntries }
+{}
+
+/// What is asked of objects (Standard, sections 12.3 to 12.5).
+pub fn questions_by_example()
+    ensures links_past_the_last { LinksPastTheLast }
+    ensures questions_on_objects { QuestionsOnObjects }
 {}
 
 /// What is wrong with code (Standard, sections 4, 5 and 6).

@@ -104,6 +104,53 @@ fn sections_are_listed(rt: HostRuntime) -> Result<(), Fail> {
     is_listed(&rt, bytes.as_slice(), Listing::Info(sections), map, 0, "")
 }
 
+#[test]
+fn sections_are_listed_alone(rt: HostRuntime) -> Result<(), Fail> {
+    let bytes = story_bytes(rt.alloc(), 3, "BA")?;
+    for (sections, shown) in [
+        (
+            Sections {
+                abbreviations: true,
+                ..NONE
+            },
+            "[abbreviations]\n",
+        ),
+        (
+            Sections {
+                dictionary: true,
+                ..NONE
+            },
+            "[dictionary]\n",
+        ),
+        (
+            Sections {
+                objects: true,
+                ..NONE
+            },
+            "[objects]\n",
+        ),
+        (Sections { tree: true, ..NONE }, "[tree]\n"),
+    ] {
+        let listing = Listing::Info(sections);
+        is_listed(&rt, bytes.as_slice(), listing, shown, 0, "")?;
+    }
+    Ok(())
+}
+
+// More than a screen is given at a time.
+#[test]
+fn long_listings_are_whole(rt: HostRuntime) -> Result<(), Fail> {
+    let mut bytes = story_bytes(rt.alloc(), 3, "")?;
+    let mut shown = String::new(rt.alloc());
+    for address in 0x40..0xb8u8 {
+        bytes.push(0xbb)?;
+        shown.push_str(format!(in rt.alloc(); "000{address:02x} new_line\n")?.as_str())?;
+    }
+    bytes.push(0xba)?;
+    shown.push_str("000b8 quit\n")?;
+    is_listed(&rt, bytes.as_slice(), Listing::Code, shown.as_str(), 0, "")
+}
+
 // Five objects at 7E on, whose property tables stand at AB; 2 and 3 are children of 1.
 #[test]
 fn trees_are_listed(rt: HostRuntime) -> Result<(), Fail> {

@@ -29,3 +29,7 @@ returns-clause-objects_are_lines c = (refl, refl)
 pub returns-clause-lists_past_the_end : goal.returns-clause-lists_past_the_end
 unfolding digits encode_utf8 byte_at word_at cell_at code_word_at header_of unit_length words_in words_at text_end_at alphabet_table letter_by standard_letters standard_characters unicode_table own_characters character values abbreviation text_units pieces_past z_characters shown shown_all hex_digits address_digits word_digits byte_digits quoted_bytes units_text layout_of is_entry_in is_entry entry_of attribute_at address_of number_at link_at list_byte property_by property_at properties_from properties_at table_of list_of properties_of name_of name_text label_text links_text attributes_of property_text properties_text object_line
 returns-clause-lists_past_the_end c = refl
+
+pub returns-clause-late_objects_are_lines : goal.returns-clause-late_objects_are_lines
+unfolding digits encode_utf8 byte_at word_at cell_at code_word_at header_of unit_length words_in words_at text_end_at alphabet_table letter_by standard_letters standard_characters unicode_table own_characters character values abbreviation text_units pieces_past z_characters shown shown_all hex_digits address_digits word_digits byte_digits quoted_bytes units_text layout_of is_entry_in is_entry entry_of attribute_at address_of number_at link_at list_byte property_by property_at properties_from properties_at table_of list_of properties_of name_of name_text label_text links_text attributes_of property_text properties_text object_line
+returns-clause-late_objects_are_lines c = refl
