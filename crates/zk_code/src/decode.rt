@@ -4,7 +4,7 @@ ghost use Rattle.std.specs.Prelude.{ℕ, Ok, Err, IfErr, ◌≡◌, ◌≤◌, �
 ghost use Rattle.zk_mem.specs.declared.fault.Fault.{Fault};
 ghost use Rattle.zk_code.specs.declared.instr.Instr.{Instr};
 ghost use Rattle.zk_code.specs.Grammar.{IsInstruction, IsRefusal};
-ghost use Rattle.zk_code.specs.Ends.{AreEnds};
+ghost use Rattle.zk_code.specs.Ends.{AreEnds, KnowsEnds};
 ghost use Rattle.zk_code.specs.Reading.{operand_at, operands_at, store_at, branch_by, branch_here, branch_at, text_at, instr_at};
 
 use crate::branch::{Branch, target_of_branch};
@@ -203,7 +203,7 @@ pub fn decode(memory: &Memory, address: u32) -> Result<Instr, Fault>
 /// for each instruction that it belongs to.
 #[tactic(auto, using(crate::proofs::Whole::is_found, crate::proofs::Whole::is_only, crate::proofs::Cut::is_refused))]
 pub fn decode_by(memory: &Memory, ends: &TextEnds, address: u32) -> Result<Instr, Fault>
-    requires { AreEnds memory.now ends.now.blocks.items }
+    requires { KnowsEnds memory.now ends.now }
     ensures found { IfOk result (λ i. IsInstruction memory.now address i i.next) }
     ensures only { (i : Instr) (b : ℕ) → IsInstruction memory.now address i b → (result ≡ Ok i) × (i.next ≡ b) }
     ensures value { result ≡ instr_at memory.now address }

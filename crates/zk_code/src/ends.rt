@@ -3,7 +3,7 @@
 ghost use Rattle.std.specs.Prelude.{◌≡◌, ◌≤◌, ◌<◌, [], IfOk, IfSome, length};
 ghost use Rattle.zk_mem.specs.Map.{MemoryMap};
 ghost use Rattle.zk_mem.specs.Words.{text_end_at};
-ghost use Rattle.zk_code.specs.Ends.{AreEnds, IsOfBlock};
+ghost use Rattle.zk_code.specs.Ends.{AreEnds, IsOfBlock, KnowsEnds};
 
 use std::alloc::{AllocError, Global};
 use zk_mem::memory::Memory;
@@ -91,7 +91,7 @@ pub struct TextEnds {
 impl TextEnds {
     /// Refused for want of memory alone.
     pub fn find(alloc: Global, memory: &Memory) -> Result<TextEnds, AllocError>
-        ensures { IfOk result (λ ends. AreEnds memory.now ends.blocks.items) }
+        ensures { IfOk result (KnowsEnds memory.now) }
     {
         let count = memory.len() as usize / 256 + 1;
         let mut blocks = unknown(alloc, count)?;

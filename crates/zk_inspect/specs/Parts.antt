@@ -1,7 +1,7 @@
 -- What a check has at hand, and what it has found of a number.
 use Rattle.std.specs.Prelude.{◌≡◌, ℕ, List, ◌++◌, map}
 use Rattle.zk_mem.specs.Map.{MemoryMap}
-use Rattle.zk_code.specs.Ends.{AreEnds}
+use Rattle.zk_code.specs.Ends.{KnowsEnds}
 use Rattle.zk_inspect.specs.declared.checking.Parts.{Parts}
 use Rattle.zk_inspect.specs.declared.finding.Finding.{Finding}
 use Rattle.zk_inspect.specs.declared.finding.Number.{Number}
@@ -13,7 +13,7 @@ use Rattle.zk_inspect.specs.TextTests.{AreTextMarks}
 
 -- the ends of texts, the code, the objects and the texts of a story
 pub record AreParts (m : MemoryMap) (parts : Parts) : Type 0 where
-  pub ends : AreEnds m parts.ends.blocks.items
+  pub ends : KnowsEnds m parts.ends
   pub code : IsCodeOf m parts.code
   pub objects : AreObjects m parts.objects
   pub texts : AreTextMarks m parts.texts

@@ -2,7 +2,7 @@
 
 ghost use Rattle.std.specs.Prelude.{◌≡◌, ◌≤◌, ◌++◌, ◌^◌, IfOk, OnOk, map};
 ghost use Rattle.std.specs.List.{filter};
-ghost use Rattle.zk_code.specs.Ends.{AreEnds};
+ghost use Rattle.zk_code.specs.Ends.{KnowsEnds};
 ghost use Rattle.zk_inspect.specs.Codes.{IsCodeOf};
 ghost use Rattle.zk_inspect.specs.Findings.{AreFindings, Finds, at_address};
 ghost use Rattle.zk_inspect.specs.Lists.{IsListOf};
@@ -45,7 +45,7 @@ fn find_length_past_end(alloc: Global, memory: &Memory) -> Result<Addresses, All
 
 /// Whether there is no instruction at an address.
 fn is_undecodable(memory: &Memory, ends: &TextEnds, address: u32) -> bool
-    requires { AreEnds memory.now ends.now.blocks.items }
+    requires { KnowsEnds memory.now ends.now }
     ensures { result ≡ is_undecodable memory.now address }
 {
     decode_by(memory, ends, address).is_err()
@@ -100,7 +100,7 @@ fn instr_leads_out(memory: &Memory, instr: &Instr) -> bool
 
 /// Whether the instruction at an address leads out of the story.
 fn leads_out(memory: &Memory, ends: &TextEnds, address: u32) -> bool
-    requires { AreEnds memory.now ends.now.blocks.items }
+    requires { KnowsEnds memory.now ends.now }
     ensures { result ≡ leads_out memory.now address }
 {
     match decode_by(memory, ends, address) {
@@ -120,7 +120,7 @@ enum CodeQuestion {
 
 /// The answer to a question.
 fn code_answer(memory: &Memory, ends: &TextEnds, question: CodeQuestion, address: u32) -> bool
-    requires { AreEnds memory.now ends.now.blocks.items }
+    requires { KnowsEnds memory.now ends.now }
     ensures { result ≡ code_answer memory.now question address }
 {
     match question {
@@ -137,7 +137,7 @@ fn list_code(
     question: CodeQuestion,
     addresses: &[u32],
 ) -> Result<Addresses, AllocError>
-    requires { AreEnds memory.now ends.now.blocks.items }
+    requires { KnowsEnds memory.now ends.now }
     ensures { IfOk result (λ list. list ≡ filter (code_answer memory.now question) addresses.now) }
 {
     let mut list = Addresses::new(alloc);
@@ -156,7 +156,7 @@ fn find_undecodable(
     ends: &TextEnds,
     code: &Code,
 ) -> Result<Addresses, AllocError>
-    requires ends { AreEnds memory.now ends.now.blocks.items }
+    requires ends { KnowsEnds memory.now ends.now }
     requires code { IsCodeOf memory.now code.now }
     ensures { IfOk result (IsListOf (Finds memory.now Number.UndecodableCode)) }
 {
@@ -173,7 +173,7 @@ fn find_leading_out(
     ends: &TextEnds,
     code: &Code,
 ) -> Result<Addresses, AllocError>
-    requires ends { AreEnds memory.now ends.now.blocks.items }
+    requires ends { KnowsEnds memory.now ends.now }
     requires code { IsCodeOf memory.now code.now }
     ensures { IfOk result (IsListOf (Finds memory.now Number.TargetOutOfTheStory)) }
 {

@@ -3,7 +3,7 @@
 ghost use Rattle.std.specs.Prelude.{◌≡◌, ◌≤◌, ◌<◌, ◌+◌, ◌^◌, ℕ, true, IfOk, OnOk, Some, Ok, length};
 ghost use Rattle.zk_code.specs.Reach.{IsReached, branch_address, constant_call, goes_on, jump_address};
 ghost use Rattle.zk_code.specs.Routines.{code_start};
-ghost use Rattle.zk_code.specs.Ends.{AreEnds};
+ghost use Rattle.zk_code.specs.Ends.{KnowsEnds};
 ghost use Rattle.zk_code.specs.Grammar.{IsInstruction};
 ghost use Rattle.zk_mem.specs.Map.{HasBytes};
 ghost use Rattle.zk_inspect.specs.Codes.{IsCodeOf};
@@ -190,7 +190,7 @@ impl Search {
 
     /// All ways on from an address are reached, where there is an instruction.
     fn expand(&mut self, memory: &Memory, ends: &TextEnds, address: u32) -> Result<(), AllocError>
-        requires ends { AreEnds memory.now ends.now.blocks.items }
+        requires ends { KnowsEnds memory.now ends.now }
         requires search { IsSearch memory.now self.old }
         requires reached { IsReached memory.now address }
         ensures search { OnOk result (IsSearch memory.now self.new) }

@@ -2,7 +2,7 @@
 
 ghost use Rattle.std.specs.Prelude.{◌≡◌, ◌≢◌, ◌≤◌, ◌<◌, ◌*◌, ◌+◌, ◌↔◌, ℕ, IfOk, IfSome, Some, length};
 ghost use Rattle.zk_mem.specs.Header.{header_of};
-ghost use Rattle.zk_code.specs.Ends.{AreEnds};
+ghost use Rattle.zk_code.specs.Ends.{KnowsEnds};
 ghost use Rattle.zk_code.specs.Grammar.{IsInstruction};
 ghost use Rattle.zk_code.specs.Reach.{IsReached};
 ghost use Rattle.zk_inspect.specs.Codes.{IsCodeOf};
@@ -116,7 +116,7 @@ fn mark_addressed(memory: &Memory, address: u32, instr: &Instr, marks: &mut Mark
 
 /// Marks the texts of the instruction at an address, where there is one.
 fn mark_texts(memory: &Memory, ends: &TextEnds, address: u32, marks: &mut Marks)
-    requires ends { AreEnds memory.now ends.now.blocks.items }
+    requires ends { KnowsEnds memory.now ends.now }
     requires reached { IsReached memory.now address }
     requires marks { IsTextMarks memory.now marks.old }
     ensures marks { IsTextMarks memory.now marks.new }
@@ -146,7 +146,7 @@ fn mark_names(memory: &Memory, count: u16, marks: &mut Marks)
 
 /// Marks the texts of the instructions that are reached.
 fn mark_code(memory: &Memory, ends: &TextEnds, code: &Code, marks: &mut Marks)
-    requires ends { AreEnds memory.now ends.now.blocks.items }
+    requires ends { KnowsEnds memory.now ends.now }
     requires code { IsCodeOf memory.now code.now }
     requires marks { IsTextMarks memory.now marks.old }
     ensures marks { IsTextMarks memory.now marks.new }
@@ -167,7 +167,7 @@ fn mark_printed(
     count: u16,
     code: &Code,
 ) -> Result<Marks, AllocError>
-    requires ends { AreEnds memory.now ends.now.blocks.items }
+    requires ends { KnowsEnds memory.now ends.now }
     requires counted { IsCounted memory.now count }
     requires code { IsCodeOf memory.now code.now }
     ensures size { IfOk result (λ marks. length marks ≡ 524289) }
@@ -225,7 +225,7 @@ pub(crate) fn mark_all_texts(
     count: u16,
     code: &Code,
 ) -> Result<TextMarks, AllocError>
-    requires ends { AreEnds memory.now ends.now.blocks.items }
+    requires ends { KnowsEnds memory.now ends.now }
     requires counted { IsCounted memory.now count }
     requires code { IsCodeOf memory.now code.now }
     ensures { IfOk result (λ marks. AreTextMarks memory.now marks) }

@@ -1,5 +1,5 @@
 -- The faults of texts, from their ends on.
-use Rattle.std.proofs.Common.{◌≡◌, ◌∙◌, ◌⊎◌, inl, inr, ℕ, zero, suc, ◌+◌, ◌*◌, ◌/◌, ◌%◌, ◌≤◌, ◌<◌, List, [], ◌∷◌, ◌++◌, length, Option, Some, None, Ok, Err, true, false, nat_le, refl, sym, ap, subst, arith}
+use Rattle.std.proofs.Common.{◌≡◌, ◌∙◌, ◌⊎◌, inl, inr, ℕ, zero, suc, ◌+◌, ◌*◌, ◌≤◌, ◌<◌, List, [], ◌∷◌, ◌++◌, length, Option, Some, None, Ok, Err, true, false, nat_le, refl, sym, ap, subst, arith}
 use Rattle.std.specs.Prelude.{slice_get}
 use Rattle.zk_mem.specs.declared.fault.Fault.{Fault}
 use Rattle.zk_mem.specs.Map.{MemoryMap, code_word_at}
@@ -75,17 +75,13 @@ unfolding z_characters
 nothing_behind m h = sym (ap fault_of (held_ends m (abbreviation m) h))
 
 -- which upper half is held back shows in no fault
-half_fault : (m : MemoryMap) (a b c : ℕ) (zs : List ℕ) → fault_behind m (held.UpperHalf a) (c ∷ zs) ≡ fault_behind m (held.UpperHalf b) (c ∷ zs)
+pub half_fault : (m : MemoryMap) (a b c : ℕ) (zs : List ℕ) → fault_behind m (held.UpperHalf a) (c ∷ zs) ≡ fault_behind m (held.UpperHalf b) (c ∷ zs)
 unfolding pieces_past values
 half_fault m a b c zs = go (values (letter_of m) (abbreviation m) (pieces zs))
   where
     go : (r : Units) → fault_of (joined (Ok (unit.Code (32 * a + c) ∷ [])) r) ≡ fault_of (joined (Ok (unit.Code (32 * b + c) ∷ [])) r)
     go (Ok us) = refl
     go (Err f) = refl
-
-pub any_half : (m : MemoryMap) (a b w : ℕ) (ws : List ℕ) → fault_behind m (held.UpperHalf a) (z_characters (w ∷ ws)) ≡ fault_behind m (held.UpperHalf b) (z_characters (w ∷ ws))
-unfolding z_characters
-any_half m a b w ws = half_fault m a b (w / 1024 % 32) (w / 32 % 32 ∷ w % 32 ∷ z_characters ws)
 
 -- no text begins past the end
 pub none_past : (m : MemoryMap) (a : ℕ) → length m.bytes ≤ a → words_at m a ≡ None

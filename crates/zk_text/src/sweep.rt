@@ -66,6 +66,7 @@ fn piece_fault(memory: &Memory, faults: &[Option<Fault>], piece: Option<Piece>) 
 }
 
 /// One Z-character: what is held back then, and the fault of the piece that it ends.
+#[inline(always)]
 fn pass(
     memory: &Memory,
     faults: &[Option<Fault>],
@@ -109,6 +110,7 @@ impl Rest {
         }
     }
 
+    #[inline(always)]
     fn kept_for(&self, held: Held) -> Option<Fault>
         ensures { result ≡ kept_for self.now held }
     {
@@ -125,49 +127,52 @@ impl Rest {
     }
 }
 
-/// The fault of a word and the rest behind it.
-#[tactic(auto, unfolding(crate::specs::Words::z_characters))]
-fn word_fault(
+/// The fault of a Z-character, by what is held back before it, and of the rest behind it.
+#[inline(always)]
+fn fault_before(
     memory: &Memory,
     faults: &[Option<Fault>],
     held: Held,
-    word: u16,
+    character: u8,
     rest: &Rest,
 ) -> Option<Fault>
     requires { AreFaults memory.now faults.now }
-    ensures { (ws : List ℕ) → IsRestOf memory.now (z_characters ws) rest.now → result ≡ fault_behind memory.now held (z_characters (word ∷ ws)) }
+    ensures { (zs : List ℕ) → IsRestOf memory.now zs rest.now → result ≡ fault_behind memory.now held (character ∷ zs) }
 {
-    let (held, fault) = pass(memory, faults, held, (word / 1024 % 32) as u8);
+    let (next, fault) = pass(memory, faults, held, character);
     if fault.is_some() {
         return fault;
     }
-    let (held, fault) = pass(memory, faults, held, (word / 32 % 32) as u8);
-    if fault.is_some() {
-        return fault;
+    rest.kept_for(next)
+}
+
+/// What is known of a Z-character and the rest behind it.
+fn rest_before(memory: &Memory, faults: &[Option<Fault>], character: u8, rest: &Rest) -> Rest
+    requires { AreFaults memory.now faults.now }
+    ensures { (zs : List ℕ) → IsRestOf memory.now zs rest.now → IsRestOf memory.now (character ∷ zs) result }
+{
+    Rest {
+        nothing: fault_before(memory, faults, Held::Nothing, character, rest),
+        first: fault_before(memory, faults, Held::First, character, rest),
+        second: fault_before(memory, faults, Held::Second, character, rest),
+        third: fault_before(memory, faults, Held::Third, character, rest),
+        shift_to_a1: fault_before(memory, faults, Held::ShiftToA1, character, rest),
+        shift_to_a2: fault_before(memory, faults, Held::ShiftToA2, character, rest),
+        escape: fault_before(memory, faults, Held::Escape, character, rest),
+        // which half it is shows in no fault
+        upper_half: fault_before(memory, faults, Held::UpperHalf(0), character, rest),
     }
-    let (held, fault) = pass(memory, faults, held, (word % 32) as u8);
-    if fault.is_some() {
-        return fault;
-    }
-    rest.kept_for(held)
 }
 
 /// What is known of a word and the rest behind it.
-fn rest_before(memory: &Memory, faults: &[Option<Fault>], word: u16, rest: &Rest) -> Rest
+#[tactic(auto, unfolding(crate::specs::Words::z_characters))]
+fn word_before(memory: &Memory, faults: &[Option<Fault>], word: u16, rest: &Rest) -> Rest
     requires { AreFaults memory.now faults.now }
     ensures { (ws : List ℕ) → IsRestOf memory.now (z_characters ws) rest.now → IsRestOf memory.now (z_characters (word ∷ ws)) result }
 {
-    Rest {
-        nothing: word_fault(memory, faults, Held::Nothing, word, rest),
-        first: word_fault(memory, faults, Held::First, word, rest),
-        second: word_fault(memory, faults, Held::Second, word, rest),
-        third: word_fault(memory, faults, Held::Third, word, rest),
-        shift_to_a1: word_fault(memory, faults, Held::ShiftToA1, word, rest),
-        shift_to_a2: word_fault(memory, faults, Held::ShiftToA2, word, rest),
-        escape: word_fault(memory, faults, Held::Escape, word, rest),
-        // which half it is shows in no fault
-        upper_half: word_fault(memory, faults, Held::UpperHalf(0), word, rest),
-    }
+    let third = rest_before(memory, faults, (word % 32) as u8, rest);
+    let second = rest_before(memory, faults, (word / 32 % 32) as u8, &third);
+    rest_before(memory, faults, (word / 1024 % 32) as u8, &second)
 }
 
 /// What is known of the text at an address, by the text of its second word.
@@ -185,10 +190,10 @@ fn text_rest(
         return None;
     };
     if word >= 0x8000 {
-        return Some(rest_before(memory, faults, word, &Rest::none()));
+        return Some(word_before(memory, faults, word, &Rest::none()));
     }
     match further {
-        Some(rest) => Some(rest_before(memory, faults, word, &rest)),
+        Some(rest) => Some(word_before(memory, faults, word, &rest)),
         None => None,
     }
 }
