@@ -13,7 +13,7 @@ use Rattle.zk_inspect.specs.Texts.{table_place}
 use Rattle.zk_inspect.specs.TextTests.{AreTableMarks, IsTableMarks}
 use Rattle.zk_inspect.proofs.Marking.{marked_cases, marked_now, marked_still}
 
-pub table_begins : (m : MemoryMap) (texts unread : List Bool) → length texts ≡ 524289 → length unread ≡ 524289 → ((a : ℕ) → IsMarked texts a → ⊥) → ((a : ℕ) → IsMarked unread a → ⊥) → IsTableMarks m 0 texts unread
+pub table_begins : (m : MemoryMap) (texts unread : List Bool) → length texts ≡ 131071 → length unread ≡ 131071 → ((a : ℕ) → IsMarked texts a → ⊥) → ((a : ℕ) → IsMarked unread a → ⊥) → IsTableMarks m 0 texts unread
 table_begins m texts unread size unread_size none no_word = record {
   size = size;
   unread_size = unread_size;
@@ -54,7 +54,7 @@ unfolding word_at
 bad_word m a f h = elim (chosen (nat_lt (a + 1) (readable_end m)) _ _ _ h) [ inl p ↦ absurd (let e = p.1 in cc) | inr p ↦ h ∙ sym p.1 ]
 
 -- a word that can't be read
-pub table_unread : (m : MemoryMap) (n : ℕ) (f : Fault) (texts unread new : List Bool) → n < 96 → (header_of m.file).abbreviations ≢ 0 → table_place m n < 524289 → word_at m (table_place m n) ≡ Err f → IsTableMarks m n texts unread → new ≡ slice_set unread (table_place m n) true → IsTableMarks m (n + 1) texts new
+pub table_unread : (m : MemoryMap) (n : ℕ) (f : Fault) (texts unread new : List Bool) → n < 96 → (header_of m.file).abbreviations ≢ 0 → table_place m n < 131071 → word_at m (table_place m n) ≡ Err f → IsTableMarks m n texts unread → new ≡ slice_set unread (table_place m n) true → IsTableMarks m (n + 1) texts new
 table_unread m n f texts unread new few tabled near fails h is =
     let size = h.unread_size in
     let inside : table_place m n < length unread = omega arith in

@@ -53,8 +53,8 @@ Keeps old new = (a : ℕ) → IsMarked old a → IsMarked new a
 
 -- what the words of the table of abbreviations before one name is marked, and the words that can't be read
 pub record IsTableMarks (m : MemoryMap) (number : ℕ) (texts unread : List Bool) : Type 0 where
-  pub size : length texts ≡ 524289
-  pub unread_size : length unread ≡ 524289
+  pub size : length texts ≡ 131071
+  pub unread_size : length unread ≡ 131071
   pub sound : (a : ℕ) → IsMarked texts a → IsAbbreviation m a
   pub whole : (n word : ℕ) → n < number → word_at m (table_place m n) ≡ Ok word → IsMarked texts (2 * word)
   pub unread_sound : (a : ℕ) → IsMarked unread a → IsUnread m a
@@ -62,8 +62,8 @@ pub record IsTableMarks (m : MemoryMap) (number : ℕ) (texts unread : List Bool
 
 -- the same of the whole table, which there is where the header names one
 pub record AreTableMarks (m : MemoryMap) (texts unread : List Bool) : Type 0 where
-  pub size : length texts ≡ 524289
-  pub unread_size : length unread ≡ 524289
+  pub size : length texts ≡ 131071
+  pub unread_size : length unread ≡ 131071
   pub named : (a : ℕ) → IsMarked texts a ↔ IsAbbreviation m a
   pub words : (a : ℕ) → IsMarked unread a ↔ IsUnread m a
 

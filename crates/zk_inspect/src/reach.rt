@@ -236,6 +236,7 @@ pub fn reach(alloc: Global, memory: &Memory) -> Result<Code, AllocError>
     ensures { IfOk result (λ code. IsCodeOf memory.now code) }
 {
     let search = find_all(alloc, memory)?;
+    drop(search.found);
     let addresses = search.marks.list(alloc)?;
     let routines = search.routines.list(alloc)?;
     Ok(Code {

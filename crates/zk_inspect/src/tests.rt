@@ -12,10 +12,15 @@ use zk_term::over::Over;
 
 /// A story that ends with this code, which begins at 0x40.
 pub(crate) fn story(alloc: Global, version: u8, code: &[u8]) -> Result<Memory, Fail> {
+    story_from(alloc, version, 0x40, code)
+}
+
+/// A story that ends with this code from 0x40 on, whose first instruction is given.
+fn story_from(alloc: Global, version: u8, first: u8, code: &[u8]) -> Result<Memory, Fail> {
     let mut header = [0; 64];
     header[0] = version;
     header[0x05] = 0x40;
-    header[0x07] = 0x40;
+    header[0x07] = first;
     header[0x0f] = 0x40;
     let mut file = header.to_vec(alloc)?;
     file.extend_from_slice(code)?;
@@ -25,10 +30,13 @@ pub(crate) fn story(alloc: Global, version: u8, code: &[u8]) -> Result<Memory, F
 
 /// The disassembly of such a story.
 fn listed(alloc: Global, version: u8, code: &[u8]) -> Result<Vec<u8>, Fail> {
-    let memory = story(alloc, version, code)?;
-    let code = reach(alloc, &memory)?;
+    list(alloc, &story(alloc, version, code)?)
+}
+
+fn list(alloc: Global, memory: &Memory) -> Result<Vec<u8>, Fail> {
+    let code = reach(alloc, memory)?;
     let mut target = Over::new(Vec::new(alloc));
-    match disassemble(&memory, &code, &mut target) {
+    match disassemble(memory, &code, &mut target) {
         Ok(()) => {}
         Err(_) => {}
     }
@@ -57,6 +65,17 @@ fn routines_are_listed(rt: HostRuntime) -> Result<(), Fail> {
     assert_eq!(rt;
         text.as_slice(),
         b"00040 call #0023 -> sp\n00045 quit\n00047 call #0023 -> sp\n0004c rtrue\nroutine 00046 locals 0\n".as_slice()
+    );
+    Ok(())
+}
+
+#[test]
+fn the_first_routine_may_follow_the_header(rt: HostRuntime) -> Result<(), Fail> {
+    // the story begins inside the routine, which calls itself
+    let memory = story_from(rt.alloc(), 3, 0x41, &[0, 0xe0, 0x3f, 0, 0x20, 0, 0xba])?;
+    assert_eq!(rt;
+        list(rt.alloc(), &memory)?.as_slice(),
+        b"00041 call #0020 -> sp\n00046 quit\nroutine 00040 locals 0\n".as_slice()
     );
     Ok(())
 }
@@ -150,5 +169,42 @@ fn a_failed_write_is_told(rt: HostRuntime) -> Result<(), Fail> {
     );
     let Narrow { taken } = target.into_inner();
     assert_eq!(rt; taken.as_slice(), b"000".as_slice());
+    Ok(())
+}
+
+/// Takes a byte at a time, but no name that begins with a `p`.
+struct Picky {
+    taken: Vec<u8>,
+}
+
+impl Write for Picky {
+    fn write(&mut self, bytes: &[u8]) -> io::Result<usize> {
+        match bytes {
+            [first, ..] if *first != b'p' => {
+                self.taken.push(*first)?;
+                Ok(1)
+            }
+            _ => Err(io::ErrorKind::Other.into()),
+        }
+    }
+
+    fn flush(&mut self) -> io::Result<()> {
+        Ok(())
+    }
+}
+
+#[test]
+fn nothing_follows_a_failed_write(rt: HostRuntime) -> Result<(), Fail> {
+    let memory = story(rt.alloc(), 3, &[0xb2, 0xb5, 0xc5, 0xbb, 0xba])?;
+    let code = reach(rt.alloc(), &memory)?;
+    let mut target = Over::new(Picky {
+        taken: Vec::new(rt.alloc()),
+    });
+    assert_eq!(rt;
+        disassemble(&memory, &code, &mut target),
+        Err(ListError::Write)
+    );
+    let Picky { taken } = target.into_inner();
+    assert_eq!(rt; taken.as_slice(), b"00040 ".as_slice());
     Ok(())
 }

@@ -471,9 +471,9 @@ fn long_chains_end(rt: HostRuntime) -> Result<(), Fail> {
     Ok(())
 }
 
-/// A story of version 5 of a length, filled with `rtrue`.
-fn filled(alloc: Global, length: u32) -> Result<Vec<u8>, Fail> {
-    let mut file = bytes_of(5, &[]).to_vec(alloc)?;
+/// A story of version 5 of a length, filled with `rtrue`, with parts in its header.
+fn filled(alloc: Global, length: u32, parts: &[Part]) -> Result<Vec<u8>, Fail> {
+    let mut file = bytes_of(5, parts).to_vec(alloc)?;
     file.truncate(64);
     for _address in 64..length {
         file.push(0xb0)?;
@@ -483,8 +483,21 @@ fn filled(alloc: Global, length: u32) -> Result<Vec<u8>, Fail> {
 
 #[test]
 fn the_longest_story_is_checked(rt: HostRuntime) -> Result<(), Fail> {
-    let file = filled(rt.alloc(), 262_144)?;
+    let file = filled(rt.alloc(), 262_144, &[])?;
     let list = found(rt.alloc(), file.as_slice())?;
     assert_eq!(rt; list.as_slice(), [at(Number::Checksum, 0x1c)].as_slice());
+    Ok(())
+}
+
+#[test]
+fn words_past_data_are_not_read(rt: HostRuntime) -> Result<(), Fail> {
+    // seven words of the table lie in data and name a text past the end; the next one lies in the story, where it would be
+    // a text that ends
+    let file = filled(rt.alloc(), 0x10002, &[(0x18, &[0xff, 0xf2])])?;
+    let list = found(rt.alloc(), file.as_slice())?;
+    assert_eq!(rt; list.len(), 91);
+    assert_eq!(rt; list[0], at(Number::Checksum, 0x1c));
+    assert_eq!(rt; list[1], at(Number::TextPastTheEnd, 0x10000));
+    assert_eq!(rt; list[90], at(Number::TextPastTheEnd, 0x16160));
     Ok(())
 }

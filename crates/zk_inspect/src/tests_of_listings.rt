@@ -328,6 +328,14 @@ fn trees_with_loops_are_listed(rt: HostRuntime) -> Result<(), Fail> {
     // 1 and 3 are in a loop that no root comes to, and 5 has the child 4
     let memory = family(rt.alloc(), &[(0x82, &[3]), (0x96, &[1]), (0xa8, &[4])])?;
     lists(&rt, &memory, Wanted::Tree, "4 \"\"\n5 \"\"\n  4 *\n")?;
+    // 1 has the sibling 4, though neither has a parent
+    let memory = family(rt.alloc(), &[(0x83, &[4])])?;
+    lists(
+        &rt,
+        &memory,
+        Wanted::Tree,
+        "1 \"\"\n  2 \"\"\n  3 \"\"\n4 \"\"\n5 \"\"\n",
+    )?;
     // 5 and 4 are children of 1 that have no parent
     let memory = family(rt.alloc(), &[(0x84, &[5]), (0xa7, &[4])])?;
     lists(

@@ -27,6 +27,10 @@ use zk_tables::properties::name;
 /// more bytes.
 pub(crate) const TEXTS_END: u32 = 524_289;
 
+/// No abbreviation is looked for at or above this address: the highest word address is twice 65,535. Nor has the table of
+/// abbreviations a word there.
+const ABBREVIATIONS_END: u32 = 131_071;
+
 /// The byte address of the text that an operation prints by a constant.
 fn addressed_by(memory: &Memory, operation: Printing, operand: Option<u16>) -> Option<u32>
     ensures value { result ≡ addressed_by memory.now operation operand }
@@ -231,8 +235,8 @@ pub(crate) fn mark_all_texts(
     ensures { IfOk result (λ marks. AreTextMarks memory.now marks) }
 {
     let printed = mark_printed(alloc, memory, ends, count, code)?;
-    let mut abbreviations = unmarked(alloc, TEXTS_END)?;
-    let mut unread = unmarked(alloc, TEXTS_END)?;
+    let mut abbreviations = unmarked(alloc, ABBREVIATIONS_END)?;
+    let mut unread = unmarked(alloc, ABBREVIATIONS_END)?;
     mark_table(memory, &mut abbreviations, &mut unread);
     Ok(TextMarks {
         printed,

@@ -19,7 +19,7 @@ pub struct Layout {
     pub most_objects: u16,
 }
 
-const EARLY: Layout = Layout {
+pub(crate) const EARLY: Layout = Layout {
     default_words: 31,
     attribute_bytes: 4,
     link_bytes: 1,
@@ -27,7 +27,7 @@ const EARLY: Layout = Layout {
     most_objects: 255,
 };
 
-const LATE: Layout = Layout {
+pub(crate) const LATE: Layout = Layout {
     default_words: 63,
     attribute_bytes: 6,
     link_bytes: 2,
@@ -51,13 +51,15 @@ fn entries_start(memory: &Memory, layout: Layout) -> u32
     memory.header().objects as u32 + 2 * layout.default_words as u32
 }
 
-/// Where the entry of an object begins, or `BadObject` where it has none in data.
+/// Where the entry of an object begins in a layout, or `BadObject` where it has none in data.
+#[inline(always)]
 #[tactic(auto, unfolding(crate::specs::Layout::entry_of, crate::specs::Layout::is_entry, crate::specs::Layout::is_entry_in))]
-pub(crate) fn entry(memory: &Memory, object: u16) -> Result<u32, Fault>
+pub(crate) fn entry_in(memory: &Memory, layout: Layout, object: u16) -> Result<u32, Fault>
+    requires layout { layout ≡ layout_of memory.now.version }
+    requires entry { 9 ≤ layout.entry_bytes }
     ensures value { result ≡ entry_of memory.now object }
     ensures bound { IfOk result (λ address. address < 65536) }
 {
-    let layout = layout_for(memory);
     if object == 0 || object > layout.most_objects {
         return Err(Fault::BadObject);
     }
@@ -67,6 +69,21 @@ pub(crate) fn entry(memory: &Memory, object: u16) -> Result<u32, Fault>
         return Err(Fault::BadObject);
     }
     Ok(first + size * (object - 1) as u32)
+}
+
+/// Where the entry of an object begins, or `BadObject` where it has none in data.
+#[inline(always)]
+#[tactic(auto, unfolding(crate::specs::Layout::layout_of))]
+pub(crate) fn entry(memory: &Memory, object: u16) -> Result<u32, Fault>
+    ensures value { result ≡ entry_of memory.now object }
+    ensures bound { IfOk result (λ address. address < 65536) }
+{
+    // the sizes are known in each arm
+    if memory.version() < 4 {
+        entry_in(memory, EARLY, object)
+    } else {
+        entry_in(memory, LATE, object)
+    }
 }
 
 /// How many entries fit into data.

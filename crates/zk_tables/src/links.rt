@@ -1,9 +1,10 @@
 // The links of objects.
 
 ghost use Rattle.std.specs.Prelude.{◌≡◌, ◌≤◌, ◌<◌, [], ◌∷◌, Ok, Err, IfOk, MatchResult};
+ghost use Rattle.zk_tables.specs.Layout.{layout_of};
 ghost use Rattle.zk_tables.specs.Links.{address_of, number_at, number_put, link_at, link_put, write_test, write_tests, order_of, parent_of, sibling_of, child_of};
 
-use crate::layout::{entry, layout_for};
+use crate::layout::{EARLY, LATE, Layout, entry_in, layout_for};
 use zk_mem::fault::Fault;
 use zk_mem::memory::Memory;
 
@@ -63,17 +64,35 @@ pub(crate) fn child_link(object: u16) -> Place
     }
 }
 
-/// Where a link stands.
+/// Where a link stands in a layout.
+#[inline(always)]
 #[tactic(auto, unfolding(crate::specs::Links::address_of))]
+fn address_in(memory: &Memory, layout: Layout, place: Place) -> Result<u32, Fault>
+    requires layout { layout ≡ layout_of memory.now.version }
+    requires entry { 9 ≤ layout.entry_bytes }
+    ensures value { result ≡ address_of memory.now place }
+    ensures bound { IfOk result (λ address. address < 131072) }
+{
+    let entry = entry_in(memory, layout, place.object)?;
+    Ok(entry + layout.attribute_bytes as u32 + layout.link_bytes as u32 * place.link.order() as u32)
+}
+
+/// Where a link stands.
+#[inline(always)]
+#[tactic(auto, unfolding(crate::specs::Layout::layout_of))]
 pub(crate) fn address(memory: &Memory, place: Place) -> Result<u32, Fault>
     ensures value { result ≡ address_of memory.now place }
     ensures bound { IfOk result (λ address. address < 131072) }
 {
-    let entry = entry(memory, place.object)?;
-    let layout = layout_for(memory);
-    Ok(entry + layout.attribute_bytes as u32 + layout.link_bytes as u32 * place.link.order() as u32)
+    // the sizes are known in each arm
+    if memory.version() < 4 {
+        address_in(memory, EARLY, place)
+    } else {
+        address_in(memory, LATE, place)
+    }
 }
 
+#[inline(always)]
 #[tactic(auto, unfolding(crate::specs::Links::number_at))]
 fn read_number(memory: &Memory, address: u32) -> Result<u16, Fault>
     ensures { result ≡ number_at memory.now address }
@@ -85,6 +104,7 @@ fn read_number(memory: &Memory, address: u32) -> Result<u16, Fault>
     }
 }
 
+#[inline(always)]
 #[tactic(auto, unfolding(crate::specs::Links::number_put))]
 fn write_number(memory: &mut Memory, address: u32, object: u16) -> Result<(), Fault>
     ensures { MatchResult result (λ _. number_put memory.old address object ≡ Ok memory.new) (λ e. (number_put memory.old address object ≡ Err e) × (memory.new ≡ memory.old)) }
@@ -97,6 +117,7 @@ fn write_number(memory: &mut Memory, address: u32, object: u16) -> Result<(), Fa
 }
 
 /// The object that a link names, or 0.
+#[inline(always)]
 #[tactic(auto, unfolding(crate::specs::Links::link_at))]
 pub(crate) fn read_link(memory: &Memory, place: Place) -> Result<u16, Fault>
     ensures { result ≡ link_at memory.now place }

@@ -27,6 +27,7 @@ impl Property {
 }
 
 /// A byte of a property list.
+#[inline(always)]
 #[tactic(auto, unfolding(crate::specs::PropertyList::list_byte))]
 pub(crate) fn read_list_byte(memory: &Memory, address: u32) -> Result<u8, Fault>
     ensures value { result ≡ list_byte memory.now address }
@@ -46,6 +47,7 @@ pub(crate) fn length_in(second: u8) -> u8
     if second % 64 == 0 { 64 } else { second % 64 }
 }
 
+#[inline(always)]
 #[tactic(auto, unfolding(crate::specs::PropertyList::property_by))]
 fn read_property_by(memory: &Memory, address: u32, first: u8) -> Result<Option<Property>, Fault>
     requires { address < 65536 }
@@ -79,6 +81,7 @@ fn read_property_by(memory: &Memory, address: u32, first: u8) -> Result<Option<P
 
 /// The property whose size bytes begin at a byte address, or none at the end of a list (Standard, section 12.4).
 /// `BadProperty` where one of these bytes does not lie in data.
+#[inline(always)]
 #[tactic(auto, unfolding(crate::specs::PropertyList::property_at))]
 pub fn read_property(memory: &Memory, address: u32) -> Result<Option<Property>, Fault>
     ensures value { result ≡ property_at memory.now address }

@@ -1,10 +1,10 @@
 // The properties and names of objects.
 
 ghost use Rattle.std.specs.Prelude.{◌≡◌, ◌≤◌, ◌<◌, Ok, Err, IfOk, IfSome, IsOk, MatchResult};
-ghost use Rattle.zk_tables.specs.Layout.{entries, entry_of};
+ghost use Rattle.zk_tables.specs.Layout.{entries, entry_of, layout_of};
 ghost use Rattle.zk_tables.specs.Properties.{table_of, list_of, properties_of, property_of, default_of, value_in, value_put_in, property_value, property_address_of, next_property_of, property_put, length_by, property_length_of, name_of};
 
-use crate::layout::{count_entries, entry, layout_for};
+use crate::layout::{EARLY, LATE, Layout, count_entries, entry, entry_in, layout_for};
 use crate::lists::{
     Property, check_list, find, find_first_number, find_number_after, length_in, read_list_byte,
 };
@@ -26,21 +26,38 @@ pub fn entry_count(memory: &Memory) -> u16
     count_entries(memory)
 }
 
+/// The byte address of the property table of an object in a layout.
+#[inline(always)]
+#[tactic(auto, unfolding(crate::specs::Properties::table_of))]
+fn table_in(memory: &Memory, layout: Layout, object: u16) -> Result<u16, Fault>
+    requires layout { layout ≡ layout_of memory.now.version }
+    requires entry { 9 ≤ layout.entry_bytes }
+    ensures { result ≡ table_of memory.now object }
+{
+    let entry = entry_in(memory, layout, object)?;
+    memory.word(entry + layout.attribute_bytes as u32 + 3 * layout.link_bytes as u32)
+}
+
 /// The byte address of the property table of an object (Standard, section 12.4), or `BadObject` where it has no entry in
 /// data.
-#[tactic(auto, unfolding(crate::specs::Properties::table_of))]
+#[inline(always)]
+#[tactic(auto, unfolding(crate::specs::Layout::layout_of))]
 pub fn table_address(memory: &Memory, object: u16) -> Result<u16, Fault>
     ensures { result ≡ table_of memory.now object }
 {
-    let entry = entry(memory, object)?;
-    let layout = layout_for(memory);
-    memory.word(entry + layout.attribute_bytes as u32 + 3 * layout.link_bytes as u32)
+    // the sizes are known in each arm
+    if memory.version() < 4 {
+        table_in(memory, EARLY, object)
+    } else {
+        table_in(memory, LATE, object)
+    }
 }
 
 /// The byte address of the property list of an object, which stands behind its short name (Standard, section 12.4).
 ///
 /// `BadObject` where the object has no entry in data, `BadProperty` where the first byte of its property table does not
 /// lie in data.
+#[inline(always)]
 #[tactic(auto, unfolding(crate::specs::Properties::list_of))]
 pub fn list_address(memory: &Memory, object: u16) -> Result<u32, Fault>
     ensures { result ≡ list_of memory.now object }
@@ -82,6 +99,7 @@ fn default_value(memory: &Memory, number: u16) -> Result<u16, Fault>
     memory.word(memory.header().objects as u32 + 2 * (number - 1) as u32)
 }
 
+#[inline(always)]
 fn value(memory: &Memory, number: u16, property: Option<Property>) -> Result<u16, Fault>
     ensures { result ≡ value_in memory.now number property }
 {

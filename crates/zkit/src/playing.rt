@@ -25,7 +25,8 @@ const MOST_BYTES: u64 = 524_289;
 pub fn read_story<R: Read + Drop>(alloc: Global, reader: R) -> io::Result<Vec<u8>>
     ensures { IfOk result (λ v. IfSome (R.remaining reader) (λ file. v.items ≡ bytes_read file)) }
 {
-    let mut bytes = Vec::new(alloc);
+    // room for the longest, of which as much is used as there are bytes
+    let mut bytes = Vec::with_capacity(alloc, MOST_BYTES as usize)?;
     reader.take(MOST_BYTES).read_to_end(&mut bytes)?;
     Ok(bytes)
 }
