@@ -3,18 +3,17 @@ use Rattle.std.proofs.Common.{◌≡◌, ◌≢◌, ◌≤◌, ◌<◌, ℕ, zer
 use Rattle.std.proofs.lemmas.Bool.{ne_eqb, eq-eqb}
 use Rattle.std.proofs.lemmas.List.{drop_all, append-nil}
 use Rattle.std.specs.Prelude.{slice_get, map}
-use Rattle.std.specs.List.{cons_option}
 use Rattle.std.proofs.lemmas.Option.{slice_get-get_or}
 use Rattle.zk_mem.specs.declared.fault.Fault.{Fault}
 use Rattle.zk_mem.specs.Results.{◌>>=◌}
-use Rattle.zk_mem.specs.Map.{MemoryMap, readable_end, byte_at, cell_at}
+use Rattle.zk_mem.specs.Map.{MemoryMap, byte_at, cell_at}
 use Rattle.zk_tables.specs.declared.dictionary.Dictionary.{Dictionary}
 use Rattle.zk_tables.specs.declared.tokens.Token.{Token}
 use Rattle.zk_tables.specs.declared.words.Word.{Word}
 use Rattle.zk_tables.specs.Dictionaries.{bytes_from, IsDictionaryOf, separators_of}
 use Rattle.zk_tables.specs.Tokens.{is_letter, run, token_here, tokens_from, tokens}
 use Rattle.zk_tables.specs.Parsing.{letters_counted, letters_to_zero, word_in, words_for, words_of}
-use Rattle.zk_tables.proofs.Finding.{IsInside, dictionary_inside}
+use Rattle.zk_tables.proofs.Finding.{dictionary_inside}
 
 -- ---- a run of letters
 

@@ -1,6 +1,7 @@
 pub mod Steps
 pub mod ChainSteps
 pub mod ListSteps
+pub mod ListEnds
 pub mod Writes
 pub mod Alike
 pub mod Finding

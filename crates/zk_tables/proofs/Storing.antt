@@ -1,12 +1,12 @@
 -- Storing words in a parse buffer.
-use Rattle.std.proofs.Common.{◌≡◌, ◌≤◌, ◌<◌, ℕ, zero, suc, ◌+◌, ◌*◌, ◌-◌, Bool, true, false, nat_lt, List, length, take, min, drop, get_or, drop-cons, add-one, Result, Ok, Err, refl, sym, ◌∙◌, ap, arith, ◌⊎◌, inl, inr}
+use Rattle.std.proofs.Common.{◌≡◌, ◌≤◌, ◌<◌, ℕ, ◌+◌, ◌*◌, Bool, false, nat_lt, List, length, take, min, drop, get_or, drop-cons, add-one, Result, Ok, Err, refl, ◌∙◌, arith, ◌⊎◌, inl, inr}
 use Rattle.std.specs.Prelude.{MatchResult}
 use Rattle.std.proofs.lemmas.List.{drop_all, take_all}
 use Rattle.std.proofs.lemmas.Bool.{cases_Bool}
 use Rattle.std.proofs.lemmas.Bool.Decides.{nat_tests}
 use Rattle.zk_mem.specs.declared.fault.Fault.{Fault}
 use Rattle.zk_mem.specs.declared.fault.Fault.TheVariants.{BadAddress}
-use Rattle.zk_mem.specs.Map.{MemoryMap, readable_end, byte_at, byte_put, word_put, cell_at}
+use Rattle.zk_mem.specs.Map.{MemoryMap, readable_end, byte_at, byte_put, word_put}
 use Rattle.zk_mem.specs.Laws.{IsSameBut}
 use Rattle.zk_tables.specs.declared.words.Word.{Word}
 use Rattle.zk_tables.specs.Parsing.{block_put, blocks_put, letters_to_zero, letters_of, words_put}

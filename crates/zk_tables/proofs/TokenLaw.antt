@@ -1,11 +1,10 @@
 -- The words of a text are its runs of letters and its separators.
-use Rattle.std.proofs.Common.{◌≡◌, ◌≢◌, ◌≤◌, ◌<◌, ℕ, zero, suc, ◌+◌, ◌-◌, Bool, true, false, not, ◌&&◌, List, [], ◌∷◌, length, get_or, Option, Some, None, ◌==◌, nat_eq, nat_lt, refl, sym, ◌∙◌, ap, arith, ◌⊎◌, inl, inr, add-one}
-use Rattle.std.specs.Prelude.{◌↔◌}
+use Rattle.std.proofs.Common.{◌≡◌, ◌≤◌, ◌<◌, ℕ, zero, suc, ◌+◌, ◌-◌, Bool, true, false, List, [], ◌∷◌, Option, Some, None, ◌==◌, nat_eq, nat_lt, refl, sym, ◌∙◌, ap, arith, ◌⊎◌, inl, inr, add-one}
 use Rattle.std.specs.List.{list_any, cons_option, AllByRecursion}
 use Rattle.std.proofs.lemmas.Bool.{cases_Bool}
 use Rattle.std.proofs.lemmas.Bool.Decides.{nat_tests}
 use Rattle.zk_tables.specs.declared.tokens.Token.{Token}
-use Rattle.zk_tables.specs.Tokens.{space, is_separator, is_letter, code_at, IsRun, IsAlone, IsToken, Rises, IsIn, AreTokens, run, token, token_here, tokens_from, tokens, TokensAreWords, TokensAreDetermined}
+use Rattle.zk_tables.specs.Tokens.{space, is_separator, is_letter, code_at, IsRun, IsToken, Rises, IsIn, run, token, token_here, tokens_from, tokens, TokensAreWords, TokensAreDetermined}
 
 true_is_not_false : (b : Bool) → b ≡ true → b ≡ false → ⊥
 true_is_not_false b on off = let e : true ≡ false = sym on ∙ off in cc

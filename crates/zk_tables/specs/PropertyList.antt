@@ -78,6 +78,17 @@ property_by m a first =
 unfoldable pub property_at : MemoryMap → ℕ → Result (Option Property) Fault
 property_at m a = list_byte m a >>= property_by m a
 
+-- the number in a first size byte
+abbrev pub number_in : ℕ → ℕ → ℕ
+number_in version first = if nat_lt version 4 then first % 32 else first % 64
+
+-- the property whose first size byte stands at a, and where its data ends
+pub record EndsAt (m : MemoryMap) (a first end : ℕ) : Type 0 where
+  pub property : Property
+  pub read : property_by m a first ≡ Ok (Some property)
+  pub number : property.number ≡ number_in m.version first
+  pub behind : property.address + property.length ≡ end
+
 -- a property and those behind it, where the list has not ended
 abbrev pub with_rest : Option Property → (ℕ → Result (List Property) Fault) → Result (List Property) Fault
 with_rest None rest = Ok []

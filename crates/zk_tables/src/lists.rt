@@ -1,7 +1,7 @@
 // Property lists.
 
 ghost use Rattle.std.specs.Prelude.{◌≡◌, ◌≤◌, ◌<◌, Err, IfOk, IfSome, IsOk, MatchResult, ◌+◌};
-ghost use Rattle.zk_tables.specs.PropertyList.{list_byte, long_length, property_by, property_at, properties_from, found_at, first_number_from, first_number_at, number_after_at};
+ghost use Rattle.zk_tables.specs.PropertyList.{EndsAt, list_byte, long_length, number_in, property_by, property_at, properties_from, found_at, first_number_from, first_number_at, number_after_at};
 
 use zk_mem::fault::Fault;
 use zk_mem::memory::Memory;
@@ -92,16 +92,44 @@ pub fn read_property(memory: &Memory, address: u32) -> Result<Option<Property>, 
     read_property_by(memory, address, first)
 }
 
+/// The number in the first size byte of a property.
+#[inline(always)]
+fn number_in(version: u8, first: u8) -> u8
+    ensures { result ≡ number_in version first }
+{
+    if version < 4 { first % 32 } else { first % 64 }
+}
+
+/// The address behind the property whose first size byte stands at an address. It is found without the property, as lists
+/// are walked often.
+#[inline(always)]
+#[tactic(auto, unfolding(crate::specs::PropertyList::property_by))]
+fn end_of(memory: &Memory, address: u32, first: u8) -> Result<u32, Fault>
+    requires near { address < 65536 }
+    requires more { first ≡ 0 → ⊥ }
+    ensures { MatchResult result (EndsAt memory.now address first) (λ e. property_by memory.now address first ≡ Err e) }
+{
+    if memory.version() < 4 {
+        return Ok(address + 2 + (first / 32) as u32);
+    }
+    if first < 128 {
+        return Ok(address + 2 + (first / 64) as u32);
+    }
+    let second = read_list_byte(memory, address + 1)?;
+    Ok(address + 2 + length_in(second) as u32)
+}
+
 /// Whether a list goes on from an address to its end, with so many properties at most.
 pub(crate) fn check_list(memory: &Memory, address: u32, most: u32) -> Result<(), Fault>
     ensures { MatchResult result (λ _. IsOk (properties_from memory.now most address)) (λ e. properties_from memory.now most address ≡ Err e) }
 {
     let mut at = address;
     for _i in 0..most {
-        match read_property(memory, at)? {
-            Some(property) => at = property.end(),
-            None => return Ok(()),
+        let first = read_list_byte(memory, at)?;
+        if first == 0 {
+            return Ok(());
         }
+        at = end_of(memory, at, first)?;
     }
     Err(Fault::BadProperty)
 }
@@ -114,14 +142,16 @@ pub(crate) fn find(memory: &Memory, address: u32, number: u16) -> Result<Option<
     let most = memory.data_end();
     let mut at = address;
     for i in 0..most {
-        let Some(property) = read_property(memory, at)? else {
+        let first = read_list_byte(memory, at)?;
+        if first == 0 {
             return Ok(None);
-        };
-        at = property.end();
-        if property.number as u16 == number {
-            check_list(memory, at, most - i - 1)?;
-            return Ok(Some(property));
         }
+        let end = end_of(memory, at, first)?;
+        if number_in(memory.version(), first) as u16 == number {
+            check_list(memory, end, most - i - 1)?;
+            return read_property(memory, at);
+        }
+        at = end;
     }
     Err(Fault::BadProperty)
 }
@@ -152,13 +182,15 @@ pub(crate) fn find_number_after(memory: &Memory, address: u32, number: u16) -> R
     let most = memory.data_end();
     let mut at = address;
     for i in 0..most {
-        let Some(property) = read_property(memory, at)? else {
+        let first = read_list_byte(memory, at)?;
+        if first == 0 {
             return Err(Fault::BadProperty);
-        };
-        at = property.end();
-        if property.number as u16 == number {
-            return read_first_number(memory, at, most - i - 1);
         }
+        let end = end_of(memory, at, first)?;
+        if number_in(memory.version(), first) as u16 == number {
+            return read_first_number(memory, end, most - i - 1);
+        }
+        at = end;
     }
     Err(Fault::BadProperty)
 }

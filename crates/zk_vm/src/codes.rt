@@ -46,6 +46,7 @@ impl Codes {
     }
 
     /// Adds a code, where there is room.
+    #[inline(always)]
     pub fn push(&mut self, code: u8) -> Result<(), Full>
         ensures ok { OnOk result (self.new ≡ self.old ++ code ∷ []) }
         ensures err { OnErr result ((self.new ≡ self.old) × (length self.old ≡ 65536)) }

@@ -143,6 +143,7 @@ impl<'a> Sink for WindowPrinter<'a> {
 }
 
 /// The code that a table of stream 3 gets for a ZSCII code: a question mark where it has no character.
+#[inline(always)]
 #[tactic(auto, using(crate::proofs::Filling::far_code))]
 fn code_stored(extra: &Extra<'_>, code: u16) -> Option<u8>
     ensures { option_to_list result ≡ code_stored extra.now code }
@@ -163,6 +164,7 @@ fn code_stored(extra: &Extra<'_>, code: u16) -> Option<u8>
 }
 
 /// The code that a table of stream 3 gets for a unit of text.
+#[inline(always)]
 #[tactic(auto, unfolding(zk_step::specs::Routing::stored))]
 fn unit_stored(extra: &Extra<'_>, unit: Unit) -> Option<u8>
     ensures { option_to_list result ≡ stored extra.now unit }
@@ -190,6 +192,7 @@ impl<'a> Sink for Collector<'a> {
 
     ghost refused = { λ a b us. (b.codes.ghost_name ≡ a.codes.ghost_name) × FirstPart b.codes.now (a.codes.now ++ stored_all a.extra.now us) };
 
+    #[inline(always)]
     fn put(&mut self, unit: Unit) -> Result<(), SinkFault> {
         match unit_stored(self.extra, unit) {
             None => Ok(()),

@@ -1,6 +1,4 @@
-use Rattle.std.proofs.Common.{◌≡◌, ◌≤◌, ◌<◌, ◌+◌, sym, ◌∙◌, Some, None, refl}
-use Rattle.zk_mem.specs.Map.{cell_at}
-use Rattle.zk_tables.specs.Dictionaries.{begins_with}
+use Rattle.std.proofs.Common.{sym, ◌∙◌}
 use Rattle.zk_tables.proofs.Finding.{begins_on, begins_not, begins_past, begins_end}
 use Rattle.zk_tables.proofs.dictionary.bytes_begin_with.Goals as goal
 

@@ -1,4 +1,4 @@
-use Rattle.std.proofs.Common.{◌≡◌, ◌≤◌, ◌+◌, ◌∙◌, arith}
+use Rattle.std.proofs.Common.{◌∙◌, arith}
 use Rattle.zk_tables.proofs.Dividing.{words_on, words_end}
 use Rattle.zk_tables.proofs.words.find_words.Goals as goal
 

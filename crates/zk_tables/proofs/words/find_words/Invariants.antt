@@ -1,4 +1,4 @@
-use Rattle.std.proofs.Common.{◌≡◌, ◌≤◌, ◌+◌, ◌-◌, ◌++◌, length}
+use Rattle.std.proofs.Common.{◌≡◌, ◌≤◌, ◌++◌, length}
 use Rattle.zk_tables.specs.Parsing.{words_of}
 use Rattle.zk_tables.proofs.Dividing.{words_from}
 use Rattle.zk_tables.proofs.words.find_words.Given as goal

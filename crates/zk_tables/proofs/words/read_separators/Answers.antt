@@ -1,4 +1,4 @@
-use Rattle.std.proofs.Common.{◌≡◌, ◌+◌}
+use Rattle.std.proofs.Common.{◌+◌}
 use Rattle.zk_tables.specs.Dictionaries.{separators_of}
 use Rattle.zk_tables.proofs.Dividing.{separators_end}
 use Rattle.zk_tables.proofs.words.read_separators.Goals as goal
