@@ -36,6 +36,20 @@ impl Model for Records {
     ghost invariant = { HaveRoom };
 }
 
+/// The same record, put together from its parts: a processor waits for a whole that it reads right behind its parts.
+#[inline(always)]
+fn parts_of(frame: FrameRecord) -> FrameRecord
+    ensures { result ≡ frame }
+{
+    FrameRecord {
+        base: frame.base,
+        floor: frame.floor,
+        place: frame.place,
+        result: frame.result,
+        supplied: frame.supplied,
+    }
+}
+
 /// Adds a record behind all others. There is room for it.
 #[inline(never)]
 fn add(all: &mut Vec<FrameRecord>, frame: FrameRecord)
@@ -89,7 +103,7 @@ impl Records {
         ensures { self.new ≡ record self.old { items = self.old.items ++ frame ∷ [] } }
     {
         if self.count < self.all.len() {
-            self.all[self.count] = frame;
+            self.all[self.count] = parts_of(frame);
         } else {
             add(&mut self.all, frame);
         }
@@ -106,7 +120,7 @@ impl Records {
             return None;
         }
         self.count -= 1;
-        Some(self.all[self.count])
+        Some(parts_of(self.all[self.count]))
     }
 
     /// Takes all away.
