@@ -23,12 +23,6 @@ mod property_lists;
 mod quoting;
 pub mod reach;
 mod siblings;
-#[cfg(test)]
-mod tests;
-#[cfg(test)]
-mod tests_of_checks;
-#[cfg(test)]
-mod tests_of_listings;
 mod text_faults;
 mod texts;
 mod tree_lines;

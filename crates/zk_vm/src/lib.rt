@@ -16,10 +16,6 @@ pub mod screen;
 pub mod slot;
 mod step;
 pub mod stop;
-#[cfg(test)]
-mod tests;
-#[cfg(test)]
-mod tests_of_reads;
 mod transcript;
 mod view;
 mod waiting;

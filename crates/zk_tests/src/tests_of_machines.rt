@@ -1,13 +1,8 @@
 // Machines at their stops, limits, slots and screens that fail.
 
-ghost use Rattle.std.specs.Prelude.{◌≡◌, None, IfOk};
+ghost use Rattle.std.specs.Prelude.{◌≡◌, None, IfOk, OnErr};
 
-use crate::console::Console;
-use crate::limits::Limits;
-use crate::machine::Machine;
-use crate::screen::Screen;
-use crate::slot::{NoSlot, SaveSlot};
-use crate::stop::Stop;
+use std::alloc::Global;
 use std::io::{self, Write};
 use std::process::Abort;
 use std::test::Fail;
@@ -16,6 +11,11 @@ use zk_state::refusal::Limit;
 use zk_step::workspace::View;
 use zk_term::nothing::Nothing;
 use zk_term::over::Over;
+use zk_vm::limits::Limits;
+use zk_vm::machine::Machine;
+use zk_vm::play::turn;
+use zk_vm::slot::{NoSlot, SaveSlot};
+use zk_vm::stop::{Event, Stop};
 
 const AMPLE: Limits = Limits {
     frames: 1,
@@ -24,51 +24,60 @@ const AMPLE: Limits = Limits {
     steps: 1_000_000_000,
 };
 
-/// A machine of a story with two instructions that do nothing, and a quit.
-#[tactic(auto, unfolding(crate::specs::Outcome::begun))]
-fn started(rt: &(impl Abort + AllocGlobal), limits: Limits) -> Result<Machine, Fail>
+/// A machine of a story of version 5, with this code at address 64.
+#[tactic(auto, unfolding(zk_vm::specs::Outcome::begun))]
+pub(crate) fn started(
+    rt: &(impl Abort + AllocGlobal),
+    limits: Limits,
+    code: &[u8],
+) -> Result<Machine, Fail>
     ensures { IfOk result (λ m. m.waiting ≡ None) }
 {
-    let mut bytes = [0; 68];
-    for (address, byte) in [
-        (0x00, 5),
-        (0x07, 0x40),
-        (0x0f, 0x40),
-        (0x40, 0xb4),
-        (0x41, 0xb4),
-    ] {
-        bytes[address] = byte;
-    }
-    bytes[0x42] = 0xba;
-    let story = Story::open(rt.alloc(), &bytes)?;
+    let mut bytes = vec![in rt.alloc(); 0u8; 64]?;
+    bytes[0] = 5;
+    bytes[0x07] = 0x40;
+    bytes[0x0f] = 0x40;
+    bytes.extend_from_slice(code)?;
+    let story = Story::open(rt.alloc(), bytes.as_slice())?;
     assert!(rt; limits.check());
     Ok(Machine::start(rt.alloc(), story, 1, limits, View::Plain)?)
 }
 
+/// Two instructions that do nothing, and a quit.
+const IDLE: [u8; 3] = [0xb4, 0xb4, 0xba];
+
+/// A turn of a machine that nobody hears.
+fn quiet_turn(alloc: Global, machine: &mut Machine) -> Result<Event, Stop>
+    requires { machine.old.waiting ≡ None }
+    ensures { OnErr result (machine.new.waiting ≡ None) }
+{
+    turn(alloc, &mut Nothing, &mut Nothing, &mut NoSlot, machine)
+}
+
 #[test]
 fn a_stop_is_kept(rt: HostRuntime) -> Result<(), Fail> {
-    let (mut screen, mut script) = (Nothing, Nothing);
-    let mut console = Console::new(&mut screen, &mut script);
-    let mut machine = started(&rt, AMPLE)?;
-    assert_eq!(rt; machine.run(&mut console), Err(Stop::Quit));
-    assert_eq!(rt; machine.run(&mut console), Err(Stop::Quit));
+    let mut machine = started(&rt, AMPLE, &IDLE)?;
+    let first = quiet_turn(rt.alloc(), &mut machine);
+    assert_eq!(rt; first, Err(Stop::Quit));
+    let again = quiet_turn(rt.alloc(), &mut machine);
+    assert_eq!(rt; again, Err(Stop::Quit));
     machine.close(Stop::Write);
-    assert_eq!(rt; machine.run(&mut console), Err(Stop::Write));
-    assert_eq!(rt; machine.run(&mut console), Err(Stop::Write));
+    let closed = quiet_turn(rt.alloc(), &mut machine);
+    assert_eq!(rt; closed, Err(Stop::Write));
+    let at_last = quiet_turn(rt.alloc(), &mut machine);
+    assert_eq!(rt; at_last, Err(Stop::Write));
     Ok(())
 }
 
 #[test]
 fn steps_are_counted(rt: HostRuntime) -> Result<(), Fail> {
-    let (mut screen, mut script) = (Nothing, Nothing);
-    let mut console = Console::new(&mut screen, &mut script);
     for (steps, stop) in [
         (3, Stop::Quit),
         (2, Stop::Limit(0x42, Limit::Steps)),
         (1, Stop::Limit(0x41, Limit::Steps)),
     ] {
-        let mut machine = started(&rt, Limits { steps, ..AMPLE })?;
-        assert_eq!(rt; machine.run(&mut console), Err(stop));
+        let mut machine = started(&rt, Limits { steps, ..AMPLE }, &IDLE)?;
+        assert_eq!(rt; quiet_turn(rt.alloc(), &mut machine), Err(stop));
     }
     Ok(())
 }
@@ -120,19 +129,22 @@ impl Write for FailsOnce {
 
 #[test]
 fn nothing_is_written_after_a_failure(rt: HostRuntime) -> Result<(), Fail> {
+    // output_stream 2, print_char a, print_char b, quit
+    let code = [0xf3, 0x7f, 0x02, 0xe5, 0x7f, 0x61, 0xe5, 0x7f, 0x62, 0xba];
+    let mut machine = started(&rt, AMPLE, &code)?;
     let fails = FailsOnce {
         taken: Vec::new(rt.alloc()),
         has_failed: false,
     };
     let (mut screen, mut script) = (Over::new(fails), Over::new(Vec::new(rt.alloc())));
-    let mut console = Console::new(&mut screen, &mut script);
-    console.text('a');
-    console.text('b');
-    console.script('c');
-    console.finish();
-    assert!(rt; console.has_failed());
-    console.text('d');
-    console.finish();
+    let stop = turn(
+        rt.alloc(),
+        &mut screen,
+        &mut script,
+        &mut NoSlot,
+        &mut machine,
+    );
+    assert_eq!(rt; stop, Err(Stop::Write));
     let FailsOnce { taken, has_failed } = screen.into_inner();
     assert!(rt; has_failed && taken.is_empty());
     assert!(rt; script.into_inner().is_empty());

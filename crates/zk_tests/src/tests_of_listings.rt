@@ -1,12 +1,12 @@
 // Listings of the tables of small stories.
 
-use crate::error::ListError;
-use crate::finding::{Finding, Number};
-use crate::finding_lines::write_findings;
-use crate::listings::{abbreviations, dictionary, header, map, objects, tree};
 use std::alloc::Global;
 use std::process::Abort;
 use std::test::Fail;
+use zk_inspect::error::ListError;
+use zk_inspect::finding::{Finding, Number};
+use zk_inspect::finding_lines::write_findings;
+use zk_inspect::listings::{abbreviations, dictionary, header, map, objects, tree};
 use zk_mem::memory::{Memory, Setup};
 use zk_mem::story::Story;
 use zk_term::over::Over;

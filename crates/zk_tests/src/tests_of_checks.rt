@@ -1,9 +1,9 @@
 // Checks of small stories.
 
-use crate::checking::check;
-use crate::finding::{Finding, Number};
 use std::alloc::Global;
 use std::test::Fail;
+use zk_inspect::checking::check;
+use zk_inspect::finding::{Finding, Number};
 use zk_mem::memory::{Memory, Setup};
 use zk_mem::story::Story;
 

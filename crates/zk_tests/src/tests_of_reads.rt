@@ -1,22 +1,17 @@
 // Machines that read: what they wait for, and what is written when the reader is asked.
 
-ghost use Rattle.std.specs.Prelude.{◌≡◌, None, IfOk};
-
-use crate::limits::Limits;
-use crate::machine::Machine;
-use crate::play::{play, turn};
-use crate::slot::{NoSlot, SaveSlot};
-use crate::stop::{Event, Stop};
+use crate::tests_of_machines::started;
 use std::alloc::{AllocError, Global};
 use std::cell::Cell;
 use std::io::{self, Read, Write};
-use std::process::Abort;
 use std::test::Fail;
 use zk_mem::fault::Fault;
-use zk_mem::story::Story;
-use zk_step::workspace::View;
 use zk_term::nothing::Nothing;
 use zk_term::over::Over;
+use zk_vm::limits::Limits;
+use zk_vm::play::{play, turn};
+use zk_vm::slot::{NoSlot, SaveSlot};
+use zk_vm::stop::{Event, Stop};
 
 const AMPLE: Limits = Limits {
     frames: 9,
@@ -24,22 +19,6 @@ const AMPLE: Limits = Limits {
     undo: 0,
     steps: 99,
 };
-
-/// A machine of a story of version 5, with this code at address 64.
-#[tactic(auto, unfolding(crate::specs::Outcome::begun))]
-fn machine_of(rt: &(impl Abort + AllocGlobal), code: &[u8]) -> Result<Machine, Fail>
-    ensures { IfOk result (λ m. m.waiting ≡ None) }
-{
-    let mut bytes = vec![in rt.alloc(); 0u8; 64]?;
-    bytes[0] = 5;
-    bytes[0x07] = 0x40;
-    bytes[0x0f] = 0x40;
-    bytes.extend_from_slice(code)?;
-    let story = Story::open(rt.alloc(), bytes.as_slice())?;
-    let limits = AMPLE;
-    assert!(rt; limits.check());
-    Ok(Machine::start(rt.alloc(), story, 1, limits, View::Plain)?)
-}
 
 /// Counts the bytes that it takes.
 #[derive(Drop)]
@@ -88,7 +67,7 @@ impl Read for Watching<'_> {
 fn turns_go_from_read_to_read(rt: HostRuntime) -> Result<(), Fail> {
     // print_char a, read_char -> sp, quit
     let code = [0xe5, 0x7f, 0x61, 0xf6, 0x7f, 0x01, 0x00, 0xba];
-    let mut machine = machine_of(&rt, &code)?;
+    let mut machine = started(&rt, AMPLE, &code)?;
     let taken = Cell::new(0);
     let mut screen = Over::new(Counting { taken: &taken });
     assert_eq!(rt; machine.waiting(), None);
@@ -122,7 +101,7 @@ fn turns_go_from_read_to_read(rt: HostRuntime) -> Result<(), Fail> {
 #[test]
 fn answers_fault_in_the_next_turn(rt: HostRuntime) -> Result<(), Fail> {
     // aread with its text buffer at 64, where byte 65 counts 127 letters of 228: a letter is past the story
-    let mut machine = machine_of(&rt, &[0xe4, 0x7f, 0x40, 0x00])?;
+    let mut machine = started(&rt, AMPLE, &[0xe4, 0x7f, 0x40, 0x00])?;
     let first = turn(
         rt.alloc(),
         &mut Nothing,
@@ -153,7 +132,7 @@ fn all_text_is_written_before_the_reader_is_asked(rt: HostRuntime) -> Result<(),
         0xe5, 0x7f, 0x61, 0xf6, 0x7f, 0x01, 0x00, 0xe5, 0x7f, 0x62, 0xe5, 0x7f, 0x63, 0xf6, 0x7f,
         0x01, 0x00, 0xba,
     ];
-    let mut machine = machine_of(&rt, &code)?;
+    let mut machine = started(&rt, AMPLE, &code)?;
     let (taken, noted) = (Cell::new(0), Cell::new(0));
     let mut screen = Over::new(Counting { taken: &taken });
     let mut reader = Over::new(Watching {
@@ -221,7 +200,7 @@ fn nobody_is_asked_after_a_failed_write(rt: HostRuntime) -> Result<(), Fail> {
         0xe5, 0x7f, 0x61, 0xbe, 0x00, 0xff, 0x00, 0xbe, 0x01, 0xff, 0x00, 0xba,
     ];
     let asked = Cell::new(false);
-    let mut machine = machine_of(&rt, &code)?;
+    let mut machine = started(&rt, AMPLE, &code)?;
     let mut slot = Asked { asked: &asked };
     let first = turn(
         rt.alloc(),
@@ -232,7 +211,7 @@ fn nobody_is_asked_after_a_failed_write(rt: HostRuntime) -> Result<(), Fail> {
     );
     assert_eq!(rt; first, Err(Stop::Write));
     assert_eq!(rt; asked.get(), false);
-    let mut machine = machine_of(&rt, &code)?;
+    let mut machine = started(&rt, AMPLE, &code)?;
     let second = turn(
         rt.alloc(),
         &mut Nothing,

@@ -1,17 +1,17 @@
 // Listings of small stories.
 
-use crate::disassembly::disassemble;
-use crate::error::ListError;
-use crate::reach::reach;
 use std::alloc::Global;
 use std::io::{self, Write};
 use std::test::Fail;
+use zk_inspect::disassembly::disassemble;
+use zk_inspect::error::ListError;
+use zk_inspect::reach::reach;
 use zk_mem::memory::{Memory, Setup};
 use zk_mem::story::Story;
 use zk_term::over::Over;
 
 /// A story that ends with this code, which begins at 0x40.
-pub(crate) fn story(alloc: Global, version: u8, code: &[u8]) -> Result<Memory, Fail> {
+fn story(alloc: Global, version: u8, code: &[u8]) -> Result<Memory, Fail> {
     story_from(alloc, version, 0x40, code)
 }
 
