@@ -7,5 +7,3 @@ pub mod laws;
 pub mod rectangle;
 pub mod runs;
 pub mod scanning;
-#[cfg(test)]
-mod tests;

@@ -13,6 +13,4 @@ pub mod opcode;
 pub mod operands;
 pub mod routines;
 mod table;
-#[cfg(test)]
-mod tests;
 pub mod ways;

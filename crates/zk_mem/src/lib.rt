@@ -8,5 +8,3 @@ pub mod header;
 pub mod laws;
 pub mod memory;
 pub mod story;
-#[cfg(test)]
-mod tests;

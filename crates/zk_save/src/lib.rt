@@ -10,15 +10,5 @@ mod parts;
 mod reading;
 pub mod restore;
 pub mod save;
-#[cfg(test)]
-mod tests;
-#[cfg(test)]
-mod tests_restore;
-#[cfg(test)]
-mod tests_save;
-#[cfg(test)]
-mod tests_story;
-#[cfg(test)]
-mod tests_undo;
 pub mod undo;
 mod writes;

@@ -5,5 +5,3 @@ pub mod examples;
 pub mod frames;
 mod records;
 pub mod refusal;
-#[cfg(test)]
-mod tests;

@@ -11,10 +11,6 @@ mod links;
 pub mod lists;
 pub mod parsing;
 pub mod properties;
-#[cfg(test)]
-mod tests;
-#[cfg(test)]
-mod tests_of_words;
 mod tokens;
 pub mod tree;
 pub mod words;

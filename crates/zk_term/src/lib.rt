@@ -9,10 +9,4 @@ pub mod out;
 pub mod over;
 pub mod source;
 pub mod target;
-#[cfg(test)]
-mod tests;
-#[cfg(test)]
-mod tests_of_lines;
-#[cfg(test)]
-mod tests_of_windows;
 pub mod windows;

@@ -11,8 +11,6 @@ pub mod pieces;
 pub mod shown;
 pub mod sink;
 pub mod sweep;
-#[cfg(test)]
-mod tests;
 pub mod text;
 pub mod unit;
 mod walk;
