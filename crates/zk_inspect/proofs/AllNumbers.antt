@@ -1,5 +1,6 @@
 -- The findings of all numbers, behind one another.
-use Rattle.std.proofs.Common.{◌≡◌, ◌∙◌, ℕ, List, [], ◌++◌, map, append_assoc, ap}
+use Rattle.std.proofs.Common.{◌≡◌, ◌∙◌, ℕ, List, [], ◌∷◌, ◌++◌, ◌+◌, ◌<◌, length, get_or, take, map, append_assoc, ap, subst, sym}
+use Rattle.std.proofs.lemmas.List.{take_more}
 use Rattle.std.specs.List.{flat_map}
 use Rattle.std.proofs.lemmas.List.{append-nil}
 use Rattle.zk_mem.specs.Map.{MemoryMap}
@@ -8,7 +9,7 @@ use Rattle.zk_inspect.specs.declared.finding.Number.{Number}
 use Rattle.zk_inspect.specs.declared.finding.Number.TheVariants.{Checksum, Length, DictionaryOrder, DictionaryExtent, ObjectLinks, ChainWithARepeat, PropertyList, TextPastTheEnd, NestedAbbreviation, UndecodableCode, TargetOutOfTheStory}
 use Rattle.zk_inspect.specs.Findings.{AreFindings, Finds, at_address, numbers}
 use Rattle.zk_inspect.specs.Lists.{IsListOf}
-use Rattle.zk_inspect.specs.Parts.{Adds}
+use Rattle.zk_inspect.specs.Parts.{Adds, AddsAll, none, more}
 
 -- one list for each number
 abbrev by_number : (x1 x2 x3 x4 x5 x6 x7 x8 x9 x10 x11 : List ℕ) → Number → List ℕ
@@ -59,7 +60,7 @@ exact m x1 x2 x3 x4 x5 x6 x7 x8 x9 x10 x11 h1 h2 h3 h4 h5 h6 h7 h8 h9 h10 h11 Ne
 exact m x1 x2 x3 x4 x5 x6 x7 x8 x9 x10 x11 h1 h2 h3 h4 h5 h6 h7 h8 h9 h10 h11 UndecodableCode = h10
 exact m x1 x2 x3 x4 x5 x6 x7 x8 x9 x10 x11 h1 h2 h3 h4 h5 h6 h7 h8 h9 h10 h11 TargetOutOfTheStory = h11
 
-pub joined : (m : MemoryMap) (f0 f1 f2 f3 f4 f5 f6 f7 f8 f9 f10 f11 : List Finding) → f0 ≡ []
+joined : (m : MemoryMap) (f0 f1 f2 f3 f4 f5 f6 f7 f8 f9 f10 f11 : List Finding) → f0 ≡ []
     → Adds m Checksum f0 f1
     → Adds m Length f1 f2
     → Adds m DictionaryOrder f2 f3
@@ -72,8 +73,8 @@ pub joined : (m : MemoryMap) (f0 f1 f2 f3 f4 f5 f6 f7 f8 f9 f10 f11 : List Findi
     → Adds m UndecodableCode f9 f10
     → Adds m TargetOutOfTheStory f10 f11
     → AreFindings m f11
-joined m f0 f1 f2 f3 f4 f5 f6 f7 f8 f9 f10 f11 none h1 h2 h3 h4 h5 h6 h7 h8 h9 h10 h11 =
-    let e1 = next m Checksum ([]) f0 f1 h1 none in
+joined m f0 f1 f2 f3 f4 f5 f6 f7 f8 f9 f10 f11 first h1 h2 h3 h4 h5 h6 h7 h8 h9 h10 h11 =
+    let e1 = next m Checksum ([]) f0 f1 h1 first in
     let e2 = next m Length (behind ([]) Checksum h1.addresses) f1 f2 h2 e1 in
     let e3 = next m DictionaryOrder (behind (behind ([]) Checksum h1.addresses) Length h2.addresses) f2 f3 h3 e2 in
     let e4 = next m DictionaryExtent (behind (behind (behind ([]) Checksum h1.addresses) Length h2.addresses) DictionaryOrder h3.addresses) f3 f4 h4 e3 in
@@ -89,3 +90,14 @@ joined m f0 f1 f2 f3 f4 f5 f6 f7 f8 f9 f10 f11 none h1 h2 h3 h4 h5 h6 h7 h8 h9 h
       exact = exact m h1.addresses h2.addresses h3.addresses h4.addresses h5.addresses h6.addresses h7.addresses h8.addresses h9.addresses h10.addresses h11.addresses h1.exact h2.exact h3.exact h4.exact h5.exact h6.exact h7.exact h8.exact h9.exact h10.exact h11.exact;
       joined = e11 ∙ all h1.addresses h2.addresses h3.addresses h4.addresses h5.addresses h6.addresses h7.addresses h8.addresses h9.addresses h10.addresses h11.addresses;
     }
+
+-- one number more
+behind_all : (m : MemoryMap) (ns : List Number) (n : Number) (a b c : List Finding) → AddsAll m ns a b → Adds m n b c → AddsAll m (ns ++ n ∷ []) a c
+behind_all m [] n a _ c none h = more h none
+behind_all m (k ∷ ns) n a b c (more g rest) h = more g (behind_all m ns n _ b c rest h)
+
+pub one_more : (m : MemoryMap) (ns : List Number) (i : ℕ) (d : Number) (a b c : List Finding) → i < length ns → AddsAll m (take i ns) a b → Adds m (get_or ns i d) b c → AddsAll m (take (i + 1) ns) a c
+one_more m ns i d a b c lt before h = subst (λ (ls : List Number). AddsAll m ls a c) (sym (take_more ns i d lt)) (behind_all m (take i ns) (get_or ns i d) a b c before h)
+
+pub all_found : (m : MemoryMap) (old new : List Finding) → old ≡ [] → AddsAll m numbers old new → AreFindings m new
+all_found m old new e (more h1 (more h2 (more h3 (more h4 (more h5 (more h6 (more h7 (more h8 (more h9 (more h10 (more h11 none))))))))))) = joined m _ _ _ _ _ _ _ _ _ _ _ _ e h1 h2 h3 h4 h5 h6 h7 h8 h9 h10 h11

@@ -1,5 +1,5 @@
 -- What a check has at hand, and what it has found of a number.
-use Rattle.std.specs.Prelude.{◌≡◌, ℕ, List, ◌++◌, map}
+use Rattle.std.specs.Prelude.{◌≡◌, ℕ, List, [], ◌∷◌, ◌++◌, map}
 use Rattle.zk_mem.specs.Map.{MemoryMap}
 use Rattle.zk_code.specs.Ends.{KnowsEnds}
 use Rattle.zk_inspect.specs.declared.checking.Parts.{Parts}
@@ -23,3 +23,8 @@ pub record Adds (m : MemoryMap) (n : Number) (old new : List Finding) : Type 0 w
   pub addresses : List ℕ
   pub exact : IsListOf (Finds m n) addresses
   pub joined : new ≡ old ++ map (at_address n) addresses
+
+-- all findings of some numbers stand behind others, one number after another
+pub data AddsAll (m : MemoryMap) : List Number → List Finding → List Finding → Type 0 where
+  none : {fs : List Finding} → AddsAll m [] fs fs
+  more : {n : Number} {ns : List Number} {old between new : List Finding} → Adds m n old between → AddsAll m ns between new → AddsAll m (n ∷ ns) old new

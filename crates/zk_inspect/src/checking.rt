@@ -7,7 +7,7 @@ ghost use Rattle.zk_inspect.specs.Codes.{IsCodeOf};
 ghost use Rattle.zk_inspect.specs.Findings.{AreFindings, Finds, at_address};
 ghost use Rattle.zk_inspect.specs.Lists.{IsListOf};
 ghost use Rattle.zk_inspect.specs.ObjectTests.{AreObjects};
-ghost use Rattle.zk_inspect.specs.Parts.{Adds, AreParts};
+ghost use Rattle.zk_inspect.specs.Parts.{Adds, AddsAll, AreParts};
 ghost use Rattle.zk_inspect.specs.Tests.{branches_out, calls_out, code_answer, instr_leads_out, is_outside, is_undecodable, jumps_out, leads_out};
 
 use crate::code::{Addresses, Code};
@@ -302,6 +302,23 @@ fn add(
     Ok(())
 }
 
+/// Puts all findings of some numbers behind the others, in the order of the numbers.
+fn add_all(
+    alloc: Global,
+    memory: &Memory,
+    parts: &Parts,
+    numbers: &[Number],
+    findings: &mut Vec<Finding>,
+) -> Result<(), AllocError>
+    requires { AreParts memory.now parts.now }
+    ensures { OnOk result (AddsAll memory.now numbers.now findings.old.items findings.new.items) }
+{
+    for number in numbers {
+        add(alloc, memory, parts, *number, findings)?;
+    }
+    Ok(())
+}
+
 /// What is wrong with a story: each finding once, by number, then by address. Nothing is asked of a table whose word in the
 /// header is 0.
 ///
@@ -311,16 +328,19 @@ pub fn check(alloc: Global, memory: &Memory) -> Result<Vec<Finding>, AllocError>
 {
     let parts = find_parts(alloc, memory)?;
     let mut all = Vec::new(alloc);
-    add(alloc, memory, &parts, Number::Checksum, &mut all)?;
-    add(alloc, memory, &parts, Number::Length, &mut all)?;
-    add(alloc, memory, &parts, Number::DictionaryOrder, &mut all)?;
-    add(alloc, memory, &parts, Number::DictionaryExtent, &mut all)?;
-    add(alloc, memory, &parts, Number::ObjectLinks, &mut all)?;
-    add(alloc, memory, &parts, Number::ChainWithARepeat, &mut all)?;
-    add(alloc, memory, &parts, Number::PropertyList, &mut all)?;
-    add(alloc, memory, &parts, Number::TextPastTheEnd, &mut all)?;
-    add(alloc, memory, &parts, Number::NestedAbbreviation, &mut all)?;
-    add(alloc, memory, &parts, Number::UndecodableCode, &mut all)?;
-    add(alloc, memory, &parts, Number::TargetOutOfTheStory, &mut all)?;
+    let numbers = [
+        Number::Checksum,
+        Number::Length,
+        Number::DictionaryOrder,
+        Number::DictionaryExtent,
+        Number::ObjectLinks,
+        Number::ChainWithARepeat,
+        Number::PropertyList,
+        Number::TextPastTheEnd,
+        Number::NestedAbbreviation,
+        Number::UndecodableCode,
+        Number::TargetOutOfTheStory,
+    ];
+    add_all(alloc, memory, &parts, &numbers, &mut all)?;
     Ok(all)
 }
