@@ -7,6 +7,8 @@ mod tests_of_arrays;
 #[cfg(test)]
 mod tests_of_checks;
 #[cfg(test)]
+mod tests_of_command_lines;
+#[cfg(test)]
 mod tests_of_devices;
 #[cfg(test)]
 mod tests_of_disassembly;
@@ -27,11 +29,19 @@ mod tests_of_objects;
 #[cfg(test)]
 mod tests_of_packing;
 #[cfg(test)]
+mod tests_of_plays;
+#[cfg(test)]
 mod tests_of_reads;
+#[cfg(test)]
+mod tests_of_reports;
 #[cfg(test)]
 mod tests_of_restores;
 #[cfg(test)]
+mod tests_of_saved_games;
+#[cfg(test)]
 mod tests_of_saves;
+#[cfg(test)]
+mod tests_of_sections;
 #[cfg(test)]
 mod tests_of_stretches;
 #[cfg(test)]
@@ -42,5 +52,9 @@ mod tests_of_undo;
 mod tests_of_windows;
 #[cfg(test)]
 mod tests_of_words;
+#[cfg(test)]
+mod tests_of_written_plays;
+#[cfg(test)]
+mod tests_same;
 #[cfg(test)]
 mod tests_story;

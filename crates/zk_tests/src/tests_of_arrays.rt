@@ -1,5 +1,6 @@
 // Tables against values of the Standard, and their greatest sizes.
 
+use crate::tests_same::{demand, same};
 use std::alloc::Global;
 use std::test::Fail;
 use zk_arrays::copying::copy_table;
@@ -47,10 +48,18 @@ const EIGHT: [u8; 8] = [10, 11, 12, 13, 14, 15, 16, 17];
 fn puts_bytes(rt: HostRuntime) -> Result<(), Fail> {
     let mut memory = memory_of(rt.alloc(), 0x50, 0x46, &EIGHT)?;
     put_bytes(&mut memory, 0x41, &[1, 2, 3])?;
-    assert!(rt; holds(&memory, 0x40, &[10, 1, 2, 3, 14]));
-    assert_eq!(rt; put_bytes(&mut memory, 0x45, &[4, 5]), Err(Fault::ReadOnly));
-    assert_eq!(rt; put_bytes(&mut memory, 0x50, &[4]), Err(Fault::BadAddress));
-    assert_eq!(rt; put_bytes(&mut memory, 0xffff_0000, &[]), Ok(()));
+    demand(&rt, holds(&memory, 0x40, &[10, 1, 2, 3, 14]));
+    same(
+        &rt,
+        put_bytes(&mut memory, 0x45, &[4, 5]),
+        Err(Fault::ReadOnly),
+    );
+    same(
+        &rt,
+        put_bytes(&mut memory, 0x50, &[4]),
+        Err(Fault::BadAddress),
+    );
+    same(&rt, put_bytes(&mut memory, 0xffff_0000, &[]), Ok(()));
     Ok(())
 }
 
@@ -69,7 +78,11 @@ fn copies_tables(rt: HostRuntime) -> Result<(), Fail> {
     for (first, second, size, bytes) in rows {
         let mut memory = memory_of(rt.alloc(), 0x50, 0x50, &EIGHT)?;
         copy_table(&mut memory, first, second, size)?;
-        assert!(rt; holds(&memory, 0x40, &bytes), "{first} to {second}, {size}");
+        same(
+            &rt,
+            (first, second, size, holds(&memory, 0x40, &bytes)),
+            (first, second, size, true),
+        );
     }
     Ok(())
 }
@@ -86,7 +99,11 @@ fn copies_tables_that_lie_apart_or_at_an_end(rt: HostRuntime) -> Result<(), Fail
     for (first, second, size, bytes) in rows {
         let mut memory = memory_of(rt.alloc(), 0x50, 0x50, &EIGHT)?;
         copy_table(&mut memory, first, second, size)?;
-        assert!(rt; holds(&memory, 0x40, &bytes), "{first} to {second}, {size}");
+        same(
+            &rt,
+            (first, second, size, holds(&memory, 0x40, &bytes)),
+            (first, second, size, true),
+        );
     }
     Ok(())
 }
@@ -105,10 +122,15 @@ fn refuses_copies(rt: HostRuntime) -> Result<(), Fail> {
     ];
     for (first, second, size, fault) in rows {
         let mut memory = memory_of(rt.alloc(), 0x50, 0x46, &EIGHT)?;
-        assert_eq!(rt;
-            copy_table(&mut memory, first, second, size),
-            Err(fault),
-            "{first} to {second}, {size}"
+        same(
+            &rt,
+            (
+                first,
+                second,
+                size,
+                copy_table(&mut memory, first, second, size),
+            ),
+            (first, second, size, Err(fault)),
         );
     }
     Ok(())
@@ -118,19 +140,25 @@ fn refuses_copies(rt: HostRuntime) -> Result<(), Fail> {
 fn copies_the_longest_tables(rt: HostRuntime) -> Result<(), Fail> {
     let mut memory = memory_of(rt.alloc(), 0x1_0000, 0xfff0, &EIGHT)?;
     copy_table(&mut memory, 0x40, 0x41, 0x7fff)?;
-    assert!(rt; holds(&memory, 0x40, &[10, 10, 11, 12, 13, 14, 15, 16, 17, 0]));
+    demand(
+        &rt,
+        holds(&memory, 0x40, &[10, 10, 11, 12, 13, 14, 15, 16, 17, 0]),
+    );
     copy_table(&mut memory, 0x41, 0x40, 0x7fff)?;
-    assert!(rt; holds(&memory, 0x40, &[10, 11, 12, 13, 14, 15, 16, 17, 0, 0]));
+    demand(
+        &rt,
+        holds(&memory, 0x40, &[10, 11, 12, 13, 14, 15, 16, 17, 0, 0]),
+    );
     copy_table(&mut memory, 0x40, 0x7ff0, 0x8000)?;
-    assert!(rt; holds(&memory, 0x7fee, &[0, 0, 10, 11, 12, 13]));
+    demand(&rt, holds(&memory, 0x7fee, &[0, 0, 10, 11, 12, 13]));
     copy_table(&mut memory, 0x40, 0, 0x8000)?;
-    assert!(rt; holds(&memory, 0x40, &[0, 0, 0, 0, 0, 0, 0, 0]));
+    demand(&rt, holds(&memory, 0x40, &[0, 0, 0, 0, 0, 0, 0, 0]));
     // the bytes go on at address 0, where the version stands
     copy_table(&mut memory, 0xffff, 0x40, 2)?;
-    assert!(rt; holds(&memory, 0x40, &[0, 5, 0]));
+    demand(&rt, holds(&memory, 0x40, &[0, 5, 0]));
     // and overlap: version and flags go up by two
     copy_table(&mut memory, 0xffff, 1, 4)?;
-    assert!(rt; holds(&memory, 0, &[5, 0, 5, 0x10, 0]));
+    demand(&rt, holds(&memory, 0, &[5, 0, 5, 0x10, 0]));
     Ok(())
 }
 
@@ -150,10 +178,16 @@ fn scans_tables(rt: HostRuntime) -> Result<(), Fail> {
     ];
     let memory = memory_of(rt.alloc(), 0x50, 0x40, &[5, 7, 5, 9, 1, 5, 7, 200])?;
     for (value, table, length, form, found) in rows {
-        assert_eq!(rt;
-            scan_table(&memory, value, table, length, form),
-            found,
-            "{value} from {table} on, {length} of form {form}"
+        same(
+            &rt,
+            (
+                value,
+                table,
+                length,
+                form,
+                scan_table(&memory, value, table, length, form),
+            ),
+            (value, table, length, form, found),
         );
     }
     Ok(())
@@ -162,12 +196,17 @@ fn scans_tables(rt: HostRuntime) -> Result<(), Fail> {
 #[test]
 fn scans_the_longest_tables(rt: HostRuntime) -> Result<(), Fail> {
     let memory = memory_of(rt.alloc(), 0x1_0000, 0x40, &EIGHT)?;
-    assert_eq!(rt; scan_table(&memory, 17, 0x48, 0xffff, 0x01), Ok(None));
-    assert_eq!(rt; scan_table(&memory, 15, 0x48, 0xffff, 0x01), Ok(Some(0x45)));
-    assert_eq!(rt; scan_table(&memory, 99, 0x40, 0xffff, 0x7f), Ok(None));
-    assert_eq!(rt;
+    same(&rt, scan_table(&memory, 17, 0x48, 0xffff, 0x01), Ok(None));
+    same(
+        &rt,
+        scan_table(&memory, 15, 0x48, 0xffff, 0x01),
+        Ok(Some(0x45)),
+    );
+    same(&rt, scan_table(&memory, 99, 0x40, 0xffff, 0x7f), Ok(None));
+    same(
+        &rt,
         scan_table(&memory, 99, 0x40, 0xffff, 0x81),
-        Err(Fault::BadAddress)
+        Err(Fault::BadAddress),
     );
     Ok(())
 }
@@ -218,12 +257,16 @@ fn gives_rectangles(rt: HostRuntime) -> Result<(), Fail> {
     let memory = memory_of(rt.alloc(), 0x50, 0x40, &EIGHT)?;
     for (rectangle, codes) in rows {
         let (whole, buffer) = given::<8>(&memory, rectangle)?;
-        assert!(rt; whole);
-        assert!(rt; has_codes(buffer.as_slice(), codes), "{codes:?}");
+        demand(&rt, whole);
+        same(
+            &rt,
+            (codes, has_codes(buffer.as_slice(), codes)),
+            (codes, true),
+        );
     }
     let (whole, buffer) = given::<3>(&memory, rectangle_of(0x40, 2, 2, 0))?;
-    assert!(rt; !whole);
-    assert!(rt; has_codes(buffer.as_slice(), &[10, 11, 13]));
+    demand(&rt, !whole);
+    demand(&rt, has_codes(buffer.as_slice(), &[10, 11, 13]));
     Ok(())
 }
 
@@ -238,11 +281,11 @@ fn gives_rows(rt: HostRuntime) -> Result<(), Fail> {
     };
     let mut buffer = UnitBuffer::<4>::new();
     check_rectangle(&memory, rectangle)?;
-    assert!(rt; give_row(&memory, rectangle, 1, &mut buffer).is_ok());
-    assert!(rt; has_codes(buffer.as_slice(), &[13, 14]));
-    assert!(rt; give_row(&memory, rectangle, 2, &mut buffer).is_ok());
-    assert!(rt; has_codes(buffer.as_slice(), &[13, 14, 16, 17]));
-    assert!(rt; give_row(&memory, rectangle, 0, &mut buffer).is_err());
+    demand(&rt, give_row(&memory, rectangle, 1, &mut buffer).is_ok());
+    demand(&rt, has_codes(buffer.as_slice(), &[13, 14]));
+    demand(&rt, give_row(&memory, rectangle, 2, &mut buffer).is_ok());
+    demand(&rt, has_codes(buffer.as_slice(), &[13, 14, 16, 17]));
+    demand(&rt, give_row(&memory, rectangle, 0, &mut buffer).is_err());
     Ok(())
 }
 
@@ -257,7 +300,11 @@ fn tests_each_row(rt: HostRuntime) -> Result<(), Fail> {
         (rectangle_of(0, 1, 2, 0xfffe), Err(Fault::BadAddress)),
     ];
     for (rectangle, found) in rows {
-        assert_eq!(rt; check_rectangle(&memory, rectangle), found, "{rectangle:?}");
+        same(
+            &rt,
+            (rectangle, check_rectangle(&memory, rectangle)),
+            (rectangle, found),
+        );
     }
     Ok(())
 }
@@ -266,14 +313,19 @@ fn tests_each_row(rt: HostRuntime) -> Result<(), Fail> {
 fn gives_the_greatest_rectangle(rt: HostRuntime) -> Result<(), Fail> {
     let rectangle = rectangle_of(0x40, 0xffff, 0xffff, 0xffff);
     let small = memory_of(rt.alloc(), 0x50, 0x40, &EIGHT)?;
-    assert_eq!(rt; check_rectangle(&small, rectangle), Err(Fault::BadAddress));
-    assert_eq!(rt;
+    same(
+        &rt,
+        check_rectangle(&small, rectangle),
+        Err(Fault::BadAddress),
+    );
+    same(
+        &rt,
         check_rectangle(&small, rectangle_of(0, 0x50, 0xffff, 0xffb0)),
-        Ok(())
+        Ok(()),
     );
     let large = memory_of(rt.alloc(), 0x1_0000, 0x40, &EIGHT)?;
     let (whole, buffer) = given::<2>(&large, rectangle)?;
-    assert!(rt; !whole);
-    assert!(rt; has_codes(buffer.as_slice(), &[10, 11]));
+    demand(&rt, !whole);
+    demand(&rt, has_codes(buffer.as_slice(), &[10, 11]));
     Ok(())
 }

@@ -1,9 +1,11 @@
 // Checks of small stories.
 
+use crate::tests_same::{demand, same};
 use std::alloc::Global;
+use std::process::Abort;
 use std::test::Fail;
 use zk_inspect::checking::check;
-use zk_inspect::finding::{Finding, Number};
+use zk_inspect::finding::Number;
 use zk_mem::memory::{Memory, Setup};
 use zk_mem::story::Story;
 
@@ -32,27 +34,27 @@ fn bytes_of(version: u8, parts: &[Part]) -> [u8; 512] {
     with(bytes, parts)
 }
 
+/// What is wrong, and where.
+type Found = (Number, u32);
+
 /// What a check finds of a file.
-fn found(alloc: Global, file: &[u8]) -> Result<Vec<Finding>, Fail> {
+fn found(alloc: Global, file: &[u8]) -> Result<Vec<Found>, Fail> {
     let story = Story::open(alloc, file)?;
     let memory = Memory::start(alloc, story, Setup { undo_states: 16 })?;
-    Ok(check(alloc, &memory)?)
-}
-
-/// What a check finds of a story of version 3 and of a length, with parts.
-fn checked(alloc: Global, length: u16, parts: &[Part]) -> Result<Vec<Finding>, Fail> {
-    let mut file = bytes_of(3, parts).to_vec(alloc)?;
-    file.truncate(length as usize);
-    found(alloc, file.as_slice())
+    let mut all = Vec::new(alloc);
+    for finding in check(alloc, &memory)?.as_slice() {
+        all.push((finding.number, finding.address))?;
+    }
+    Ok(all)
 }
 
 /// What a check finds of the first bytes of a story, but for its checksum.
-fn found_otherwise(alloc: Global, length: u16, bytes: &[u8; 512]) -> Result<Vec<Finding>, Fail> {
+fn found_otherwise(alloc: Global, length: u16, bytes: &[u8; 512]) -> Result<Vec<Found>, Fail> {
     let mut file = bytes.to_vec(alloc)?;
     file.truncate(length as usize);
     let mut others = Vec::new(alloc);
     for finding in found(alloc, file.as_slice())?.as_slice() {
-        if finding.number != Number::Checksum {
+        if finding.0 != Number::Checksum {
             others.push(*finding)?;
         }
     }
@@ -60,172 +62,233 @@ fn found_otherwise(alloc: Global, length: u16, bytes: &[u8; 512]) -> Result<Vec<
 }
 
 /// The same of a story of version 3, with parts.
-fn checked_otherwise(alloc: Global, length: u16, parts: &[Part]) -> Result<Vec<Finding>, Fail> {
+fn checked_otherwise(alloc: Global, length: u16, parts: &[Part]) -> Result<Vec<Found>, Fail> {
     found_otherwise(alloc, length, &bytes_of(3, parts))
 }
 
-fn at(number: Number, address: u32) -> Finding {
-    Finding { number, address }
+/// The length of a story of version 3, its parts, and what is found of it but for its checksum.
+type Checked = (u16, &'static [Part<'static>], &'static [Found]);
+
+/// Compares what a check finds of each story.
+fn compare(rt: &(impl Abort + AllocGlobal), stories: &[Checked]) -> Result<(), Fail> {
+    for (length, parts, findings) in stories {
+        let list = checked_otherwise(rt.alloc(), *length, parts)?;
+        same(rt, list.as_slice(), *findings);
+    }
+    Ok(())
 }
 
 static PRINTS_HI: [u8; 5] = [0xb2, 0xb5, 0xc5, 0xbb, 0xba];
 
-#[test]
-fn a_checksum_is_compared(rt: HostRuntime) -> Result<(), Fail> {
-    let wrong = checked(rt.alloc(), 69, &[(0x40, &PRINTS_HI)])?;
-    assert_eq!(rt; wrong.as_slice(), [at(Number::Checksum, 0x1c)].as_slice());
-    let right = checked(rt.alloc(), 69, &[(0x1c, &[0x03, 0xa1]), (0x40, &PRINTS_HI)])?;
-    assert_eq!(rt; right.as_slice(), [].as_slice());
-    Ok(())
+/// What a check finds of a story of 69 bytes that prints a text, with parts.
+fn checked(alloc: Global, parts: &[Part]) -> Result<Vec<Found>, Fail> {
+    let bytes = with(bytes_of(3, &[(0x40, &PRINTS_HI)]), parts);
+    let mut file = bytes.to_vec(alloc)?;
+    file.truncate(69);
+    found(alloc, file.as_slice())
 }
 
 #[test]
-fn a_length_past_the_end_is_found(rt: HostRuntime) -> Result<(), Fail> {
+fn checksums_and_lengths_are_compared(rt: HostRuntime) -> Result<(), Fail> {
+    let checksum: Part = (0x1c, &[0x03, 0xa1]);
     // 35 units of 2 bytes are 70
-    let list = checked(
-        rt.alloc(),
-        69,
-        &[(0x1a, &[0, 35]), (0x1c, &[0x03, 0xa1]), (0x40, &PRINTS_HI)],
-    )?;
-    assert_eq!(rt;
-        list.as_slice(),
-        [at(Number::Checksum, 0x1c), at(Number::Length, 0x1a)].as_slice()
+    let length: Part = (0x1a, &[0, 35]);
+    let wrong = checked(rt.alloc(), &[])?;
+    same(&rt, wrong.as_slice(), [(Number::Checksum, 0x1c)].as_slice());
+    let right = checked(rt.alloc(), &[checksum])?;
+    same(&rt, right.as_slice(), [].as_slice());
+    let long = checked(rt.alloc(), &[length, checksum])?;
+    same(
+        &rt,
+        long.as_slice(),
+        [(Number::Checksum, 0x1c), (Number::Length, 0x1a)].as_slice(),
     );
-    // and one more byte is enough
-    let list = checked_otherwise(rt.alloc(), 70, &[(0x1a, &[0, 35]), (0x40, &PRINTS_HI)])?;
-    assert_eq!(rt; list.as_slice(), [].as_slice());
     Ok(())
 }
 
-#[test]
-fn code_may_lead_into_an_instruction(rt: HostRuntime) -> Result<(), Fail> {
-    // jz #00 ?0044; ret #baba, whose last byte is quit
-    let quit = checked_otherwise(
-        rt.alloc(),
+static CODE: [Checked; 12] = [
+    // a stated length of 70, which is the file's
+    (
         70,
-        &[(0x40, &[0x90, 0, 0xc3, 0x8b, 0xba, 0xba])],
-    )?;
-    assert_eq!(rt; quit.as_slice(), [].as_slice());
+        &[(0x1a, &[0, 35]), (0x40, &[0xb2, 0xb5, 0xc5, 0xbb, 0xba])],
+        &[],
+    ),
+    // jz #00 ?0044; ret #baba, whose last byte is quit
+    (70, &[(0x40, &[0x90, 0, 0xc3, 0x8b, 0xba, 0xba])], &[]),
     // the same to a byte 0, which begins no instruction
-    let none = checked_otherwise(rt.alloc(), 70, &[(0x40, &[0x90, 0, 0xc3, 0x8b, 0, 0xba])])?;
-    assert_eq!(rt;
-        none.as_slice(),
-        [at(Number::UndecodableCode, 0x44)].as_slice()
-    );
-    Ok(())
-}
-
-#[test]
-fn targets_may_lie_outside(rt: HostRuntime) -> Result<(), Fail> {
+    (
+        70,
+        &[(0x40, &[0x90, 0, 0xc3, 0x8b, 0, 0xba])],
+        &[(Number::UndecodableCode, 0x44)],
+    ),
     // jz #00 ?-1; quit
-    let below = checked_otherwise(rt.alloc(), 69, &[(0x40, &[0x90, 0, 0xbf, 0xbd, 0xba])])?;
-    assert_eq!(rt;
-        below.as_slice(),
-        [at(Number::TargetOutOfTheStory, 0x40)].as_slice()
-    );
+    (
+        69,
+        &[(0x40, &[0x90, 0, 0xbf, 0xbd, 0xba])],
+        &[(Number::TargetOutOfTheStory, 0x40)],
+    ),
     // jz #00 ?0045, the story's length; quit
-    let end = checked_otherwise(rt.alloc(), 69, &[(0x40, &[0x90, 0, 0x80, 3, 0xba])])?;
-    assert_eq!(rt;
-        end.as_slice(),
-        [at(Number::TargetOutOfTheStory, 0x40)].as_slice()
-    );
+    (
+        69,
+        &[(0x40, &[0x90, 0, 0x80, 3, 0xba])],
+        &[(Number::TargetOutOfTheStory, 0x40)],
+    ),
     // jz #00 ?0044
-    let last = checked_otherwise(rt.alloc(), 69, &[(0x40, &[0x90, 0, 0x80, 2, 0xba])])?;
-    assert_eq!(rt; last.as_slice(), [].as_slice());
+    (69, &[(0x40, &[0x90, 0, 0x80, 2, 0xba])], &[]),
     // call #7fff -> sp; quit
-    let call = checked_otherwise(
-        rt.alloc(),
+    (
         70,
         &[(0x40, &[0xe0, 0x3f, 0x7f, 0xff, 0, 0xba])],
-    )?;
-    assert_eq!(rt;
-        call.as_slice(),
-        [at(Number::TargetOutOfTheStory, 0x40)].as_slice()
-    );
+        &[(Number::TargetOutOfTheStory, 0x40)],
+    ),
     // jump #0050
-    let jump = checked_otherwise(rt.alloc(), 66, &[(0x40, &[0x9c, 0x50])])?;
-    assert_eq!(rt;
-        jump.as_slice(),
-        [at(Number::TargetOutOfTheStory, 0x40)].as_slice()
-    );
-    Ok(())
-}
-
-#[test]
-fn a_routine_may_lie_below_the_static_base(rt: HostRuntime) -> Result<(), Fail> {
-    let header: [Part; 2] = [(0x07, &[0x42]), (0x0f, &[0x41])];
-    // a routine at 0x40; call #0020 -> sp; quit
-    let code = [0x00, 0xb0, 0xe0, 0x3f, 0x00, 0x20, 0x00, 0xba];
-    let list = checked_otherwise(rt.alloc(), 72, &[header[0], header[1], (0x40, &code)])?;
-    assert_eq!(rt; list.as_slice(), [].as_slice());
+    (
+        66,
+        &[(0x40, &[0x9c, 0x50])],
+        &[(Number::TargetOutOfTheStory, 0x40)],
+    ),
+    // a routine at 0x40, below the static base; call #0020 -> sp; quit
+    (
+        72,
+        &[
+            (0x07, &[0x42]),
+            (0x0f, &[0x41]),
+            (0x40, &[0x00, 0xb0, 0xe0, 0x3f, 0x00, 0x20, 0x00, 0xba]),
+        ],
+        &[],
+    ),
     // 16 local variables are none
-    let code = [0x10, 0xb0, 0xe0, 0x3f, 0x00, 0x20, 0x00, 0xba];
-    let list = checked_otherwise(rt.alloc(), 72, &[header[0], header[1], (0x40, &code)])?;
-    assert_eq!(rt;
-        list.as_slice(),
-        [at(Number::TargetOutOfTheStory, 0x42)].as_slice()
-    );
-    Ok(())
-}
-
-/// A dictionary at 0x48, behind `quit`, with this count and three keys.
-static KEYS: [u8; 16] = [
-    0x00, 0x04, 0x00, 0x03, 0x64, 0xd0, 0xa8, 0xa5, 0x64, 0xd0, 0xa8, 0xa5, 0x65, 0xaa, 0x80, 0xa5,
+    (
+        72,
+        &[
+            (0x07, &[0x42]),
+            (0x0f, &[0x41]),
+            (0x40, &[0x10, 0xb0, 0xe0, 0x3f, 0x00, 0x20, 0x00, 0xba]),
+        ],
+        &[(Number::TargetOutOfTheStory, 0x42)],
+    ),
+    // print_paddr #ffff; quit
+    (
+        68,
+        &[(0x40, &[0x8d, 0xff, 0xff, 0xba])],
+        &[(Number::TextPastTheEnd, 0x1fffe)],
+    ),
+    // print_addr #0044; quit; a word that is not the last
+    (
+        70,
+        &[(0x40, &[0x87, 0, 0x44, 0xba, 0x35, 0xc5])],
+        &[(Number::TextPastTheEnd, 0x44)],
+    ),
 ];
 
 #[test]
-fn keys_ascend(rt: HostRuntime) -> Result<(), Fail> {
-    let header: Part = (0x08, &[0, 0x48]);
-    let quit: Part = (0x40, &[0xba]);
-    // the second key is equal to the first
-    let equal = checked_otherwise(rt.alloc(), 88, &[header, quit, (0x48, &KEYS)])?;
-    assert_eq!(rt;
-        equal.as_slice(),
-        [at(Number::DictionaryOrder, 0x50)].as_slice()
-    );
-    // the second key is higher, and so the third falls
-    let falls = checked_otherwise(
-        rt.alloc(),
-        88,
-        &[header, quit, (0x48, &KEYS), (0x50, &[0x66])],
-    )?;
-    assert_eq!(rt;
-        falls.as_slice(),
-        [at(Number::DictionaryOrder, 0x54)].as_slice()
-    );
-    // the second key is between the others, by its last byte
-    let ascends = checked_otherwise(
-        rt.alloc(),
-        88,
-        &[header, quit, (0x48, &KEYS), (0x53, &[0xa6])],
-    )?;
-    assert_eq!(rt; ascends.as_slice(), [].as_slice());
-    // three entries that are not sorted
-    let unsorted = checked_otherwise(
-        rt.alloc(),
-        88,
-        &[header, quit, (0x48, &KEYS), (0x4a, &[0xff, 0xfd])],
-    )?;
-    assert_eq!(rt; unsorted.as_slice(), [].as_slice());
-    Ok(())
+fn code_leads_to_code_and_texts(rt: HostRuntime) -> Result<(), Fail> {
+    compare(&rt, &CODE)
 }
 
-#[test]
-fn a_dictionary_may_be_cut_off(rt: HostRuntime) -> Result<(), Fail> {
-    let header: Part = (0x08, &[0, 0x48]);
-    let quit: Part = (0x40, &[0xba]);
-    let cut = checked_otherwise(rt.alloc(), 87, &[header, quit, (0x48, &KEYS)])?;
-    assert_eq!(rt;
-        cut.as_slice(),
-        [at(Number::DictionaryExtent, 0x48)].as_slice()
-    );
+/// Stories with `quit` and a dictionary of three keys at 0x48.
+static DICTIONARIES: [Checked; 6] = [
+    // the second key is equal to the first
+    (
+        88,
+        &[
+            (0x08, &[0, 0x48]),
+            (0x40, &[0xba]),
+            (
+                0x48,
+                &[
+                    0, 4, 0, 3, 0x64, 0xd0, 0xa8, 0xa5, 0x64, 0xd0, 0xa8, 0xa5, 0x65, 0xaa, 0x80,
+                    0xa5,
+                ],
+            ),
+        ],
+        &[(Number::DictionaryOrder, 0x50)],
+    ),
+    // the second key is higher, and so the third falls
+    (
+        88,
+        &[
+            (0x08, &[0, 0x48]),
+            (0x40, &[0xba]),
+            (
+                0x48,
+                &[
+                    0, 4, 0, 3, 0x64, 0xd0, 0xa8, 0xa5, 0x66, 0xd0, 0xa8, 0xa5, 0x65, 0xaa, 0x80,
+                    0xa5,
+                ],
+            ),
+        ],
+        &[(Number::DictionaryOrder, 0x54)],
+    ),
+    // the second key is between the others, by its last byte
+    (
+        88,
+        &[
+            (0x08, &[0, 0x48]),
+            (0x40, &[0xba]),
+            (
+                0x48,
+                &[
+                    0, 4, 0, 3, 0x64, 0xd0, 0xa8, 0xa5, 0x64, 0xd0, 0xa8, 0xa6, 0x65, 0xaa, 0x80,
+                    0xa5,
+                ],
+            ),
+        ],
+        &[],
+    ),
+    // three entries that are not sorted
+    (
+        88,
+        &[
+            (0x08, &[0, 0x48]),
+            (0x40, &[0xba]),
+            (
+                0x48,
+                &[
+                    0, 4, 0xff, 0xfd, 0x64, 0xd0, 0xa8, 0xa5, 0x64, 0xd0, 0xa8, 0xa5, 0x65, 0xaa,
+                    0x80, 0xa5,
+                ],
+            ),
+        ],
+        &[],
+    ),
+    // the last entry is cut off
+    (
+        87,
+        &[
+            (0x08, &[0, 0x48]),
+            (0x40, &[0xba]),
+            (
+                0x48,
+                &[
+                    0, 4, 0, 3, 0x64, 0xd0, 0xa8, 0xa5, 0x64, 0xd0, 0xa8, 0xa5, 0x65, 0xaa, 0x80,
+                    0xa5,
+                ],
+            ),
+        ],
+        &[(Number::DictionaryExtent, 0x48)],
+    ),
     // entries without room for a key
-    let narrow = checked_otherwise(rt.alloc(), 88, &[header, quit, (0x48, &KEYS), (0x49, &[3])])?;
-    assert_eq!(rt;
-        narrow.as_slice(),
-        [at(Number::DictionaryExtent, 0x48)].as_slice()
-    );
-    Ok(())
+    (
+        88,
+        &[
+            (0x08, &[0, 0x48]),
+            (0x40, &[0xba]),
+            (
+                0x48,
+                &[
+                    0, 3, 0, 3, 0x64, 0xd0, 0xa8, 0xa5, 0x64, 0xd0, 0xa8, 0xa5, 0x65, 0xaa, 0x80,
+                    0xa5,
+                ],
+            ),
+        ],
+        &[(Number::DictionaryExtent, 0x48)],
+    ),
+];
+
+#[test]
+fn keys_ascend_in_a_whole_dictionary(rt: HostRuntime) -> Result<(), Fail> {
+    compare(&rt, &DICTIONARIES)
 }
 
 /// The objects of a story of version 3 begin at 0x7e: five of them, whose property tables stand at 0xab, empty.
@@ -240,54 +303,39 @@ static OBJECTS: [Part; 8] = [
     (0xb0, &[0xba]),
 ];
 
-/// What a check finds of a story with these objects and more parts, but for its checksum.
-fn checked_objects(alloc: Global, length: u16, parts: &[Part]) -> Result<Vec<Finding>, Fail> {
-    found_otherwise(alloc, length, &with(bytes_of(3, &OBJECTS), parts))
-}
-
-#[test]
-fn chains_end(rt: HostRuntime) -> Result<(), Fail> {
+/// Stories with these objects.
+static TREES: [Checked; 10] = [
     // objects 3 and 4 are each other's sibling, in object 1
-    let list = checked_objects(
-        rt.alloc(),
+    (
         0xb2,
         &[(0x84, &[3]), (0x95, &[4]), (0x9e, &[3]), (0xa6, &[1])],
-    )?;
-    assert_eq!(rt;
-        list.as_slice(),
-        [at(Number::ChainWithARepeat, 0x7e)].as_slice()
-    );
+        &[(Number::ChainWithARepeat, 0x7e)],
+    ),
     // object 2 is its own sibling, in itself and in object 5
-    let list = checked_objects(rt.alloc(), 0xb2, &[(0x8c, &[2, 2]), (0xa8, &[2])])?;
-    assert_eq!(rt;
-        list.as_slice(),
-        [
-            at(Number::ChainWithARepeat, 0x87),
-            at(Number::ChainWithARepeat, 0xa2)
-        ]
-        .as_slice()
-    );
+    (
+        0xb2,
+        &[(0x8c, &[2, 2]), (0xa8, &[2])],
+        &[
+            (Number::ChainWithARepeat, 0x87),
+            (Number::ChainWithARepeat, 0xa2),
+        ],
+    ),
     // all others are in object 1
-    let list = checked_objects(
-        rt.alloc(),
+    (
         0xb2,
         &[(0x84, &[2]), (0x8c, &[3]), (0x95, &[4]), (0x9e, &[5])],
-    )?;
-    assert_eq!(rt; list.as_slice(), [].as_slice());
+        &[],
+    ),
     // object 1 is in itself, alone
-    let list = checked_objects(rt.alloc(), 0xb2, &[(0x84, &[1])])?;
-    assert_eq!(rt; list.as_slice(), [].as_slice());
-    Ok(())
-}
-
-#[test]
-fn links_name_objects(rt: HostRuntime) -> Result<(), Fail> {
+    (0xb2, &[(0x84, &[1])], &[]),
     // object 6 has no entry in data
-    let list = checked_objects(rt.alloc(), 0xb2, &[(0x84, &[3]), (0x95, &[6])])?;
-    assert_eq!(rt; list.as_slice(), [at(Number::ObjectLinks, 0x90)].as_slice());
+    (
+        0xb2,
+        &[(0x84, &[3]), (0x95, &[6])],
+        &[(Number::ObjectLinks, 0x90)],
+    ),
     // it has one, whose sibling is object 3
-    let list = checked_objects(
-        rt.alloc(),
+    (
         0xb4,
         &[
             (0x07, &[0x40]),
@@ -296,49 +344,39 @@ fn links_name_objects(rt: HostRuntime) -> Result<(), Fail> {
             (0x95, &[6]),
             (0xb0, &[3]),
         ],
-    )?;
-    assert_eq!(rt;
-        list.as_slice(),
-        [
-            at(Number::ObjectLinks, 0x90),
-            at(Number::ChainWithARepeat, 0x7e)
-        ]
-        .as_slice()
-    );
-    Ok(())
-}
-
-#[test]
-fn property_lists_lie_in_data(rt: HostRuntime) -> Result<(), Fail> {
-    // the table of object 2 does not, and its parent is past the last
-    let list = checked_objects(rt.alloc(), 0xb2, &[(0x8b, &[9]), (0x8e, &[0xff, 0xff])])?;
-    assert_eq!(rt;
-        list.as_slice(),
-        [
-            at(Number::ObjectLinks, 0x87),
-            at(Number::PropertyList, 0x87)
-        ]
-        .as_slice()
-    );
+        &[
+            (Number::ObjectLinks, 0x90),
+            (Number::ChainWithARepeat, 0x7e),
+        ],
+    ),
+    // the property table of object 2 does not lie in data, and its parent is past the last
+    (
+        0xb2,
+        &[(0x8b, &[9]), (0x8e, &[0xff, 0xff])],
+        &[(Number::ObjectLinks, 0x87), (Number::PropertyList, 0x87)],
+    ),
     // the only property of object 1 has 8 bytes, of which none is there
-    let list = checked_objects(rt.alloc(), 0xc2, &[(0x86, &[0xc0]), (0xc1, &[0xe1])])?;
-    assert_eq!(rt;
-        list.as_slice(),
-        [at(Number::PropertyList, 0x7e)].as_slice()
-    );
-    Ok(())
-}
+    (
+        0xc2,
+        &[(0x86, &[0xc0]), (0xc1, &[0xe1])],
+        &[(Number::PropertyList, 0x7e)],
+    ),
+    // the name of object 1 has no last word
+    (
+        0xc4,
+        &[(0x86, &[0xc0]), (0xc0, &[1])],
+        &[(Number::TextPastTheEnd, 0xc1)],
+    ),
+    (0xc4, &[(0x86, &[0xc0]), (0xc0, &[1, 0x80])], &[]),
+];
 
 #[test]
-fn names_end(rt: HostRuntime) -> Result<(), Fail> {
-    // the name of object 1 has no last word
-    let list = checked_objects(rt.alloc(), 0xc4, &[(0x86, &[0xc0]), (0xc0, &[1])])?;
-    assert_eq!(rt;
-        list.as_slice(),
-        [at(Number::TextPastTheEnd, 0xc1)].as_slice()
-    );
-    let list = checked_objects(rt.alloc(), 0xc4, &[(0x86, &[0xc0]), (0xc0, &[1, 0x80])])?;
-    assert_eq!(rt; list.as_slice(), [].as_slice());
+fn chains_and_names_end_and_lists_lie_in_data(rt: HostRuntime) -> Result<(), Fail> {
+    for (length, parts, findings) in &TREES {
+        let bytes = with(bytes_of(3, &OBJECTS), parts);
+        let list = found_otherwise(rt.alloc(), *length, &bytes)?;
+        same(&rt, list.as_slice(), *findings);
+    }
     Ok(())
 }
 
@@ -354,7 +392,7 @@ fn abbreviations(first: [u8; 2]) -> [u8; 192] {
 }
 
 /// What a check finds of a story with this table at 0x80, which prints the first abbreviation at 0x51.
-fn checked_table(alloc: Global, table: [u8; 192]) -> Result<Vec<Finding>, Fail> {
+fn checked_table(alloc: Global, table: [u8; 192]) -> Result<Vec<Found>, Fail> {
     checked_otherwise(
         alloc,
         0x140,
@@ -371,33 +409,36 @@ fn checked_table(alloc: Global, table: [u8; 192]) -> Result<Vec<Finding>, Fail> 
 #[test]
 fn abbreviations_use_none(rt: HostRuntime) -> Result<(), Fail> {
     let plain = checked_table(rt.alloc(), abbreviations([0, 0x20]))?;
-    assert_eq!(rt; plain.as_slice(), [].as_slice());
+    same(&rt, plain.as_slice(), [].as_slice());
     // the text at 0x42 begins with Z-characters 1 and 0
     let nested = checked_table(rt.alloc(), abbreviations([0, 0x21]))?;
-    assert_eq!(rt;
+    same(
+        &rt,
         nested.as_slice(),
         [
-            at(Number::NestedAbbreviation, 0x42),
-            at(Number::NestedAbbreviation, 0x51)
+            (Number::NestedAbbreviation, 0x42),
+            (Number::NestedAbbreviation, 0x51),
         ]
-        .as_slice()
+        .as_slice(),
     );
     // the same as another abbreviation, which nothing prints and which uses a plain one
     let mut table = abbreviations([0, 0x20]);
     table[3] = 0x21;
     let unused = checked_table(rt.alloc(), table)?;
-    assert_eq!(rt;
+    same(
+        &rt,
         unused.as_slice(),
-        [at(Number::NestedAbbreviation, 0x42)].as_slice()
+        [(Number::NestedAbbreviation, 0x42)].as_slice(),
     );
     let outside = checked_table(rt.alloc(), abbreviations([0x7f, 0xff]))?;
-    assert_eq!(rt;
+    same(
+        &rt,
         outside.as_slice(),
         [
-            at(Number::TextPastTheEnd, 0x51),
-            at(Number::TextPastTheEnd, 0xfffe)
+            (Number::TextPastTheEnd, 0x51),
+            (Number::TextPastTheEnd, 0xfffe),
         ]
-        .as_slice()
+        .as_slice(),
     );
     Ok(())
 }
@@ -416,31 +457,14 @@ fn words_of_the_table_are_read(rt: HostRuntime) -> Result<(), Fail> {
             (0x5e, &[0, 0x20]),
         ],
     )?;
-    assert_eq!(rt; list.len(), 95);
+    same(&rt, list.len(), 95);
     for (word, finding) in (0..95u8).zip(list.as_slice()) {
-        assert_eq!(rt;
+        same(
+            &rt,
             *finding,
-            at(Number::TextPastTheEnd, 0x60 + 2 * word as u32)
+            (Number::TextPastTheEnd, 0x60 + 2 * word as u32),
         );
     }
-    Ok(())
-}
-
-#[test]
-fn printed_texts_end(rt: HostRuntime) -> Result<(), Fail> {
-    // print_paddr #ffff; quit
-    let list = checked_otherwise(rt.alloc(), 68, &[(0x40, &[0x8d, 0xff, 0xff, 0xba])])?;
-    assert_eq!(rt;
-        list.as_slice(),
-        [at(Number::TextPastTheEnd, 0x1fffe)].as_slice()
-    );
-    // print_addr #0044; quit; a word that is not the last
-    let code = [0x87, 0, 0x44, 0xba, 0x35, 0xc5];
-    let list = checked_otherwise(rt.alloc(), 70, &[(0x40, &code)])?;
-    assert_eq!(rt;
-        list.as_slice(),
-        [at(Number::TextPastTheEnd, 0x44)].as_slice()
-    );
     Ok(())
 }
 
@@ -465,9 +489,9 @@ fn siblings(alloc: Global, objects: u8, last: u8) -> Result<Vec<u8>, Fail> {
 #[test]
 fn long_chains_end(rt: HostRuntime) -> Result<(), Fail> {
     let ends = found(rt.alloc(), siblings(rt.alloc(), 200, 0)?.as_slice())?;
-    assert_eq!(rt; ends.as_slice(), [at(Number::Checksum, 0x1c)].as_slice());
+    same(&rt, ends.as_slice(), [(Number::Checksum, 0x1c)].as_slice());
     let repeats = found(rt.alloc(), siblings(rt.alloc(), 200, 1)?.as_slice())?;
-    assert_eq!(rt; repeats.len(), 201);
+    same(&rt, repeats.len(), 201);
     Ok(())
 }
 
@@ -485,7 +509,7 @@ fn filled(alloc: Global, length: u32, parts: &[Part]) -> Result<Vec<u8>, Fail> {
 fn the_longest_story_is_checked(rt: HostRuntime) -> Result<(), Fail> {
     let file = filled(rt.alloc(), 262_144, &[])?;
     let list = found(rt.alloc(), file.as_slice())?;
-    assert_eq!(rt; list.as_slice(), [at(Number::Checksum, 0x1c)].as_slice());
+    same(&rt, list.as_slice(), [(Number::Checksum, 0x1c)].as_slice());
     Ok(())
 }
 
@@ -495,9 +519,9 @@ fn words_past_data_are_not_read(rt: HostRuntime) -> Result<(), Fail> {
     // a text that ends
     let file = filled(rt.alloc(), 0x10002, &[(0x18, &[0xff, 0xf2])])?;
     let list = found(rt.alloc(), file.as_slice())?;
-    assert_eq!(rt; list.len(), 91);
-    assert_eq!(rt; list[0], at(Number::Checksum, 0x1c));
-    assert_eq!(rt; list[1], at(Number::TextPastTheEnd, 0x10000));
-    assert_eq!(rt; list[90], at(Number::TextPastTheEnd, 0x16160));
+    demand(&rt, list.len() == 91);
+    same(&rt, list[0], (Number::Checksum, 0x1c));
+    same(&rt, list[1], (Number::TextPastTheEnd, 0x10000));
+    same(&rt, list[90], (Number::TextPastTheEnd, 0x16160));
     Ok(())
 }

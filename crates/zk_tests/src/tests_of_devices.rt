@@ -1,5 +1,6 @@
 // Devices over memory, and devices that fail.
 
+use crate::tests_same::same;
 use std::io::{self, Read, Write};
 use std::test::Fail;
 use zk_term::nothing::Nothing;
@@ -41,15 +42,19 @@ fn all_is_written_in_small_pieces(rt: HostRuntime) -> Result<(), Fail> {
             fails,
         };
         let mut target = Over::new(narrow);
-        assert_eq!(rt; write_char(&mut target, '€'), Ok(()));
-        assert_eq!(rt; write_all(&mut target, b"abc"), Err(Failed));
+        same(&rt, write_char(&mut target, '€'), Ok(()));
+        same(&rt, write_all(&mut target, b"abc"), Err(Failed));
         let Narrow {
             taken,
             room,
             fails: _,
         } = target.into_inner();
-        assert_eq!(rt; taken.as_slice(), [0xe2, 0x82, 0xac, b'a', b'b'].as_slice());
-        assert_eq!(rt; room, 0);
+        same(
+            &rt,
+            taken.as_slice(),
+            [0xe2, 0x82, 0xac, b'a', b'b'].as_slice(),
+        );
+        same(&rt, room, 0);
     }
     Ok(())
 }
@@ -68,19 +73,19 @@ impl Read for Broken {
 fn sources_give_their_bytes(rt: HostRuntime) {
     let mut buffer = [0u8; 2];
     let mut source = Over::new(b"abc".as_slice());
-    assert_eq!(rt; source.read(&mut buffer), Ok(2));
-    assert_eq!(rt; buffer, [b'a', b'b']);
-    assert_eq!(rt; source.read(&mut buffer), Ok(1));
-    assert_eq!(rt; buffer[0], b'c');
-    assert_eq!(rt; source.read(&mut buffer), Ok(0));
-    assert_eq!(rt; Over::new(Broken).read(&mut buffer), Err(Failed));
-    assert_eq!(rt; Nothing.read(&mut buffer), Ok(0));
-    assert_eq!(rt; Nothing.write(b"abc"), Ok(3));
+    same(&rt, source.read(&mut buffer), Ok(2));
+    same(&rt, buffer, [b'a', b'b']);
+    same(&rt, source.read(&mut buffer), Ok(1));
+    same(&rt, buffer[0], b'c');
+    same(&rt, source.read(&mut buffer), Ok(0));
+    same(&rt, Over::new(Broken).read(&mut buffer), Err(Failed));
+    same(&rt, Nothing.read(&mut buffer), Ok(0));
+    same(&rt, Nothing.write(b"abc"), Ok(3));
 }
 
 #[test]
 fn no_bytes_are_written(rt: HostRuntime) {
     let mut target = Over::new(Vec::<u8>::new(rt.alloc()));
-    assert_eq!(rt; target.write(b""), Ok(0));
-    assert_eq!(rt; target.into_inner().len(), 0);
+    same(&rt, target.write(b""), Ok(0));
+    same(&rt, target.into_inner().len(), 0);
 }

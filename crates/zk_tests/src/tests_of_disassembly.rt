@@ -1,5 +1,6 @@
 // Listings of small stories.
 
+use crate::tests_same::same;
 use std::alloc::Global;
 use std::io::{self, Write};
 use std::test::Fail;
@@ -46,9 +47,10 @@ fn list(alloc: Global, memory: &Memory) -> Result<Vec<u8>, Fail> {
 #[test]
 fn texts_are_listed(rt: HostRuntime) -> Result<(), Fail> {
     let text = listed(rt.alloc(), 3, &[0xb2, 0xb5, 0xc5, 0xbb, 0xba])?;
-    assert_eq!(rt;
+    same(
+        &rt,
         text.as_slice(),
-        b"00040 print \"hi\"\n00043 new_line\n00044 quit\n".as_slice()
+        b"00040 print \"hi\"\n00043 new_line\n00044 quit\n".as_slice(),
     );
     Ok(())
 }
@@ -62,9 +64,10 @@ fn routines_are_listed(rt: HostRuntime) -> Result<(), Fail> {
             0xe0, 0x3f, 0, 0x23, 0, 0xba, 0, 0xe0, 0x3f, 0, 0x23, 0, 0xb0,
         ],
     )?;
-    assert_eq!(rt;
+    same(
+        &rt,
         text.as_slice(),
-        b"00040 call #0023 -> sp\n00045 quit\n00047 call #0023 -> sp\n0004c rtrue\nroutine 00046 locals 0\n".as_slice()
+        b"00040 call #0023 -> sp\n00045 quit\n00047 call #0023 -> sp\n0004c rtrue\nroutine 00046 locals 0\n".as_slice(),
     );
     Ok(())
 }
@@ -73,9 +76,10 @@ fn routines_are_listed(rt: HostRuntime) -> Result<(), Fail> {
 fn the_first_routine_may_follow_the_header(rt: HostRuntime) -> Result<(), Fail> {
     // the story begins inside the routine, which calls itself
     let memory = story_from(rt.alloc(), 3, 0x41, &[0, 0xe0, 0x3f, 0, 0x20, 0, 0xba])?;
-    assert_eq!(rt;
+    same(
+        &rt,
         list(rt.alloc(), &memory)?.as_slice(),
-        b"00041 call #0020 -> sp\n00046 quit\nroutine 00040 locals 0\n".as_slice()
+        b"00041 call #0020 -> sp\n00046 quit\nroutine 00040 locals 0\n".as_slice(),
     );
     Ok(())
 }
@@ -89,9 +93,10 @@ fn variables_are_listed(rt: HostRuntime) -> Result<(), Fail> {
             0x88, 0, 0x12, 0, 0xe6, 0xbf, 0, 0xba, 0, 0xb9, 0, 0x3c, 9, 0,
         ],
     )?;
-    assert_eq!(rt;
+    same(
+        &rt,
         text.as_slice(),
-        b"00040 call_1s #0012 -> sp\n00044 print_num sp\n00047 quit\n00049 catch -> sp\n0004b throw #09 sp\nroutine 00048 locals 0\n".as_slice()
+        b"00040 call_1s #0012 -> sp\n00044 print_num sp\n00047 quit\n00049 catch -> sp\n0004b throw #09 sp\nroutine 00048 locals 0\n".as_slice(),
     );
     Ok(())
 }
@@ -99,9 +104,10 @@ fn variables_are_listed(rt: HostRuntime) -> Result<(), Fail> {
 #[test]
 fn code_may_lead_into_an_instruction(rt: HostRuntime) -> Result<(), Fail> {
     let text = listed(rt.alloc(), 3, &[0x90, 0, 0xc3, 0x8b, 0xba, 0xba])?;
-    assert_eq!(rt;
+    same(
+        &rt,
         text.as_slice(),
-        b"00040 jz #00 ?00044\n00043 ret #baba\n00044 quit\n".as_slice()
+        b"00040 jz #00 ?00044\n00043 ret #baba\n00044 quit\n".as_slice(),
     );
     Ok(())
 }
@@ -109,28 +115,31 @@ fn code_may_lead_into_an_instruction(rt: HostRuntime) -> Result<(), Fail> {
 #[test]
 fn targets_may_lie_outside(rt: HostRuntime) -> Result<(), Fail> {
     let below = listed(rt.alloc(), 3, &[0x90, 0, 0xbf, 0xbd, 0xba])?;
-    assert_eq!(rt;
+    same(
+        &rt,
         below.as_slice(),
-        b"00040 jz #00 ?-00001\n00044 quit\n".as_slice()
+        b"00040 jz #00 ?-00001\n00044 quit\n".as_slice(),
     );
     let past = listed(rt.alloc(), 3, &[0x90, 0, 0, 3, 0xba])?;
-    assert_eq!(rt;
+    same(
+        &rt,
         past.as_slice(),
-        b"00040 jz #00 ?~00045\n00044 quit\n".as_slice()
+        b"00040 jz #00 ?~00045\n00044 quit\n".as_slice(),
     );
     let jump = listed(rt.alloc(), 3, &[0x8c, 0xff, 0xff])?;
-    assert_eq!(rt; jump.as_slice(), b"00040 jump 00040\n".as_slice());
+    same(&rt, jump.as_slice(), b"00040 jump 00040\n".as_slice());
     let out = listed(rt.alloc(), 3, &[0x9c, 0x50])?;
-    assert_eq!(rt; out.as_slice(), b"00040 jump #50\n".as_slice());
+    same(&rt, out.as_slice(), b"00040 jump #50\n".as_slice());
     Ok(())
 }
 
 #[test]
 fn code_may_end_with_the_story(rt: HostRuntime) -> Result<(), Fail> {
     let text = listed(rt.alloc(), 5, &[0xb4, 0x0d, 0, 7])?;
-    assert_eq!(rt;
+    same(
+        &rt,
         text.as_slice(),
-        b"00040 nop\n00041 store &sp #07\n00044 ?\n".as_slice()
+        b"00040 nop\n00041 store &sp #07\n00044 ?\n".as_slice(),
     );
     Ok(())
 }
@@ -163,12 +172,13 @@ fn a_failed_write_is_told(rt: HostRuntime) -> Result<(), Fail> {
     let mut target = Over::new(Narrow {
         taken: Vec::new(rt.alloc()),
     });
-    assert_eq!(rt;
+    same(
+        &rt,
         disassemble(&memory, &code, &mut target),
-        Err(ListError::Write)
+        Err(ListError::Write),
     );
     let Narrow { taken } = target.into_inner();
-    assert_eq!(rt; taken.as_slice(), b"000".as_slice());
+    same(&rt, taken.as_slice(), b"000".as_slice());
     Ok(())
 }
 
@@ -200,11 +210,12 @@ fn nothing_follows_a_failed_write(rt: HostRuntime) -> Result<(), Fail> {
     let mut target = Over::new(Picky {
         taken: Vec::new(rt.alloc()),
     });
-    assert_eq!(rt;
+    same(
+        &rt,
         disassemble(&memory, &code, &mut target),
-        Err(ListError::Write)
+        Err(ListError::Write),
     );
     let Picky { taken } = target.into_inner();
-    assert_eq!(rt; taken.as_slice(), b"00040 ".as_slice());
+    same(&rt, taken.as_slice(), b"00040 ".as_slice());
     Ok(())
 }

@@ -1,5 +1,6 @@
 // The frames of a small story.
 
+use crate::tests_same::{demand, same};
 use std::test::Fail;
 use zk_mem::fault::Fault;
 use zk_state::frames::{Frames, Return};
@@ -8,45 +9,47 @@ use zk_state::refusal::{Limit, Refusal};
 #[test]
 fn words_go_up_to_the_bound(rt: HostRuntime) -> Result<(), Fail> {
     let mut frames = Frames::new(rt.alloc(), 1, 3)?;
-    assert_eq!(rt; frames.pop(), Err(Fault::StackEmpty));
-    assert_eq!(rt; frames.top(), Err(Fault::StackEmpty));
-    assert_eq!(rt; frames.set_top(5), Err(Fault::StackEmpty));
+    same(&rt, frames.pop(), Err(Fault::StackEmpty));
+    same(&rt, frames.top(), Err(Fault::StackEmpty));
+    same(&rt, frames.set_top(5), Err(Fault::StackEmpty));
     for word in [10, 0, 65535] {
-        assert_eq!(rt; frames.push(word), Ok(()), "{word}");
+        same(&rt, (word, frames.push(word)), (word, Ok(())));
     }
-    assert_eq!(rt; frames.push(40), Err(Refusal::Limit(Limit::Words)));
-    assert_eq!(rt; frames.words(), 3);
-    assert_eq!(rt; frames.top(), Ok(65535));
-    assert_eq!(rt; frames.set_top(31), Ok(()));
+    same(&rt, frames.push(40), Err(Refusal::Limit(Limit::Words)));
+    same(&rt, frames.words(), 3);
+    same(&rt, frames.top(), Ok(65535));
+    same(&rt, frames.set_top(31), Ok(()));
     for word in [31, 0, 10] {
-        assert_eq!(rt; frames.pop(), Ok(word));
+        same(&rt, frames.pop(), Ok(word));
     }
-    assert_eq!(rt; frames.pop(), Err(Fault::StackEmpty));
-    assert_eq!(rt; frames.words(), 0);
+    same(&rt, frames.pop(), Err(Fault::StackEmpty));
+    same(&rt, frames.words(), 0);
     Ok(())
 }
 
 #[test]
 fn frames_go_up_to_the_bound(rt: HostRuntime) -> Result<(), Fail> {
     let mut frames = Frames::new(rt.alloc(), 3, 4)?;
-    assert_eq!(rt; frames.most_frames(), 3);
-    assert_eq!(rt; frames.most_words(), 4);
-    assert_eq!(rt; frames.depth(), 0);
-    assert_eq!(rt; frames.supplied(), 0);
-    assert_eq!(rt; frames.leave(), Err(Fault::ReturnFromMain));
-    assert_eq!(rt; frames.call(&[1, 2, 3], 66, Some(0), 1), Ok(()));
-    assert_eq!(rt;
+    same(&rt, frames.most_frames(), 3);
+    same(&rt, frames.most_words(), 4);
+    same(&rt, frames.depth(), 0);
+    same(&rt, frames.supplied(), 0);
+    same(&rt, frames.leave(), Err(Fault::ReturnFromMain));
+    same(&rt, frames.call(&[1, 2, 3], 66, Some(0), 1), Ok(()));
+    same(
+        &rt,
         frames.call(&[4, 5], 66, None, 0),
-        Err(Refusal::Limit(Limit::Words))
+        Err(Refusal::Limit(Limit::Words)),
     );
-    assert_eq!(rt; frames.call(&[4], 70, None, 0), Ok(()));
-    assert_eq!(rt;
+    same(&rt, frames.call(&[4], 70, None, 0), Ok(()));
+    same(
+        &rt,
         frames.call(&[5], 74, None, 0),
-        Err(Refusal::Limit(Limit::Frames))
+        Err(Refusal::Limit(Limit::Frames)),
     );
-    assert_eq!(rt; frames.depth(), 2);
-    assert_eq!(rt; frames.words(), 4);
-    assert_eq!(rt; frames.local(1), Ok(4));
+    same(&rt, frames.depth(), 2);
+    same(&rt, frames.words(), 4);
+    same(&rt, frames.local(1), Ok(4));
     Ok(())
 }
 
@@ -54,66 +57,74 @@ fn frames_go_up_to_the_bound(rt: HostRuntime) -> Result<(), Fail> {
 fn local_variables_behind_the_arguments_are_0(rt: HostRuntime) -> Result<(), Fail> {
     let mut frames = Frames::new(rt.alloc(), 3, 9)?;
     for word in [7, 8, 9] {
-        assert_eq!(rt; frames.push(word), Ok(()));
+        same(&rt, frames.push(word), Ok(()));
     }
     for word in [9, 8, 7] {
-        assert_eq!(rt; frames.pop(), Ok(word));
+        same(&rt, frames.pop(), Ok(word));
     }
     // the words stay in their room, where the local variables now lie
-    assert_eq!(rt; frames.call_with(3, &[5], 66, None, 1), Ok(()));
-    assert_eq!(rt; frames.local(1), Ok(5));
-    assert_eq!(rt; frames.local(2), Ok(0));
-    assert_eq!(rt; frames.local(3), Ok(0));
-    assert_eq!(rt; frames.supplied(), 1);
+    same(&rt, frames.call_with(3, &[5], 66, None, 1), Ok(()));
+    same(&rt, frames.local(1), Ok(5));
+    same(&rt, frames.local(2), Ok(0));
+    same(&rt, frames.local(3), Ok(0));
+    same(&rt, frames.supplied(), 1);
     Ok(())
 }
 
 #[test]
 fn a_return_drops_the_words_of_its_routine(rt: HostRuntime) -> Result<(), Fail> {
     let mut frames = Frames::new(rt.alloc(), 4, 20)?;
-    assert_eq!(rt; frames.push(7), Ok(()));
-    assert_eq!(rt; frames.call(&[1, 2, 3], 0x12345, Some(16), 2), Ok(()));
-    assert_eq!(rt; frames.supplied(), 2);
-    assert_eq!(rt; frames.words(), 4);
-    assert_eq!(rt; frames.pop(), Err(Fault::StackEmpty));
+    same(&rt, frames.push(7), Ok(()));
+    same(&rt, frames.call(&[1, 2, 3], 0x12345, Some(16), 2), Ok(()));
+    same(&rt, frames.supplied(), 2);
+    same(&rt, frames.words(), 4);
+    same(&rt, frames.pop(), Err(Fault::StackEmpty));
     for word in [8, 9] {
-        assert_eq!(rt; frames.push(word), Ok(()));
+        same(&rt, frames.push(word), Ok(()));
     }
-    assert_eq!(rt; frames.words(), 6);
+    same(&rt, frames.words(), 6);
     let back = Return {
         place: 0x12345,
         result: Some(16),
     };
-    assert_eq!(rt; frames.leave(), Ok(back));
-    assert_eq!(rt; frames.depth(), 0);
-    assert_eq!(rt; frames.words(), 1);
-    assert_eq!(rt; frames.pop(), Ok(7));
+    same(&rt, frames.leave(), Ok(back));
+    same(&rt, frames.depth(), 0);
+    same(&rt, frames.words(), 1);
+    same(&rt, frames.pop(), Ok(7));
     Ok(())
 }
 
 #[test]
 fn local_variables_are_counted_from_1(rt: HostRuntime) -> Result<(), Fail> {
     let mut frames = Frames::new(rt.alloc(), 2, 15)?;
-    assert_eq!(rt; frames.local(1), Err(Fault::NoSuchLocal));
+    same(&rt, frames.local(1), Err(Fault::NoSuchLocal));
     let locals = [
         101, 102, 103, 104, 105, 106, 107, 108, 109, 110, 111, 112, 113, 114, 115,
     ];
-    assert_eq!(rt; frames.call(&locals, 66, None, 0), Ok(()));
+    same(&rt, frames.call(&locals, 66, None, 0), Ok(()));
     for (number, old, new) in [(1, 101, 201), (2, 102, 202), (14, 114, 214), (15, 115, 215)] {
-        assert_eq!(rt; frames.local(number), Ok(old), "{number}");
-        assert_eq!(rt; frames.set_local(number, new), Ok(()), "{number}");
-        assert_eq!(rt; frames.local(number), Ok(new), "{number}");
+        same(&rt, (number, frames.local(number)), (number, Ok(old)));
+        same(
+            &rt,
+            (number, frames.set_local(number, new)),
+            (number, Ok(())),
+        );
+        same(&rt, (number, frames.local(number)), (number, Ok(new)));
     }
     for number in [0, 16, 255] {
-        assert_eq!(rt; frames.local(number), Err(Fault::NoSuchLocal), "{number}");
-        assert_eq!(rt;
-            frames.set_local(number, 1),
-            Err(Fault::NoSuchLocal),
-            "{number}"
+        same(
+            &rt,
+            (number, frames.local(number)),
+            (number, Err(Fault::NoSuchLocal)),
+        );
+        same(
+            &rt,
+            (number, frames.set_local(number, 1)),
+            (number, Err(Fault::NoSuchLocal)),
         );
     }
-    assert_eq!(rt; frames.local(3), Ok(103));
-    assert_eq!(rt; frames.words(), 15);
+    same(&rt, frames.local(3), Ok(103));
+    same(&rt, frames.words(), 15);
     Ok(())
 }
 
@@ -121,24 +132,24 @@ fn local_variables_are_counted_from_1(rt: HostRuntime) -> Result<(), Fail> {
 fn unwinds_to_a_frame(rt: HostRuntime) -> Result<(), Fail> {
     let mut frames = Frames::new(rt.alloc(), 5, 20)?;
     for place in [70, 80, 90, 100] {
-        assert_eq!(rt; frames.push(place), Ok(()));
-        assert_eq!(rt; frames.call(&[1], place as u32, None, 0), Ok(()));
+        same(&rt, frames.push(place), Ok(()));
+        same(&rt, frames.call(&[1], place as u32, None, 0), Ok(()));
     }
-    assert_eq!(rt; frames.unwind(5), Err(Fault::BadFrame));
+    same(&rt, frames.unwind(5), Err(Fault::BadFrame));
     for (number, words) in [(4, 8), (2, 5), (2, 5)] {
-        assert_eq!(rt; frames.unwind(number), Ok(()));
-        assert_eq!(rt; frames.depth(), number);
-        assert_eq!(rt; frames.words(), words);
+        same(&rt, frames.unwind(number), Ok(()));
+        same(&rt, frames.depth(), number);
+        same(&rt, frames.words(), words);
     }
     let back = Return {
         place: 80,
         result: None,
     };
-    assert_eq!(rt; frames.leave(), Ok(back));
-    assert_eq!(rt; frames.unwind(0), Ok(()));
-    assert_eq!(rt; frames.depth(), 0);
-    assert_eq!(rt; frames.pop(), Ok(70));
-    assert_eq!(rt; frames.pop(), Err(Fault::StackEmpty));
+    same(&rt, frames.leave(), Ok(back));
+    same(&rt, frames.unwind(0), Ok(()));
+    same(&rt, frames.depth(), 0);
+    same(&rt, frames.pop(), Ok(70));
+    same(&rt, frames.pop(), Err(Fault::StackEmpty));
     Ok(())
 }
 
@@ -157,7 +168,7 @@ fn limits_and_faults_are_named(rt: HostRuntime) -> Result<(), Fail> {
             "the evaluation stack of the frame is empty",
         ),
     ] {
-        assert_eq!(rt; format!(in rt.alloc(); "{refusal}")?.as_str(), text);
+        same(&rt, format!(in rt.alloc(); "{refusal}")?.as_str(), text);
     }
     Ok(())
 }
@@ -165,15 +176,17 @@ fn limits_and_faults_are_named(rt: HostRuntime) -> Result<(), Fail> {
 #[test]
 fn returns_are_checked(rt: HostRuntime) -> Result<(), Fail> {
     let mut frames = Frames::new(rt.alloc(), 3, 3)?;
-    assert_eq!(rt;
+    same(
+        &rt,
         frames.check_return(),
-        Err(Refusal::Fault(Fault::ReturnFromMain))
+        Err(Refusal::Fault(Fault::ReturnFromMain)),
     );
-    assert_eq!(rt; frames.call(&[1], 66, Some(1), 0), Ok(()));
+    same(&rt, frames.call(&[1], 66, Some(1), 0), Ok(()));
     // the first frame has no local variable
-    assert_eq!(rt;
+    same(
+        &rt,
         frames.check_return(),
-        Err(Refusal::Fault(Fault::NoSuchLocal))
+        Err(Refusal::Fault(Fault::NoSuchLocal)),
     );
     for (variable, checked) in [
         (None, Ok(None)),
@@ -183,16 +196,20 @@ fn returns_are_checked(rt: HostRuntime) -> Result<(), Fail> {
         (Some(15), Err(Refusal::Fault(Fault::NoSuchLocal))),
         (Some(16), Ok(Some(16))),
     ] {
-        assert_eq!(rt; frames.call(&[5, 6], 70, variable, 0), Ok(()));
-        assert_eq!(rt; frames.check_return(), checked, "{variable:?}");
+        same(&rt, frames.call(&[5, 6], 70, variable, 0), Ok(()));
+        same(&rt, (variable, frames.check_return()), (variable, checked));
         let _ = frames.leave();
     }
     for word in [2, 3] {
-        assert_eq!(rt; frames.push(word), Ok(()));
+        same(&rt, frames.push(word), Ok(()));
     }
     // all words are taken
-    assert_eq!(rt; frames.call(&[], 74, Some(0), 0), Ok(()));
-    assert_eq!(rt; frames.check_return(), Err(Refusal::Limit(Limit::Words)));
+    same(&rt, frames.call(&[], 74, Some(0), 0), Ok(()));
+    same(
+        &rt,
+        frames.check_return(),
+        Err(Refusal::Limit(Limit::Words)),
+    );
     Ok(())
 }
 
@@ -204,18 +221,18 @@ fn limits_have_numbers(rt: HostRuntime) {
         (Limit::Steps, 3),
         (Limit::Reads, 4),
     ] {
-        assert_eq!(rt; limit.number(), number);
+        same(&rt, limit.number(), number);
     }
 }
 
 #[test]
 fn local_variables_count_from_1(rt: HostRuntime) -> Result<(), Fail> {
     let mut frames = Frames::new(rt.alloc(), 2, 3)?;
-    assert_eq!(rt; frames.push(9), Ok(()));
-    assert_eq!(rt; frames.call(&[5, 6], 66, None, 0), Ok(()));
-    assert_eq!(rt; frames.local(0), Err(Fault::NoSuchLocal));
-    assert_eq!(rt; frames.set_local(0, 7), Err(Fault::NoSuchLocal));
-    assert_eq!(rt; (frames.local(1), frames.local(2)), (Ok(5), Ok(6)));
+    same(&rt, frames.push(9), Ok(()));
+    same(&rt, frames.call(&[5, 6], 66, None, 0), Ok(()));
+    same(&rt, frames.local(0), Err(Fault::NoSuchLocal));
+    same(&rt, frames.set_local(0, 7), Err(Fault::NoSuchLocal));
+    same(&rt, (frames.local(1), frames.local(2)), (Ok(5), Ok(6)));
     Ok(())
 }
 
@@ -223,36 +240,37 @@ fn local_variables_count_from_1(rt: HostRuntime) -> Result<(), Fail> {
 #[test]
 fn frames_are_copied_and_put_back(rt: HostRuntime) -> Result<(), Fail> {
     let mut frames = Frames::new(rt.alloc(), 3, 6)?;
-    assert_eq!(rt; frames.push(7), Ok(()));
-    assert_eq!(rt; frames.call(&[1, 2], 0x12345, Some(16), 2), Ok(()));
-    assert_eq!(rt; frames.push(9), Ok(()));
+    same(&rt, frames.push(7), Ok(()));
+    same(&rt, frames.call(&[1, 2], 0x12345, Some(16), 2), Ok(()));
+    same(&rt, frames.push(9), Ok(()));
     let copy = frames.copy(rt.alloc())?;
-    assert_eq!(rt; frames.set_local(1, 5), Ok(()));
-    assert_eq!(rt; frames.call(&[3, 4], 99, None, 0), Ok(()));
+    same(&rt, frames.set_local(1, 5), Ok(()));
+    same(&rt, frames.call(&[3, 4], 99, None, 0), Ok(()));
     frames.restart();
-    assert_eq!(rt; (frames.depth(), frames.words()), (0, 0));
-    assert_eq!(rt; frames.leave(), Err(Fault::ReturnFromMain));
-    assert_eq!(rt; frames.push(8), Ok(()));
+    same(&rt, (frames.depth(), frames.words()), (0, 0));
+    same(&rt, frames.leave(), Err(Fault::ReturnFromMain));
+    same(&rt, frames.push(8), Ok(()));
     let mut others = Frames::new(rt.alloc(), 2, 4)?;
     if others.can_hold(&copy) {
         others.put_back(&copy);
     }
-    assert_eq!(rt;
+    same(
+        &rt,
         (others.depth(), others.words(), others.supplied()),
-        (1, 4, 2)
+        (1, 4, 2),
     );
-    assert_eq!(rt; (others.local(1), others.local(2)), (Ok(1), Ok(2)));
-    assert_eq!(rt; others.pop(), Ok(9));
+    same(&rt, (others.local(1), others.local(2)), (Ok(1), Ok(2)));
+    same(&rt, others.pop(), Ok(9));
     let back = Return {
         place: 0x12345,
         result: Some(16),
     };
-    assert_eq!(rt; others.leave(), Ok(back));
-    assert_eq!(rt; others.pop(), Ok(7));
-    assert_eq!(rt; others.pop(), Err(Fault::StackEmpty));
+    same(&rt, others.leave(), Ok(back));
+    same(&rt, others.pop(), Ok(7));
+    same(&rt, others.pop(), Err(Fault::StackEmpty));
     let small = Frames::new(rt.alloc(), 2, 3)?;
-    assert!(rt; !small.can_hold(&copy));
+    demand(&rt, !small.can_hold(&copy));
     let few = Frames::new(rt.alloc(), 1, 9)?;
-    assert!(rt; !few.can_hold(&copy));
+    demand(&rt, !few.can_hold(&copy));
     Ok(())
 }

@@ -1,5 +1,6 @@
 // The decoder against the opcode tables and worked examples.
 
+use crate::tests_same::{demand, same};
 use std::alloc::Global;
 use std::mem::size_of;
 use std::process::Abort;
@@ -220,33 +221,34 @@ fn check_row(rt: &impl Abort, alloc: Global, version: u8, row: &Row) -> Result<(
     let (count, number, _, _, wanted, least, marks) = *row;
     let code = instruction(alloc, row, least)?;
     let instr = decode(&story(alloc, version, code.as_slice())?, 0x40)?;
-    assert!(rt;
-        name(instr.opcode, version) == wanted,
-        "{count:?} {number} in version {version}"
+    same(
+        &rt,
+        (count, number, version, name(instr.opcode, version)),
+        (count, number, version, wanted),
     );
-    assert_eq!(rt;
-        instr.operands.len(),
-        least as usize,
-        "{count:?} {number} in version {version}"
+    same(
+        &rt,
+        (count, number, version, instr.operands.len()),
+        (count, number, version, least as usize),
     );
-    assert_eq!(rt;
-        instr.next as usize,
-        0x40 + code.len(),
-        "{count:?} {number} in version {version}"
+    same(
+        &rt,
+        (count, number, version, instr.next as usize),
+        (count, number, version, 0x40 + code.len()),
     );
     let follow = (instr.store, instr.branch, instr.text);
-    assert_eq!(rt;
-        follow,
-        follow_of(marks, instr.next),
-        "{count:?} {number} in version {version}"
+    same(
+        &rt,
+        (count, number, version, follow),
+        (count, number, version, follow_of(marks, instr.next)),
     );
     if least > 0 && count != OneOperand {
         let code = instruction(alloc, row, least - 1)?;
         let fault = fault_of(alloc, version, code.as_slice())?;
-        assert_eq!(rt;
-            fault,
-            Some(Fault::MissingOperand),
-            "{count:?} {number} in version {version}"
+        same(
+            &rt,
+            (count, number, version, fault),
+            (count, number, version, Some(Fault::MissingOperand)),
         );
     }
     Ok(())
@@ -265,10 +267,10 @@ fn check(
     let code = front(alloc, count, number, 0)?;
     let bytes = if count == Extended { 2 } else { 1 };
     let fault = fault_of(alloc, version, code.as_slice().get(..bytes).unwrap_or(&[]))?;
-    assert_eq!(rt;
-        fault,
-        Some(Fault::BadOpcode),
-        "{count:?} {number} in version {version}"
+    same(
+        &rt,
+        (count, number, version, fault),
+        (count, number, version, Some(Fault::BadOpcode)),
     );
     Ok(())
 }
@@ -290,18 +292,22 @@ fn texts_end_by_the_ends_that_are_known(rt: HostRuntime) -> Result<(), Fail> {
     code[1] = 0xb2;
     code[302] = 0x80;
     let memory = story(rt.alloc(), 5, &code)?;
-    assert_eq!(rt; behind(rt.alloc(), &memory, 0x40)?, Ok(0x41));
-    assert_eq!(rt; behind(rt.alloc(), &memory, 0x41)?, Ok(0x170));
+    same(&rt, behind(rt.alloc(), &memory, 0x40)?, Ok(0x41));
+    same(&rt, behind(rt.alloc(), &memory, 0x41)?, Ok(0x170));
     // a byte later, so that the words stand at odd addresses
     let mut code = [0; 305];
     code[2] = 0xb2;
     code[303] = 0x80;
     let memory = story(rt.alloc(), 5, &code)?;
-    assert_eq!(rt; behind(rt.alloc(), &memory, 0x42)?, Ok(0x171));
+    same(&rt, behind(rt.alloc(), &memory, 0x42)?, Ok(0x171));
     // and no word has the mark
     code[303] = 0;
     let memory = story(rt.alloc(), 5, &code)?;
-    assert_eq!(rt; behind(rt.alloc(), &memory, 0x42)?, Err(Fault::CodePastEnd));
+    same(
+        &rt,
+        behind(rt.alloc(), &memory, 0x42)?,
+        Err(Fault::CodePastEnd),
+    );
     Ok(())
 }
 
@@ -476,16 +482,28 @@ static FORMS: [(u8, &[u8], &str, &[Operand], Option<u8>, Option<Branch>); 20] = 
 fn forms(rt: HostRuntime) -> Result<(), Fail> {
     for &(version, code, wanted, operands, store, branch) in &FORMS {
         let instr = decode(&story(rt.alloc(), version, code)?, 0x40)?;
-        assert!(rt; name(instr.opcode, version) == wanted, "{wanted}");
-        assert_eq!(rt; instr.operands.as_slice(), operands, "operands of {wanted}");
-        assert_eq!(rt;
-            instr.operands.get(0),
-            operands.first().copied(),
-            "{wanted}"
+        same(&rt, name(instr.opcode, version), wanted);
+        same(&rt, (wanted, instr.operands.as_slice()), (wanted, operands));
+        same(
+            &rt,
+            (wanted, instr.operands.get(0)),
+            (wanted, operands.first().copied()),
         );
-        assert_eq!(rt; instr.operands.is_empty(), operands.is_empty(), "{wanted}");
-        assert_eq!(rt; (instr.store, instr.branch), (store, branch), "{wanted}");
-        assert_eq!(rt; instr.next as usize, 0x40 + code.len(), "end of {wanted}");
+        same(
+            &rt,
+            (wanted, instr.operands.is_empty()),
+            (wanted, operands.is_empty()),
+        );
+        same(
+            &rt,
+            (wanted, (instr.store, instr.branch)),
+            (wanted, (store, branch)),
+        );
+        same(
+            &rt,
+            (wanted, instr.next as usize),
+            (wanted, 0x40 + code.len()),
+        );
     }
     Ok(())
 }
@@ -501,7 +519,11 @@ static TEXTS: [(&[u8], u32); 3] = [
 fn texts(rt: HostRuntime) -> Result<(), Fail> {
     for &(code, next) in &TEXTS {
         let instr = decode(&story(rt.alloc(), 3, code)?, 0x40)?;
-        assert_eq!(rt; (instr.text, instr.next), (Some(0x41), next), "{code:?}");
+        same(
+            &rt,
+            (code, (instr.text, instr.next)),
+            (code, (Some(0x41), next)),
+        );
     }
     Ok(())
 }
@@ -537,8 +559,12 @@ fn branches(rt: HostRuntime) -> Result<(), Fail> {
             code.push(0)?;
         }
         let instr = decode(&story(rt.alloc(), 3, code.as_slice())?, 0x40)?;
-        assert_eq!(rt; instr.branch, Some(Branch { on, target }), "at {bytes:?}");
-        assert_eq!(rt; instr.next as usize, end, "end of {bytes:?}");
+        same(
+            &rt,
+            (bytes, instr.branch),
+            (bytes, Some(Branch { on, target })),
+        );
+        same(&rt, (bytes, instr.next as usize), (bytes, end));
     }
     Ok(())
 }
@@ -559,7 +585,11 @@ static JUMPS: [(u16, Target); 9] = [
 #[test]
 fn jumps(rt: HostRuntime) {
     for &(offset, target) in &JUMPS {
-        assert_eq!(rt; jump_target(100, 67, offset), target, "offset {offset}");
+        same(
+            &rt,
+            (offset, jump_target(100, 67, offset)),
+            (offset, target),
+        );
     }
 }
 
@@ -600,14 +630,14 @@ static FAULTS: [(u8, &[u8], Fault); 26] = [
 fn faults(rt: HostRuntime) -> Result<(), Fail> {
     for &(version, code, fault) in &FAULTS {
         let refused = fault_of(rt.alloc(), version, code)?;
-        assert_eq!(rt; refused, Some(fault), "{code:?} in version {version}");
+        same(&rt, (code, version, refused), (code, version, Some(fault)));
     }
     let memory = story(rt.alloc(), 3, b"\xba")?;
     for address in [0x41, 0x1000, 0xffff_ffff] {
-        assert_eq!(rt;
-            decode(&memory, address).err(),
-            Some(Fault::CodePastEnd),
-            "at {address}"
+        same(
+            &rt,
+            (address, decode(&memory, address).err()),
+            (address, Some(Fault::CodePastEnd)),
         );
     }
     Ok(())
@@ -615,33 +645,25 @@ fn faults(rt: HostRuntime) -> Result<(), Fail> {
 
 #[test]
 fn small_types(rt: HostRuntime) {
-    assert_eq!(rt; size_of::<Operand>(), 4);
-    assert!(rt;
-        size_of::<Instr>() <= 80,
-        "an instruction has {} bytes",
-        size_of::<Instr>()
-    );
-    assert_eq!(rt; Large(0x1234).constant(), Some(0x1234));
-    assert_eq!(rt; Small(200).constant(), Some(200));
-    assert_eq!(rt; Variable(3).constant(), None);
+    same(&rt, size_of::<Operand>(), 4);
+    demand(&rt, size_of::<Instr>() <= 80);
+    same(&rt, Large(0x1234).constant(), Some(0x1234));
+    same(&rt, Small(200).constant(), Some(200));
+    same(&rt, Variable(3).constant(), None);
 }
 
 #[test]
 fn operands_are_counted_from_0(rt: HostRuntime) -> Result<(), Fail> {
     // add 5 6 -> sp
     let memory = story(rt.alloc(), 5, &[0x14, 5, 6, 0])?;
-    match decode(&memory, 0x40) {
-        Ok(i) => {
-            assert_eq!(rt; i.operands.get(0), Some(Small(5)));
-            assert_eq!(rt; i.operands.get(1), Some(Small(6)));
-            assert_eq!(rt; i.operands.get(2), None);
-        }
-        Err(fault) => assert!(rt; false, "{fault:?}"),
+    for (index, operand) in [(0, Some(Small(5))), (1, Some(Small(6))), (2, None)] {
+        let told = decode(&memory, 0x40).map(|i| i.operands.get(index));
+        same(&rt, told, Ok(operand));
     }
-    assert_eq!(rt; Operand::default(), Small(0));
+    same(&rt, Operand::default(), Small(0));
     let call = Opcode::Call(Call::CallVs);
-    assert_eq!(rt; name(call, 3), "call");
-    assert_eq!(rt; name(call, 4), "call_vs");
+    same(&rt, name(call, 3), "call");
+    same(&rt, name(call, 4), "call_vs");
     Ok(())
 }
 
@@ -651,7 +673,7 @@ fn saving_branches_in_version_3(rt: HostRuntime) -> Result<(), Fail> {
     // save ?rtrue, restore ?rtrue
     let memory = story(rt.alloc(), 3, b"\xb5\xc1\xb6\xc1")?;
     let (save, restore) = (decode(&memory, 0x40)?, decode(&memory, 0x42)?);
-    assert_eq!(rt; save.opcode, Opcode::Saving(Saving::SaveBranch));
-    assert_eq!(rt; restore.opcode, Opcode::Saving(Saving::RestoreBranch));
+    same(&rt, save.opcode, Opcode::Saving(Saving::SaveBranch));
+    same(&rt, restore.opcode, Opcode::Saving(Saving::RestoreBranch));
     Ok(())
 }

@@ -1,5 +1,6 @@
 // Lines of small inputs, against values worked out by hand.
 
+use crate::tests_same::{demand, same};
 use std::alloc::Global;
 use std::io::{self, Read};
 use std::process::Abort;
@@ -144,7 +145,11 @@ fn all_heard(rt: impl Abort + AllocGlobal + Copy, rows: &[(&[u8], &[u8])]) -> Re
     let memory = memory(rt.alloc(), false)?;
     let extra = Extra::of(&memory);
     for (bytes, wanted) in rows {
-        assert!(rt; hears(rt.alloc(), &extra, bytes, wanted)?, "{bytes:?}");
+        same(
+            &rt,
+            (bytes, hears(rt.alloc(), &extra, bytes, wanted)?),
+            (bytes, true),
+        );
     }
     Ok(())
 }
@@ -215,7 +220,7 @@ fn an_own_table_is_used_alone(rt: HostRuntime) -> Result<(), Fail> {
     let memory = memory(rt.alloc(), true)?;
     let extra = Extra::of(&memory);
     let bytes = b"a\xd0\x96\xd0\x97\xc3\x84\n";
-    assert!(rt; hears(rt.alloc(), &extra, bytes, b"a\x9b\x9c?|EEE")?);
+    demand(&rt, hears(rt.alloc(), &extra, bytes, b"a\x9b\x9c?|EEE")?);
     Ok(())
 }
 
@@ -251,9 +256,10 @@ fn lines_have_255_codes_at_most(rt: HostRuntime) -> Result<(), Fail> {
     ];
     for (text, times, rest, length, end) in rows {
         let input = Repeated { text, times, rest };
-        assert!(rt;
-            ends(rt.alloc(), &extra, input, (length, end))?,
-            "{times} {rest:?}"
+        same(
+            &rt,
+            (times, rest, ends(rt.alloc(), &extra, input, (length, end))?),
+            (times, rest, true),
         );
     }
     Ok(())
@@ -273,9 +279,10 @@ fn lines_have_65_535_bytes_at_most(rt: HostRuntime) -> Result<(), Fail> {
     ];
     for (text, times, rest, length, end) in rows {
         let input = Repeated { text, times, rest };
-        assert!(rt;
-            ends(rt.alloc(), &extra, input, (length, end))?,
-            "{times} {rest:?}"
+        same(
+            &rt,
+            (times, rest, ends(rt.alloc(), &extra, input, (length, end))?),
+            (times, rest, true),
         );
     }
     Ok(())
@@ -290,11 +297,12 @@ fn too_many_bytes_are_not_waited_for(rt: HostRuntime) -> Result<(), Fail> {
         times: 65_540,
         rest: b"",
     });
-    assert_eq!(rt;
+    same(
+        &rt,
         heard(rt.alloc(), &mut source, &extra, 2)?.as_slice(),
-        b"FF".as_slice()
+        b"FF".as_slice(),
     );
-    assert_eq!(rt; source.into_inner().times, 4);
+    same(&rt, source.into_inner().times, 4);
     Ok(())
 }
 
@@ -323,8 +331,8 @@ fn an_input_that_is_over_stays_so(rt: HostRuntime) -> Result<(), Fail> {
     for (steps, asked, wanted) in rows {
         let mut source = Over::new(Script { steps, asked: 0 });
         let found = heard(rt.alloc(), &mut source, &extra, 4)?;
-        assert_eq!(rt; found.as_slice(), wanted);
-        assert_eq!(rt; source.into_inner().asked, asked);
+        same(&rt, found.as_slice(), wanted);
+        same(&rt, source.into_inner().asked, asked);
     }
     Ok(())
 }
@@ -336,8 +344,10 @@ fn lines_are_told_apart(rt: HostRuntime) -> Result<(), Fail> {
     let mut source = Over::new(b"a\na\nb".as_slice());
     let mut lines = Lines::new();
     let first = lines.line(&mut source, &extra);
-    assert_eq!(rt; lines.line(&mut source, &extra), first);
-    assert_ne!(rt; lines.line(&mut source, &extra), first);
-    assert_eq!(rt; lines.line(&mut source, &extra), Input::End);
+    let second = lines.line(&mut source, &extra);
+    let third = lines.line(&mut source, &extra);
+    same(&rt, second == first, true);
+    same(&rt, third == first, false);
+    same(&rt, lines.line(&mut source, &extra), Input::End);
     Ok(())
 }

@@ -1,5 +1,6 @@
 // Listings of the tables of small stories.
 
+use crate::tests_same::{demand, same};
 use std::alloc::Global;
 use std::process::Abort;
 use std::test::Fail;
@@ -105,8 +106,8 @@ fn lists(
     text: &str,
 ) -> Result<(), Fail> {
     let mut target = Over::new(Vec::new(rt.alloc()));
-    assert!(rt; write(rt.alloc(), memory, wanted, &mut target).is_ok());
-    assert_eq!(rt; target.into_inner().as_slice(), text.as_bytes());
+    demand(&rt, write(rt.alloc(), memory, wanted, &mut target).is_ok());
+    same(&rt, target.into_inner().as_slice(), text.as_bytes());
     Ok(())
 }
 
@@ -209,23 +210,25 @@ fn abbreviations_are_listed(rt: HostRuntime) -> Result<(), Fail> {
         ],
     )?;
     let mut target = Over::new(Vec::new(rt.alloc()));
-    assert!(rt; abbreviations(&memory, &mut target).is_ok());
+    demand(&rt, abbreviations(&memory, &mut target).is_ok());
     let text = target.into_inner();
-    assert!(rt;
+    demand(
+        &rt,
         text.as_slice()
-            .starts_with(b"0 \"hi\"\n1 ! F12\n2 ! F13\n3 ! F12\n")
+            .starts_with(b"0 \"hi\"\n1 ! F12\n2 ! F13\n3 ! F12\n"),
     );
-    assert!(rt; text.as_slice().ends_with(b"\n95 ! F12\n"));
-    assert_eq!(rt; faulty_abbreviations(text.as_slice(), b'2'), 94);
+    demand(&rt, text.as_slice().ends_with(b"\n95 ! F12\n"));
+    same(&rt, faulty_abbreviations(text.as_slice(), b'2'), 94);
     let none = tables(rt.alloc(), 3, &[])?;
     lists(&rt, &none, Wanted::Abbreviations, "")?;
     // a table past the end of data
     let past = tables(rt.alloc(), 3, &[(0x18, &[0xff, 0xf0])])?;
     let mut target = Over::new(Vec::new(rt.alloc()));
-    assert!(rt; abbreviations(&past, &mut target).is_ok());
-    assert_eq!(rt;
+    demand(&rt, abbreviations(&past, &mut target).is_ok());
+    same(
+        &rt,
         faulty_abbreviations(target.into_inner().as_slice(), b'2'),
-        96
+        96,
     );
     Ok(())
 }
@@ -415,7 +418,7 @@ fn failed_writes_are_told(rt: HostRuntime) -> Result<(), Fail> {
     )?;
     for wanted in ALL {
         let mut whole = Over::new(Vec::new(rt.alloc()));
-        assert!(rt; write(rt.alloc(), &memory, wanted, &mut whole).is_ok());
+        demand(&rt, write(rt.alloc(), &memory, wanted, &mut whole).is_ok());
         let text = whole.into_inner();
         for room in 0..text.len() {
             let mut target = Short {
@@ -424,10 +427,14 @@ fn failed_writes_are_told(rt: HostRuntime) -> Result<(), Fail> {
                 failed: false,
             };
             let listed = write(rt.alloc(), &memory, wanted, &mut target);
-            assert_eq!(rt; listed, Err(ListError::Write), "{wanted:?} {room}");
+            same(
+                &rt,
+                (wanted, room, listed),
+                (wanted, room, Err(ListError::Write)),
+            );
             let Short { taken, .. } = target;
-            assert_eq!(rt; taken.len(), room);
-            assert!(rt; text.as_slice().starts_with(taken.as_slice()));
+            same(&rt, taken.len(), room);
+            demand(&rt, text.as_slice().starts_with(taken.as_slice()));
         }
     }
     Ok(())
@@ -478,8 +485,11 @@ fn findings_are_written(rt: HostRuntime) -> Result<(), Fail> {
     ] {
         let findings = [Finding { number, address }];
         let mut target = Over::new(Vec::new(rt.alloc()));
-        assert!(rt; write_findings(findings.as_slice(), &mut target).is_ok());
-        assert_eq!(rt; target.into_inner().as_slice(), line.as_bytes());
+        demand(
+            &rt,
+            write_findings(findings.as_slice(), &mut target).is_ok(),
+        );
+        same(&rt, target.into_inner().as_slice(), line.as_bytes());
     }
     Ok(())
 }
@@ -497,10 +507,14 @@ fn findings_are_written_in_order(rt: HostRuntime) -> Result<(), Fail> {
         },
     ];
     let mut target = Over::new(Vec::new(rt.alloc()));
-    assert!(rt; write_findings(findings.as_slice(), &mut target).is_ok());
-    assert_eq!(rt;
+    demand(
+        &rt,
+        write_findings(findings.as_slice(), &mut target).is_ok(),
+    );
+    same(
+        &rt,
         target.into_inner().as_slice(),
-        b"C1 0001c checksum\nC6 00123 chain with a repeat\n".as_slice()
+        b"C1 0001c checksum\nC6 00123 chain with a repeat\n".as_slice(),
     );
     Ok(())
 }

@@ -2,6 +2,7 @@
 
 ghost use Rattle.std.specs.Prelude.{◌≡◌, None, IfOk, OnErr};
 
+use crate::tests_same::{demand, same};
 use std::alloc::Global;
 use std::io::{self, Write};
 use std::process::Abort;
@@ -39,7 +40,7 @@ pub(crate) fn started(
     bytes[0x0f] = 0x40;
     bytes.extend_from_slice(code)?;
     let story = Story::open(rt.alloc(), bytes.as_slice())?;
-    assert!(rt; limits.check());
+    demand(&rt, limits.check());
     Ok(Machine::start(rt.alloc(), story, 1, limits, View::Plain)?)
 }
 
@@ -58,14 +59,14 @@ fn quiet_turn(alloc: Global, machine: &mut Machine) -> Result<Event, Stop>
 fn a_stop_is_kept(rt: HostRuntime) -> Result<(), Fail> {
     let mut machine = started(&rt, AMPLE, &IDLE)?;
     let first = quiet_turn(rt.alloc(), &mut machine);
-    assert_eq!(rt; first, Err(Stop::Quit));
+    demand(&rt, first == Err(Stop::Quit));
     let again = quiet_turn(rt.alloc(), &mut machine);
-    assert_eq!(rt; again, Err(Stop::Quit));
+    demand(&rt, again == Err(Stop::Quit));
     machine.close(Stop::Write);
     let closed = quiet_turn(rt.alloc(), &mut machine);
-    assert_eq!(rt; closed, Err(Stop::Write));
+    demand(&rt, closed == Err(Stop::Write));
     let at_last = quiet_turn(rt.alloc(), &mut machine);
-    assert_eq!(rt; at_last, Err(Stop::Write));
+    same(&rt, at_last, Err(Stop::Write));
     Ok(())
 }
 
@@ -77,14 +78,14 @@ fn steps_are_counted(rt: HostRuntime) -> Result<(), Fail> {
         (1, Stop::Limit(0x41, Limit::Steps)),
     ] {
         let mut machine = started(&rt, Limits { steps, ..AMPLE }, &IDLE)?;
-        assert_eq!(rt; quiet_turn(rt.alloc(), &mut machine), Err(stop));
+        same(&rt, quiet_turn(rt.alloc(), &mut machine), Err(stop));
     }
     Ok(())
 }
 
 #[test]
 fn limits_have_ranges(rt: HostRuntime) {
-    assert!(rt; AMPLE.check());
+    demand(&rt, AMPLE.check());
     for limits in [
         Limits { frames: 0, ..AMPLE },
         Limits { undo: 65, ..AMPLE },
@@ -94,15 +95,15 @@ fn limits_have_ranges(rt: HostRuntime) {
             ..AMPLE
         },
     ] {
-        assert!(rt; !limits.check());
+        demand(&rt, !limits.check());
     }
 }
 
 #[test]
 fn no_slot_keeps_nothing(rt: HostRuntime) -> Result<(), Fail> {
-    assert!(rt; !NoSlot.put(b""));
-    assert!(rt; !NoSlot.put(b"abc"));
-    assert!(rt; NoSlot.get(rt.alloc())?.is_none());
+    demand(&rt, !NoSlot.put(b""));
+    demand(&rt, !NoSlot.put(b"abc"));
+    demand(&rt, NoSlot.get(rt.alloc())?.is_none());
     Ok(())
 }
 
@@ -144,9 +145,9 @@ fn nothing_is_written_after_a_failure(rt: HostRuntime) -> Result<(), Fail> {
         &mut NoSlot,
         &mut machine,
     );
-    assert_eq!(rt; stop, Err(Stop::Write));
+    same(&rt, stop, Err(Stop::Write));
     let FailsOnce { taken, has_failed } = screen.into_inner();
-    assert!(rt; has_failed && taken.is_empty());
-    assert!(rt; script.into_inner().is_empty());
+    demand(&rt, has_failed && taken.is_empty());
+    demand(&rt, script.into_inner().is_empty());
     Ok(())
 }

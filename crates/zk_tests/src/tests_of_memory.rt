@@ -1,5 +1,6 @@
 // Stories that are opened, and the memory that they start with.
 
+use crate::tests_same::{demand, same};
 use std::alloc::Global;
 use std::process::Abort;
 use std::test::Fail;
@@ -40,15 +41,15 @@ fn started(
 fn headers_are_read(rt: HostRuntime) -> Result<(), Fail> {
     let bytes = story_bytes(rt.alloc(), 5, 0x80)?;
     let header = Story::open(rt.alloc(), bytes.as_slice())?.header();
-    assert_eq!(rt; header.version, 5);
-    assert_eq!(rt; header.release, 7);
-    assert_eq!(rt; header.first_instruction, 0x40);
-    assert_eq!(rt; header.globals, 0x50);
-    assert_eq!(rt; header.static_base, 0x80);
-    assert_eq!(rt; header.flags_2, 0xffff);
-    assert_eq!(rt; header.serial, [0, 0, 0, 0, 0, b'9']);
-    assert_eq!(rt; header.extension, 0x60);
-    assert_eq!(rt; started(&rt, 3, 0x80, 16)?.header().extension, 0);
+    same(&rt, header.version, 5);
+    same(&rt, header.release, 7);
+    same(&rt, header.first_instruction, 0x40);
+    same(&rt, header.globals, 0x50);
+    same(&rt, header.static_base, 0x80);
+    same(&rt, header.flags_2, 0xffff);
+    same(&rt, header.serial, [0, 0, 0, 0, 0, b'9']);
+    same(&rt, header.extension, 0x60);
+    same(&rt, started(&rt, 3, 0x80, 16)?.header().extension, 0);
     Ok(())
 }
 
@@ -68,10 +69,14 @@ fn fields_are_set_at_the_start(rt: HostRuntime) -> Result<(), Fail> {
         .iter()
         .zip(fields)
         {
-            assert_eq!(rt; memory.byte(*address), Ok(field), "{version} {address}");
+            same(
+                &rt,
+                (version, address, memory.byte(*address)),
+                (version, address, Ok(field)),
+            );
         }
-        assert_eq!(rt; memory.word(0x32), Ok(0x0101));
-        assert_eq!(rt; memory.original()[0x01], 0xff);
+        same(&rt, memory.word(0x32), Ok(0x0101));
+        same(&rt, memory.original()[0x01], 0xff);
     }
     Ok(())
 }
@@ -79,22 +84,22 @@ fn fields_are_set_at_the_start(rt: HostRuntime) -> Result<(), Fail> {
 #[test]
 fn dynamic_memory_alone_is_written(rt: HostRuntime) -> Result<(), Fail> {
     let mut memory = started(&rt, 3, 0x80, 16)?;
-    assert_eq!(rt; memory.set_word(0x7e, 0x1234), Ok(()));
-    assert_eq!(rt; memory.word(0x7e), Ok(0x1234));
-    assert_eq!(rt; memory.set_word(0x7f, 0x5678), Err(Fault::ReadOnly));
-    assert_eq!(rt; memory.byte(0x7f), Ok(0x34));
-    assert_eq!(rt; memory.set_byte(0x80, 1), Err(Fault::ReadOnly));
-    assert_eq!(rt; memory.set_byte(0x100, 1), Err(Fault::BadAddress));
-    assert_eq!(rt; memory.set_word(0xff, 1), Err(Fault::BadAddress));
-    assert_eq!(rt; memory.word(0xff), Err(Fault::BadAddress));
-    assert_eq!(rt; memory.byte(0xff), Ok(0x12));
-    assert_eq!(rt; memory.byte(0xffff_ffff), Err(Fault::BadAddress));
-    assert_eq!(rt; memory.cell(0xff), Some(0x12));
-    assert_eq!(rt; memory.cell(0x100), None);
-    assert_eq!(rt; memory.dynamic().len(), 0x80);
-    assert_eq!(rt; memory.check_word(0x7e), Ok(()));
-    assert_eq!(rt; memory.check_word(0x7f), Err(Fault::ReadOnly));
-    assert_eq!(rt; memory.check_word(0xff), Err(Fault::BadAddress));
+    same(&rt, memory.set_word(0x7e, 0x1234), Ok(()));
+    same(&rt, memory.word(0x7e), Ok(0x1234));
+    same(&rt, memory.set_word(0x7f, 0x5678), Err(Fault::ReadOnly));
+    same(&rt, memory.byte(0x7f), Ok(0x34));
+    same(&rt, memory.set_byte(0x80, 1), Err(Fault::ReadOnly));
+    same(&rt, memory.set_byte(0x100, 1), Err(Fault::BadAddress));
+    same(&rt, memory.set_word(0xff, 1), Err(Fault::BadAddress));
+    same(&rt, memory.word(0xff), Err(Fault::BadAddress));
+    same(&rt, memory.byte(0xff), Ok(0x12));
+    same(&rt, memory.byte(0xffff_ffff), Err(Fault::BadAddress));
+    same(&rt, memory.cell(0xff), Some(0x12));
+    same(&rt, memory.cell(0x100), None);
+    same(&rt, memory.dynamic().len(), 0x80);
+    same(&rt, memory.check_word(0x7e), Ok(()));
+    same(&rt, memory.check_word(0x7f), Err(Fault::ReadOnly));
+    same(&rt, memory.check_word(0xff), Err(Fault::BadAddress));
     Ok(())
 }
 
@@ -124,10 +129,11 @@ fn bytes_are_moved_as_if_at_once(rt: HostRuntime) -> Result<(), Fail> {
         for i in 0..8u8 {
             memory.set_byte(0x40 + i as u32, i + 1)?;
         }
-        assert!(rt; moved(&mut memory, from, to, count));
-        assert!(rt;
-            memory.dynamic().ends_with(&bytes),
-            "{from} to {to}, {count}"
+        demand(&rt, moved(&mut memory, from, to, count));
+        same(
+            &rt,
+            (from, to, count, memory.dynamic().ends_with(&bytes)),
+            (from, to, count, true),
         );
     }
     Ok(())
@@ -136,7 +142,7 @@ fn bytes_are_moved_as_if_at_once(rt: HostRuntime) -> Result<(), Fail> {
 #[test]
 fn packed_addresses(rt: HostRuntime) {
     for (version, address) in [(3, 0x1fffe), (4, 0x3fffc), (5, 0x3fffc), (8, 0x7fff8)] {
-        assert_eq!(rt; unpack(version, 0xffff), address);
+        same(&rt, unpack(version, 0xffff), address);
     }
 }
 
@@ -154,25 +160,25 @@ fn counted_header(alloc: Global, version: u8) -> Result<Memory, Fail> {
 #[test]
 fn header_fields_stand_where_they_should(rt: HostRuntime) -> Result<(), Fail> {
     let header = counted_header(rt.alloc(), 5)?.header();
-    assert_eq!(rt; (header.version, header.flags_1), (5, 1));
-    assert_eq!(rt; header.release, 0x0203);
-    assert_eq!(rt; header.high_memory, 0x0405);
-    assert_eq!(rt; header.first_instruction, 0x0607);
-    assert_eq!(rt; header.dictionary, 0x0809);
-    assert_eq!(rt; header.objects, 0x0a0b);
-    assert_eq!(rt; header.globals, 0x0c0d);
-    assert_eq!(rt; header.static_base, 0x0e0f);
-    assert_eq!(rt; header.flags_2, 0x1011);
-    assert_eq!(rt; header.serial, [0x12, 0x13, 0x14, 0x15, 0x16, 0x17]);
-    assert_eq!(rt; header.abbreviations, 0x1819);
-    assert_eq!(rt; header.file_length, 0x1a1b);
-    assert_eq!(rt; header.checksum, 0x1c1d);
-    assert_eq!(rt; header.terminating_characters, 0x2e2f);
-    assert_eq!(rt; header.alphabet, 0x3435);
-    assert_eq!(rt; header.extension, 0x3637);
+    same(&rt, (header.version, header.flags_1), (5, 1));
+    same(&rt, header.release, 0x0203);
+    same(&rt, header.high_memory, 0x0405);
+    same(&rt, header.first_instruction, 0x0607);
+    same(&rt, header.dictionary, 0x0809);
+    same(&rt, header.objects, 0x0a0b);
+    same(&rt, header.globals, 0x0c0d);
+    same(&rt, header.static_base, 0x0e0f);
+    same(&rt, header.flags_2, 0x1011);
+    same(&rt, header.serial, [0x12, 0x13, 0x14, 0x15, 0x16, 0x17]);
+    same(&rt, header.abbreviations, 0x1819);
+    same(&rt, header.file_length, 0x1a1b);
+    same(&rt, header.checksum, 0x1c1d);
+    same(&rt, header.terminating_characters, 0x2e2f);
+    same(&rt, header.alphabet, 0x3435);
+    same(&rt, header.extension, 0x3637);
     let header = counted_header(rt.alloc(), 3)?.header();
-    assert_eq!(rt; header.terminating_characters, 0);
-    assert_eq!(rt; (header.alphabet, header.extension), (0, 0));
+    same(&rt, header.terminating_characters, 0);
+    same(&rt, (header.alphabet, header.extension), (0, 0));
     Ok(())
 }
 
@@ -189,21 +195,21 @@ fn long_story(alloc: Global, length: usize) -> Result<Memory, Fail> {
 #[test]
 fn data_ends_at_65536(rt: HostRuntime) -> Result<(), Fail> {
     let memory = long_story(rt.alloc(), 65_544)?;
-    assert_eq!(rt; memory.byte(65_535), Ok(1));
-    assert_eq!(rt; memory.byte(65_536), Err(Fault::BadAddress));
-    assert_eq!(rt; memory.word(65_534), Ok(0x0101));
-    assert_eq!(rt; memory.word(65_535), Err(Fault::BadAddress));
-    assert_eq!(rt; memory.cell(65_536), Some(1));
-    assert_eq!(rt; memory.len(), 65_544);
+    same(&rt, memory.byte(65_535), Ok(1));
+    same(&rt, memory.byte(65_536), Err(Fault::BadAddress));
+    same(&rt, memory.word(65_534), Ok(0x0101));
+    same(&rt, memory.word(65_535), Err(Fault::BadAddress));
+    same(&rt, memory.cell(65_536), Some(1));
+    same(&rt, memory.len(), 65_544);
     Ok(())
 }
 
 // The numbers that no story shows yet.
 #[test]
 fn faults_have_numbers(rt: HostRuntime) {
-    assert_eq!(rt; Fault::StreamDepth.number(), 14);
-    assert_eq!(rt; Fault::BadDictionary.number(), 18);
-    assert_eq!(rt; OpenError::OutOfMemory.number(), 6);
+    same(&rt, Fault::StreamDepth.number(), 14);
+    same(&rt, Fault::BadDictionary.number(), 18);
+    same(&rt, OpenError::OutOfMemory.number(), 6);
 }
 
 // The bytes behind the header are added up to the stated length, and compared with the stated sum.
@@ -220,14 +226,22 @@ fn checksums_are_compared(rt: HostRuntime) -> Result<(), Fail> {
         (31, 0, 0, true),
     ] {
         let mut bytes = story_bytes(rt.alloc(), 3, 0x80)?;
-        assert_eq!(rt; bytes.len(), 256);
+        demand(&rt, bytes.len() == 256);
         bytes[0x1b] = units;
         bytes[0x1d] = stated;
         let story = Story::open(rt.alloc(), bytes.as_slice())?;
-        assert_eq!(rt; story.checksum_ok(), right, "{units} {stated}");
+        same(
+            &rt,
+            (units, stated, story.checksum_ok()),
+            (units, stated, right),
+        );
         let memory = Memory::start(rt.alloc(), story, Setup { undo_states: 1 })?;
-        assert_eq!(rt; memory.checksum_ok(), right, "{units} {stated}");
-        assert_eq!(rt; memory.sum(), sum, "{units} {stated}");
+        same(
+            &rt,
+            (units, stated, memory.checksum_ok()),
+            (units, stated, right),
+        );
+        same(&rt, (units, stated, memory.sum()), (units, stated, sum));
     }
     Ok(())
 }
@@ -236,10 +250,10 @@ fn checksums_are_compared(rt: HostRuntime) -> Result<(), Fail> {
 #[test]
 fn checksums_are_of_the_file(rt: HostRuntime) -> Result<(), Fail> {
     let mut memory = started(&rt, 3, 0x80, 1)?;
-    assert_eq!(rt; memory.set_byte(0x50, 9), Ok(()));
-    assert_eq!(rt; memory.set_byte(0x1d, 9), Ok(()));
-    assert_eq!(rt; memory.sum(), 0x12);
-    assert!(rt; !memory.checksum_ok());
+    same(&rt, memory.set_byte(0x50, 9), Ok(()));
+    same(&rt, memory.set_byte(0x1d, 9), Ok(()));
+    same(&rt, memory.sum(), 0x12);
+    demand(&rt, !memory.checksum_ok());
     Ok(())
 }
 
@@ -254,16 +268,20 @@ fn restarts_keep_two_bits(rt: HostRuntime) -> Result<(), Fail> {
     ] {
         let mut memory = started(&rt, version, 0x80, 1)?;
         for address in [0x00, 0x01, 0x11, 0x32, 0x40, 0x7f] {
-            assert_eq!(rt; memory.set_byte(address, written), Ok(()));
+            same(&rt, memory.set_byte(address, written), Ok(()));
         }
         memory.restart();
-        assert_eq!(rt; memory.byte(0x11), Ok(kept), "{version}");
+        same(&rt, (version, memory.byte(0x11)), (version, Ok(kept)));
         let fresh = started(&rt, version, 0x80, 1)?;
         for address in [0x00, 0x01, 0x10, 0x32, 0x40, 0x7f, 0x80, 0xff] {
-            assert_eq!(rt; memory.byte(address), fresh.byte(address), "{address}");
+            same(
+                &rt,
+                (address, memory.byte(address)),
+                (address, fresh.byte(address)),
+            );
         }
         memory.restart();
-        assert_eq!(rt; memory.byte(0x11), Ok(kept), "{version}");
+        same(&rt, (version, memory.byte(0x11)), (version, Ok(kept)));
     }
     Ok(())
 }
@@ -272,7 +290,7 @@ fn restarts_keep_two_bits(rt: HostRuntime) -> Result<(), Fail> {
 #[test]
 fn memory_is_reset_and_settled(rt: HostRuntime) -> Result<(), Fail> {
     let mut memory = started(&rt, 5, 0x80, 0)?;
-    assert_eq!(rt; memory.set_byte(0x7f, 3), Ok(()));
+    same(&rt, memory.set_byte(0x7f, 3), Ok(()));
     memory.reset();
     for (address, byte) in [
         (0x01, 0xff),
@@ -281,11 +299,11 @@ fn memory_is_reset_and_settled(rt: HostRuntime) -> Result<(), Fail> {
         (0x1e, 0),
         (0x7f, 0),
     ] {
-        assert_eq!(rt; memory.byte(address), Ok(byte), "{address}");
+        same(&rt, (address, memory.byte(address)), (address, Ok(byte)));
     }
     memory.settle(0xfd);
     for (address, byte) in [(0x01, 0x50), (0x10, 0xfe), (0x11, 0x05), (0x1e, 6)] {
-        assert_eq!(rt; memory.byte(address), Ok(byte), "{address}");
+        same(&rt, (address, memory.byte(address)), (address, Ok(byte)));
     }
     Ok(())
 }

@@ -1,5 +1,6 @@
 // The objects of small stories, against worked examples.
 
+use crate::tests_same::{demand, same};
 use std::alloc::Global;
 use std::process::Abort;
 use std::test::Fail;
@@ -42,15 +43,17 @@ fn moves_an_object(rt: HostRuntime) -> Result<(), Fail> {
         0xff,
         &[(0x84, 3), (0x8b, 3), (0x94, 1), (0x96, 2)],
     )?;
-    assert_eq!(rt; insert(&mut memory, 2, 3), Ok(()));
-    assert!(rt; is_same(&memory, &moved));
-    assert_eq!(rt;
+    same(&rt, insert(&mut memory, 2, 3), Ok(()));
+    demand(&rt, is_same(&memory, &moved));
+    same(
+        &rt,
         (parent(&memory, 2), sibling(&memory, 2), child(&memory, 3)),
-        (Ok(3), Ok(0), Ok(2))
+        (Ok(3), Ok(0), Ok(2)),
     );
-    assert_eq!(rt;
+    same(
+        &rt,
         (parent(&memory, 0), child(&memory, 256)),
-        (Ok(0), Err(Fault::BadObject))
+        (Ok(0), Err(Fault::BadObject)),
     );
     Ok(())
 }
@@ -59,20 +62,20 @@ fn moves_an_object(rt: HostRuntime) -> Result<(), Fail> {
 fn refuses_changes(rt: HostRuntime) -> Result<(), Fail> {
     let mut memory = story(rt.alloc(), 3, 0x84, &TREE)?;
     let before = story(rt.alloc(), 3, 0x84, &TREE)?;
-    assert_eq!(rt; insert(&mut memory, 2, 3), Err(Fault::ReadOnly));
-    assert!(rt; is_same(&memory, &before));
+    same(&rt, insert(&mut memory, 2, 3), Err(Fault::ReadOnly));
+    demand(&rt, is_same(&memory, &before));
     // the last of the links that an insertion writes is the child of object 2
     for (version, static_base) in [(3, 0x87), (5, 0xd7)] {
         let mut memory = story(rt.alloc(), version, static_base, &[])?;
         let before = story(rt.alloc(), version, static_base, &[])?;
-        assert_eq!(rt; insert(&mut memory, 1, 2), Err(Fault::ReadOnly));
-        assert!(rt; is_same(&memory, &before));
+        same(&rt, insert(&mut memory, 1, 2), Err(Fault::ReadOnly));
+        demand(&rt, is_same(&memory, &before));
     }
     let repeats = [(0x84, 3), (0x95, 4), (0x9e, 3), (0xa6, 1)];
     let mut memory = story(rt.alloc(), 3, 0xff, &repeats)?;
     let before = story(rt.alloc(), 3, 0xff, &repeats)?;
-    assert_eq!(rt; remove(&mut memory, 5), Err(Fault::BadTree));
-    assert!(rt; is_same(&memory, &before));
+    same(&rt, remove(&mut memory, 5), Err(Fault::BadTree));
+    demand(&rt, is_same(&memory, &before));
     Ok(())
 }
 
@@ -88,23 +91,25 @@ fn removes_from_a_long_chain(rt: HostRuntime) -> Result<(), Fail> {
     let story = Story::open(rt.alloc(), file.as_slice())?;
     let mut memory = Memory::start(rt.alloc(), story, Setup { undo_states: 0 })?;
     // entries begin at 0xbe: the child of object 1, then parents and siblings
-    assert_eq!(rt; memory.set_word(0xbe + 10, 2), Ok(()));
+    same(&rt, memory.set_word(0xbe + 10, 2), Ok(()));
     for object in 2..302_u16 {
         let entry = 0xbe + 14 * (object as u32 - 1);
-        assert_eq!(rt; memory.set_word(entry + 6, 1), Ok(()));
-        assert_eq!(rt;
+        same(&rt, memory.set_word(entry + 6, 1), Ok(()));
+        same(
+            &rt,
             memory.set_word(entry + 8, if object == 301 { 0 } else { object + 1 }),
-            Ok(())
+            Ok(()),
         );
     }
-    assert_eq!(rt; remove(&mut memory, 300), Ok(()));
-    assert_eq!(rt;
+    same(&rt, remove(&mut memory, 300), Ok(()));
+    same(
+        &rt,
         (
             sibling(&memory, 299),
             parent(&memory, 300),
-            sibling(&memory, 300)
+            sibling(&memory, 300),
         ),
-        (Ok(301), Ok(0), Ok(0))
+        (Ok(301), Ok(0), Ok(0)),
     );
     Ok(())
 }
@@ -131,21 +136,27 @@ fn reads_properties(rt: HostRuntime) -> Result<(), Fail> {
         (16, Ok(0x1234), Err(Fault::BadProperty)),
         (32, Err(Fault::BadProperty), Err(Fault::BadProperty)),
     ] {
-        assert_eq!(rt; property(&memory, 1, number), value, "of {number}");
-        assert_eq!(rt; next_property(&memory, 1, number), next, "after {number}");
+        same(&rt, (number, property(&memory, 1, number)), (number, value));
+        same(
+            &rt,
+            (number, next_property(&memory, 1, number)),
+            (number, next),
+        );
     }
-    assert_eq!(rt;
+    same(
+        &rt,
         (
             property_address(&memory, 1, 17),
-            property_address(&memory, 1, 16)
+            property_address(&memory, 1, 16),
         ),
-        (Ok(0xc5), Ok(0))
+        (Ok(0xc5), Ok(0)),
     );
-    assert_eq!(rt; put_property(&mut memory, 1, 17, 0x0108), Ok(()));
-    assert_eq!(rt; (memory.byte(0xc5), memory.byte(0xc6)), (Ok(8), Ok(0)));
-    assert_eq!(rt;
+    same(&rt, put_property(&mut memory, 1, 17, 0x0108), Ok(()));
+    same(&rt, (memory.byte(0xc5), memory.byte(0xc6)), (Ok(8), Ok(0)));
+    same(
+        &rt,
         (name(&memory, 1), name(&memory, 2), name(&memory, 0)),
-        (Ok(None), Ok(Some(0xd1)), Ok(None))
+        (Ok(None), Ok(Some(0xd1)), Ok(None)),
     );
     Ok(())
 }
@@ -159,24 +170,29 @@ fn reads_lengths(rt: HostRuntime) -> Result<(), Fail> {
         0xff,
         &[(0xcb, 0xd0), (0xd1, 0x85), (0xd2, 0x80)],
     )?;
-    assert_eq!(rt; property_address(&memory, 1, 5), Ok(0xd3));
-    assert_eq!(rt;
+    same(&rt, property_address(&memory, 1, 5), Ok(0xd3));
+    same(
+        &rt,
         (property_length(&memory, 0xd3), property_length(&memory, 0)),
-        (Ok(64), Ok(0))
+        (Ok(64), Ok(0)),
     );
-    assert_eq!(rt; next_property(&memory, 1, 5), Ok(0));
+    same(&rt, next_property(&memory, 1, 5), Ok(0));
     Ok(())
 }
 
 #[test]
 fn counts_attributes_from_the_top_bit(rt: HostRuntime) -> Result<(), Fail> {
     let mut memory = story(rt.alloc(), 3, 0xff, &[(0x7e, 0x80)])?;
-    assert_eq!(rt; set_attribute(&mut memory, 1, 31, true), Ok(()));
-    assert_eq!(rt; memory.byte(0x81), Ok(1));
+    same(&rt, set_attribute(&mut memory, 1, 31, true), Ok(()));
+    same(&rt, memory.byte(0x81), Ok(1));
     for (number, has) in [(0, true), (1, false), (7, false), (31, true), (32, false)] {
-        assert_eq!(rt; attribute(&memory, 1, number), Ok(has), "of {number}");
+        same(
+            &rt,
+            (number, attribute(&memory, 1, number)),
+            (number, Ok(has)),
+        );
     }
-    assert_eq!(rt; set_attribute(&mut memory, 1, 0, false), Ok(()));
-    assert_eq!(rt; memory.byte(0x7e), Ok(0));
+    same(&rt, set_attribute(&mut memory, 1, 0, false), Ok(()));
+    same(&rt, memory.byte(0x7e), Ok(0));
     Ok(())
 }

@@ -1,16 +1,17 @@
 // Packed bytes, states that are kept, and saved games.
 
+use crate::tests_same::{demand, same};
 use std::test::Fail;
 use zk_save::packing::pack;
 
 #[test]
 fn runs_of_zeros_are_short(rt: HostRuntime) -> Result<(), Fail> {
     let packed = pack(rt.alloc(), &[0, 0, 5, 0])?;
-    assert_eq!(rt; packed.as_slice(), [0, 1, 5].as_slice());
+    same(&rt, packed.as_slice(), [0, 1, 5].as_slice());
     let packed = pack(rt.alloc(), &[0, 5, 0, 5])?;
-    assert_eq!(rt; packed.as_slice(), [0, 0, 5, 0, 0, 5].as_slice());
+    same(&rt, packed.as_slice(), [0, 0, 5, 0, 0, 5].as_slice());
     let packed = pack(rt.alloc(), &[0])?;
-    assert!(rt; packed.is_empty());
+    demand(&rt, packed.is_empty());
     Ok(())
 }
 
@@ -27,9 +28,17 @@ fn long_runs_are_cut(rt: HostRuntime) -> Result<(), Fail> {
         let mut bytes = vec![in rt.alloc(); 0u8; zeros]?;
         bytes.push(1)?;
         let packed = pack(rt.alloc(), bytes.as_slice())?;
-        assert_eq!(rt; packed.len(), length, "{zeros}");
-        assert_eq!(rt; packed.as_slice().get(1).copied(), Some(second), "{zeros}");
-        assert_eq!(rt; packed.as_slice().last().copied(), Some(1), "{zeros}");
+        same(&rt, (zeros, packed.len()), (zeros, length));
+        same(
+            &rt,
+            (zeros, packed.as_slice().get(1).copied()),
+            (zeros, Some(second)),
+        );
+        same(
+            &rt,
+            (zeros, packed.as_slice().last().copied()),
+            (zeros, Some(1)),
+        );
     }
     Ok(())
 }

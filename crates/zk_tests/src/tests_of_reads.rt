@@ -1,6 +1,7 @@
 // Machines that read: what they wait for, and what is written when the reader is asked.
 
 use crate::tests_of_machines::started;
+use crate::tests_same::{demand, same};
 use std::alloc::{AllocError, Global};
 use std::cell::Cell;
 use std::io::{self, Read, Write};
@@ -70,7 +71,7 @@ fn turns_go_from_read_to_read(rt: HostRuntime) -> Result<(), Fail> {
     let mut machine = started(&rt, AMPLE, &code)?;
     let taken = Cell::new(0);
     let mut screen = Over::new(Counting { taken: &taken });
-    assert_eq!(rt; machine.waiting(), None);
+    demand(&rt, machine.waiting() == None);
     let first = turn(
         rt.alloc(),
         &mut screen,
@@ -78,12 +79,12 @@ fn turns_go_from_read_to_read(rt: HostRuntime) -> Result<(), Fail> {
         &mut NoSlot,
         &mut machine,
     );
-    assert_eq!(rt; first, Ok(Event::Char));
-    assert_eq!(rt; taken.get(), 1);
-    assert_eq!(rt; machine.waiting(), Some(Event::Char));
+    same(&rt, first, Ok(Event::Char));
+    same(&rt, taken.get(), 1);
+    same(&rt, machine.waiting(), Some(Event::Char));
     if machine.waiting() == Some(Event::Char) {
         machine.answer_char(120);
-        assert_eq!(rt; machine.waiting(), None);
+        demand(&rt, machine.waiting() == None);
         let mut screen = Over::new(Counting { taken: &taken });
         let last = turn(
             rt.alloc(),
@@ -92,8 +93,8 @@ fn turns_go_from_read_to_read(rt: HostRuntime) -> Result<(), Fail> {
             &mut NoSlot,
             &mut machine,
         );
-        assert_eq!(rt; last, Err(Stop::Quit));
-        assert_eq!(rt; taken.get(), 1);
+        same(&rt, last, Err(Stop::Quit));
+        same(&rt, taken.get(), 1);
     }
     Ok(())
 }
@@ -109,10 +110,10 @@ fn answers_fault_in_the_next_turn(rt: HostRuntime) -> Result<(), Fail> {
         &mut NoSlot,
         &mut machine,
     );
-    assert_eq!(rt; first, Ok(Event::Line));
+    same(&rt, first, Ok(Event::Line));
     if machine.waiting() == Some(Event::Line) {
         machine.answer_line(b"a");
-        assert_eq!(rt; machine.waiting(), None);
+        demand(&rt, machine.waiting() == None);
         let next = turn(
             rt.alloc(),
             &mut Nothing,
@@ -120,7 +121,7 @@ fn answers_fault_in_the_next_turn(rt: HostRuntime) -> Result<(), Fail> {
             &mut NoSlot,
             &mut machine,
         );
-        assert_eq!(rt; next, Err(Stop::Fault(0x40, Fault::BadAddress)));
+        same(&rt, next, Err(Stop::Fault(0x40, Fault::BadAddress)));
     }
     Ok(())
 }
@@ -148,10 +149,10 @@ fn all_text_is_written_before_the_reader_is_asked(rt: HostRuntime) -> Result<(),
         &mut NoSlot,
         &mut machine,
     );
-    assert_eq!(rt; stop, Stop::Quit);
+    same(&rt, stop, Stop::Quit);
     // each of the four bytes was asked for when one, one, three and three bytes were written
-    assert_eq!(rt; noted.get(), 1133);
-    assert_eq!(rt; taken.get(), 3);
+    same(&rt, noted.get(), 1133);
+    same(&rt, taken.get(), 3);
     Ok(())
 }
 
@@ -209,8 +210,8 @@ fn nobody_is_asked_after_a_failed_write(rt: HostRuntime) -> Result<(), Fail> {
         &mut slot,
         &mut machine,
     );
-    assert_eq!(rt; first, Err(Stop::Write));
-    assert_eq!(rt; asked.get(), false);
+    same(&rt, first, Err(Stop::Write));
+    same(&rt, asked.get(), false);
     let mut machine = started(&rt, AMPLE, &code)?;
     let second = turn(
         rt.alloc(),
@@ -219,7 +220,7 @@ fn nobody_is_asked_after_a_failed_write(rt: HostRuntime) -> Result<(), Fail> {
         &mut slot,
         &mut machine,
     );
-    assert_eq!(rt; second, Err(Stop::Quit));
-    assert_eq!(rt; asked.get(), true);
+    same(&rt, second, Err(Stop::Quit));
+    same(&rt, asked.get(), true);
     Ok(())
 }

@@ -1,5 +1,6 @@
 // Saved games that are restored.
 
+use crate::tests_same::same;
 use crate::tests_story::started;
 use std::alloc::Global;
 use std::test::Fail;
@@ -89,11 +90,15 @@ fn a_game_goes_on(rt: HostRuntime) -> Result<(), Fail> {
     let mut other = started(rt.alloc())?;
     let mut others = Frames::new(rt.alloc(), 3, 8)?;
     let _ = other.set_byte(0x21, 8);
-    assert_eq!(rt; others.push(3), Ok(()));
-    assert_eq!(rt; restore(file.as_slice(), &mut other, &mut others), Ok(0x41));
-    assert_eq!(rt; other.dynamic(), memory.dynamic());
+    same(&rt, others.push(3), Ok(()));
+    same(
+        &rt,
+        restore(file.as_slice(), &mut other, &mut others),
+        Ok(0x41),
+    );
+    same(&rt, other.dynamic(), memory.dynamic());
     let again = save(rt.alloc(), &other, &others, 0x41)?;
-    assert_eq!(rt; again.as_slice(), file.as_slice());
+    same(&rt, again.as_slice(), file.as_slice());
     Ok(())
 }
 
@@ -105,11 +110,12 @@ fn flags_stay(rt: HostRuntime) -> Result<(), Fail> {
     let _ = memory.set_byte(0x11, 0xfe);
     let file = whole(rt.alloc(), &memory, &frames)?;
     let _ = memory.set_byte(0x11, 0x01);
-    assert_eq!(rt;
+    same(
+        &rt,
         restore(file.as_slice(), &mut memory, &mut frames),
-        Ok(0x41)
+        Ok(0x41),
     );
-    assert_eq!(rt; memory.byte(0x11), Ok(0xfd));
+    same(&rt, memory.byte(0x11), Ok(0xfd));
     Ok(())
 }
 
@@ -121,16 +127,16 @@ fn no_part_of_a_file_will_do(rt: HostRuntime) -> Result<(), Fail> {
     let _ = memory.set_byte(0x20, 7);
     let file = whole(alloc, &memory, &frames)?;
     let _ = memory.set_byte(0x20, 8);
-    assert_eq!(rt; frames.push(5), Ok(()));
+    same(&rt, frames.push(5), Ok(()));
     let before = whole(alloc, &memory, &frames)?;
     for len in 0..file.len() {
         let part = file.as_slice().get(..len).unwrap_or(&[]);
         let answer = restore(part, &mut memory, &mut frames);
-        assert_eq!(rt; answer, Err(RestoreError::Truncated), "{len}");
-        assert_eq!(rt;
-            whole(alloc, &memory, &frames)?.as_slice(),
-            before.as_slice(),
-            "{len}"
+        same(&rt, (len, answer), (len, Err(RestoreError::Truncated)));
+        same(
+            &rt,
+            (len, whole(alloc, &memory, &frames)?.as_slice()),
+            (len, before.as_slice()),
         );
     }
     Ok(())
@@ -162,17 +168,17 @@ fn each_byte_is_looked_at(rt: HostRuntime) -> Result<(), Fail> {
         let before = whole(alloc, &memory, &frames)?;
         let answer = restore(other.as_slice(), &mut memory, &mut frames);
         if let Some(refusal) = refusal_at(at) {
-            assert_eq!(rt; answer, Err(refusal), "{at}");
+            same(&rt, (at, answer), (at, Err(refusal)));
         }
         if answer.is_err() {
-            assert_eq!(rt;
-                whole(alloc, &memory, &frames)?.as_slice(),
-                before.as_slice(),
-                "{at}"
+            same(
+                &rt,
+                (at, whole(alloc, &memory, &frames)?.as_slice()),
+                (at, before.as_slice()),
             );
         }
     }
-    assert_eq!(rt; restored(alloc, file.as_slice(), 0, 0)?, Ok(0x41));
+    same(&rt, restored(alloc, file.as_slice(), 0, 0)?, Ok(0x41));
     Ok(())
 }
 
@@ -187,10 +193,10 @@ fn chunks_come_in_any_order(rt: HostRuntime) -> Result<(), Fail> {
         (STACK, MEMORY, STORY),
     ] {
         let file = game(rt.alloc(), "3a", [first, second, third, "", ""])?;
-        assert_eq!(rt;
-            restored(rt.alloc(), file.as_slice(), 0, 0)?,
-            Ok(0x41),
-            "{first}"
+        same(
+            &rt,
+            (first, restored(rt.alloc(), file.as_slice(), 0, 0)?),
+            (first, Ok(0x41)),
         );
     }
     Ok(())
@@ -221,10 +227,10 @@ fn other_chunks_are_passed_over(rt: HostRuntime) -> Result<(), Fail> {
         ),
     ] {
         let file = game(rt.alloc(), size, chunks)?;
-        assert_eq!(rt;
-            restored(rt.alloc(), file.as_slice(), 0, 0)?,
-            Ok(0x41),
-            "{size}"
+        same(
+            &rt,
+            (size, restored(rt.alloc(), file.as_slice(), 0, 0)?),
+            (size, Ok(0x41)),
         );
     }
     Ok(())
@@ -240,10 +246,10 @@ fn leftover_bytes_are_cut_off_chunks(rt: HostRuntime) -> Result<(), Fail> {
         ("43", "616263640000000278"),
     ] {
         let file = game(rt.alloc(), size, [STORY, MEMORY, STACK, rest, ""])?;
-        assert_eq!(rt;
-            restored(rt.alloc(), file.as_slice(), 0, 0)?,
-            Err(RestoreError::Truncated),
-            "{size}"
+        same(
+            &rt,
+            (size, restored(rt.alloc(), file.as_slice(), 0, 0)?),
+            (size, Err(RestoreError::Truncated)),
         );
     }
     let file = game(
@@ -251,7 +257,7 @@ fn leftover_bytes_are_cut_off_chunks(rt: HostRuntime) -> Result<(), Fail> {
         "3a",
         [STORY, MEMORY, STACK, "6162636400000001", ""],
     )?;
-    assert_eq!(rt; restored(rt.alloc(), file.as_slice(), 0, 0)?, Ok(0x41));
+    same(&rt, restored(rt.alloc(), file.as_slice(), 0, 0)?, Ok(0x41));
     Ok(())
 }
 
@@ -300,10 +306,10 @@ fn the_first_chunk_counts(rt: HostRuntime) -> Result<(), Fail> {
         ),
     ] {
         let file = game(rt.alloc(), size, chunks)?;
-        assert_eq!(rt;
-            restored(rt.alloc(), file.as_slice(), 0, 0)?,
-            answer,
-            "{size}"
+        same(
+            &rt,
+            (size, restored(rt.alloc(), file.as_slice(), 0, 0)?),
+            (size, answer),
         );
     }
     Ok(())
@@ -322,10 +328,10 @@ fn packed_memory_fits(rt: HostRuntime) -> Result<(), Fail> {
         ),
     ] {
         let file = game(rt.alloc(), size, [STORY, memory, STACK, "", ""])?;
-        assert_eq!(rt;
-            restored(rt.alloc(), file.as_slice(), 0, 0)?,
-            answer,
-            "{memory}"
+        same(
+            &rt,
+            (memory, restored(rt.alloc(), file.as_slice(), 0, 0)?),
+            (memory, answer),
         );
     }
     Ok(())
@@ -344,14 +350,15 @@ fn plain_memory_is_taken(rt: HostRuntime) -> Result<(), Fail> {
     if let Some(byte) = file.as_mut_slice().get_mut(58 + 0x20) {
         *byte = 77;
     }
-    assert_eq!(rt;
+    same(
+        &rt,
         restore(file.as_slice(), &mut memory, &mut frames),
-        Ok(0x41)
+        Ok(0x41),
     );
-    assert_eq!(rt; memory.byte(0x20), Ok(77));
-    assert_eq!(rt; memory.byte(0x21), Ok(0));
-    assert_eq!(rt; memory.byte(0x0f), Ok(0x40));
-    assert_eq!(rt; memory.byte(0x40), Ok(0xb5));
+    same(&rt, memory.byte(0x20), Ok(77));
+    same(&rt, memory.byte(0x21), Ok(0));
+    same(&rt, memory.byte(0x0f), Ok(0x40));
+    same(&rt, memory.byte(0x40), Ok(0xb5));
     Ok(())
 }
 
@@ -385,10 +392,10 @@ fn no_checksum_is_one(rt: HostRuntime) -> Result<(), Fail> {
         ),
     ] {
         let file = game(rt.alloc(), "3a", [story, MEMORY, STACK, "", ""])?;
-        assert_eq!(rt;
-            restored(rt.alloc(), file.as_slice(), 0, 0)?,
-            answer,
-            "{story}"
+        same(
+            &rt,
+            (story, restored(rt.alloc(), file.as_slice(), 0, 0)?),
+            (story, answer),
         );
     }
     Ok(())
@@ -444,10 +451,13 @@ fn bounds_are_kept(rt: HostRuntime) -> Result<(), Fail> {
         ),
     ] {
         let file = game(rt.alloc(), size, [story, MEMORY, stack, "", ""])?;
-        assert_eq!(rt;
-            restored(rt.alloc(), file.as_slice(), most_frames, most_words)?,
-            answer,
-            "{stack}"
+        same(
+            &rt,
+            (
+                stack,
+                restored(rt.alloc(), file.as_slice(), most_frames, most_words)?,
+            ),
+            (stack, answer),
         );
     }
     Ok(())
@@ -474,10 +484,10 @@ fn frames_are_read(rt: HostRuntime) -> Result<(), Fail> {
                 "",
             ],
         )?;
-        assert_eq!(rt;
-            restored(rt.alloc(), file.as_slice(), 5, 9)?,
-            answer,
-            "{frame}"
+        same(
+            &rt,
+            (frame, restored(rt.alloc(), file.as_slice(), 5, 9)?),
+            (frame, answer),
         );
     }
     let mut memory = started(rt.alloc())?;
@@ -493,12 +503,13 @@ fn frames_are_read(rt: HostRuntime) -> Result<(), Fail> {
             "",
         ],
     )?;
-    assert_eq!(rt;
+    same(
+        &rt,
         restore(file.as_slice(), &mut memory, &mut frames),
-        Ok(0x41)
+        Ok(0x41),
     );
-    assert_eq!(rt; frames.supplied(), 1);
-    assert_eq!(rt; frames.local(1), Ok(9));
-    assert_eq!(rt; frames.leave().map(|back| back.result), Ok(None));
+    same(&rt, frames.supplied(), 1);
+    same(&rt, frames.local(1), Ok(9));
+    same(&rt, frames.leave().map(|back| back.result), Ok(None));
     Ok(())
 }

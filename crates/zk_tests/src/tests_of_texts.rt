@@ -1,5 +1,6 @@
 // Texts, keys and tables against values of the Standard.
 
+use crate::tests_same::{demand, same};
 use std::alloc::{AllocError, Global};
 use std::test::Fail;
 use zk_mem::fault::Fault;
@@ -65,14 +66,18 @@ fn prints_texts(rt: HostRuntime) -> Result<(), Fail> {
     ];
     for (bytes, address, codes) in rows {
         let memory = memory_of(rt.alloc(), &[(0, 3), (0x19, 0x40)], bytes)?;
-        assert_eq!(rt;
-            check_text(&memory, address),
-            Ok(memory.len()),
-            "end of the text {codes:?}"
+        same(
+            &rt,
+            (codes, check_text(&memory, address)),
+            (codes, Ok(memory.len())),
         );
         let (whole, buffer) = printed::<4>(&memory, address)?;
-        assert!(rt; whole);
-        assert!(rt; has_codes(buffer.as_slice(), codes), "{codes:?}");
+        demand(&rt, whole);
+        same(
+            &rt,
+            (codes, has_codes(buffer.as_slice(), codes)),
+            (codes, true),
+        );
     }
     Ok(())
 }
@@ -87,7 +92,7 @@ fn refuses_texts(rt: HostRuntime) -> Result<(), Fail> {
     ];
     for (bytes, address, fault) in rows {
         let memory = memory_of(rt.alloc(), &[(0, 3), (0x19, 0x40)], bytes)?;
-        assert_eq!(rt; check_text(&memory, address), Err(fault));
+        same(&rt, check_text(&memory, address), Err(fault));
     }
     Ok(())
 }
@@ -115,11 +120,11 @@ fn a_sweep_comes_to_the_fault_of_each_text(rt: HostRuntime) -> Result<(), Fail> 
         (0x44, Some(Fault::NestedAbbreviation)),
         (0x42, Some(Fault::NestedAbbreviation)),
     ] {
-        assert_eq!(rt; swept(rt.alloc(), &memory, address)?, fault);
+        same(&rt, swept(rt.alloc(), &memory, address)?, fault);
     }
     // the same text, with an abbreviation that uses none
     let memory = memory_of(rt.alloc(), &[(0, 3), (0x19, 0x40)], &EXPANDED)?;
-    assert_eq!(rt; swept(rt.alloc(), &memory, 0x44)?, None);
+    same(&rt, swept(rt.alloc(), &memory, 0x44)?, None);
     Ok(())
 }
 
@@ -127,11 +132,11 @@ fn a_sweep_comes_to_the_fault_of_each_text(rt: HostRuntime) -> Result<(), Fail> 
 fn stops_where_the_sink_refuses(rt: HostRuntime) -> Result<(), Fail> {
     let memory = memory_of(rt.alloc(), &[(0, 3)], &[0x35, 0xcd, 0x94, 0xc3])?;
     let (whole, buffer) = printed::<3>(&memory, 0x40)?;
-    assert!(rt; whole && has_codes(buffer.as_slice(), &[104, 105, 104]));
+    demand(&rt, whole && has_codes(buffer.as_slice(), &[104, 105, 104]));
     let (whole, buffer) = printed::<2>(&memory, 0x40)?;
-    assert!(rt; !whole && has_codes(buffer.as_slice(), &[104, 105]));
+    demand(&rt, !whole && has_codes(buffer.as_slice(), &[104, 105]));
     let (whole, buffer) = printed::<0>(&memory, 0x40)?;
-    assert!(rt; !whole && buffer.as_slice().is_empty());
+    demand(&rt, !whole && buffer.as_slice().is_empty());
     Ok(())
 }
 
@@ -146,7 +151,7 @@ fn spells_keys(rt: HostRuntime) -> Result<(), Fail> {
     ];
     for (version, word, bytes) in rows {
         let memory = memory_of(rt.alloc(), &[(0, version)], &[0])?;
-        assert_eq!(rt; key(&memory, word).as_slice(), bytes);
+        same(&rt, key(&memory, word).as_slice(), bytes);
     }
     Ok(())
 }
@@ -157,16 +162,17 @@ fn has_the_alphabets_of_the_standard(rt: HostRuntime) -> Result<(), Fail> {
     let alphabet = Alphabet::of(&memory);
     let signs = b"0123456789.,!?_#'\"/\\-:()";
     for z in 6u8..32 {
-        assert_eq!(rt; alphabet.letter(&memory, Row::A0, z), b'a' + (z - 6));
-        assert_eq!(rt; alphabet.letter(&memory, Row::A1, z), b'A' + (z - 6));
+        same(&rt, alphabet.letter(&memory, Row::A0, z), b'a' + (z - 6));
+        same(&rt, alphabet.letter(&memory, Row::A1, z), b'A' + (z - 6));
         if z >= 8 {
-            assert_eq!(rt;
+            same(
+                &rt,
                 signs.get((z - 8) as usize).copied(),
-                Some(alphabet.letter(&memory, Row::A2, z))
+                Some(alphabet.letter(&memory, Row::A2, z)),
             );
         }
     }
-    assert_eq!(rt; alphabet.letter(&memory, Row::A2, 7), 13);
+    same(&rt, alphabet.letter(&memory, Row::A2, 7), 13);
     Ok(())
 }
 
@@ -180,14 +186,14 @@ fn takes_an_own_alphabet(rt: HostRuntime) -> Result<(), Fail> {
     }
     let memory = memory_of(rt.alloc(), &[(0, 5), (0x35, 0x40)], &table)?;
     let alphabet = Alphabet::of(&memory);
-    assert_eq!(rt; alphabet.letter(&memory, Row::A0, 6), 33);
-    assert_eq!(rt; alphabet.letter(&memory, Row::A1, 31), 84);
-    assert_eq!(rt; alphabet.letter(&memory, Row::A2, 7), 13);
-    assert_eq!(rt; alphabet.letter(&memory, Row::A2, 31), 110);
+    same(&rt, alphabet.letter(&memory, Row::A0, 6), 33);
+    same(&rt, alphabet.letter(&memory, Row::A1, 31), 84);
+    same(&rt, alphabet.letter(&memory, Row::A2, 7), 13);
+    same(&rt, alphabet.letter(&memory, Row::A2, 31), 110);
     // A table that runs out of the story is none, and so is one before version 5.
     for (version, rest) in [(5, &table[1..]), (3, &table[..])] {
         let memory = memory_of(rt.alloc(), &[(0, version), (0x35, 0x40)], rest)?;
-        assert_eq!(rt; Alphabet::of(&memory).letter(&memory, Row::A0, 6), b'a');
+        same(&rt, Alphabet::of(&memory).letter(&memory, Row::A0, 6), b'a');
     }
     Ok(())
 }
@@ -216,28 +222,32 @@ fn has_the_extra_characters_of_the_standard(rt: HostRuntime) -> Result<(), Fail>
     let extra = Extra::of(&memory);
     let mut code = 155u8;
     for c in EXTRA {
-        assert_eq!(rt; extra.to_char(code as u16), Some(c));
-        assert_eq!(rt; extra.from_char(c as u32), Some(code));
-        assert_eq!(rt;
+        same(&rt, extra.to_char(code as u16), Some(c));
+        same(&rt, extra.from_char(c as u32), Some(code));
+        same(
+            &rt,
             extra.from_char(lower_letter(c) as u32),
-            Some(extra.lower(code))
+            Some(extra.lower(code)),
         );
         code = code.saturating_add(1);
     }
     for code in [0, 31, 127, 154, 224, 251, 252, 1023] {
-        assert_eq!(rt; extra.to_char(code), None);
+        same(&rt, extra.to_char(code), None);
     }
-    assert_eq!(rt;
+    same(
+        &rt,
         (extra.lower(b'A'), extra.lower(b'Z'), extra.lower(b'[')),
-        (b'a', b'z', b'[')
+        (b'a', b'z', b'['),
     );
-    assert_eq!(rt;
+    same(
+        &rt,
         (extra.lower(b'@'), extra.lower(224), extra.lower(255)),
-        (b'@', 224, 255)
+        (b'@', 224, 255),
     );
-    assert_eq!(rt;
+    same(
+        &rt,
         (extra.from_char(0x7e), extra.from_char(0x20ac)),
-        (Some(0x7e), None)
+        (Some(0x7e), None),
     );
     Ok(())
 }
@@ -270,11 +280,19 @@ fn takes_an_own_unicode_table(rt: HostRuntime) -> Result<(), Fail> {
     for (count, first, last, lower) in rows {
         let memory = memory_of(rt.alloc(), &[(0, 5), (0x37, 0x40)], &own_table(count))?;
         let extra = Extra::of(&memory);
-        assert_eq!(rt; extra.to_char(155), first, "of {count}");
-        assert_eq!(rt; extra.to_char(251), last, "of {count}");
-        assert_eq!(rt; (extra.to_char(252), extra.from_char(0x461)), (None, None));
-        assert_eq!(rt; extra.from_char(0x460), last.map(|_| 251), "of {count}");
-        assert_eq!(rt; extra.lower(158), lower);
+        same(&rt, (count, extra.to_char(155)), (count, first));
+        same(&rt, (count, extra.to_char(251)), (count, last));
+        same(
+            &rt,
+            (extra.to_char(252), extra.from_char(0x461)),
+            (None, None),
+        );
+        same(
+            &rt,
+            (count, extra.from_char(0x460)),
+            (count, last.map(|_| 251)),
+        );
+        same(&rt, extra.lower(158), lower);
     }
     Ok(())
 }
@@ -300,7 +318,7 @@ fn shows_units(rt: HostRuntime) -> Result<(), Fail> {
         (Unit::Character(0xd800), Shown::One('?')),
     ];
     for (unit, shown) in rows {
-        assert_eq!(rt; Shown::of(&extra, unit), shown, "{unit:?}");
+        same(&rt, (unit, Shown::of(&extra, unit)), (unit, shown));
     }
     Ok(())
 }
@@ -308,9 +326,10 @@ fn shows_units(rt: HostRuntime) -> Result<(), Fail> {
 #[test]
 fn finds_the_first_place_of_a_letter(rt: HostRuntime) -> Result<(), Fail> {
     let memory = memory_of(rt.alloc(), &[(0, 5), (0x35, 0x40)], &[b'a'; 78])?;
-    assert_eq!(rt;
+    same(
+        &rt,
         key(&memory, b"a").as_slice(),
-        [0x18, 0xa5, 0x14, 0xa5, 0x94, 0xa5].as_slice()
+        [0x18, 0xa5, 0x14, 0xa5, 0x94, 0xa5].as_slice(),
     );
     Ok(())
 }
@@ -351,9 +370,9 @@ fn spells(alloc: Global, version: u8, word: &[u8], digits: &str) -> Result<bool,
 fn spells_letters_at_the_ends_of_alphabets(rt: HostRuntime) -> Result<(), Fail> {
     let alloc = rt.alloc();
     // Z-characters 31, 4 31, 5 31, 5
-    assert!(rt; spells(alloc, 3, b"zZ)", "7C 9F 97 E5")?);
+    demand(&rt, spells(alloc, 3, b"zZ)", "7C 9F 97 E5")?);
     // 4 6, 5 8, 5 7
-    assert!(rt; spells(alloc, 3, b"A0\r", "10 C5 A0 A7")?);
+    demand(&rt, spells(alloc, 3, b"A0\r", "10 C5 A0 A7")?);
     Ok(())
 }
 
@@ -361,8 +380,8 @@ fn spells_letters_at_the_ends_of_alphabets(rt: HostRuntime) -> Result<(), Fail> 
 fn spells_codes_and_nine_letters(rt: HostRuntime) -> Result<(), Fail> {
     let alloc = rt.alloc();
     // 5 6 4 27 for the code 155, 7, then 5 to the end
-    assert!(rt; spells(alloc, 5, &[155, b'b'], "14 C4 6C E5 94 A5")?);
-    assert!(rt; spells(alloc, 5, b"abcdefghij", "18 E8 25 4B B1 AE")?);
+    demand(&rt, spells(alloc, 5, &[155, b'b'], "14 C4 6C E5 94 A5")?);
+    demand(&rt, spells(alloc, 5, b"abcdefghij", "18 E8 25 4B B1 AE")?);
     Ok(())
 }
 
@@ -376,6 +395,9 @@ fn spells_keys_by_an_own_alphabet(rt: HostRuntime) -> Result<(), Fail> {
     }
     let memory = memory_of(rt.alloc(), &[(0, 5), (0x35, 0x40)], &table)?;
     // `U` stands at 6 of A2, which is no letter: 5 6 2 21; `!` at 6 of A0; `n` at 31 of A2
-    assert!(rt; are(key(&memory, b"U!n").as_slice(), "14 C2 54 C5 FC A5"));
+    demand(
+        &rt,
+        are(key(&memory, b"U!n").as_slice(), "14 C2 54 C5 FC A5"),
+    );
     Ok(())
 }

@@ -2,6 +2,7 @@
 
 ghost use Rattle.zk_save.specs.States.{AreOf};
 
+use crate::tests_same::same;
 use std::process::Abort;
 use std::test::Fail;
 use zk_mem::memory::{Memory, Setup};
@@ -25,7 +26,7 @@ fn started(rt: &(impl Abort + AllocGlobal)) -> Result<Memory, Fail> {
 /// The first frame, with a word.
 fn first(rt: &(impl Abort + AllocGlobal)) -> Result<Frames, Fail> {
     let mut frames = Frames::new(rt.alloc(), 3, 9)?;
-    assert_eq!(rt; frames.push(0), Ok(()));
+    same(&rt, frames.push(0), Ok(()));
     Ok(frames)
 }
 
@@ -46,12 +47,12 @@ fn the_newest_states_are_kept(rt: HostRuntime) -> Result<(), Fail> {
     undo.put(&memory, &frames, 70)?;
     undo.put(&memory, &frames, 80)?;
     undo.put(&memory, &frames, 90)?;
-    assert_eq!(rt; undo.len(), 2);
-    assert_eq!(rt; undo.take(&mut memory, &mut frames), Some(90));
-    assert_eq!(rt; undo.take(&mut memory, &mut frames), Some(80));
-    assert_eq!(rt; undo.take(&mut memory, &mut frames), None);
-    assert_eq!(rt; undo.take(&mut memory, &mut frames), None);
-    assert_eq!(rt; undo.len(), 0);
+    same(&rt, undo.len(), 2);
+    same(&rt, undo.take(&mut memory, &mut frames), Some(90));
+    same(&rt, undo.take(&mut memory, &mut frames), Some(80));
+    same(&rt, undo.take(&mut memory, &mut frames), None);
+    same(&rt, undo.take(&mut memory, &mut frames), None);
+    same(&rt, undo.len(), 0);
     Ok(())
 }
 
@@ -71,19 +72,24 @@ fn two_hundred_states(rt: HostRuntime) -> Result<(), Fail> {
         );
         undo.put(&memory, &frames, number as u32)?;
     }
-    assert_eq!(rt; undo.len(), 64);
+    same(&rt, undo.len(), 64);
     change(&mut memory, &mut frames, &undo, 0x40, 255);
     for number in (136..200u8).rev() {
-        assert_eq!(rt; undo.take(&mut memory, &mut frames), Some(number as u32));
-        assert_eq!(rt; memory.byte(0x40 + number as u32 % 32), Ok(number));
-        assert_eq!(rt;
-            memory.byte(0x40 + (number as u32 + 1) % 32),
-            Ok(number.wrapping_sub(31))
+        same(
+            &rt,
+            undo.take(&mut memory, &mut frames),
+            Some(number as u32),
         );
-        assert_eq!(rt; frames.top(), Ok(number as u16));
+        same(&rt, memory.byte(0x40 + number as u32 % 32), Ok(number));
+        same(
+            &rt,
+            memory.byte(0x40 + (number as u32 + 1) % 32),
+            Ok(number.wrapping_sub(31)),
+        );
+        same(&rt, frames.top(), Ok(number as u16));
     }
-    assert_eq!(rt; undo.take(&mut memory, &mut frames), None);
-    assert_eq!(rt; frames.top(), Ok(136));
+    same(&rt, undo.take(&mut memory, &mut frames), None);
+    same(&rt, frames.top(), Ok(136));
     Ok(())
 }
 
@@ -92,9 +98,9 @@ fn without_room_nothing_is_kept(rt: HostRuntime) -> Result<(), Fail> {
     let mut undo = Undo::new(rt.alloc(), 0)?;
     let mut memory = started(&rt)?;
     let mut frames = first(&rt)?;
-    assert_eq!(rt; undo.put(&memory, &frames, 70), Ok(()));
-    assert_eq!(rt; undo.len(), 0);
-    assert_eq!(rt; undo.take(&mut memory, &mut frames), None);
+    same(&rt, undo.put(&memory, &frames, 70), Ok(()));
+    same(&rt, undo.len(), 0);
+    same(&rt, undo.take(&mut memory, &mut frames), None);
     Ok(())
 }
 
@@ -110,7 +116,7 @@ fn a_state_is_whole(rt: HostRuntime) -> Result<(), Fail> {
     change(&mut memory, &mut frames, &undo, 0x5f, 4);
     change(&mut memory, &mut frames, &undo, 0x01, 0xff);
     change(&mut memory, &mut frames, &undo, 0x11, 0x01);
-    assert_eq!(rt; undo.take(&mut memory, &mut frames), Some(0x12345));
+    same(&rt, undo.take(&mut memory, &mut frames), Some(0x12345));
     for (address, byte) in [
         (0x00, 3),
         (0x01, 0x20),
@@ -120,8 +126,8 @@ fn a_state_is_whole(rt: HostRuntime) -> Result<(), Fail> {
         (0x5f, 3),
         (0x60, 9),
     ] {
-        assert_eq!(rt; memory.byte(address), Ok(byte), "{address}");
+        same(&rt, (address, memory.byte(address)), (address, Ok(byte)));
     }
-    assert_eq!(rt; frames.pop(), Ok(0xfe));
+    same(&rt, frames.pop(), Ok(0xfe));
     Ok(())
 }

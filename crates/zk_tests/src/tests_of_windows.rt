@@ -1,5 +1,6 @@
 // The upper window, against rows worked out by hand.
 
+use crate::tests_same::same;
 use std::alloc::Global;
 use std::test::Fail;
 use zk_term::windows::{Window, Windows};
@@ -121,7 +122,7 @@ fn characters_stand_in_their_cells(rt: HostRuntime) -> Result<(), Fail> {
         ),
     ];
     for (calls, wanted) in rows {
-        assert_eq!(rt; after(rt.alloc(), calls)?.as_str(), wanted);
+        same(&rt, after(rt.alloc(), calls)?.as_str(), wanted);
     }
     Ok(())
 }
@@ -198,7 +199,7 @@ fn splits_and_erasures_empty_cells(rt: HostRuntime) -> Result<(), Fail> {
         ),
     ];
     for (calls, wanted) in rows {
-        assert_eq!(rt; after(rt.alloc(), calls)?.as_str(), wanted);
+        same(&rt, after(rt.alloc(), calls)?.as_str(), wanted);
     }
     Ok(())
 }
@@ -224,7 +225,7 @@ fn the_cursor_is_set_within_the_grid(rt: HostRuntime) -> Result<(), Fail> {
         ),
     ];
     for (calls, wanted) in rows {
-        assert_eq!(rt; after(rt.alloc(), calls)?.as_str(), wanted);
+        same(&rt, after(rt.alloc(), calls)?.as_str(), wanted);
     }
     Ok(())
 }
@@ -233,26 +234,26 @@ fn the_cursor_is_set_within_the_grid(rt: HostRuntime) -> Result<(), Fail> {
 fn the_last_row_and_column_are_used(rt: HostRuntime) -> Result<(), Fail> {
     let mut windows = Windows::new(rt.alloc())?;
     windows.split(5, 300);
-    assert_eq!(rt; windows.height(), 255);
+    same(&rt, windows.height(), 255);
     windows.set_cursor(255, 80);
     make(&mut windows, Call::Print("ab"));
     windows.erase_line();
     let row = windows.row(255);
-    assert_eq!(rt; row.len(), 80);
-    assert_eq!(rt; row.first(), Some(&' '));
-    assert_eq!(rt; row.last(), Some(&'a'));
+    same(&rt, row.len(), 80);
+    same(&rt, row.first(), Some(&' '));
+    same(&rt, row.last(), Some(&'a'));
     make(&mut windows, Call::Print("\nc"));
     windows.erase_line();
-    assert_eq!(rt; windows.row(255).len(), 80);
-    assert_eq!(rt; windows.cursor(), (256, 2));
+    same(&rt, windows.row(255).len(), 80);
+    same(&rt, windows.cursor(), (256, 2));
     windows.set_cursor(255, 80);
     windows.erase_line();
-    assert_eq!(rt; windows.row(255).len(), 0);
+    same(&rt, windows.row(255).len(), 0);
     windows.set_cursor(255, 1);
     windows.put('d');
-    assert_eq!(rt; windows.row(255), ['d'].as_slice());
+    same(&rt, windows.row(255), ['d'].as_slice());
     windows.clear();
-    assert_eq!(rt; windows.row(255).len(), 0);
-    assert_eq!(rt; windows.height(), 255);
+    same(&rt, windows.row(255).len(), 0);
+    same(&rt, windows.height(), 255);
     Ok(())
 }

@@ -1,5 +1,6 @@
 // Dictionaries and words of small stories, against worked examples.
 
+use crate::tests_same::{demand, same};
 use std::alloc::Global;
 use std::test::Fail;
 use zk_mem::fault::Fault;
@@ -92,14 +93,14 @@ fn found(alloc: Global, dictionary: &str, word: &str) -> Result<u16, Fail> {
 
 #[test]
 fn finds_the_first_entry(rt: HostRuntime) -> Result<(), Fail> {
-    assert_eq!(rt; found(rt.alloc(), THREE, "take")?, 0x44);
-    assert_eq!(rt; found(rt.alloc(), THREE, "the ")?, 0x4c);
+    same(&rt, found(rt.alloc(), THREE, "take")?, 0x44);
+    same(&rt, found(rt.alloc(), THREE, "the ")?, 0x4c);
     // its key is 64 D0 A8 A6
-    assert_eq!(rt; found(rt.alloc(), THREE, "take@")?, 0);
-    assert_eq!(rt; found(rt.alloc(), EXCHANGED, "take")?, 0x48);
-    assert_eq!(rt; found(rt.alloc(), EXCHANGED, "the ")?, 0x44);
-    assert_eq!(rt; found(rt.alloc(), FALLING, "take")?, 0x48);
-    assert_eq!(rt; found(rt.alloc(), FALLING, "the ")?, 0x44);
+    same(&rt, found(rt.alloc(), THREE, "take@")?, 0);
+    same(&rt, found(rt.alloc(), EXCHANGED, "take")?, 0x48);
+    same(&rt, found(rt.alloc(), EXCHANGED, "the ")?, 0x44);
+    same(&rt, found(rt.alloc(), FALLING, "take")?, 0x48);
+    same(&rt, found(rt.alloc(), FALLING, "the ")?, 0x44);
     Ok(())
 }
 
@@ -116,13 +117,17 @@ fn halves(alloc: Global, dictionary: &str, word: &str) -> Result<Option<(u16, u3
 
 #[test]
 fn finds_the_first_entry_by_halves(rt: HostRuntime) -> Result<(), Fail> {
-    assert_eq!(rt; halves(rt.alloc(), THREE, "take")?, Some((0x44, 3)));
-    assert_eq!(rt; halves(rt.alloc(), THREE, "the ")?, Some((0x4c, 3)));
-    assert_eq!(rt; halves(rt.alloc(), THREE, "take@")?, Some((0, 3)));
-    assert_eq!(rt; halves(rt.alloc(), THREE, "zoo")?, Some((0, 2)));
-    assert_eq!(rt; halves(rt.alloc(), EXCHANGED, "take")?, None);
-    assert_eq!(rt; halves(rt.alloc(), FALLING, "take")?, None);
-    assert_eq!(rt; halves(rt.alloc(), "00 04 00 00", "take")?, Some((0, 0)));
+    same(&rt, halves(rt.alloc(), THREE, "take")?, Some((0x44, 3)));
+    same(&rt, halves(rt.alloc(), THREE, "the ")?, Some((0x4c, 3)));
+    same(&rt, halves(rt.alloc(), THREE, "take@")?, Some((0, 3)));
+    same(&rt, halves(rt.alloc(), THREE, "zoo")?, Some((0, 2)));
+    same(&rt, halves(rt.alloc(), EXCHANGED, "take")?, None);
+    same(&rt, halves(rt.alloc(), FALLING, "take")?, None);
+    same(
+        &rt,
+        halves(rt.alloc(), "00 04 00 00", "take")?,
+        Some((0, 0)),
+    );
     Ok(())
 }
 
@@ -168,11 +173,11 @@ fn sixteen_comparisons_are_enough(rt: HostRuntime) -> Result<(), Fail> {
     let alloc = rt.alloc();
     let greatest = |high: u8, low: u8| halves_of_the_greatest(alloc, [high, low, 0, 0]);
     // the first, the last, and what is before, between and behind them
-    assert_eq!(rt; greatest(0x00, 0x02)?, Some((0x44, 15, 0x44)));
-    assert_eq!(rt; greatest(0xff, 0xba)?, Some((0xfffc, 15, 0xfffc)));
-    assert_eq!(rt; greatest(0x00, 0x01)?, Some((0, 15, 0)));
-    assert_eq!(rt; greatest(0x7f, 0xff)?, Some((0, 15, 0)));
-    assert_eq!(rt; greatest(0xff, 0xbb)?, Some((0, 13, 0)));
+    same(&rt, greatest(0x00, 0x02)?, Some((0x44, 15, 0x44)));
+    same(&rt, greatest(0xff, 0xba)?, Some((0xfffc, 15, 0xfffc)));
+    same(&rt, greatest(0x00, 0x01)?, Some((0, 15, 0)));
+    same(&rt, greatest(0x7f, 0xff)?, Some((0, 15, 0)));
+    same(&rt, greatest(0xff, 0xbb)?, Some((0, 13, 0)));
     Ok(())
 }
 
@@ -201,10 +206,11 @@ fn reads_dictionaries(rt: HostRuntime) -> Result<(), Fail> {
         allows_halves: false,
         ..three
     };
-    assert_eq!(rt; dictionary_at(rt.alloc(), 3, THREE, 0x40)?, Ok(three));
-    assert_eq!(rt;
+    same(&rt, dictionary_at(rt.alloc(), 3, THREE, 0x40)?, Ok(three));
+    same(
+        &rt,
         dictionary_at(rt.alloc(), 3, EXCHANGED, 0x40)?,
-        Ok(exchanged)
+        Ok(exchanged),
     );
     Ok(())
 }
@@ -225,10 +231,10 @@ fn allows_halves_in_order(rt: HostRuntime) -> Result<(), Fail> {
     let alloc = rt.alloc();
     let unsigned = "00 04 00 02 7F 00 00 00 80 00 00 00";
     let behind_the_keys = "00 06 00 02 01 02 03 04 05 06 01 02 03 04 05 05";
-    assert!(rt; allows_halves(alloc, 3, 0x40, THREE)?);
-    assert!(rt; allows_halves(alloc, 3, 0x40, unsigned)?);
-    assert!(rt; allows_halves(alloc, 3, 0x40, behind_the_keys)?);
-    assert!(rt; allows_halves(alloc, 3, 0x40, "00 04 00 00")?);
+    demand(&rt, allows_halves(alloc, 3, 0x40, THREE)?);
+    demand(&rt, allows_halves(alloc, 3, 0x40, unsigned)?);
+    demand(&rt, allows_halves(alloc, 3, 0x40, behind_the_keys)?);
+    demand(&rt, allows_halves(alloc, 3, 0x40, "00 04 00 00")?);
     Ok(())
 }
 
@@ -238,10 +244,10 @@ fn allows_no_halves_elsewhere(rt: HostRuntime) -> Result<(), Fail> {
     let one_of_minus_one = "00 04 FF FF 01 02 03 04";
     let last_byte = "00 04 00 02 01 02 03 05 01 02 03 04";
     let last_byte_of_six = "00 06 00 02 01 02 03 04 05 06 01 02 03 04 05 05";
-    assert!(rt; !allows_halves(alloc, 3, 0x41, THREE)?);
-    assert!(rt; !allows_halves(alloc, 3, 0x40, one_of_minus_one)?);
-    assert!(rt; !allows_halves(alloc, 3, 0x40, last_byte)?);
-    assert!(rt; !allows_halves(alloc, 5, 0x40, last_byte_of_six)?);
+    demand(&rt, !allows_halves(alloc, 3, 0x41, THREE)?);
+    demand(&rt, !allows_halves(alloc, 3, 0x40, one_of_minus_one)?);
+    demand(&rt, !allows_halves(alloc, 3, 0x40, last_byte)?);
+    demand(&rt, !allows_halves(alloc, 5, 0x40, last_byte_of_six)?);
     Ok(())
 }
 
@@ -250,16 +256,16 @@ fn refuses_dictionaries(rt: HostRuntime) -> Result<(), Fail> {
     let alloc = rt.alloc();
     let refused = Err(Fault::BadDictionary);
     // entries without room for a key
-    assert_eq!(rt; dictionary_at(alloc, 3, "00 03 00 00", 0x40)?, refused);
-    assert_eq!(rt; dictionary_at(alloc, 5, "00 05 00 00", 0x40)?, refused);
+    same(&rt, dictionary_at(alloc, 3, "00 03 00 00", 0x40)?, refused);
+    same(&rt, dictionary_at(alloc, 5, "00 05 00 00", 0x40)?, refused);
     // 63 entries of 7 bytes end at 01FD, 64 of them at 0204
-    assert!(rt; dictionary_at(alloc, 3, "00 07 FF C1", 0x40)?.is_ok());
-    assert_eq!(rt; dictionary_at(alloc, 3, "00 07 FF C0", 0x40)?, refused);
+    demand(&rt, dictionary_at(alloc, 3, "00 07 FF C1", 0x40)?.is_ok());
+    same(&rt, dictionary_at(alloc, 3, "00 07 FF C0", 0x40)?, refused);
     // 111 entries of 4 bytes end at 0200, with the story
-    assert!(rt; dictionary_at(alloc, 3, "00 04 00 6F", 0x40)?.is_ok());
+    demand(&rt, dictionary_at(alloc, 3, "00 04 00 6F", 0x40)?.is_ok());
     // no room for the count, and no byte at all
-    assert_eq!(rt; dictionary_at(alloc, 3, "", 0x1fd)?, refused);
-    assert_eq!(rt; dictionary_at(alloc, 3, "", 0xffff_ffff)?, refused);
+    same(&rt, dictionary_at(alloc, 3, "", 0x1fd)?, refused);
+    same(&rt, dictionary_at(alloc, 3, "", 0xffff_ffff)?, refused);
     Ok(())
 }
 
@@ -284,13 +290,15 @@ fn divides_a_text(rt: HostRuntime) -> Result<(), Fail> {
     let three = "03 03 00 00 04 01 00 00 01 05 00 00 02 06 00 00 00";
     let four = "09 04 00 00 04 01 00 00 01 05 00 00 02 06 00 00 07 09 00";
     let done = (Ok(()), true);
-    assert_eq!(rt;
+    same(
+        &rt,
         divides(alloc, 3, 0xff, (COMMA, FRED, "03"), false, three)?,
-        done
+        done,
     );
-    assert_eq!(rt;
+    same(
+        &rt,
         divides(alloc, 3, 0xff, (COMMA, FRED, "09"), false, four)?,
-        done
+        done,
     );
     Ok(())
 }
@@ -300,9 +308,10 @@ fn spaces_are_no_words(rt: HostRuntime) -> Result<(), Fail> {
     // a space is among the separators
     let tables = ("02 20 2C 07 00 00", "40 61 20 62 00", "09");
     let stored = "09 02 00 00 01 01 00 00 01 03 00";
-    assert_eq!(rt;
+    same(
+        &rt,
         divides(rt.alloc(), 3, 0xff, tables, false, stored)?,
-        (Ok(()), true)
+        (Ok(()), true),
     );
     Ok(())
 }
@@ -311,9 +320,10 @@ fn spaces_are_no_words(rt: HostRuntime) -> Result<(), Fail> {
 fn leaves_unknown_words_out(rt: HostRuntime) -> Result<(), Fail> {
     let before = "02 00 55 55 55 55 55 55 55 55";
     let after = "02 02 55 55 55 55 55 55 55 55";
-    assert_eq!(rt;
+    same(
+        &rt,
         divides(rt.alloc(), 3, 0xff, (COMMA, FRED, before), true, after)?,
-        (Ok(()), true)
+        (Ok(()), true),
     );
     Ok(())
 }
@@ -323,13 +333,15 @@ fn stores_up_to_the_static_base(rt: HostRuntime) -> Result<(), Fail> {
     let alloc = rt.alloc();
     let cut = (Err(Fault::ReadOnly), true);
     let stored = "03 03 00 00 04 01 00 00 00";
-    assert_eq!(rt;
+    same(
+        &rt,
         divides(alloc, 3, 0x87, (COMMA, FRED, "03"), false, stored)?,
-        cut
+        cut,
     );
-    assert_eq!(rt;
+    same(
+        &rt,
         divides(alloc, 3, 0x81, (COMMA, FRED, "00"), false, "00 00")?,
-        cut
+        cut,
     );
     Ok(())
 }
@@ -339,9 +351,10 @@ fn finds_words_by_all_letters(rt: HostRuntime) -> Result<(), Fail> {
     // `take`, `ta`
     let tables = (THREE, "40 74 61 6B 65 20 74 61 00", "09");
     let stored = "09 02 00 44 04 01 00 00 02 06 00";
-    assert_eq!(rt;
+    same(
+        &rt,
         divides(rt.alloc(), 3, 0xff, tables, false, stored)?,
-        (Ok(()), true)
+        (Ok(()), true),
     );
     Ok(())
 }
@@ -351,9 +364,10 @@ fn finds_words_of_version_5(rt: HostRuntime) -> Result<(), Fail> {
     let dictionary = "02 2C 2E 06 00 01 38 A5 14 A5 94 A5";
     let text = "09 03 69 2C 69 69";
     let stored = "09 03 00 46 01 02 00 00 01 03 00 46 01 04";
-    assert_eq!(rt;
+    same(
+        &rt,
         divides(rt.alloc(), 5, 0xff, (dictionary, text, "09"), false, stored)?,
-        (Ok(()), true)
+        (Ok(()), true),
     );
     Ok(())
 }
@@ -376,11 +390,11 @@ fn looks_all_words_up_first(rt: HostRuntime) -> Result<(), Fail> {
     let alloc = rt.alloc();
     let refused = (Err(Fault::BadAddress), false);
     // the parse buffer lies over the text
-    assert_eq!(rt; divides_at(alloc, 0x60, 0x60)?, (Ok(()), true));
-    assert_eq!(rt; divides_at(alloc, 0x1ff, 0x80)?, refused);
-    assert_eq!(rt; divides_at(alloc, 0xffff_ffff, 0x80)?, refused);
-    assert_eq!(rt; divides_at(alloc, 0x60, 0x200)?, refused);
-    assert_eq!(rt; divides_at(alloc, 0x60, 0xffff_ffff)?, refused);
+    same(&rt, divides_at(alloc, 0x60, 0x60)?, (Ok(()), true));
+    same(&rt, divides_at(alloc, 0x1ff, 0x80)?, refused);
+    same(&rt, divides_at(alloc, 0xffff_ffff, 0x80)?, refused);
+    same(&rt, divides_at(alloc, 0x60, 0x200)?, refused);
+    same(&rt, divides_at(alloc, 0x60, 0xffff_ffff)?, refused);
     Ok(())
 }
 
@@ -405,8 +419,8 @@ fn divides_spaces_at(alloc: Global, text: u32) -> Result<(Result<(), Fault>, boo
 #[test]
 fn reads_254_letters_in_version_3(rt: HostRuntime) -> Result<(), Fail> {
     // the last letter is the last byte of the story
-    assert_eq!(rt; divides_spaces_at(rt.alloc(), 0x101)?, (Ok(()), true));
+    same(&rt, divides_spaces_at(rt.alloc(), 0x101)?, (Ok(()), true));
     let refused = (Err(Fault::BadAddress), false);
-    assert_eq!(rt; divides_spaces_at(rt.alloc(), 0x102)?, refused);
+    same(&rt, divides_spaces_at(rt.alloc(), 0x102)?, refused);
     Ok(())
 }

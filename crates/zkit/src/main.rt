@@ -4,43 +4,21 @@
 ghost use Rattle.std.specs.Prelude.{◌≡◌, ◌⊎◌, false};
 ghost use Rattle.clap.specs.Words.{kind_of};
 ghost use Rattle.zk_vm.specs.Bounds.{AreInRange};
-ghost use Rattle.zkit.specs.CommandLine.{usage_status};
+ghost use Rattle.zk_command.specs.CommandLine.{usage_status};
 
-mod choice;
-mod ending;
-mod gathered;
-mod listing;
-mod manner;
-mod playing;
-mod report;
-mod save_file;
-mod script;
-#[cfg(test)]
-mod tests;
-#[cfg(test)]
-mod tests_of_devices;
-#[cfg(test)]
-mod tests_of_listings;
-#[cfg(test)]
-mod tests_of_reports;
-#[cfg(test)]
-mod tests_of_saves;
-#[cfg(test)]
-mod tests_of_words;
-
-use crate::choice::{Choice, choose, usage_status_of};
-use crate::ending::Ending;
-use crate::listing::{Listing, list_and_report};
-use crate::manner::Manner;
-use crate::playing::play_and_report;
-use crate::report::{report, report_briefly, report_listing};
-use crate::save_file::SaveFile;
-use crate::script::ScriptFile;
 use clap::Error;
 use clap::error::ErrorKind;
 use std::fs::File;
 use std::process::ExitCode;
 use std::{env, io};
+use zk_command::choice::{Choice, choose, usage_status_of};
+use zk_command::ending::Ending;
+use zk_command::listing::{Listing, list_and_report};
+use zk_command::manner::Manner;
+use zk_command::playing::play_and_report;
+use zk_command::report::{report, report_briefly, report_listing};
+use zk_command::save_file::SaveFile;
+use zk_command::script::ScriptFile;
 use zk_term::nothing::Nothing;
 use zk_term::over::Over;
 use zk_term::target::Target;

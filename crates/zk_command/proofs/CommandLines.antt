@@ -1,0 +1,106 @@
+-- What clap finds in the words of the command line.
+use Rattle.std.proofs.Common.{◌≡◌, ◌∙◌, ℕ, List, Option, Some, None, IfNone, IfSome, codes, refl, sym, ap, ap₂, subst, Bool, true, false}
+use Rattle.std.specs.Prelude.{SomeIff, IsSomeAnd, if◌then◌else◌, option_map, unwrap_or}
+use Rattle.std.specs.Str.{bytes_eq}
+use Rattle.std.proofs.lemmas.Slice.Eq.{bytes_eq-Decides}
+use Rattle.clap.specs.Words.{App, HasMatchesOf, Row, Text, first_of, is_simple, is_simple_and_free, subcommand_name_of, subcommand_of, subcommand_rows_of}
+use Rattle.clap.proofs.OnLiterals.{clap_on_literals}
+use Rattle.clap.specs.declared.ArgMatches.{ArgMatches}
+use Rattle.zk_command.specs.declared.manner.Manner.{Manner}
+use Rattle.zk_command.specs.CommandLine.{Asks, IsNumberIn, Says, SaysManner, SaysNumber, SaysStory, command_line, flag_said, number_in}
+use Rattle.zk_command.specs.declared.choice.Choice.{Choice}
+use Rattle.zk_command.specs.declared.choice.Choice.TheVariants.{Play, Show}
+use Rattle.zk_command.specs.declared.listing.Listing.TheVariants.{Info, Code, Findings}
+
+-- the command line is simple in clap's sense
+pub command_line_is_simple : is_simple command_line ≡ true
+unfolding clap_on_literals
+command_line_is_simple = refl
+
+-- no argument of it has a rule on another
+pub command_line_is_free : is_simple_and_free command_line ≡ true
+unfolding clap_on_literals
+command_line_is_free = refl
+
+-- a number that was read of an option's text
+pub number_said : (rows : List Row) (option : Text) (least most : ℕ) (word : Text) (o : Option ℕ) → first_of option rows ≡ Some word
+    → SomeIff o (IsNumberIn least most word) (number_in word) → IfSome o (λ n. SaysNumber rows option least most n)
+number_said rows option least most word None e h = tt
+number_said rows option least most word (Some n) e h =
+    subst (λ (o : Option Text). IsSomeAnd o (λ w. IsNumberIn least most w × (number_in w ≡ n))) (sym e) (h.0, sym h.1)
+
+pub firsts : {X Y Z : Type 0} (f : X → Y × Z) (o : Option X) → option_map (λ p. p.0) (option_map f o) ≡ option_map (λ x. (f x).0) o
+firsts f None = refl
+firsts f (Some x) = refl
+
+-- a pair by its parts
+pub paired : (o : Option (Text × List Row)) (name : Text) (rows : List Row) → option_map (λ p. p.0) o ≡ Some name → option_map (λ p. p.1) o ≡ Some rows → o ≡ Some (name, rows)
+paired None name rows e f = cc
+paired (Some p) name rows e f = ap₂ (λ (a : Text) (b : List Row). Some (a, b)) (ap (λ (o : Option Text). unwrap_or o p.0) e) (ap (λ (o : Option (List Row)). unwrap_or o p.1) f)
+
+-- the command and its rows, where clap met one
+pub met : (m : ArgMatches) (a : App) (words : List Text) (name : Text) (rows : List Row) → a ≡ command_line → HasMatchesOf a words m → subcommand_name_of m ≡ Some name
+    → option_map (λ p. p.1) (subcommand_rows_of m) ≡ Some rows → subcommand_of command_line words ≡ Some (name, rows)
+met m a words name rows line_is has named rows_are =
+    ap (λ (b : App). subcommand_of b words) (sym line_is) ∙ sym (has (ap is_simple line_is ∙ command_line_is_simple)).1 ∙ paired (subcommand_rows_of m) name rows (firsts _ _ ∙ named) rows_are
+
+-- where clap has met no command, the words ask for nothing
+pub without_command : (m : ArgMatches) (a : App) (words : List Text) → a ≡ command_line → HasMatchesOf a words m → subcommand_name_of m ≡ None → (c : Choice) → Asks words c → ⊥
+without_command m a words line_is has none c h =
+    let met_one : subcommand_rows_of m ≡ Some (h.name, h.rows) = (has (ap is_simple line_is ∙ command_line_is_simple)).1 ∙ ap (λ (b : App). subcommand_of b words) line_is ∙ h.command in
+    let some : None ≡ Some h.name = sym none ∙ sym (firsts _ _) ∙ ap (option_map (λ (p : Text × List Row). p.0)) met_one in
+    absurd cc
+
+-- where what clap has met says nothing, the words ask for nothing
+pub unasked : (words : List Text) (name : Text) (rows : List Row) → subcommand_of command_line words ≡ Some (name, rows) → ((c : Choice) → Says name rows c → ⊥) → (c : Choice) → Asks words c → ⊥
+unasked words name rows e none c h =
+    let both : Some (h.name, h.rows) ≡ Some (name, rows) = sym h.command ∙ e in
+    let names : h.name ≡ name = ap (λ (o : Option (Text × List Row)). unwrap_or (option_map (λ p. p.0) o) name) both in
+    let same : h.rows ≡ rows = ap (λ (o : Option (Text × List Row)). unwrap_or (option_map (λ p. p.1) o) rows) both in
+    none c (subst (λ (r : List Row). Says name r c) same (subst (λ (n : Text). Says n h.rows c) names h.says))
+
+-- an option without a text says no number
+pub none_said : (rows : List Row) (option : Text) (least most : ℕ) → first_of option rows ≡ None → (n : ℕ) → SaysNumber rows option least most n → ⊥
+none_said rows option least most e n h = subst (λ (o : Option Text). IsSomeAnd o (λ w. IsNumberIn least most w × (number_in w ≡ n))) e h
+
+-- neither does one whose text is no number in the range
+pub number_not_said : (rows : List Row) (option : Text) (least most : ℕ) (word : Text) (o : Option ℕ) → first_of option rows ≡ Some word
+    → SomeIff o (IsNumberIn least most word) (number_in word) → IfNone o ((n : ℕ) → SaysNumber rows option least most n → ⊥)
+number_not_said rows option least most word None e h =
+    λ n said. h (subst (λ (o : Option Text). IsSomeAnd o (λ w. IsNumberIn least most w × (number_in w ≡ n))) e said).0
+number_not_said rows option least most word (Some n) e h = tt
+
+-- a flag by its text
+pub flag_by : (rows : List Row) (name word : Text) (b : Bool) → first_of name rows ≡ Some word → b ≡ bytes_eq word (codes "true") → b ≡ flag_said (first_of name rows)
+flag_by rows name word b e is = is ∙ sym (ap flag_said e)
+
+pub no_flag : (rows : List Row) (name : Text) → first_of name rows ≡ None → false ≡ flag_said (first_of name rows)
+no_flag rows name e = sym (ap flag_said e)
+
+-- no path is said
+pub no_path : (rows : List Row) → first_of (codes "STORY") rows ≡ None → (path : List ℕ) → SaysStory rows path → ⊥
+no_path rows none path h = let both : None ≡ Some path = sym none ∙ h in absurd cc
+
+-- names are told apart by their bytes
+pub same_name : (name known : Text) → bytes_eq name known ≡ true → name ≡ known
+same_name name known test = let d = bytes_eq-Decides name known in d.0 test
+
+other_name : (name known : Text) → bytes_eq name known ≡ false → name ≡ known → ⊥
+other_name name known test e = let d = bytes_eq-Decides name known in let both : false ≡ true = sym test ∙ d.1 e in absurd cc
+
+-- without a path, a manner or a command of this name nothing is said
+pub no_story_said : (name : Text) (rows : List Row) → ((path : List ℕ) → SaysStory rows path → ⊥) → (c : Choice) → Says name rows c → ⊥
+no_story_said name rows none (Play story save script m) h = none story.now h.1
+no_story_said name rows none (Show story listing) h = none story.now h.0
+
+pub no_manner_said : (rows : List Row) → ((m : Manner) → SaysManner rows m → ⊥) → (c : Choice) → Says (codes "play") rows c → ⊥
+no_manner_said rows none (Play story save script m) h = none m h.4
+no_manner_said rows none (Show story (Info sections)) h = other_name (codes "play") (codes "info") refl h.1.0
+no_manner_said rows none (Show story Code) h = other_name (codes "play") (codes "disasm") refl h.1
+no_manner_said rows none (Show story Findings) h = other_name (codes "play") (codes "check") refl h.1
+
+pub no_command : (name : Text) (rows : List Row) → bytes_eq name (codes "play") ≡ false → bytes_eq name (codes "info") ≡ false → bytes_eq name (codes "disasm") ≡ false → bytes_eq name (codes "check") ≡ false → (c : Choice) → Says name rows c → ⊥
+no_command name rows p i d k (Play story save script m) h = other_name name (codes "play") p h.0
+no_command name rows p i d k (Show story (Info sections)) h = other_name name (codes "info") i h.1.0
+no_command name rows p i d k (Show story Code) h = other_name name (codes "disasm") d h.1
+no_command name rows p i d k (Show story Findings) h = other_name name (codes "check") k h.1

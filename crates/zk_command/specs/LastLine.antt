@@ -1,0 +1,78 @@
+-- The last line on standard error.
+use Rattle.std.specs.Prelude.{◌⊎◌, ℕ, ◌+◌, ◌/◌, ◌%◌, ◌^◌, List, [], ◌∷◌, ◌++◌, map, drop, codes, decimal, nat_lt, if◌then◌else◌}
+use Rattle.std.specs.IoError.{error_kind}
+use Rattle.std.specs.declared.io.ErrorKind.{ErrorKind}
+use Rattle.std.specs.declared.io.ErrorKind.TheVariants as kind
+use Rattle.zk_mem.specs.declared.story.OpenError.{OpenError}
+use Rattle.zk_mem.specs.declared.story.OpenError.TheVariants.{OutOfMemory}
+use Rattle.zk_mem.specs.Faults.{fault_number}
+use Rattle.zk_mem.specs.Story.{refusal_number}
+use Rattle.zk_state.specs.Limits.{limit_number}
+use Rattle.zk_term.specs.Devices.{Device, Took}
+use Rattle.zk_vm.specs.declared.stop.Stop.{Stop}
+use Rattle.zk_vm.specs.declared.stop.Stop.TheVariants.{Quit, Fault, Limit, EndOfInput, Read, Write, Memory}
+use Rattle.zk_command.specs.declared.ending.Ending.{Ending}
+use Rattle.zk_command.specs.declared.ending.Ending.TheVariants.{Unread, Refused, Stopped, Found}
+
+-- the hexadecimal digit of a number below 16: 0 to 9 (48 on) and a to f (97 on)
+abbrev pub hex_digit : ℕ → ℕ
+hex_digit n = if nat_lt n 10 then 48 + n else 87 + n
+
+-- the eight hexadecimal digits of a number of 32 bits
+abbrev pub hex_digits : ℕ → List ℕ
+hex_digits n = map (λ k. hex_digit (n / 16 ^ k % 16)) (7 ∷ 6 ∷ 5 ∷ 4 ∷ 3 ∷ 2 ∷ 1 ∷ 0 ∷ [])
+
+-- how many zeros are left out of eight digits, so that five are left at least
+abbrev pub zeros_left_out : ℕ → ℕ
+zeros_left_out n = if nat_lt n 0x10_0000 then 3 else if nat_lt n 0x100_0000 then 2 else if nat_lt n 0x1000_0000 then 1 else 0
+
+-- an address: its hexadecimal digits, at least five
+abbrev pub address_digits : ℕ → List ℕ
+address_digits a = drop (zeros_left_out a) (hex_digits a)
+
+-- a line of the program, which ends with a new line (10)
+abbrev pub line : List ℕ → List ℕ
+line text = codes "zkit: " ++ text ++ 10 ∷ []
+
+-- a numbered cause at an address, as `fault 8 at 04f2a`
+abbrev pub cause_at : List ℕ → ℕ → ℕ → List ℕ
+cause_at cause number a = cause ++ decimal number ++ codes " at " ++ address_digits a
+
+-- after a run: nothing where the story or its input has ended
+abbrev pub stop_line : Stop → List ℕ
+stop_line Quit = []
+stop_line EndOfInput = []
+stop_line (Fault a f) = line (cause_at (codes "fault ") (fault_number f) a)
+stop_line (Limit a l) = line (cause_at (codes "limit ") (limit_number l) a)
+stop_line Read = line (codes "read failed")
+stop_line Write = line (codes "write failed")
+stop_line Memory = line (codes "out of memory")
+
+-- after a file that is no story
+abbrev pub refused_line : OpenError → List ℕ
+refused_line OutOfMemory = line (codes "out of memory")
+refused_line e = line (codes "refused " ++ decimal (refusal_number e))
+
+-- after a file that can't be read
+abbrev pub unread_line : ErrorKind → List ℕ
+unread_line kind.OutOfMemory = line (codes "out of memory")
+unread_line _ = line (codes "read failed")
+
+-- after a play, a listing or a check; what was found stands on the screen
+abbrev pub last_line : Ending → List ℕ
+last_line (Unread e) = unread_line (error_kind e)
+last_line (Refused e) = refused_line e
+last_line (Stopped stop) = stop_line stop
+last_line Found = []
+
+-- more can be said of an ending than its last line says
+abbrev pub IsExplained : Ending → Type 0
+IsExplained (Unread e) = Unit {0}
+IsExplained (Refused e) = Unit {0}
+IsExplained (Stopped (Fault a f)) = Unit {0}
+IsExplained (Stopped (Limit a l)) = Unit {0}
+IsExplained _ = ⊥
+
+-- a device was given a line in words on an ending and then some text, or that text alone
+abbrev pub TookExplained : Ending → List ℕ → Device → Device → Type 0
+TookExplained ending text old new = Took old new text ⊎ (IsExplained ending × ((words : List ℕ) × Took old new (line words ++ text)))

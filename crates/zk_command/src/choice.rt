@@ -1,0 +1,501 @@
+// What the words of the command line ask for.
+
+ghost use Rattle.std.specs.Prelude.{◌≡◌, ◌≤◌, ℕ, List, codes, IfErr, IfNone, IfOk, IfSome, OnErr, SomeIff, false, map};
+ghost use Rattle.clap.specs.Words.{app_of, first_of, found_of, kind_of, rows_of, rule_of};
+ghost use Rattle.clap.specs.declared.Command.TheViews.{out-Command as fields_of};
+ghost use Rattle.zk_vm.specs.Bounds.{AreInRange};
+ghost use Rattle.zk_vm.specs.declared.limits.Limits.{Limits};
+ghost use Rattle.zk_command.specs.declared.choice.Choice.{Choice};
+ghost use Rattle.zk_command.specs.declared.manner.Manner.{Manner};
+ghost use Rattle.zk_command.specs.CommandLine.{Asks, HasLimits, IsNumberIn, IsRefusedWith, Says, SaysLimits, SaysManner, SaysNumber, SaysStory, check_command, command_line, disasm_command, file_option, flag, flag_said, info_command, number_in, number_option, play_command, sections_said, story_word, usage_status, view_said};
+
+use crate::listing::{Listing, Sections};
+use crate::manner::Manner;
+use clap::error::ErrorKind;
+use clap::{Arg, ArgAction, ArgMatches, Command, Error};
+use std::alloc::{AllocError, Global};
+use zk_step::workspace::View;
+use zk_vm::limits::Limits;
+
+/// What the program is asked to do.
+#[derive(Drop)]
+pub enum Choice<'a> {
+    /// To play the story in a file, in a manner, with its saved game and its transcript in the files of `save` and
+    /// `script`, if there are any.
+    Play {
+        story: &'a str,
+        save: Option<&'a str>,
+        script: Option<&'a str>,
+        manner: Manner,
+    },
+    /// To list the story in a file.
+    Show {
+        story: &'a str,
+        listing: Listing,
+    },
+}
+
+/// An option that takes a number.
+fn number_option_of<'a>(alloc: Global, name: &'a str, default: &'a str, help: &'a str) -> Arg<'a>
+    ensures rule { rule_of result ≡ number_option name.entry.now default.entry.now }
+    ensures local { result.global ≡ false }
+{
+    Arg::new(alloc, name)
+        .long(name)
+        .value_name("n")
+        .default_value(default)
+        .help(help)
+}
+
+/// An option that takes a file's path.
+fn file_option_of<'a>(alloc: Global, name: &'a str, help: &'a str) -> Arg<'a>
+    ensures rule { rule_of result ≡ file_option name.entry.now }
+    ensures local { result.global ≡ false }
+{
+    Arg::new(alloc, name)
+        .long(name)
+        .value_name("FILE")
+        .help(help)
+}
+
+/// An option without a value.
+fn flag_of<'a>(alloc: Global, name: &'a str, help: &'a str) -> Arg<'a>
+    ensures rule { rule_of result ≡ flag name.entry.now }
+    ensures local { result.global ≡ false }
+{
+    Arg::new(alloc, name)
+        .long(name)
+        .action(ArgAction::SetTrue)
+        .help(help)
+}
+
+/// The path of the story.
+fn story_word_of<'a>(alloc: Global) -> Arg<'a>
+    ensures rule { rule_of result ≡ story_word }
+    ensures local { result.global ≡ false }
+{
+    Arg::new(alloc, "STORY")
+        .required(true)
+        .help("The story's file, of version 3, 5 or 8")
+}
+
+/// The command `play`.
+fn play_command_of<'a>(alloc: Global) -> Result<Command<'a>, AllocError>
+    ensures shape { IfOk result (λ c. app_of c ≡ play_command) }
+    ensures local { IfOk result (λ c. (fields_of c).has_globals ≡ false) }
+{
+    let frames = number_option_of(
+        alloc,
+        "frames",
+        "1024",
+        "The most routines that may be open at once, 1 to 65535",
+    );
+    let words = number_option_of(
+        alloc,
+        "words",
+        "16384",
+        "The most words that the open routines may hold, 0 to 65535",
+    );
+    let undo = number_option_of(
+        alloc,
+        "undo",
+        "16",
+        "How many states can be gone back to, 0 to 64",
+    );
+    let steps = number_option_of(
+        alloc,
+        "steps",
+        "10000000",
+        "The most instructions without reading, 1 to 1000000000",
+    );
+    let seed = number_option_of(
+        alloc,
+        "seed",
+        "1",
+        "What begins the random numbers, 0 to 18446744073709551615",
+    );
+    let save = file_option_of(
+        alloc,
+        "save",
+        "The file that the game is saved to and restored from; without it there are no saved games",
+    );
+    let script = file_option_of(
+        alloc,
+        "script",
+        "The file that the transcript is written to; what it held goes",
+    );
+    let upper = flag_of(
+        alloc,
+        "upper",
+        "Shows the status line and the upper window, on lines of their own",
+    );
+    Command::new(alloc, "play")
+        .about("Plays a story")
+        .after_help("Example: zkit play --steps 50000000 story.z5")
+        .arg(frames)?
+        .arg(words)?
+        .arg(undo)?
+        .arg(steps)?
+        .arg(seed)?
+        .arg(save)?
+        .arg(script)?
+        .arg(upper)?
+        .arg(story_word_of(alloc))
+}
+
+/// The command `info`.
+fn info_command_of<'a>(alloc: Global) -> Result<Command<'a>, AllocError>
+    ensures shape { IfOk result (λ c. app_of c ≡ info_command) }
+    ensures local { IfOk result (λ c. (fields_of c).has_globals ≡ false) }
+{
+    let header = flag_of(alloc, "header", "Lists what the header says");
+    let map = flag_of(alloc, "map", "Lists where the parts of the story begin");
+    let abbreviations = flag_of(alloc, "abbreviations", "Lists the abbreviations");
+    let dictionary = flag_of(alloc, "dictionary", "Lists the words of the dictionary");
+    let objects = flag_of(alloc, "objects", "Lists the objects with their properties");
+    let tree = flag_of(alloc, "tree", "Lists the tree of objects");
+    Command::new(alloc, "info")
+        .about("Lists the tables of a story; without an option, what its header says")
+        .after_help("Example: zkit info --dictionary story.z5")
+        .arg(header)?
+        .arg(map)?
+        .arg(abbreviations)?
+        .arg(dictionary)?
+        .arg(objects)?
+        .arg(tree)?
+        .arg(story_word_of(alloc))
+}
+
+/// The command `disasm`.
+fn disasm_command_of<'a>(alloc: Global) -> Result<Command<'a>, AllocError>
+    ensures shape { IfOk result (λ c. app_of c ≡ disasm_command) }
+    ensures local { IfOk result (λ c. (fields_of c).has_globals ≡ false) }
+{
+    Command::new(alloc, "disasm")
+        .about("Lists the instructions of a story that it can come to")
+        .after_help("Example: zkit disasm story.z5")
+        .arg(story_word_of(alloc))
+}
+
+/// The command `check`.
+fn check_command_of<'a>(alloc: Global) -> Result<Command<'a>, AllocError>
+    ensures shape { IfOk result (λ c. app_of c ≡ check_command) }
+    ensures local { IfOk result (λ c. (fields_of c).has_globals ≡ false) }
+{
+    Command::new(alloc, "check")
+        .about("Lists what is wrong with a story, and ends with status 6 where something is")
+        .after_help("Example: zkit check story.z5")
+        .arg(story_word_of(alloc))
+}
+
+/// zkit's command line.
+fn command_line_of<'a>(alloc: Global) -> Result<Command<'a>, AllocError>
+    ensures { IfOk result (λ c. app_of c ≡ command_line) }
+{
+    let play = play_command_of(alloc)?;
+    let info = info_command_of(alloc)?;
+    let disasm = disasm_command_of(alloc)?;
+    let check = check_command_of(alloc)?;
+    Command::new(alloc, "zkit")
+        .about("Plays, lists and checks Z-machine stories")
+        .version("0.1.0")
+        .after_help("Example: zkit play story.z5")
+        .subcommand_required(true)
+        .subcommand(play)?
+        .subcommand(info)?
+        .subcommand(disasm)?
+        .subcommand(check)
+}
+
+/// The number that a word says, if it lies in a range.
+fn number_from(word: &str, least: u64, most: u64) -> Option<u64>
+    ensures { SomeIff result (IsNumberIn least most word.now) (number_in word.now) }
+{
+    match word.parse::<u64>() {
+        Ok(n) if n >= least && n <= most => Some(n),
+        _ => None,
+    }
+}
+
+/// The number of an option, if it lies in a range.
+fn number_of(matches: &ArgMatches<'_>, option: &str, least: u64, most: u64) -> Option<u64>
+    ensures says { IfSome result (λ n. SaysNumber (rows_of (found_of matches.now)) option.now least most n) }
+    ensures least { IfSome result (λ n. least ≤ n) }
+    ensures most { IfSome result (λ n. n ≤ most) }
+    ensures none { IfNone result ((n : ℕ) → SaysNumber (rows_of (found_of matches.now)) option.now least most n → ⊥) }
+{
+    let Some(word) = matches.get_str(option) else {
+        return None;
+    };
+    number_from(word, least, most)
+}
+
+/// An error of the command line.
+fn usage_error(command: &mut Command<'_>, kind: ErrorKind, text: &str) -> Error
+    requires { 1 ≤ usage_status kind }
+    ensures { 1 ≤ usage_status (kind_of result) }
+{
+    match command.error(kind, text) {
+        Ok(error) => error,
+        Err(error) => Error::from(error),
+    }
+}
+
+/// The error of an option that is no number in its range.
+fn out_of_range(
+    alloc: Global,
+    command: &mut Command<'_>,
+    option: &str,
+    least: u64,
+    most: u64,
+) -> Error
+    ensures { 1 ≤ usage_status (kind_of result) }
+{
+    match format!(in alloc; "'--{option} <n>' takes a number from {least} to {most}") {
+        Ok(text) => usage_error(command, ErrorKind::ValueValidation, text.as_str()),
+        Err(error) => Error::from(error),
+    }
+}
+
+/// The limits that the options of `play` say.
+fn limits_of(
+    alloc: Global,
+    command: &mut Command<'_>,
+    play: &ArgMatches<'_>,
+) -> Result<Limits, Error>
+    ensures says { IfOk result (λ l. SaysLimits (rows_of (found_of play.now)) l) }
+    ensures in_range { IfOk result (λ l. AreInRange l) }
+    ensures mistake { IfErr result (λ e. 1 ≤ usage_status (kind_of e)) }
+    ensures says_none { OnErr result ((l : Limits) → SaysLimits (rows_of (found_of play.now)) l → ⊥) }
+{
+    let Some(frames) = number_of(play, "frames", 1, 65_535) else {
+        return Err(out_of_range(alloc, command, "frames", 1, 65_535));
+    };
+    let Some(words) = number_of(play, "words", 0, 65_535) else {
+        return Err(out_of_range(alloc, command, "words", 0, 65_535));
+    };
+    let Some(undo) = number_of(play, "undo", 0, 64) else {
+        return Err(out_of_range(alloc, command, "undo", 0, 64));
+    };
+    let Some(steps) = number_of(play, "steps", 1, 1_000_000_000) else {
+        return Err(out_of_range(alloc, command, "steps", 1, 1_000_000_000));
+    };
+    Ok(Limits {
+        frames: frames as u16,
+        words: words as u16,
+        undo: undo as u8,
+        steps: steps as u32,
+    })
+}
+
+/// Whether a flag is given.
+fn has_flag(matches: &ArgMatches<'_>, name: &str) -> bool
+    ensures { result ≡ flag_said (first_of name.now (rows_of (found_of matches.now))) }
+{
+    match matches.get_str(name) {
+        Some(word) => word == "true",
+        None => false,
+    }
+}
+
+/// The view that the options of `play` say.
+fn view_of(play: &ArgMatches<'_>) -> View
+    ensures { result ≡ view_said (rows_of (found_of play.now)) }
+{
+    if has_flag(play, "upper") {
+        View::Upper
+    } else {
+        View::Plain
+    }
+}
+
+/// The manner of a run that the options of `play` say.
+fn manner_of(
+    alloc: Global,
+    command: &mut Command<'_>,
+    play: &ArgMatches<'_>,
+) -> Result<Manner, Error>
+    ensures says { IfOk result (λ m. SaysManner (rows_of (found_of play.now)) m) }
+    ensures in_range { IfOk result (λ m. AreInRange m.limits) }
+    ensures mistake { IfErr result (λ e. 1 ≤ usage_status (kind_of e)) }
+    ensures says_none { OnErr result ((m : Manner) → SaysManner (rows_of (found_of play.now)) m → ⊥) }
+{
+    let limits = match limits_of(alloc, command, play) {
+        Ok(limits) => limits,
+        Err(error) => return Err(error),
+    };
+    let Some(seed) = number_of(play, "seed", 0, 18_446_744_073_709_551_615) else {
+        return Err(out_of_range(alloc, command, "seed", 0, 18_446_744_073_709_551_615));
+    };
+    let view = view_of(play);
+    Ok(Manner { limits, seed, view })
+}
+
+/// The path of the story.
+fn story_of<'a>(command: &mut Command<'_>, matches: &ArgMatches<'a>) -> Result<&'a str, Error>
+    ensures says { IfOk result (λ s. SaysStory (rows_of (found_of matches.now)) s.now) }
+    ensures mistake { IfErr result (λ e. 1 ≤ usage_status (kind_of e)) }
+    ensures says_none { OnErr result ((path : List ℕ) → SaysStory (rows_of (found_of matches.now)) path → ⊥) }
+{
+    let Some(story) = matches.get_str("STORY") else {
+        let text = "the story's path is missing";
+        return Err(usage_error(command, ErrorKind::MissingRequiredArgument, text));
+    };
+    Ok(story)
+}
+
+/// What the options of `play` ask for.
+fn choose_play<'a>(
+    alloc: Global,
+    command: &mut Command<'_>,
+    play: &ArgMatches<'a>,
+) -> Result<Choice<'a>, Error>
+    ensures says { IfOk result (λ c. Says (codes "play") (rows_of (found_of play.now)) c) }
+    ensures in_range { IfOk result (λ c. HasLimits c) }
+    ensures mistake { IfErr result (λ e. 1 ≤ usage_status (kind_of e)) }
+    ensures says_none { OnErr result ((c : Choice) → Says (codes "play") (rows_of (found_of play.now)) c → ⊥) }
+{
+    let story = match story_of(command, play) {
+        Ok(story) => story,
+        Err(error) => return Err(error),
+    };
+    let manner = match manner_of(alloc, command, play) {
+        Ok(manner) => manner,
+        Err(error) => return Err(error),
+    };
+    let save = play.get_str("save");
+    let script = play.get_str("script");
+    Ok(Choice::Play {
+        story,
+        save,
+        script,
+        manner,
+    })
+}
+
+/// The sections that the options of `info` ask for.
+fn sections_of(info: &ArgMatches<'_>) -> Sections
+    ensures { result ≡ sections_said (rows_of (found_of info.now)) }
+{
+    let map = has_flag(info, "map");
+    let abbreviations = has_flag(info, "abbreviations");
+    let dictionary = has_flag(info, "dictionary");
+    let objects = has_flag(info, "objects");
+    let tree = has_flag(info, "tree");
+    let others = map || abbreviations || dictionary || objects || tree;
+    Sections {
+        header: has_flag(info, "header") || !others,
+        map,
+        abbreviations,
+        dictionary,
+        objects,
+        tree,
+    }
+}
+
+/// What the words behind `info` ask for.
+fn choose_info<'a>(command: &mut Command<'_>, info: &ArgMatches<'a>) -> Result<Choice<'a>, Error>
+    ensures says { IfOk result (λ c. Says (codes "info") (rows_of (found_of info.now)) c) }
+    ensures in_range { IfOk result (λ c. HasLimits c) }
+    ensures mistake { IfErr result (λ e. 1 ≤ usage_status (kind_of e)) }
+    ensures says_none { OnErr result ((c : Choice) → Says (codes "info") (rows_of (found_of info.now)) c → ⊥) }
+{
+    match story_of(command, info) {
+        Ok(story) => {
+            let listing = Listing::Info(sections_of(info));
+            Ok(Choice::Show { story, listing })
+        }
+        Err(error) => Err(error),
+    }
+}
+
+/// What the words behind `disasm` ask for.
+fn choose_disasm<'a>(
+    command: &mut Command<'_>,
+    disasm: &ArgMatches<'a>,
+) -> Result<Choice<'a>, Error>
+    ensures says { IfOk result (λ c. Says (codes "disasm") (rows_of (found_of disasm.now)) c) }
+    ensures in_range { IfOk result (λ c. HasLimits c) }
+    ensures mistake { IfErr result (λ e. 1 ≤ usage_status (kind_of e)) }
+    ensures says_none { OnErr result ((c : Choice) → Says (codes "disasm") (rows_of (found_of disasm.now)) c → ⊥) }
+{
+    match story_of(command, disasm) {
+        Ok(story) => Ok(Choice::Show {
+            story,
+            listing: Listing::Code,
+        }),
+        Err(error) => Err(error),
+    }
+}
+
+/// What the words behind `check` ask for.
+fn choose_check<'a>(command: &mut Command<'_>, check: &ArgMatches<'a>) -> Result<Choice<'a>, Error>
+    ensures says { IfOk result (λ c. Says (codes "check") (rows_of (found_of check.now)) c) }
+    ensures in_range { IfOk result (λ c. HasLimits c) }
+    ensures mistake { IfErr result (λ e. 1 ≤ usage_status (kind_of e)) }
+    ensures says_none { OnErr result ((c : Choice) → Says (codes "check") (rows_of (found_of check.now)) c → ⊥) }
+{
+    match story_of(command, check) {
+        Ok(story) => Ok(Choice::Show {
+            story,
+            listing: Listing::Findings,
+        }),
+        Err(error) => Err(error),
+    }
+}
+
+/// What a command asks for, by its name and what clap found for it.
+fn choose_by<'a>(
+    alloc: Global,
+    command: &mut Command<'_>,
+    name: &str,
+    found: &ArgMatches<'a>,
+) -> Result<Choice<'a>, Error>
+    ensures says { IfOk result (λ c. Says name.now (rows_of (found_of found.now)) c) }
+    ensures in_range { IfOk result (λ c. HasLimits c) }
+    ensures mistake { IfErr result (λ e. 1 ≤ usage_status (kind_of e)) }
+    ensures says_none { OnErr result ((c : Choice) → Says name.now (rows_of (found_of found.now)) c → ⊥) }
+{
+    if name == "play" {
+        choose_play(alloc, command, found)
+    } else if name == "info" {
+        choose_info(command, found)
+    } else if name == "disasm" {
+        choose_disasm(command, found)
+    } else if name == "check" {
+        choose_check(command, found)
+    } else {
+        let text = "the commands are 'play', 'info', 'disasm' and 'check'";
+        Err(usage_error(command, ErrorKind::InvalidSubcommand, text))
+    }
+}
+
+/// What the words ask for, the first of which is the program's name.
+pub fn choose<'a>(alloc: Global, words: &'a [&'a str]) -> Result<Choice<'a>, Error>
+    ensures asks { IfOk result (λ c. Asks (map (λ s. s.now) words.entry.now) c) }
+    ensures in_range { IfOk result (λ c. HasLimits c) }
+    ensures refused { IfErr result (λ e. IsRefusedWith (map (λ s. s.now) words.entry.now) e) }
+{
+    let mut command = command_line_of(alloc)?;
+    let matches = command.try_get_matches_from_mut(words)?;
+    let Some((name, found)) = matches.subcommand() else {
+        let text = "a command is missing";
+        return Err(usage_error(&mut command, ErrorKind::MissingSubcommand, text));
+    };
+    match choose_by(alloc, &mut command, name, found) {
+        Ok(choice) => Ok(choice),
+        Err(error) => Err(error),
+    }
+}
+
+/// The program's status after an error of the command line: 0 for help and the version, 5 for want of memory, and
+/// else 1.
+pub fn usage_status_of(error: &Error) -> u8
+    ensures { result ≡ usage_status (kind_of error.now) }
+{
+    match error.kind() {
+        ErrorKind::DisplayHelp | ErrorKind::DisplayVersion => 0,
+        ErrorKind::OutOfMemory => 5,
+        _ => 1,
+    }
+}

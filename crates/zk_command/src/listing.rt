@@ -1,0 +1,267 @@
+// Listings of a story, from the bytes of its file to the screen.
+
+ghost use Rattle.std.specs.Prelude.{◌≡◌, false, IfOk};
+ghost use Rattle.zk_mem.specs.Fresh.{fresh};
+ghost use Rattle.zk_mem.specs.Map.{MemoryMap};
+ghost use Rattle.zk_command.specs.Listing.{EndsListing, EndsListingFrom, IsListed, IsListedFrom, Tells};
+ghost use Rattle.zk_command.specs.declared.listing.Listing.{Listing};
+ghost use Rattle.zk_command.specs.declared.listing.Listing.TheVariants as listing;
+
+use crate::ending::Ending;
+use crate::gathered::Gathered;
+use crate::playing::read_story;
+use crate::report::report_listing;
+use std::alloc::Global;
+use std::io::Read;
+use zk_inspect::checking::check;
+use zk_inspect::disassembly::disassemble;
+use zk_inspect::error::ListError;
+use zk_inspect::finding_lines::write_findings;
+use zk_inspect::listings::{abbreviations, dictionary, header, map, objects, tree};
+use zk_inspect::reach::reach;
+use zk_mem::memory::{Memory, Setup};
+use zk_mem::story::Story;
+use zk_term::target::{Failed, Target, write_all};
+use zk_vm::stop::Stop;
+
+/// How many states to go back to the header's fields speak of where a story is listed: what `play` has without `--undo`.
+const UNDO_STATES: u8 = 16;
+
+/// A section of `info`.
+#[derive(Clone, Copy, Debug, PartialEq, Eq, Drop)]
+pub enum Section {
+    Header,
+    Map,
+    Abbreviations,
+    Dictionary,
+    Objects,
+    Tree,
+}
+
+/// The sections in the order in which they are shown.
+const SECTIONS: [Section; 6] = [
+    Section::Header,
+    Section::Map,
+    Section::Abbreviations,
+    Section::Dictionary,
+    Section::Objects,
+    Section::Tree,
+];
+
+/// Which sections are shown.
+#[derive(Clone, Copy, Debug, PartialEq, Eq, Drop)]
+pub struct Sections {
+    pub header: bool,
+    pub map: bool,
+    pub abbreviations: bool,
+    pub dictionary: bool,
+    pub objects: bool,
+    pub tree: bool,
+}
+
+impl Sections {
+    /// Whether a section is shown.
+    fn has(self, section: Section) -> bool {
+        match section {
+            Section::Header => self.header,
+            Section::Map => self.map,
+            Section::Abbreviations => self.abbreviations,
+            Section::Dictionary => self.dictionary,
+            Section::Objects => self.objects,
+            Section::Tree => self.tree,
+        }
+    }
+}
+
+/// What is listed of a story.
+#[derive(Clone, Copy, Debug, PartialEq, Eq, Drop)]
+pub enum Listing {
+    /// Sections on its tables.
+    Info(Sections),
+    /// Its disassembly.
+    Code,
+    /// What is wrong with it.
+    Findings,
+}
+
+/// The line that begins a section.
+fn title(section: Section) -> &'static [u8] {
+    match section {
+        Section::Header => b"[header]\n",
+        Section::Map => b"[map]\n",
+        Section::Abbreviations => b"[abbreviations]\n",
+        Section::Dictionary => b"[dictionary]\n",
+        Section::Objects => b"[objects]\n",
+        Section::Tree => b"[tree]\n",
+    }
+}
+
+/// Writes a section.
+fn list_section<T: Target>(
+    alloc: Global,
+    memory: &Memory,
+    section: Section,
+    target: &mut T,
+) -> Result<(), ListError> {
+    let Ok(()) = write_all(target, title(section)) else {
+        return Err(ListError::Write);
+    };
+    match section {
+        Section::Header => header(memory, target),
+        Section::Map => map(memory, target),
+        Section::Abbreviations => abbreviations(memory, target),
+        Section::Dictionary => dictionary(memory, target),
+        Section::Objects => objects(memory, target),
+        Section::Tree => tree(alloc, memory, target),
+    }
+}
+
+/// Writes the sections that are shown.
+fn list_sections<T: Target>(
+    alloc: Global,
+    memory: &Memory,
+    sections: Sections,
+    target: &mut T,
+) -> Result<(), ListError> {
+    for section in SECTIONS {
+        if sections.has(section) {
+            list_section(alloc, memory, section, target)?;
+        }
+    }
+    Ok(())
+}
+
+/// Writes a disassembly.
+fn list_code<T: Target>(alloc: Global, memory: &Memory, target: &mut T) -> Result<(), ListError> {
+    let Ok(code) = reach(alloc, memory) else {
+        return Err(ListError::Memory);
+    };
+    disassemble(memory, &code, target)
+}
+
+/// Writes what is wrong with a story, and tells whether something is.
+fn list_findings<T: Target>(
+    alloc: Global,
+    memory: &Memory,
+    target: &mut T,
+) -> Result<bool, ListError>
+    ensures { IfOk result (λ found. Tells listing.Findings memory.now found) }
+{
+    let Ok(findings) = check(alloc, memory) else {
+        return Err(ListError::Memory);
+    };
+    match write_findings(findings.as_slice(), target) {
+        Ok(()) => Ok(!findings.is_empty()),
+        Err(error) => Err(error),
+    }
+}
+
+/// Writes a listing, and tells whether it says that something is wrong.
+fn list<T: Target>(
+    alloc: Global,
+    memory: &Memory,
+    listing: Listing,
+    target: &mut T,
+) -> Result<bool, ListError>
+    ensures { IfOk result (λ found. Tells listing memory.now found) }
+{
+    match listing {
+        Listing::Info(sections) => {
+            list_sections(alloc, memory, sections, target)?;
+            Ok(false)
+        }
+        Listing::Code => {
+            list_code(alloc, memory, target)?;
+            Ok(false)
+        }
+        Listing::Findings => list_findings(alloc, memory, target),
+    }
+}
+
+/// How a listing ends.
+fn ending_after(listed: Result<bool, ListError>) -> Ending
+    ensures { (listing : Listing) (m : MemoryMap) → IfOk listed (λ found. Tells listing m found) → IsListed listing m result }
+{
+    match listed {
+        Ok(true) => Ending::Found,
+        Ok(false) => Ending::Stopped(Stop::Quit),
+        Err(ListError::Memory) => Ending::Stopped(Stop::Memory),
+        Err(ListError::Write) => Ending::Stopped(Stop::Write),
+    }
+}
+
+/// Writes a listing to the screen, some of it at a time, and tells how that ends. Once a write has failed nothing more is
+/// written.
+fn list_memory<S: Target>(
+    alloc: Global,
+    memory: &Memory,
+    listing: Listing,
+    screen: &mut S,
+) -> Ending
+    ensures { IsListed listing memory.now result }
+{
+    let mut gathered = Gathered::new(screen);
+    let listed = list(alloc, memory, listing, &mut gathered);
+    match gathered.finish() {
+        Ok(()) => ending_after(listed),
+        Err(Failed) => Ending::Stopped(Stop::Write),
+    }
+}
+
+/// Lists a story.
+fn list_story<S: Target>(alloc: Global, story: Story, listing: Listing, screen: &mut S) -> Ending
+    ensures { IsListed listing (fresh story 16) result }
+{
+    let setup = Setup {
+        undo_states: UNDO_STATES,
+    };
+    match Memory::start(alloc, story, setup) {
+        Ok(memory) => list_memory(alloc, &memory, listing, screen),
+        Err(_) => Ending::Stopped(Stop::Memory),
+    }
+}
+
+/// Lists the bytes of a file, if they are a story.
+pub fn list_bytes<S: Target>(
+    alloc: Global,
+    bytes: &[u8],
+    listing: Listing,
+    screen: &mut S,
+) -> Ending
+    ensures { EndsListing listing bytes.now result }
+{
+    match Story::open(alloc, bytes) {
+        Err(error) => Ending::Refused(error),
+        Ok(story) => list_story(alloc, story, listing, screen),
+    }
+}
+
+/// Lists the story that a reader gives.
+pub fn list_from<R: Read + Drop, S: Target>(
+    alloc: Global,
+    reader: R,
+    listing: Listing,
+    screen: &mut S,
+) -> Ending
+    ensures { EndsListingFrom listing (R.remaining reader) result }
+{
+    match read_story(alloc, reader) {
+        Err(error) => Ending::Unread(error),
+        Ok(bytes) => list_bytes(alloc, bytes.as_slice(), listing, screen),
+    }
+}
+
+/// Lists the story that a reader gives, reports how that ends, and answers the program's status.
+pub fn list_and_report<R: Read + Drop, S: Target, E: Target>(
+    alloc: Global,
+    reader: R,
+    listing: Listing,
+    screen: &mut S,
+    errors: &mut E,
+) -> u8
+    requires { E.failed errors.old ≡ false }
+    ensures { IsListedFrom listing (R.remaining reader) (record { taken = E.taken errors.old; failed = E.failed errors.old }) (record { taken = E.taken errors.new; failed = E.failed errors.new }) result }
+{
+    let ending = list_from(alloc, reader, listing, screen);
+    report_listing(alloc, &ending, errors)
+}

@@ -1,0 +1,143 @@
+// A story, from the bytes of its file to the screen.
+
+ghost use Rattle.std.specs.Prelude.{◌≡◌, false, IfOk, IfSome, None};
+ghost use Rattle.zk_vm.specs.Bounds.{AreInRange};
+ghost use Rattle.zk_vm.specs.Plays.{IsPlayed};
+ghost use Rattle.zk_command.specs.Playing.{EndsBy, EndsFrom, IsPlayedBy, IsPlayedFrom, IsRun, bytes_read};
+
+use crate::ending::Ending;
+use crate::manner::Manner;
+use crate::report::report;
+use std::alloc::Global;
+use std::io::{self, Read};
+use zk_mem::story::Story;
+use zk_term::source::Source;
+use zk_term::target::{Failed, Target};
+use zk_vm::machine::Machine;
+use zk_vm::play::play;
+use zk_vm::slot::SaveSlot;
+use zk_vm::stop::Stop;
+
+/// One byte past the greatest length of a story: a longer file is too long by what is read of it.
+const MOST_BYTES: u64 = 524_289;
+
+/// The bytes of a story's file, as many as a story may have and one more.
+pub fn read_story<R: Read + Drop>(alloc: Global, reader: R) -> io::Result<Vec<u8>>
+    ensures { IfOk result (λ v. IfSome (R.remaining reader) (λ file. v.items ≡ bytes_read file)) }
+{
+    // room for the longest, of which as much is used as there are bytes
+    let mut bytes = Vec::with_capacity(alloc, MOST_BYTES as usize)?;
+    reader.take(MOST_BYTES).read_to_end(&mut bytes)?;
+    Ok(bytes)
+}
+
+/// Plays a machine up to its stop. First the script is given no bytes, so that a file is made of it before the run.
+fn play_machine<I: Source, S: Target, T: Target, K: SaveSlot>(
+    alloc: Global,
+    machine: &mut Machine,
+    input: &mut I,
+    screen: &mut S,
+    script: &mut T,
+    slot: &mut K,
+) -> Stop
+    requires free { machine.old.waiting ≡ None }
+    requires input_works { I.failed input.old ≡ false }
+    requires works { S.failed screen.old ≡ false }
+    requires script_works { T.failed script.old ≡ false }
+    ensures { IsPlayedBy (IsPlayed K.held K.keeps slot.old slot.new) (record { typed = I.left input.old; unread = I.failed input.new }) machine.old (record { screen = record { taken = S.taken screen.old; failed = S.failed screen.old }; script = record { taken = T.taken script.old; failed = T.failed script.old } }) (record { screen = record { taken = S.taken screen.new; failed = S.failed screen.new }; script = record { taken = T.taken script.new; failed = T.failed script.new } }) result }
+{
+    match script.write(&[]) {
+        Err(Failed) => Stop::Write,
+        Ok(_) => play(alloc, input, screen, script, slot, machine),
+    }
+}
+
+/// Plays a story up to its stop.
+fn play_story<I: Source, S: Target, T: Target, K: SaveSlot>(
+    alloc: Global,
+    story: Story,
+    manner: Manner,
+    input: &mut I,
+    screen: &mut S,
+    script: &mut T,
+    slot: &mut K,
+) -> Stop
+    requires in_range { AreInRange manner.limits }
+    requires input_works { I.failed input.old ≡ false }
+    requires works { S.failed screen.old ≡ false }
+    requires script_works { T.failed script.old ≡ false }
+    ensures { IsRun (IsPlayed K.held K.keeps slot.old slot.new) (record { typed = I.left input.old; unread = I.failed input.new }) story manner (record { screen = record { taken = S.taken screen.old; failed = S.failed screen.old }; script = record { taken = T.taken script.old; failed = T.failed script.old } }) (record { screen = record { taken = S.taken screen.new; failed = S.failed screen.new }; script = record { taken = T.taken script.new; failed = T.failed script.new } }) result }
+{
+    match Machine::start(alloc, story, manner.seed, manner.limits, manner.view) {
+        Err(_) => Stop::Memory,
+        Ok(mut machine) => play_machine(alloc, &mut machine, input, screen, script, slot),
+    }
+}
+
+/// Plays the bytes of a file, if they are a story.
+pub fn play_bytes<I: Source, S: Target, T: Target, K: SaveSlot>(
+    alloc: Global,
+    bytes: &[u8],
+    manner: Manner,
+    input: &mut I,
+    screen: &mut S,
+    script: &mut T,
+    slot: &mut K,
+) -> Ending
+    requires in_range { AreInRange manner.limits }
+    requires input_works { I.failed input.old ≡ false }
+    requires works { S.failed screen.old ≡ false }
+    requires script_works { T.failed script.old ≡ false }
+    ensures { EndsBy (IsPlayed K.held K.keeps slot.old slot.new) (record { typed = I.left input.old; unread = I.failed input.new }) bytes.now manner (record { screen = record { taken = S.taken screen.old; failed = S.failed screen.old }; script = record { taken = T.taken script.old; failed = T.failed script.old } }) (record { screen = record { taken = S.taken screen.new; failed = S.failed screen.new }; script = record { taken = T.taken script.new; failed = T.failed script.new } }) result }
+{
+    match Story::open(alloc, bytes) {
+        Err(error) => Ending::Refused(error),
+        Ok(story) => Ending::Stopped(play_story(alloc, story, manner, input, screen, script, slot)),
+    }
+}
+
+/// Plays the story that a reader gives.
+pub fn play_from<R: Read + Drop, I: Source, S: Target, T: Target, K: SaveSlot>(
+    alloc: Global,
+    reader: R,
+    manner: Manner,
+    input: &mut I,
+    screen: &mut S,
+    script: &mut T,
+    slot: &mut K,
+) -> Ending
+    requires in_range { AreInRange manner.limits }
+    requires input_works { I.failed input.old ≡ false }
+    requires works { S.failed screen.old ≡ false }
+    requires script_works { T.failed script.old ≡ false }
+    ensures { EndsFrom (IsPlayed K.held K.keeps slot.old slot.new) (record { typed = I.left input.old; unread = I.failed input.new }) (R.remaining reader) manner (record { screen = record { taken = S.taken screen.old; failed = S.failed screen.old }; script = record { taken = T.taken script.old; failed = T.failed script.old } }) (record { screen = record { taken = S.taken screen.new; failed = S.failed screen.new }; script = record { taken = T.taken script.new; failed = T.failed script.new } }) result }
+{
+    match read_story(alloc, reader) {
+        Err(error) => Ending::Unread(error),
+        Ok(bytes) => play_bytes(alloc, bytes.as_slice(), manner, input, screen, script, slot),
+    }
+}
+
+/// Plays the story that a reader gives: the lines of `input` answer its reads, and the slot keeps its saved game. It
+/// reports how that ends, and answers the program's status.
+pub fn play_and_report<R: Read + Drop, I: Source, S: Target, T: Target, K: SaveSlot, E: Target>(
+    alloc: Global,
+    reader: R,
+    manner: Manner,
+    input: &mut I,
+    screen: &mut S,
+    script: &mut T,
+    slot: &mut K,
+    errors: &mut E,
+) -> u8
+    requires in_range { AreInRange manner.limits }
+    requires input_works { I.failed input.old ≡ false }
+    requires works { S.failed screen.old ≡ false }
+    requires script_works { T.failed script.old ≡ false }
+    requires errors_work { E.failed errors.old ≡ false }
+    ensures { IsPlayedFrom (IsPlayed K.held K.keeps slot.old slot.new) (record { typed = I.left input.old; unread = I.failed input.new }) (R.remaining reader) manner (record { screen = record { taken = S.taken screen.old; failed = S.failed screen.old }; script = record { taken = T.taken script.old; failed = T.failed script.old } }) (record { screen = record { taken = S.taken screen.new; failed = S.failed screen.new }; script = record { taken = T.taken script.new; failed = T.failed script.new } })
+        (record { taken = E.taken errors.old; failed = E.failed errors.old }) (record { taken = E.taken errors.new; failed = E.failed errors.new }) result }
+{
+    let ending = play_from(alloc, reader, manner, input, screen, script, slot);
+    report(alloc, &ending, &manner.limits, errors)
+}

@@ -1,0 +1,263 @@
+// The last lines and the status of a play.
+
+ghost use Rattle.std.specs.Prelude.{◌≡◌, ◌<◌, false, is_err, map, [], IfOk, OnSome};
+ghost use Rattle.std.specs.List.{concat};
+ghost use Rattle.zk_term.specs.Devices.{Took};
+ghost use Rattle.zk_command.specs.LastLine.{IsExplained, TookExplained, cause_at, hex_digit, hex_digits, last_line, line, refused_line, stop_line, unread_line, zeros_left_out};
+ghost use Rattle.zk_command.specs.Status.{ending_status};
+
+use crate::ending::Ending;
+use itoa::Buffer;
+use std::alloc::{AllocError, Global};
+use std::io::ErrorKind;
+use zk_mem::story::OpenError;
+use zk_state::refusal::Limit;
+use zk_term::target::{Failed, Target, write_all};
+use zk_vm::limits::Limits;
+use zk_vm::stop::Stop;
+
+/// Writes texts one after another, up to a write that fails.
+fn write_texts<E: Target>(errors: &mut E, texts: &[&[u8]]) -> Result<(), Failed>
+    requires { E.failed errors.old ≡ false }
+    ensures text { Took (record { taken = E.taken errors.old; failed = E.failed errors.old }) (record { taken = E.taken errors.new; failed = E.failed errors.new }) (concat (map (λ t. t.now) texts.now)) }
+    ensures failed { E.failed errors.new ≡ is_err result }
+{
+    let [first, rest @ ..] = texts else {
+        return Ok(());
+    };
+    match write_all(errors, first) {
+        Ok(()) => write_texts(errors, rest),
+        Err(Failed) => Err(Failed),
+    }
+}
+
+/// The hexadecimal digit of a number below 16.
+fn hex_digit_of(n: u32) -> u8
+    requires { n < 16 }
+    ensures { result ≡ hex_digit n }
+{
+    if n < 10 {
+        b'0' + n as u8
+    } else {
+        b'a' + (n as u8 - 10)
+    }
+}
+
+/// The hexadecimal digits of a number.
+fn hex_digits_of(n: u32) -> [u8; 8]
+    ensures { result ≡ hex_digits n }
+{
+    [
+        hex_digit_of(n / 0x1000_0000 % 16),
+        hex_digit_of(n / 0x100_0000 % 16),
+        hex_digit_of(n / 0x10_0000 % 16),
+        hex_digit_of(n / 0x1_0000 % 16),
+        hex_digit_of(n / 0x1000 % 16),
+        hex_digit_of(n / 0x100 % 16),
+        hex_digit_of(n / 0x10 % 16),
+        hex_digit_of(n % 16),
+    ]
+}
+
+/// How many zeros are left out of an address.
+fn zeros_before(a: u32) -> usize
+    ensures { result ≡ zeros_left_out a }
+{
+    if a < 0x10_0000 {
+        3
+    } else if a < 0x100_0000 {
+        2
+    } else if a < 0x1000_0000 {
+        1
+    } else {
+        0
+    }
+}
+
+/// Writes a numbered cause at an address.
+fn write_cause<E: Target>(errors: &mut E, cause: &[u8], number: u8, a: u32) -> Result<(), Failed>
+    requires { E.failed errors.old ≡ false }
+    ensures { Took (record { taken = E.taken errors.old; failed = E.failed errors.old }) (record { taken = E.taken errors.new; failed = E.failed errors.new }) (line (cause_at cause.now number a)) }
+{
+    let mut decimal = Buffer::new();
+    let digits = hex_digits_of(a);
+    let number = decimal.format(number).as_bytes();
+    let address = &digits[zeros_before(a)..];
+    write_texts(errors, &[b"zkit: ", cause, number, b" at ", address, b"\n"])
+}
+
+/// Writes a line of the program.
+fn write_line<E: Target>(errors: &mut E, text: &[u8]) -> Result<(), Failed>
+    requires { E.failed errors.old ≡ false }
+    ensures text { Took (record { taken = E.taken errors.old; failed = E.failed errors.old }) (record { taken = E.taken errors.new; failed = E.failed errors.new }) (line text.now) }
+    ensures failed { E.failed errors.new ≡ is_err result }
+{
+    write_texts(errors, &[b"zkit: ", text, b"\n"])
+}
+
+fn write_stop<E: Target>(errors: &mut E, stop: &Stop) -> Result<(), Failed>
+    requires { E.failed errors.old ≡ false }
+    ensures { Took (record { taken = E.taken errors.old; failed = E.failed errors.old }) (record { taken = E.taken errors.new; failed = E.failed errors.new }) (stop_line stop.now) }
+{
+    match stop {
+        Stop::Quit | Stop::EndOfInput => Ok(()),
+        Stop::Fault(a, fault) => write_cause(errors, b"fault ", fault.number(), *a),
+        Stop::Limit(a, limit) => write_cause(errors, b"limit ", limit.number(), *a),
+        Stop::Read => write_line(errors, b"read failed"),
+        Stop::Write => write_line(errors, b"write failed"),
+        Stop::Memory => write_line(errors, b"out of memory"),
+    }
+}
+
+fn write_refusal<E: Target>(errors: &mut E, error: &OpenError) -> Result<(), Failed>
+    requires { E.failed errors.old ≡ false }
+    ensures { Took (record { taken = E.taken errors.old; failed = E.failed errors.old }) (record { taken = E.taken errors.new; failed = E.failed errors.new }) (refused_line error.now) }
+{
+    match error {
+        OpenError::OutOfMemory => write_line(errors, b"out of memory"),
+        _ => {
+            let mut decimal = Buffer::new();
+            let number = decimal.format(error.number()).as_bytes();
+            write_texts(errors, &[b"zkit: ", b"refused ", number, b"\n"])
+        }
+    }
+}
+
+fn write_unread<E: Target>(errors: &mut E, kind: ErrorKind) -> Result<(), Failed>
+    requires { E.failed errors.old ≡ false }
+    ensures { Took (record { taken = E.taken errors.old; failed = E.failed errors.old }) (record { taken = E.taken errors.new; failed = E.failed errors.new }) (unread_line kind) }
+{
+    match kind {
+        ErrorKind::OutOfMemory => write_line(errors, b"out of memory"),
+        _ => write_line(errors, b"read failed"),
+    }
+}
+
+/// Writes the last line.
+fn write_last<E: Target>(errors: &mut E, ending: &Ending) -> Result<(), Failed>
+    requires { E.failed errors.old ≡ false }
+    ensures { Took (record { taken = E.taken errors.old; failed = E.failed errors.old }) (record { taken = E.taken errors.new; failed = E.failed errors.new }) (last_line ending.now) }
+{
+    match ending {
+        Ending::Unread(error) => write_unread(errors, error.kind()),
+        Ending::Refused(error) => write_refusal(errors, error),
+        Ending::Stopped(stop) => write_stop(errors, stop),
+        Ending::Found => Ok(()),
+    }
+}
+
+/// What has happened, in words.
+fn words_on_limit(alloc: Global, limit: Limit, limits: &Limits) -> Result<String, AllocError> {
+    let Limits {
+        frames,
+        words,
+        undo: _,
+        steps,
+    } = *limits;
+    match limit {
+        Limit::Frames => {
+            format!(in alloc; "the story went past {frames} frames; --frames sets the limit")
+        }
+        Limit::Words => {
+            format!(in alloc;
+                "the story went past {words} words in its frames; --words sets the limit"
+            )
+        }
+        Limit::Steps => format!(in alloc;
+            "the story went past {steps} instructions without reading; --steps sets the limit"
+        ),
+        Limit::Reads => format!(in alloc; "{limit}"),
+    }
+}
+
+/// What has happened, in words, where the last line does not say it in words.
+fn words_on(alloc: Global, ending: &Ending, limits: &Limits) -> Result<Option<String>, AllocError>
+    ensures { IfOk result (λ o. OnSome o (IsExplained ending.now)) }
+{
+    match ending {
+        Ending::Unread(error) if error.kind() == ErrorKind::OutOfMemory => Ok(None),
+        Ending::Refused(OpenError::OutOfMemory) => Ok(None),
+        Ending::Unread(error) => Ok(Some(format!(in alloc; "{error}")?)),
+        Ending::Refused(error) => Ok(Some(format!(in alloc; "{error}")?)),
+        Ending::Stopped(Stop::Fault(_, fault)) => Ok(Some(format!(in alloc; "{fault}")?)),
+        Ending::Stopped(Stop::Limit(_, limit)) => Ok(Some(words_on_limit(alloc, *limit, limits)?)),
+        _ => Ok(None),
+    }
+}
+
+/// Writes what has happened, in words, where there is memory for them.
+fn write_words<E: Target>(
+    alloc: Global,
+    ending: &Ending,
+    limits: &Limits,
+    errors: &mut E,
+) -> Result<(), Failed>
+    requires { E.failed errors.old ≡ false }
+    ensures text { TookExplained ending.now [] (record { taken = E.taken errors.old; failed = E.failed errors.old }) (record { taken = E.taken errors.new; failed = E.failed errors.new }) }
+    ensures failed { E.failed errors.new ≡ is_err result }
+{
+    match words_on(alloc, ending, limits) {
+        Ok(Some(words)) => write_line(errors, words.as_bytes()),
+        _ => Ok(()),
+    }
+}
+
+/// The status of the program.
+fn status(ending: &Ending) -> u8
+    ensures { result ≡ ending_status ending.now }
+{
+    match ending {
+        Ending::Unread(error) => match error.kind() {
+            ErrorKind::OutOfMemory => 5,
+            _ => 4,
+        },
+        Ending::Refused(OpenError::OutOfMemory) => 5,
+        Ending::Refused(_) => 1,
+        Ending::Stopped(Stop::Quit | Stop::EndOfInput) => 0,
+        Ending::Stopped(Stop::Fault(_, _)) => 2,
+        Ending::Stopped(Stop::Limit(_, _)) => 3,
+        Ending::Stopped(Stop::Read | Stop::Write) => 4,
+        Ending::Stopped(Stop::Memory) => 5,
+        Ending::Found => 6,
+    }
+}
+
+/// Writes the last line alone, and answers the program's status.
+pub fn report_briefly<E: Target>(ending: &Ending, errors: &mut E) -> u8
+    requires { E.failed errors.old ≡ false }
+    ensures status { result ≡ ending_status ending.now }
+    ensures line { Took (record { taken = E.taken errors.old; failed = E.failed errors.old }) (record { taken = E.taken errors.new; failed = E.failed errors.new }) (last_line ending.now) }
+{
+    let _ = write_last(errors, ending);
+    status(ending)
+}
+
+/// Writes why a play has ended, unless the story or its input has, and answers the program's status: 0 for an end,
+/// 1 for a file that is no story, 2 for a fault, 3 for a limit, 4 for a read or a write that failed, 5 for want of
+/// memory, 6 for something that a check has found. Before the last line it writes what has happened in words.
+pub fn report<E: Target>(alloc: Global, ending: &Ending, limits: &Limits, errors: &mut E) -> u8
+    requires { E.failed errors.old ≡ false }
+    ensures status { result ≡ ending_status ending.now }
+    ensures lines { TookExplained ending.now (last_line ending.now) (record { taken = E.taken errors.old; failed = E.failed errors.old }) (record { taken = E.taken errors.new; failed = E.failed errors.new }) }
+{
+    match write_words(alloc, ending, limits, errors) {
+        Ok(()) => report_briefly(ending, errors),
+        Err(Failed) => status(ending),
+    }
+}
+
+/// Writes why a listing has ended, unless it was written to its end, and answers the program's status, as `report` does.
+pub fn report_listing<E: Target>(alloc: Global, ending: &Ending, errors: &mut E) -> u8
+    requires { E.failed errors.old ≡ false }
+    ensures status { result ≡ ending_status ending.now }
+    ensures lines { TookExplained ending.now (last_line ending.now) (record { taken = E.taken errors.old; failed = E.failed errors.old }) (record { taken = E.taken errors.new; failed = E.failed errors.new }) }
+{
+    // a listing meets no limits
+    let none = Limits {
+        frames: 1,
+        words: 0,
+        undo: 0,
+        steps: 1,
+    };
+    report(alloc, ending, &none, errors)
+}

@@ -1,0 +1,18 @@
+// Comparisons as calls, since what it takes to prove a test grows with the square of the asserts that stand in it.
+
+ghost use Rattle.std.specs.Prelude.{◌≡◌, true};
+
+use std::fmt::Debug;
+use std::process::Abort;
+
+/// Ends the test run where a value is not the one that is wanted.
+pub fn same<T: PartialEq + Debug + Drop>(rt: &impl Abort, told: T, wanted: T) {
+    assert_eq!(*rt; told, wanted);
+}
+
+/// Ends the test run where a condition does not hold.
+pub fn demand(rt: &impl Abort, holds: bool)
+    ensures { holds ≡ true }
+{
+    assert!(*rt; holds);
+}
