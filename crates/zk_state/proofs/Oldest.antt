@@ -4,7 +4,8 @@ use Rattle.std.proofs.Common.{◌≡◌, ℕ, ◌+◌, ◌≤◌, List, [], ◌�
 use Rattle.std.proofs.lemmas.List.{reverse-append}
 use Rattle.zk_state.specs.declared.records.FrameRecord.{FrameRecord}
 use Rattle.zk_state.specs.Frames.{Frame, first_frame, oldest_of, sizes_of, BeginsFirst}
-use Rattle.zk_state.specs.Flat.{frame_of, frames_in, list_of, Chain, oldest_record, first_record}
+use Rattle.zk_state.specs.Flat.{frame_of, frames_in, list_of, Chain, oldest_record}
+use Rattle.zk_state.specs.Records.{first_record}
 use Rattle.zk_state.proofs.Calls.{depth_is, total_is}
 
 pub first_push : (callers : List FrameRecord) (new current : FrameRecord) → oldest_record current (reverse callers) ≡ first_record → oldest_record new (reverse (callers ++ current ∷ [])) ≡ first_record

@@ -105,44 +105,44 @@ module _ (current caller : FrameRecord) (callers : List FrameRecord) (xs : List 
       fails x NoSuchLocal (rw (e, none, local) (set_local_past caller callers rest f m under.0 floor v x lt))
 
 -- the same of frames as they are kept, whose last caller is this
-module _ (s : Inside) (i : IsKept s) (caller : FrameRecord) (n : ℕ) (count : n ≡ length s.callers.items) (some : 0 < n) (is : caller ≡ get_or s.callers.items (n - 1) caller) where
-  cut : s.callers.items ≡ take (n - 1) s.callers.items ++ caller ∷ []
-  cut = last_cut s.callers.items n caller count some is
+module _ (s : Inside) (i : IsKept s) (caller : FrameRecord) (n : ℕ) (count : n ≡ length s.records.callers) (some : 0 < n) (is : caller ≡ get_or s.records.callers (n - 1) caller) where
+  cut : s.records.callers ≡ take (n - 1) s.records.callers ++ caller ∷ []
+  cut = last_cut s.records.callers n caller count some is
 
-  room : s.current.base ≤ length (take s.top s.words.items)
+  room : s.records.current.base ≤ length (take s.top s.words.items)
   room = omega (arith, length-take-le s.top s.words.items (omega (arith, i.size, i.top)), i.base, i.floor)
 
-  chain : Chain (reverse (take (n - 1) s.callers.items ++ caller ∷ [])) s.current.base
+  chain : Chain (reverse (take (n - 1) s.records.callers ++ caller ∷ [])) s.records.current.base
   chain = rw cut at i.below
 
-  many : length (take (n - 1) s.callers.items) + 2 ≤ s.most_frames
-  many = omega (arith, length-take-le (n - 1) s.callers.items (omega arith), i.frames)
+  many : length (take (n - 1) s.records.callers) + 2 ≤ s.most_frames
+  many = omega (arith, length-take-le (n - 1) s.records.callers (omega arith), i.frames)
 
-  bound : s.current.base ≤ s.most_words
+  bound : s.records.current.base ≤ s.most_words
   bound = omega (arith, i.base, i.floor, i.top)
 
   pub kept_base : caller.base ≤ 65535
-  kept_base = let h = chain_pop (take (n - 1) s.callers.items) caller s.current.base chain in omega (arith, h.0, h.1, bound, i.few_words)
+  kept_base = let h = chain_pop (take (n - 1) s.records.callers) caller s.records.current.base chain in omega (arith, h.0, h.1, bound, i.few_words)
 
-  pub kept_none : (x : ℕ) → s.current.result ≡ None → GivesBack (seen s) x None
-  kept_none x e = rw cut (back_none s.current caller (take (n - 1) s.callers.items) (take s.top s.words.items) s.most_frames s.most_words room chain many bound x e)
+  pub kept_none : (x : ℕ) → s.records.current.result ≡ None → GivesBack (seen s) x None
+  kept_none x e = rw cut (back_none s.records.current caller (take (n - 1) s.records.callers) (take s.top s.words.items) s.most_frames s.most_words room chain many bound x e)
 
-  pub kept_global : (x : ℕ) (v : ℕ) → s.current.result ≡ Some v → 16 ≤ v → GivesBack (seen s) x (Some v)
-  kept_global x v e h = rw cut (back_global s.current caller (take (n - 1) s.callers.items) (take s.top s.words.items) s.most_frames s.most_words room chain many bound x v e h)
+  pub kept_global : (x : ℕ) (v : ℕ) → s.records.current.result ≡ Some v → 16 ≤ v → GivesBack (seen s) x (Some v)
+  kept_global x v e h = rw cut (back_global s.records.current caller (take (n - 1) s.records.callers) (take s.top s.words.items) s.most_frames s.most_words room chain many bound x v e h)
 
-  pub kept_word : (x : ℕ) (v : ℕ) → s.current.result ≡ Some v → v ≡ 0 → s.current.base < s.most_words → GivesBack (seen s) x (Some v)
-  kept_word x v e h k = rw cut (back_word s.current caller (take (n - 1) s.callers.items) (take s.top s.words.items) s.most_frames s.most_words room chain many bound x v e h k)
+  pub kept_word : (x : ℕ) (v : ℕ) → s.records.current.result ≡ Some v → v ≡ 0 → s.records.current.base < s.most_words → GivesBack (seen s) x (Some v)
+  kept_word x v e h k = rw cut (back_word s.records.current caller (take (n - 1) s.records.callers) (take s.top s.words.items) s.most_frames s.most_words room chain many bound x v e h k)
 
-  pub kept_full : (x : ℕ) (v : ℕ) → s.current.result ≡ Some v → v ≡ 0 → s.most_words ≤ s.current.base → RefusesBack (seen s) x (refusal.Limit Words)
-  kept_full x v e h k = rw cut (back_full s.current caller (take (n - 1) s.callers.items) (take s.top s.words.items) s.most_frames s.most_words room chain many bound x v e h k)
+  pub kept_full : (x : ℕ) (v : ℕ) → s.records.current.result ≡ Some v → v ≡ 0 → s.most_words ≤ s.records.current.base → RefusesBack (seen s) x (refusal.Limit Words)
+  kept_full x v e h k = rw cut (back_full s.records.current caller (take (n - 1) s.records.callers) (take s.top s.words.items) s.most_frames s.most_words room chain many bound x v e h k)
 
-  pub kept_local : (x : ℕ) (v : ℕ) → s.current.result ≡ Some v → 0 < v → v < 16 → caller.base + v ≤ caller.floor → GivesBack (seen s) x (Some v)
-  kept_local x v e h k l = rw cut (back_local s.current caller (take (n - 1) s.callers.items) (take s.top s.words.items) s.most_frames s.most_words room chain many bound x v e h k l)
+  pub kept_local : (x : ℕ) (v : ℕ) → s.records.current.result ≡ Some v → 0 < v → v < 16 → caller.base + v ≤ caller.floor → GivesBack (seen s) x (Some v)
+  kept_local x v e h k l = rw cut (back_local s.records.current caller (take (n - 1) s.records.callers) (take s.top s.words.items) s.most_frames s.most_words room chain many bound x v e h k l)
 
-  pub kept_past : (x : ℕ) (v : ℕ) → s.current.result ≡ Some v → 0 < v → v < 16 → caller.floor < caller.base + v → given_back (seen s) x ≡ Err NoSuchLocal
-  kept_past x v e h k l = rw cut (back_past s.current caller (take (n - 1) s.callers.items) (take s.top s.words.items) s.most_frames s.most_words room chain many bound x v e h k l)
+  pub kept_past : (x : ℕ) (v : ℕ) → s.records.current.result ≡ Some v → 0 < v → v < 16 → caller.floor < caller.base + v → given_back (seen s) x ≡ Err NoSuchLocal
+  kept_past x v e h k l = rw cut (back_past s.records.current caller (take (n - 1) s.records.callers) (take s.top s.words.items) s.most_frames s.most_words room chain many bound x v e h k l)
 
 -- the first frame has no caller
-pub first_back : (s : Inside) (x : ℕ) → length s.callers.items ≡ 0 → given_back (seen s) x ≡ Err ReturnFromMain
+pub first_back : (s : Inside) (x : ℕ) → length s.records.callers ≡ 0 → given_back (seen s) x ≡ Err ReturnFromMain
 unfolding given_back
-first_back s x none = rw (nil_from_length s.callers.items none, leave_first s.current (take s.top s.words.items) s.most_frames s.most_words) refl
+first_back s x none = rw (nil_from_length s.records.callers none, leave_first s.records.current (take s.top s.words.items) s.most_frames s.most_words) refl

@@ -142,21 +142,21 @@ pub record IsViewed (s : Inside) (n : ℕ) (own : FrameRecord) (e : ℕ) : Type 
   pub value : (f : Frame) → frame_of own (take e s.words.items) ≡ f → slice_get (reverse (frames_of (seen s))) n ≡ Some f
   pub is : (f : Frame) → frame_of own (take e s.words.items) ≡ f → IsFrame f
 
-pub viewed : (s : Inside) (n : ℕ) (own : FrameRecord) (e : ℕ) → IsKept s → n ≤ length s.callers.items → own ≡ get_or (s.callers.items ++ s.current ∷ []) n s.current
-    → e ≡ (if nat_eq n (length s.callers.items) then s.top else (get_or (s.callers.items ++ s.current ∷ []) (n + 1) s.current).base) → IsViewed s n own e
+pub viewed : (s : Inside) (n : ℕ) (own : FrameRecord) (e : ℕ) → IsKept s → n ≤ length s.records.callers → own ≡ get_or (s.records.callers ++ s.records.current ∷ []) n s.records.current
+    → e ≡ (if nat_eq n (length s.records.callers) then s.top else (get_or (s.records.callers ++ s.records.current ∷ []) (n + 1) s.records.current).base) → IsViewed s n own e
 viewed s n own e i le oe ee =
     let xs : List ℕ = take s.top s.words.items in
-    let up : List FrameRecord = s.callers.items ++ s.current ∷ [] in
+    let up : List FrameRecord = s.records.callers ++ s.records.current ∷ [] in
     let fits : s.top ≤ length s.words.items = omega (arith, i.size, i.top) in
     let long : length xs ≡ s.top = length-take-le s.top s.words.items fits in
-    let floor : s.current.floor ≤ length xs = omega (arith, i.floor) in
-    let ends : e ≡ (if nat_eq n (length s.callers.items) then length xs else (get_or up (n + 1) s.current).base) = ee ∙ ap (λ (k : ℕ). if nat_eq n (length s.callers.items) then k else (get_or up (n + 1) s.current).base) (sym long) in
-    let r = record_is s.callers.items s.current xs n i.base floor i.below le in
+    let floor : s.records.current.floor ≤ length xs = omega (arith, i.floor) in
+    let ends : e ≡ (if nat_eq n (length s.records.callers) then length xs else (get_or up (n + 1) s.records.current).base) = ee ∙ ap (λ (k : ℕ). if nat_eq n (length s.records.callers) then k else (get_or up (n + 1) s.records.current).base) (sym long) in
+    let r = record_is s.records.callers s.records.current xs n i.base floor i.below le in
     let high : e ≤ length xs = rw ends r.2 in
     let low : own.floor ≤ e = rw (oe, ends) r.1 in
-    let record_of : IsRecord own = rw oe (All-get_or IsRecord up n s.current (omega (arith, length-append s.callers.items (s.current ∷ []))) (All-push IsRecord s.callers.items s.current i.callers i.current)) in
-    let same : frame_of (get_or up n s.current) (take (if nat_eq n (length s.callers.items) then length xs else (get_or up (n + 1) s.current).base) xs) ≡ frame_of own (take e s.words.items) =
-    ap (λ (q : FrameRecord). frame_of q (take (if nat_eq n (length s.callers.items) then length xs else (get_or up (n + 1) s.current).base) xs)) (sym oe)
+    let record_of : IsRecord own = rw oe (All-get_or IsRecord up n s.records.current (omega (arith, length-append s.records.callers (s.records.current ∷ []))) (All-push IsRecord s.records.callers s.records.current i.callers i.current)) in
+    let same : frame_of (get_or up n s.records.current) (take (if nat_eq n (length s.records.callers) then length xs else (get_or up (n + 1) s.records.current).base) xs) ≡ frame_of own (take e s.words.items) =
+    ap (λ (q : FrameRecord). frame_of q (take (if nat_eq n (length s.records.callers) then length xs else (get_or up (n + 1) s.records.current).base) xs)) (sym oe)
     ∙ ap (λ (k : ℕ). frame_of own (take k xs)) (sym ends)
     ∙ ap (frame_of own) (take-take e s.top s.words.items (omega (arith, high))) in
     let short : own.floor ≤ length (take e s.words.items) = omega (arith, length-take-le e s.words.items (omega (arith, high))) in
@@ -165,9 +165,9 @@ viewed s n own e i le oe ee =
       floor = low;
       end = omega (arith, high);
       few = omega (arith, high, i.top, i.few_words);
-      value = λ f h. frame_at s.callers.items s.current xs n i.base floor i.below le ∙ ap (λ (g : Frame). Some g) (same ∙ h);
+      value = λ f h. frame_at s.records.callers s.records.current xs n i.base floor i.below le ∙ ap (λ (g : Frame). Some g) (same ∙ h);
       is = λ f h. rw (← h) (record { locals = omega (arith, locals_length own (take e s.words.items) short, record_of.short); supplied = record_of.supplied; place = record_of.place });
     }
 
-pub few_callers : (s : Inside) (v : FrameList) → seen s ≡ v → (n : ℕ) → n ≤ length v.callers → n ≤ length s.callers.items
-few_callers s v e n le = omega (arith, le, ap (λ (f : FrameList). length f.callers) (sym e), depth_is s.callers.items (take s.current.base (take s.top s.words.items)))
+pub few_callers : (s : Inside) (v : FrameList) → seen s ≡ v → (n : ℕ) → n ≤ length v.callers → n ≤ length s.records.callers
+few_callers s v e n le = omega (arith, le, ap (λ (f : FrameList). length f.callers) (sym e), depth_is s.records.callers (take s.records.current.base (take s.top s.words.items)))

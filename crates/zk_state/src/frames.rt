@@ -4,7 +4,7 @@ ghost use Rattle.std.specs.Prelude.{ℕ, ◌≡◌, ◌+◌, ◌<◌, ◌≤◌,
 ghost use Rattle.zk_state.specs.Flat.{frame_of};
 ghost use Rattle.zk_state.specs.Frames.{frames_of, first_frames, with_frames, sizes_of, BeginsFirst, IsFrame, total_of, pushed, popped, top_of, with_top, local_of, with_local, called, filled, left, unwound, IsBounded, GivesBack, RefusesBack};
 
-use crate::records::{FrameRecord, Records};
+use crate::records::{FIRST, FrameRecord, Records};
 use crate::refusal::{Limit, Refusal};
 use std::alloc::{AllocError, Global};
 use std::marker::Model;
@@ -17,22 +17,12 @@ pub struct Return {
     pub result: Option<u8>,
 }
 
-/// The record of the first frame (Standard, section 5.5).
-const FIRST: FrameRecord = FrameRecord {
-    base: 0,
-    floor: 0,
-    place: 0,
-    result: None,
-    supplied: 0,
-};
-
 /// The frames of the routines that have called one another (Standard, section 6.1), within bounds
 /// on their number and on the words that they hold together: local variables and evaluation
 /// stacks. All room is taken at the start, so no other call can fail for want of memory.
 #[derive(Drop)]
 pub struct Frames {
-    current: FrameRecord,
-    callers: Records,
+    records: Records,
     words: Vec<u16>,
     top: usize,
     most_frames: usize,
@@ -103,7 +93,7 @@ fn end_of(callers: &[FrameRecord], current: FrameRecord, top: usize, at: usize) 
     if at == callers.len() {
         top
     } else {
-        record_at(callers, current, at + 1).base
+        record_at(callers, current, at + 1).base as usize
     }
 }
 
@@ -117,8 +107,8 @@ fn view_of<'a>(words: &'a [u16], own: FrameRecord, end: usize) -> FrameView<'a>
     ensures value { frame_of own (take end words.now) ≡ record { locals = result.locals.now; words = result.words.now; place = result.place; result = result.result; supplied = result.supplied } }
 {
     FrameView {
-        locals: &words[own.base..own.floor],
-        words: &words[own.floor..end],
+        locals: &words[own.base as usize..own.floor as usize],
+        words: &words[own.floor as usize..end],
         place: own.place,
         result: own.result,
         supplied: own.supplied,
@@ -157,11 +147,10 @@ impl Frames {
         requires { 1 ≤ most_frames }
         ensures { IfOk result (λ s. s ≡ first_frames most_frames most_words) }
     {
-        let callers = Records::new(alloc, most_frames as usize)?;
+        let records = Records::new(alloc, most_frames as usize)?;
         let words = vec![in alloc; 0; most_words as usize]?;
         Ok(Frames {
-            current: FIRST,
-            callers,
+            records,
             words,
             top: 0,
             most_frames: most_frames as usize,
@@ -176,7 +165,7 @@ impl Frames {
         ensures bounded { IsBounded self.now }
         ensures few { self.now.most_frames ≤ 65535 }
     {
-        self.callers.len() as u16
+        self.records.depth() as u16
     }
 
     /// There are no more frames and words than there may be.
@@ -191,7 +180,7 @@ impl Frames {
     pub fn begins_first(&self)
         ensures { BeginsFirst self.now }
     {
-        let _ = &self.callers;
+        let _ = &self.records;
     }
 
     /// The frame of a number, where the first has number 0.
@@ -202,9 +191,10 @@ impl Frames {
         ensures words { length result.words.now ≤ 65535 }
     {
         let at = number as usize;
-        let callers = self.callers.as_slice();
-        let own = record_at(callers, self.current, at);
-        let end = end_of(callers, self.current, self.top, at);
+        let callers = self.records.callers();
+        let current = self.records.current();
+        let own = record_at(callers, current, at);
+        let end = end_of(callers, current, self.top, at);
         view_of(self.words.as_slice(), own, end)
     }
 
@@ -212,8 +202,7 @@ impl Frames {
     pub fn restart(&mut self)
         ensures { self.new ≡ first_frames self.old.most_frames self.old.most_words }
     {
-        self.callers.clear();
-        self.current = FIRST;
+        self.records.put(&[], FIRST);
         self.top = 0;
     }
 
@@ -221,10 +210,10 @@ impl Frames {
     pub fn copy(&self, alloc: Global) -> Result<FramesCopy, AllocError>
         ensures { IfOk result (λ c. c ≡ frames_of self.now) }
     {
-        let callers = Vec::from_slice(alloc, self.callers.as_slice())?;
+        let callers = Vec::from_slice(alloc, self.records.callers())?;
         let words = Vec::from_slice(alloc, &self.words.as_slice()[..self.top])?;
         Ok(FramesCopy {
-            current: self.current,
+            current: self.records.current(),
             callers,
             words,
         })
@@ -243,10 +232,9 @@ impl Frames {
         requires words { sizes_of copy.now ≤ self.old.most_words }
         ensures { self.new ≡ with_frames self.old copy.now }
     {
-        self.callers.put(copy.callers.as_slice());
+        self.records.put(copy.callers.as_slice(), copy.current);
         copy_words(&mut self.words, 0, copy.words.as_slice());
         self.top = copy.words.len();
-        self.current = copy.current;
     }
 
     /// How many frames there may be, the first among them.
@@ -275,7 +263,7 @@ impl Frames {
     pub fn supplied(&self) -> u8
         ensures { result ≡ self.now.current.supplied }
     {
-        self.current.supplied
+        self.records.current().supplied
     }
 
     /// Pushes a word on the evaluation stack (Standard, section 6.3). Where there is no room for
@@ -302,7 +290,7 @@ impl Frames {
             (λ value. popped self.old ≡ Ok (self.new, value))
             (λ e. (popped self.old ≡ Err e) × (self.new ≡ self.old)) }
     {
-        if self.top <= self.current.floor {
+        if self.top <= self.records.floor() {
             return Err(Fault::StackEmpty);
         }
         self.top -= 1;
@@ -315,7 +303,7 @@ impl Frames {
     pub fn top(&self) -> Result<u16, Fault>
         ensures { result ≡ top_of self.now }
     {
-        if self.top <= self.current.floor {
+        if self.top <= self.records.floor() {
             return Err(Fault::StackEmpty);
         }
         Ok(self.words[self.top - 1])
@@ -329,7 +317,7 @@ impl Frames {
             (λ _. with_top self.old value ≡ Ok self.new)
             (λ e. (with_top self.old value ≡ Err e) × (self.new ≡ self.old)) }
     {
-        if self.top <= self.current.floor {
+        if self.top <= self.records.floor() {
             return Err(Fault::StackEmpty);
         }
         self.words[self.top - 1] = value;
@@ -342,8 +330,8 @@ impl Frames {
     pub fn local(&self, number: u8) -> Result<u16, Fault>
         ensures { result ≡ local_of self.now number }
     {
-        let end = self.current.base + number as usize;
-        if number == 0 || end > self.current.floor {
+        let end = self.records.base() + number as usize;
+        if number == 0 || end > self.records.floor() {
             return Err(Fault::NoSuchLocal);
         }
         Ok(self.words[end - 1])
@@ -357,8 +345,8 @@ impl Frames {
             (λ _. with_local self.old number value ≡ Ok self.new)
             (λ e. (with_local self.old number value ≡ Err e) × (self.new ≡ self.old)) }
     {
-        let end = self.current.base + number as usize;
-        if number == 0 || end > self.current.floor {
+        let end = self.records.base() + number as usize;
+        if number == 0 || end > self.records.floor() {
             return Err(Fault::NoSuchLocal);
         }
         self.words[end - 1] = value;
@@ -371,8 +359,8 @@ impl Frames {
     pub fn own(&self, index: u8) -> Result<u16, Fault>
         ensures { result ≡ local_of self.now (index + 1) }
     {
-        let at = self.current.base + index as usize;
-        if at >= self.current.floor {
+        let at = self.records.base() + index as usize;
+        if at >= self.records.floor() {
             return Err(Fault::NoSuchLocal);
         }
         Ok(self.words[at])
@@ -386,8 +374,8 @@ impl Frames {
             (λ _. with_local self.old (index + 1) value ≡ Ok self.new)
             (λ e. (with_local self.old (index + 1) value ≡ Err e) × (self.new ≡ self.old)) }
     {
-        let at = self.current.base + index as usize;
-        if at >= self.current.floor {
+        let at = self.records.base() + index as usize;
+        if at >= self.records.floor() {
             return Err(Fault::NoSuchLocal);
         }
         self.words[at] = value;
@@ -441,7 +429,7 @@ impl Frames {
             (λ e. (called self.old (filled count arguments.now) place store supplied ≡ Err e)
             × (self.new ≡ self.old)) }
     {
-        if self.callers.len() + 1 >= self.most_frames {
+        if self.records.depth() + 1 >= self.most_frames {
             return Err(Refusal::Limit(Limit::Frames));
         }
         let floor = self.top + count as usize;
@@ -449,14 +437,13 @@ impl Frames {
             return Err(Refusal::Limit(Limit::Words));
         }
         fill_words(&mut self.words, self.top, count as usize, arguments);
-        self.callers.push(self.current);
-        self.current = FrameRecord {
-            base: self.top,
-            floor,
+        self.records.begin(FrameRecord {
+            base: self.top as u32,
+            floor: floor as u32,
             place,
             result: store,
             supplied,
-        };
+        });
         self.top = floor;
         Ok(())
     }
@@ -469,18 +456,16 @@ impl Frames {
             (λ back. left self.old ≡ Ok (self.new, back))
             (λ e. (left self.old ≡ Err e) × (self.new ≡ self.old)) }
     {
-        match self.callers.pop() {
-            Some(caller) => {
-                let back = Return {
-                    place: self.current.place,
-                    result: self.current.result,
-                };
-                self.top = self.current.base;
-                self.current = caller;
-                Ok(back)
-            }
-            None => Err(Fault::ReturnFromMain),
+        if self.records.depth() == 0 {
+            return Err(Fault::ReturnFromMain);
         }
+        let own = self.records.current();
+        self.top = self.records.base();
+        self.records.end();
+        Ok(Return {
+            place: own.place,
+            result: own.result,
+        })
     }
 
     /// Whether the current routine can return a value to its caller, and the variable that takes it, if
@@ -492,24 +477,24 @@ impl Frames {
             (λ v. (value : ℕ) → GivesBack self.now value v)
             (λ e. (value : ℕ) → RefusesBack self.now value e) }
     {
-        let depth = self.callers.len();
+        let depth = self.records.depth();
         if depth == 0 {
             return Err(Refusal::Fault(Fault::ReturnFromMain));
         }
-        let caller = self.callers.at(depth - 1);
-        let Some(variable) = self.current.result else {
+        let caller = self.records.caller(depth - 1);
+        let Some(variable) = self.records.current().result else {
             return Ok(None);
         };
         if variable >= 16 {
             return Ok(Some(variable));
         }
         if variable == 0 {
-            if self.current.base >= self.most_words {
+            if self.records.base() >= self.most_words {
                 return Err(Refusal::Limit(Limit::Words));
             }
             return Ok(Some(variable));
         }
-        if caller.base + variable as usize > caller.floor {
+        if caller.base + variable as u32 > caller.floor {
             return Err(Refusal::Fault(Fault::NoSuchLocal));
         }
         Ok(Some(variable))

@@ -1,7 +1,7 @@
 // The records of frames.
 
-ghost use Rattle.std.specs.Prelude.{◌≡◌, ◌≤◌, ◌<◌, ◌++◌, ◌∷◌, [], length, slice_index_or, vec_capacity, IfOk, IfSome, IfNone};
-ghost use Rattle.zk_state.specs.Records.{RecordList};
+ghost use Rattle.std.specs.Prelude.{◌≡◌, ◌≤◌, ◌<◌, ◌+◌, ◌++◌, ◌∷◌, [], length, take, replicate, slice_index_or, IfOk};
+ghost use Rattle.zk_state.specs.Records.{RecordList, first_record};
 
 use std::alloc::{AllocError, Global};
 use std::marker::Model;
@@ -10,133 +10,158 @@ use std::marker::Model;
 /// lies between them and the next frame.
 #[derive(Clone, Copy, Debug, PartialEq, Eq, Drop)]
 pub(crate) struct FrameRecord {
-    pub(crate) base: usize,
-    pub(crate) floor: usize,
+    pub(crate) base: u32,
+    pub(crate) floor: u32,
     pub(crate) place: u32,
     pub(crate) result: Option<u8>,
     pub(crate) supplied: u8,
 }
 
-/// Records with the newest last, at most so many, whose room is taken once. What a record leaves is kept for the next
-/// one, so that most calls store over it and grow nothing.
+/// The record of the first frame (Standard, section 5.5).
+pub(crate) const FIRST: FrameRecord = FrameRecord {
+    base: 0,
+    floor: 0,
+    place: 0,
+    result: None,
+    supplied: 0,
+};
+
+/// The record of the current frame, behind those of its callers with the newest last, at most so many together. All
+/// room is taken once, so that a call stores its own record and copies none.
 #[derive(Drop)]
 pub(crate) struct Records {
     all: Vec<FrameRecord>,
-    count: usize,
-    most: usize,
+    depth: usize,
+    // what the current record has, where instructions find it at once
+    base: usize,
+    floor: usize,
 }
 
 impl Model for Records {
-    ghost use Rattle.zk_state.specs.Records.{RecordList, records_of, HaveRoom};
+    ghost use Rattle.zk_state.specs.Records.{RecordList, records_of, AreRecords};
 
     ghost Value = { RecordList };
 
     ghost view = { records_of };
 
-    ghost invariant = { HaveRoom };
+    ghost invariant = { AreRecords };
 }
 
-/// The same record, put together from its parts: a processor waits for a whole that it reads right behind its parts.
-#[inline(always)]
-fn parts_of(frame: FrameRecord) -> FrameRecord
-    ensures { result ≡ frame }
+/// So many records.
+fn room_for(alloc: Global, most: usize) -> Result<Vec<FrameRecord>, AllocError>
+    ensures { IfOk result (λ v. v.items ≡ replicate most first_record) }
 {
-    FrameRecord {
-        base: frame.base,
-        floor: frame.floor,
-        place: frame.place,
-        result: frame.result,
-        supplied: frame.supplied,
+    let all = vec![in alloc; FIRST; most]?;
+    Ok(all)
+}
+
+/// Puts records over the first ones of a list.
+fn copy_records(all: &mut Vec<FrameRecord>, from: &[FrameRecord])
+    requires { length from.now ≤ length all.old.items }
+    ensures front { take (length from.now) all.new.items ≡ from.now }
+    ensures len { length all.new.items ≡ length all.old.items }
+{
+    for k in 0..from.len() {
+        all[k] = from[k];
     }
-}
-
-/// Adds a record behind all others. There is room for it.
-#[inline(never)]
-fn add(all: &mut Vec<FrameRecord>, frame: FrameRecord)
-    requires { length all.old.items < vec_capacity all.old }
-    ensures items { all.new.items ≡ all.old.items ++ frame ∷ [] }
-    ensures room { vec_capacity all.old ≤ vec_capacity all.new }
-{
-    all.push(frame).unwrap();
 }
 
 impl Records {
-    /// No records.
+    /// The record of the first frame alone.
     pub(crate) fn new(alloc: Global, most: usize) -> Result<Records, AllocError>
-        ensures { IfOk result (λ r. r ≡ record { items = []; most = most }) }
+        requires { 1 ≤ most }
+        ensures { IfOk result (λ r. r ≡ record { callers = []; current = first_record; most = most }) }
     {
-        let all = Vec::with_capacity(alloc, most)?;
+        let all = room_for(alloc, most)?;
         Ok(Records {
             all,
-            count: 0,
-            most,
+            depth: 0,
+            base: 0,
+            floor: 0,
         })
     }
 
-    /// How many there are.
+    /// How many callers there are.
     #[inline(always)]
-    pub(crate) fn len(&self) -> usize
-        ensures { result ≡ length self.now.items }
+    pub(crate) fn depth(&self) -> usize
+        ensures { result ≡ length self.now.callers }
     {
-        self.count
+        self.depth
     }
 
-    /// The one of an index. There is one.
-    pub(crate) fn at(&self, index: usize) -> FrameRecord
-        requires { index < length self.now.items }
-        ensures { result ≡ slice_index_or self.now.items index result }
-    {
-        self.as_slice()[index]
-    }
-
-    /// All of them.
-    pub(crate) fn as_slice(&self) -> &[FrameRecord]
-        ensures { result.now ≡ self.now.items }
-    {
-        &self.all.as_slice()[..self.count]
-    }
-
-    /// One more. There may be one.
+    /// Where the current frame's words begin.
     #[inline(always)]
-    pub(crate) fn push(&mut self, frame: FrameRecord)
-        requires { length self.old.items < self.old.most }
-        ensures { self.new ≡ record self.old { items = self.old.items ++ frame ∷ [] } }
+    pub(crate) fn base(&self) -> usize
+        ensures { result ≡ self.now.current.base }
     {
-        if self.count < self.all.len() {
-            self.all[self.count] = parts_of(frame);
-        } else {
-            add(&mut self.all, frame);
-        }
-        self.count += 1;
+        self.base
     }
 
-    /// Takes the newest away, where there is one.
+    /// Where the current frame's evaluation stack begins.
     #[inline(always)]
-    pub(crate) fn pop(&mut self) -> Option<FrameRecord>
-        ensures some { IfSome result (λ frame. self.old ≡ record self.new { items = self.new.items ++ frame ∷ [] }) }
-        ensures none { IfNone result ((self.old.items ≡ []) × (self.new ≡ self.old)) }
+    pub(crate) fn floor(&self) -> usize
+        ensures { result ≡ self.now.current.floor }
     {
-        if self.count == 0 {
-            return None;
-        }
-        self.count -= 1;
-        Some(parts_of(self.all[self.count]))
+        self.floor
     }
 
-    /// Takes all away.
-    pub(crate) fn clear(&mut self)
-        ensures { self.new ≡ record self.old { items = [] } }
+    /// The current one.
+    #[inline(always)]
+    pub(crate) fn current(&self) -> FrameRecord
+        ensures { result ≡ self.now.current }
     {
-        self.count = 0;
+        self.all[self.depth]
+    }
+
+    /// The caller of an index. There is one.
+    pub(crate) fn caller(&self, index: usize) -> FrameRecord
+        requires { index < length self.now.callers }
+        ensures { result ≡ slice_index_or self.now.callers index result }
+    {
+        self.callers()[index]
+    }
+
+    /// Those of all callers.
+    pub(crate) fn callers(&self) -> &[FrameRecord]
+        ensures { result.now ≡ self.now.callers }
+    {
+        &self.all.as_slice()[..self.depth]
+    }
+
+    /// One more, which the current one calls. There may be one.
+    #[inline(always)]
+    pub(crate) fn begin(&mut self, frame: FrameRecord)
+        requires { length self.old.callers + 1 < self.old.most }
+        ensures { self.new ≡ record self.old { callers = self.old.callers ++ self.old.current ∷ []; current = frame } }
+    {
+        self.depth += 1;
+        self.all[self.depth] = frame;
+        self.base = frame.base as usize;
+        self.floor = frame.floor as usize;
+    }
+
+    /// Takes the current one away, for its caller. There is one.
+    #[inline(always)]
+    pub(crate) fn end(&mut self)
+        requires { 0 < length self.old.callers }
+        ensures callers { self.old.callers ≡ self.new.callers ++ self.new.current ∷ [] }
+        ensures most { self.new.most ≡ self.old.most }
+    {
+        self.depth -= 1;
+        let caller = self.all[self.depth];
+        self.base = caller.base as usize;
+        self.floor = caller.floor as usize;
     }
 
     /// Puts others in the place of all. There may be as many.
-    pub(crate) fn put(&mut self, frames: &[FrameRecord])
-        requires { length frames.now ≤ self.old.most }
-        ensures { self.new ≡ record self.old { items = frames.now } }
+    pub(crate) fn put(&mut self, callers: &[FrameRecord], current: FrameRecord)
+        requires { length callers.now < self.old.most }
+        ensures { self.new ≡ record { callers = callers.now; current = current; most = self.old.most } }
     {
-        self.all.clear();
-        self.all.extend_from_slice(frames).unwrap();
-        self.count = frames.len();
+        copy_records(&mut self.all, callers);
+        self.depth = callers.len();
+        self.all[self.depth] = current;
+        self.base = current.base as usize;
+        self.floor = current.floor as usize;
     }
 }

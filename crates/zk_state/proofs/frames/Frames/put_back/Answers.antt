@@ -1,7 +1,4 @@
 use Rattle.std.proofs.Common.{◌≡◌, ◌∙◌, length, arith, ap}
-use Rattle.std.proofs.lemmas.List.Elements.{All-same}
-use Rattle.zk_state.specs.Flat.{IsRecord}
-use Rattle.zk_state.specs.Records.{RecordList}
 use Rattle.zk_state.proofs.Oldest.{copy_length, copy_size}
 use Rattle.zk_state.proofs.frames.Frames.put_back.Goals as goal
 
@@ -27,19 +24,19 @@ invariant_of-self c =
     let j = c.copy.invariant in
     let few = rw (← c.self.view_is, ← c.copy.view_is) at c.requires.frames in
     let short = rw (← c.self.view_is, ← c.copy.view_is) at c.requires.words in
-    let callers : c.put.new.self.items ≡ k.callers.items = ap (λ (r : RecordList). r.items) c.put.ensures ∙ c.as_slice.ensures.value in
+    let callers : c.as_slice.result.now ≡ k.callers.items = c.as_slice.ensures.value in
     let words : c.len-self-inside.result ≡ length k.words.items = c.len-self-inside.ensures ∙ k.words.ok.0 in
-    record {
+    rw (c.put.ensures, callers) (record {
       base = j.base;
       floor = omega (arith, j.floor, words);
-      below = rw callers j.below;
+      below = j.below;
       top = omega (arith, short, copy_size k.current k.callers.items k.words.items j.base j.floor j.below, words);
       size = c.copy_words.ensures.len ∙ i.size;
-      frames = omega (arith, few, copy_length k.current k.callers.items k.words.items, ap length callers);
-      frame_room = ap (λ (r : RecordList). r.most) c.put.ensures ∙ i.frame_room;
+      frames = omega (arith, few, copy_length k.current k.callers.items k.words.items);
+      frame_room = i.frame_room;
       current = j.current;
-      callers = All-same IsRecord c.put.new.self.items k.callers.items callers j.callers;
-      first = rw callers j.first;
+      callers = j.callers;
+      first = j.first;
       few_frames = i.few_frames;
       few_words = i.few_words;
-    }
+    })
