@@ -1,4 +1,4 @@
-use Rattle.std.proofs.Common.{[], length, arith, refl}
+use Rattle.std.proofs.Common.{[], arith, refl}
 use Rattle.std.proofs.lemmas.List.Elements.{All-nil}
 use Rattle.zk_state.specs.Flat.{IsRecord}
 use Rattle.zk_state.proofs.Calls.{first_chain, first_view}
