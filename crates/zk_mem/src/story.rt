@@ -85,6 +85,17 @@ impl Story {
         }
     }
 
+    /// The story of a file's bytes, which it keeps and doesn't copy, or the first reason why they are no story.
+    pub fn of(file: Vec<u8>) -> Result<Story, OpenError>
+        ensures ok { IfOk result (λ s. (s ≡ file.items) × (refusal file.items ≡ None)) }
+        ensures err { IfErr result (λ e. refusal file.items ≡ Some e) }
+    {
+        match refusal_of(file.as_slice()) {
+            None => Ok(Story { bytes: file }),
+            Some(e) => Err(e),
+        }
+    }
+
     /// What the file's header says.
     #[tactic(auto, using(crate::proofs::Bounds::none_bounds))]
     pub fn header(&self) -> Header
