@@ -1,5 +1,6 @@
 pub mod Steps
 pub mod ChainSteps
+pub mod ListFuel
 pub mod ListSteps
 pub mod ListEnds
 pub mod Writes

@@ -1,9 +1,10 @@
 -- Where properties end.
-use Rattle.std.proofs.Common.{◌≡◌, ◌∙◌, ℕ, ◌+◌, ◌/◌, ◌%◌, ◌<◌, ◌≤◌, Some, None, Ok, Err, refl, arith}
+use Rattle.std.proofs.Common.{◌≡◌, ◌∙◌, ℕ, ◌+◌, ◌-◌, ◌/◌, ◌%◌, ◌<◌, ◌≤◌, Some, None, Ok, Err, refl, arith}
 use Rattle.std.proofs.lemmas.Bool.{ne_eqb, lt-ltb, le-ltb}
 use Rattle.zk_mem.specs.declared.fault.Fault.{Fault}
-use Rattle.zk_mem.specs.Map.{MemoryMap}
+use Rattle.zk_mem.specs.Map.{MemoryMap, readable_end}
 use Rattle.zk_tables.specs.PropertyList.{EndsAt, list_byte, long_length, property_at, property_by}
+use Rattle.zk_tables.proofs.ListFuel.{list_byte_below, property_onward}
 
 pub ends_early : (m : MemoryMap) (a first end : ℕ) → (first ≡ 0 → ⊥) → m.version < 4 → a + 2 + first / 32 ≡ end → EndsAt m a first end
 unfolding property_by
@@ -50,3 +51,11 @@ list_fails m a first e h k = list_read m a first h ∙ k
 
 pub list_goes_on : (m : MemoryMap) (a first end : ℕ) → list_byte m a ≡ Ok first → (at : EndsAt m a first end) → property_at m a ≡ Ok (Some at.property)
 list_goes_on m a first end h at = list_read m a first h ∙ at.read
+
+-- behind each property less of data is left
+pub less_left : (m : MemoryMap) (a first end : ℕ) → list_byte m a ≡ Ok first → EndsAt m a first end → readable_end m - end < readable_end m - a
+less_left m a first end h at =
+    let inside = list_byte_below m a first h in
+    let onward = property_onward m a at.property (list_goes_on m a first end h at) in
+    let behind = at.behind in
+    omega arith

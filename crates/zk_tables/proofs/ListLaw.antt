@@ -67,7 +67,7 @@ made n a l = record { number = n; address = a; length = l }
 abbrev some_property : Property → Result (Option Property) Fault
 some_property p = Ok (Some p)
 
-same_property : (p q : Property) → some_property p ≡ some_property q → p ≡ q
+pub same_property : (p q : Property) → some_property p ≡ some_property q → p ≡ q
 same_property p q e = cc
 
 early_takes : (m : MemoryMap) (a first : ℕ) → first < 256 → m.version < 4 → first ≢ 0 → byte_at m a ≡ Ok first → IsProperty m a (made (first % 32) (a + 1) (first / 32 + 1))

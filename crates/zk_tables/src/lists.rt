@@ -1,7 +1,7 @@
 // Property lists.
 
 ghost use Rattle.std.specs.Prelude.{◌≡◌, ◌≤◌, ◌<◌, Err, IfOk, IfSome, IsOk, MatchResult, ◌+◌};
-ghost use Rattle.zk_tables.specs.PropertyList.{EndsAt, list_byte, long_length, number_in, property_by, property_at, properties_from, found_at, first_number_from, first_number_at, number_after_at};
+ghost use Rattle.zk_tables.specs.PropertyList.{EndsAt, list_byte, long_length, number_in, property_by, property_at, properties_at, found_at, first_number_at, number_after_at};
 
 use zk_mem::fault::Fault;
 use zk_mem::memory::Memory;
@@ -104,12 +104,13 @@ fn number_in(version: u8, first: u8) -> u8
 /// are walked often.
 #[inline(always)]
 #[tactic(auto, unfolding(crate::specs::PropertyList::property_by))]
-fn end_of(memory: &Memory, address: u32, first: u8) -> Result<u32, Fault>
+fn end_of(memory: &Memory, version: u8, address: u32, first: u8) -> Result<u32, Fault>
+    requires version { version ≡ memory.now.version }
     requires near { address < 65536 }
     requires more { first ≡ 0 → ⊥ }
     ensures { MatchResult result (EndsAt memory.now address first) (λ e. property_by memory.now address first ≡ Err e) }
 {
-    if memory.version() < 4 {
+    if version < 4 {
         return Ok(address + 2 + (first / 32) as u32);
     }
     if first < 128 {
@@ -119,19 +120,20 @@ fn end_of(memory: &Memory, address: u32, first: u8) -> Result<u32, Fault>
     Ok(address + 2 + length_in(second) as u32)
 }
 
-/// Whether a list goes on from an address to its end, with so many properties at most.
-pub(crate) fn check_list(memory: &Memory, address: u32, most: u32) -> Result<(), Fault>
-    ensures { MatchResult result (λ _. IsOk (properties_from memory.now most address)) (λ e. properties_from memory.now most address ≡ Err e) }
+/// Whether a list goes on from an address to its end.
+pub(crate) fn check_list(memory: &Memory, address: u32) -> Result<(), Fault>
+    ensures { MatchResult result (λ _. IsOk (properties_at memory.now address)) (λ e. properties_at memory.now address ≡ Err e) }
 {
+    let version = memory.version();
     let mut at = address;
-    for _i in 0..most {
+    // it ends, since no byte is read where data has ended
+    loop {
         let first = read_list_byte(memory, at)?;
         if first == 0 {
             return Ok(());
         }
-        at = end_of(memory, at, first)?;
+        at = end_of(memory, version, at, first)?;
     }
-    Err(Fault::BadProperty)
 }
 
 /// The first property of a number in the list at an address.
@@ -139,58 +141,48 @@ pub(crate) fn find(memory: &Memory, address: u32, number: u16) -> Result<Option<
     ensures value { result ≡ found_at memory.now address number }
     ensures bound { IfOk result (λ r. IfSome r (λ p. p.address < 65536)) }
 {
-    let most = memory.data_end();
+    let version = memory.version();
     let mut at = address;
-    for i in 0..most {
+    loop {
         let first = read_list_byte(memory, at)?;
         if first == 0 {
             return Ok(None);
         }
-        let end = end_of(memory, at, first)?;
-        if number_in(memory.version(), first) as u16 == number {
-            check_list(memory, end, most - i - 1)?;
-            return read_property(memory, at);
+        let end = end_of(memory, version, at, first)?;
+        if number_in(version, first) as u16 == number {
+            check_list(memory, end)?;
+            return read_property_by(memory, at, first);
         }
         at = end;
     }
-    Err(Fault::BadProperty)
 }
 
-/// The number of the first property of a list, or 0.
-fn read_first_number(memory: &Memory, address: u32, most: u32) -> Result<u16, Fault>
-    ensures { result ≡ first_number_from memory.now most address }
+/// The number of the first property of the list at an address, or 0.
+pub(crate) fn find_first_number(memory: &Memory, address: u32) -> Result<u16, Fault>
+    ensures { result ≡ first_number_at memory.now address }
 {
-    check_list(memory, address, most)?;
+    check_list(memory, address)?;
     match read_property(memory, address)? {
         Some(property) => Ok(property.number as u16),
         None => Ok(0),
     }
 }
 
-/// The number of the first property of the list at an address, or 0.
-#[tactic(auto, unfolding(crate::specs::PropertyList::first_number_at))]
-pub(crate) fn find_first_number(memory: &Memory, address: u32) -> Result<u16, Fault>
-    ensures { result ≡ first_number_at memory.now address }
-{
-    read_first_number(memory, address, memory.data_end())
-}
-
 /// The number of the property after the first one of a number, or 0.
 pub(crate) fn find_number_after(memory: &Memory, address: u32, number: u16) -> Result<u16, Fault>
     ensures { result ≡ number_after_at memory.now address number }
 {
-    let most = memory.data_end();
+    let version = memory.version();
     let mut at = address;
-    for i in 0..most {
+    loop {
         let first = read_list_byte(memory, at)?;
         if first == 0 {
             return Err(Fault::BadProperty);
         }
-        let end = end_of(memory, at, first)?;
-        if number_in(memory.version(), first) as u16 == number {
-            return read_first_number(memory, end, most - i - 1);
+        let end = end_of(memory, version, at, first)?;
+        if number_in(version, first) as u16 == number {
+            return find_first_number(memory, end);
         }
         at = end;
     }
-    Err(Fault::BadProperty)
 }

@@ -71,12 +71,12 @@ pub fn list_address(memory: &Memory, object: u16) -> Result<u32, Fault>
 ///
 /// `BadObject` where the object has no entry in data, `BadProperty` where its property list, or the first byte of its
 /// property table, does not lie in data.
-#[tactic(auto, unfolding(crate::specs::Properties::properties_of, crate::specs::PropertyList::properties_at))]
+#[tactic(auto, unfolding(crate::specs::Properties::properties_of))]
 pub fn check_properties(memory: &Memory, object: u16) -> Result<(), Fault>
     ensures { MatchResult result (λ _. IsOk (properties_of memory.now object)) (λ e. properties_of memory.now object ≡ Err e) }
 {
     let list = list_address(memory, object)?;
-    check_list(memory, list, memory.data_end())
+    check_list(memory, list)
 }
 
 /// The first property of a number that an object has.
