@@ -1,5 +1,5 @@
 -- How a listing of a file ends.
-use Rattle.std.specs.Prelude.{◌≡◌, ◌≢◌, ◌⊎◌, ℕ, Bool, true, false, List, [], Option, None, IfSome}
+use Rattle.std.specs.Prelude.{◌≡◌, ◌≢◌, ◌⊎◌, ℕ, Bool, true, false, List, [], Option, Some, None, IfSome}
 use Rattle.zk_mem.specs.Fresh.{fresh}
 use Rattle.zk_mem.specs.Map.{MemoryMap}
 use Rattle.zk_mem.specs.Story.{refusal}
@@ -9,7 +9,7 @@ use Rattle.zk_inspect.specs.Findings.{AreFindings}
 use Rattle.zk_vm.specs.declared.stop.Stop.{Stop}
 use Rattle.zk_vm.specs.declared.stop.Stop.TheVariants.{Quit, Write, Memory}
 use Rattle.zk_command.specs.LastLine.{TookExplained, last_line}
-use Rattle.zk_command.specs.Playing.{IsRefusedFor, bytes_read}
+use Rattle.zk_command.specs.Playing.{bytes_read}
 use Rattle.zk_command.specs.Status.{ending_status}
 use Rattle.zk_command.specs.declared.ending.Ending.{Ending}
 use Rattle.zk_command.specs.declared.listing.Listing.{Listing}
@@ -32,7 +32,7 @@ IsListed listing m _ = ⊥
 -- bytes end a listing: they are refused, or they are a story that is listed, with 16 states to go back to
 abbrev pub EndsListing : Listing → List ℕ → Ending → Type 0
 EndsListing listing bytes (Unread e) = ⊥
-EndsListing listing bytes (Refused e) = IsRefusedFor bytes e
+EndsListing listing bytes (Refused e) = refusal bytes ≡ Some e
 EndsListing listing bytes ending = (refusal bytes ≡ None) × IsListed listing (fresh bytes 16) ending
 
 -- a reader's bytes, where it tells them, end a listing; or it can't be read

@@ -1,7 +1,5 @@
 -- How a file is played.
 use Rattle.std.specs.Prelude.{◌≡◌, ◌⊎◌, ◌||◌, ℕ, Bool, List, take, Option, Some, None, IfSome}
-use Rattle.zk_mem.specs.declared.story.OpenError.{OpenError}
-use Rattle.zk_mem.specs.declared.story.OpenError.TheVariants.{OutOfMemory}
 use Rattle.zk_mem.specs.Story.{refusal}
 use Rattle.zk_term.specs.Devices.{Device}
 use Rattle.zk_term.specs.Lines.{Heard, heard}
@@ -50,14 +48,10 @@ pub record LacksMemory (old new : Outputs) (stop : Stop) : Type 0 where
 abbrev pub IsRun : Outcomes → Player → List ℕ → Manner → Outputs → Outputs → Stop → Type 0
 IsRun Played player story manner old new stop = IsPlayedBy Played player (begun story manner.seed manner.limits manner.view) old new stop ⊎ LacksMemory old new stop
 
--- the first reason why bytes are no story, or that there is no memory for them
-abbrev pub IsRefusedFor : List ℕ → OpenError → Type 0
-IsRefusedFor bytes e = (refusal bytes ≡ Some e) ⊎ ((e ≡ OutOfMemory) × (refusal bytes ≡ None))
-
 -- bytes end a play: they are refused and the screen and the script get nothing, or they are a story that is run
 abbrev pub EndsBy : Outcomes → Player → List ℕ → Manner → Outputs → Outputs → Ending → Type 0
 EndsBy Played player bytes manner old new (Unread e) = ⊥
-EndsBy Played player bytes manner old new (Refused e) = IsRefusedFor bytes e × (new ≡ old)
+EndsBy Played player bytes manner old new (Refused e) = (refusal bytes ≡ Some e) × (new ≡ old)
 EndsBy Played player bytes manner old new (Stopped stop) = (refusal bytes ≡ None) × IsRun Played player bytes manner old new stop
 EndsBy Played player bytes manner old new Found = ⊥
 

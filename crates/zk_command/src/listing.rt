@@ -224,13 +224,13 @@ fn list_story<S: Target>(alloc: Global, story: Story, listing: Listing, screen: 
 /// Lists the bytes of a file, if they are a story.
 pub fn list_bytes<S: Target>(
     alloc: Global,
-    bytes: &[u8],
+    bytes: Vec<u8>,
     listing: Listing,
     screen: &mut S,
 ) -> Ending
-    ensures { EndsListing listing bytes.now result }
+    ensures { EndsListing listing bytes.items result }
 {
-    match Story::open(alloc, bytes) {
+    match Story::of(bytes) {
         Err(error) => Ending::Refused(error),
         Ok(story) => list_story(alloc, story, listing, screen),
     }
@@ -247,7 +247,7 @@ pub fn list_from<R: Read + Drop, S: Target>(
 {
     match read_story(alloc, reader) {
         Err(error) => Ending::Unread(error),
-        Ok(bytes) => list_bytes(alloc, bytes.as_slice(), listing, screen),
+        Ok(bytes) => list_bytes(alloc, bytes, listing, screen),
     }
 }
 

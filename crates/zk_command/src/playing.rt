@@ -1,6 +1,6 @@
 // A story, from the bytes of its file to the screen.
 
-ghost use Rattle.std.specs.Prelude.{◌≡◌, false, IfOk, IfSome, None};
+ghost use Rattle.std.specs.Prelude.{◌≡◌, ◌++◌, false, IfOk, OnOk, IfSome, None};
 ghost use Rattle.zk_vm.specs.Bounds.{AreInRange};
 ghost use Rattle.zk_vm.specs.Plays.{IsPlayed};
 ghost use Rattle.zk_command.specs.Playing.{EndsBy, EndsFrom, IsPlayedBy, IsPlayedFrom, IsRun, bytes_read};
@@ -9,7 +9,7 @@ use crate::ending::Ending;
 use crate::manner::Manner;
 use crate::report::report;
 use std::alloc::Global;
-use std::io::{self, Read};
+use std::io::{self, ErrorKind, Read};
 use zk_mem::story::Story;
 use zk_term::source::Source;
 use zk_term::target::{Failed, Target};
@@ -21,13 +21,37 @@ use zk_vm::stop::Stop;
 /// One byte past the greatest length of a story: a longer file is too long by what is read of it.
 const MOST_BYTES: u64 = 524_289;
 
+/// So many bytes of a file are read at a time.
+const PIECE: usize = 4_096;
+
+/// Puts what a reader gives behind other bytes, piece by piece: room for all of it would have to be cleared before it is
+/// read into.
+fn read_pieces<R: Read>(reader: &mut R, bytes: &mut Vec<u8>) -> io::Result<()>
+    ensures { OnOk result (IfSome (R.remaining reader.old) (λ xs. bytes.new.items ≡ bytes.old.items ++ xs)) }
+{
+    let mut piece = [0; PIECE];
+    // each read gives a byte or more, until the last
+    for _k in 0..u64::MAX {
+        match reader.read(&mut piece) {
+            Ok(0) => return Ok(()),
+            Ok(count) => bytes.extend_from_slice(&piece[..count])?,
+            Err(error) => {
+                if error.kind() != ErrorKind::Interrupted {
+                    return Err(error);
+                }
+            }
+        }
+    }
+    Err(ErrorKind::Interrupted.into())
+}
+
 /// The bytes of a story's file, as many as a story may have and one more.
 pub fn read_story<R: Read + Drop>(alloc: Global, reader: R) -> io::Result<Vec<u8>>
     ensures { IfOk result (λ v. IfSome (R.remaining reader) (λ file. v.items ≡ bytes_read file)) }
 {
     // room for the longest, of which as much is used as there are bytes
     let mut bytes = Vec::with_capacity(alloc, MOST_BYTES as usize)?;
-    reader.take(MOST_BYTES).read_to_end(&mut bytes)?;
+    read_pieces(&mut reader.take(MOST_BYTES), &mut bytes)?;
     Ok(bytes)
 }
 
@@ -77,7 +101,7 @@ fn play_story<I: Source, S: Target, T: Target, K: SaveSlot>(
 /// Plays the bytes of a file, if they are a story.
 pub fn play_bytes<I: Source, S: Target, T: Target, K: SaveSlot>(
     alloc: Global,
-    bytes: &[u8],
+    bytes: Vec<u8>,
     manner: Manner,
     input: &mut I,
     screen: &mut S,
@@ -88,9 +112,9 @@ pub fn play_bytes<I: Source, S: Target, T: Target, K: SaveSlot>(
     requires input_works { I.failed input.old ≡ false }
     requires works { S.failed screen.old ≡ false }
     requires script_works { T.failed script.old ≡ false }
-    ensures { EndsBy (IsPlayed K.held K.keeps slot.old slot.new) (record { typed = I.left input.old; unread = I.failed input.new }) bytes.now manner (record { screen = record { taken = S.taken screen.old; failed = S.failed screen.old }; script = record { taken = T.taken script.old; failed = T.failed script.old } }) (record { screen = record { taken = S.taken screen.new; failed = S.failed screen.new }; script = record { taken = T.taken script.new; failed = T.failed script.new } }) result }
+    ensures { EndsBy (IsPlayed K.held K.keeps slot.old slot.new) (record { typed = I.left input.old; unread = I.failed input.new }) bytes.items manner (record { screen = record { taken = S.taken screen.old; failed = S.failed screen.old }; script = record { taken = T.taken script.old; failed = T.failed script.old } }) (record { screen = record { taken = S.taken screen.new; failed = S.failed screen.new }; script = record { taken = T.taken script.new; failed = T.failed script.new } }) result }
 {
-    match Story::open(alloc, bytes) {
+    match Story::of(bytes) {
         Err(error) => Ending::Refused(error),
         Ok(story) => Ending::Stopped(play_story(alloc, story, manner, input, screen, script, slot)),
     }
@@ -114,7 +138,7 @@ pub fn play_from<R: Read + Drop, I: Source, S: Target, T: Target, K: SaveSlot>(
 {
     match read_story(alloc, reader) {
         Err(error) => Ending::Unread(error),
-        Ok(bytes) => play_bytes(alloc, bytes.as_slice(), manner, input, screen, script, slot),
+        Ok(bytes) => play_bytes(alloc, bytes, manner, input, screen, script, slot),
     }
 }
 

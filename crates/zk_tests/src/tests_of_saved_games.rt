@@ -84,7 +84,7 @@ fn goes_on(
     let mut shown = Over::new(Vec::new(rt.alloc()));
     let ending = play_bytes(
         rt.alloc(),
-        bytes.as_slice(),
+        bytes,
         manner,
         &mut Over::new(game.typed),
         &mut shown,
@@ -203,7 +203,7 @@ fn a_save_is_a_step(rt: HostRuntime) -> Result<(), Fail> {
     demand(&rt, limits.check());
     let ending = play_bytes(
         rt.alloc(),
-        bytes.as_slice(),
+        bytes,
         plainly(limits),
         &mut Nothing,
         &mut Nothing,

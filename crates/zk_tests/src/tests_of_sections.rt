@@ -212,15 +212,15 @@ fn files_that_are_no_story_are_not_listed(rt: HostRuntime) -> Result<(), Fail> {
 // What goes out before a write fails is a first part of the listing, and nothing follows.
 #[test]
 fn failed_writes_end_listings(rt: HostRuntime) -> Result<(), Fail> {
-    let bytes = story_bytes(rt.alloc(), 3, "B2 B5C5 BB BA")?;
     let text = b"00040 print \"hi\"\n00043 new_line\n00044 quit\n";
     for room in 0..text.len() {
+        let bytes = story_bytes(rt.alloc(), 3, "B2 B5C5 BB BA")?;
         let mut screen = Short {
             taken: Vec::new(rt.alloc()),
             room,
             failed: false,
         };
-        let ending = list_bytes(rt.alloc(), bytes.as_slice(), Listing::Code, &mut screen);
+        let ending = list_bytes(rt.alloc(), bytes, Listing::Code, &mut screen);
         let Short {
             taken,
             room: _,

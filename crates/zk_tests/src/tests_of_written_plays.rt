@@ -52,7 +52,7 @@ fn a_failed_write_ends_the_play(rt: HostRuntime) -> Result<(), Fail> {
     demand(&rt, limits.check());
     let ending = play_bytes(
         rt.alloc(),
-        bytes.as_slice(),
+        bytes,
         plainly(limits),
         &mut Nothing,
         &mut screen,
@@ -101,7 +101,7 @@ fn calls_of(rt: &(impl Abort + AllocGlobal), version: u8, code: &str) -> Result<
     let mut script = Counting { calls: 0 };
     let _ = play_bytes(
         rt.alloc(),
-        bytes.as_slice(),
+        bytes,
         plainly(limits),
         &mut Nothing,
         &mut screen,
@@ -143,7 +143,7 @@ fn a_transcript_that_fails_ends_the_play(rt: HostRuntime) -> Result<(), Fail> {
     };
     let ending = play_bytes(
         rt.alloc(),
-        bytes.as_slice(),
+        bytes,
         plainly(limits),
         &mut Nothing,
         &mut screen,
