@@ -13,7 +13,7 @@ use zk_text::unit::Unit;
 
 /// Rows of bytes in memory: the first begins at a byte address, each has so many bytes, and so many are skipped between
 /// two of them (Z-Machine Standards Document 1.1, section 15, `print_table`). Addresses are sums of 16 bits.
-#[derive(Clone, Copy, Debug, PartialEq, Eq, Drop)]
+#[derive(Clone, Copy, PartialEq, Eq, Drop)]
 pub struct Rectangle {
     /// The byte address of the first row.
     pub text: u16,

@@ -4,7 +4,7 @@ ghost use Rattle.std.specs.Prelude.{◌≡◌, ◌≤◌, ◌<◌, ◌+◌, ◌^
 ghost use Rattle.zk_code.specs.Targets.{landing, offset_target, branch_target, jump_target};
 
 /// Where a branch or a jump leads (Standard, sections 4.7.1 and 4.7.2).
-#[derive(Clone, Copy, Debug, PartialEq, Eq, Drop)]
+#[derive(Clone, Copy, PartialEq, Eq, Drop)]
 pub enum Target {
     /// The routine returns false.
     ReturnFalse,
@@ -19,7 +19,7 @@ pub enum Target {
 }
 
 /// The branch of an instruction (Standard, section 4.7).
-#[derive(Clone, Copy, Debug, PartialEq, Eq, Drop)]
+#[derive(Clone, Copy, PartialEq, Eq, Drop)]
 pub struct Branch {
     /// Whether it is taken where the condition holds, or else where it does not hold.
     pub on: bool,

@@ -7,7 +7,7 @@ use crate::opcode::{Idle, Opcode};
 use crate::operands::Operands;
 
 /// An instruction (Standard, section 4.1).
-#[derive(Debug, Drop)]
+#[derive(Drop)]
 pub struct Instr {
     pub opcode: Opcode,
     pub operands: Operands,

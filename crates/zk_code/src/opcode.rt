@@ -5,7 +5,7 @@ ghost use Rattle.zk_code.specs.Table.{name_of};
 ghost use Rattle.zk_code.specs.declared.opcode.Opcode.TheVariants.{Arithmetic as arithmetic, Comparison as comparison, Assignment as assignment, Array as array, ObjectChange as object_change, ObjectQuestion as object_question, Call as call, Routine as routine, Control as control, Printing as printing, Idle as idle, Reading as reading, Words as words, Window as window, Stream as stream, Table as table, Saving as saving};
 
 /// Arithmetic on words, and logic on their bits.
-#[derive(Clone, Copy, Debug, PartialEq, Eq, Drop)]
+#[derive(Clone, Copy, PartialEq, Eq, Drop)]
 pub enum Arithmetic {
     Or,
     And,
@@ -20,7 +20,7 @@ pub enum Arithmetic {
 }
 
 /// Branches on the values of the operands.
-#[derive(Clone, Copy, Debug, PartialEq, Eq, Drop)]
+#[derive(Clone, Copy, PartialEq, Eq, Drop)]
 pub enum Comparison {
     Je,
     Jl,
@@ -30,7 +30,7 @@ pub enum Comparison {
 }
 
 /// Reads and writes of variables.
-#[derive(Clone, Copy, Debug, PartialEq, Eq, Drop)]
+#[derive(Clone, Copy, PartialEq, Eq, Drop)]
 pub enum Assignment {
     Store,
     Load,
@@ -43,7 +43,7 @@ pub enum Assignment {
 }
 
 /// Reads and writes of memory, of a byte or a word.
-#[derive(Clone, Copy, Debug, PartialEq, Eq, Drop)]
+#[derive(Clone, Copy, PartialEq, Eq, Drop)]
 pub enum Array {
     Loadw,
     Loadb,
@@ -52,7 +52,7 @@ pub enum Array {
 }
 
 /// Changes to objects: their attributes, places and properties.
-#[derive(Clone, Copy, Debug, PartialEq, Eq, Drop)]
+#[derive(Clone, Copy, PartialEq, Eq, Drop)]
 pub enum ObjectChange {
     SetAttr,
     ClearAttr,
@@ -62,7 +62,7 @@ pub enum ObjectChange {
 }
 
 /// Questions about objects: their attributes, places and properties.
-#[derive(Clone, Copy, Debug, PartialEq, Eq, Drop)]
+#[derive(Clone, Copy, PartialEq, Eq, Drop)]
 pub enum ObjectQuestion {
     Jin,
     TestAttr,
@@ -76,7 +76,7 @@ pub enum ObjectQuestion {
 }
 
 /// Calls of routines: those that store the result (`s`), and those that drop it (`n`).
-#[derive(Clone, Copy, Debug, PartialEq, Eq, Drop)]
+#[derive(Clone, Copy, PartialEq, Eq, Drop)]
 pub enum Call {
     CallVs,
     Call1s,
@@ -89,7 +89,7 @@ pub enum Call {
 }
 
 /// Returns from routines, and what a routine asks of its own call.
-#[derive(Clone, Copy, Debug, PartialEq, Eq, Drop)]
+#[derive(Clone, Copy, PartialEq, Eq, Drop)]
 pub enum Routine {
     Rtrue,
     Rfalse,
@@ -101,14 +101,14 @@ pub enum Routine {
 }
 
 /// A jump, and the end of the run.
-#[derive(Clone, Copy, Debug, PartialEq, Eq, Drop)]
+#[derive(Clone, Copy, PartialEq, Eq, Drop)]
 pub enum Control {
     Jump,
     Quit,
 }
 
 /// Output of text.
-#[derive(Clone, Copy, Debug, PartialEq, Eq, Drop)]
+#[derive(Clone, Copy, PartialEq, Eq, Drop)]
 pub enum Printing {
     Print,
     PrintRet,
@@ -122,7 +122,7 @@ pub enum Printing {
 }
 
 /// What changes nothing here: some only store or branch on an answer.
-#[derive(Clone, Copy, Debug, PartialEq, Eq, Drop)]
+#[derive(Clone, Copy, PartialEq, Eq, Drop)]
 pub enum Idle {
     Nop,
     SetColour,
@@ -136,7 +136,7 @@ pub enum Idle {
 }
 
 /// Input from the player.
-#[derive(Clone, Copy, Debug, PartialEq, Eq, Drop)]
+#[derive(Clone, Copy, PartialEq, Eq, Drop)]
 pub enum Reading {
     Sread,
     Aread,
@@ -144,14 +144,14 @@ pub enum Reading {
 }
 
 /// Lines split into words, and words into Z-characters.
-#[derive(Clone, Copy, Debug, PartialEq, Eq, Drop)]
+#[derive(Clone, Copy, PartialEq, Eq, Drop)]
 pub enum Words {
     Tokenise,
     EncodeText,
 }
 
 /// The screen's windows, the cursor and the status line.
-#[derive(Clone, Copy, Debug, PartialEq, Eq, Drop)]
+#[derive(Clone, Copy, PartialEq, Eq, Drop)]
 pub enum Window {
     SplitWindow,
     SetWindow,
@@ -163,14 +163,14 @@ pub enum Window {
 }
 
 /// The choice of output and input streams.
-#[derive(Clone, Copy, Debug, PartialEq, Eq, Drop)]
+#[derive(Clone, Copy, PartialEq, Eq, Drop)]
 pub enum Stream {
     OutputStream,
     InputStream,
 }
 
 /// Searches, copies and output of tables.
-#[derive(Clone, Copy, Debug, PartialEq, Eq, Drop)]
+#[derive(Clone, Copy, PartialEq, Eq, Drop)]
 pub enum Table {
     ScanTable,
     CopyTable,
@@ -178,7 +178,7 @@ pub enum Table {
 }
 
 /// Saved games, restarts, and the check of the story file.
-#[derive(Clone, Copy, Debug, PartialEq, Eq, Drop)]
+#[derive(Clone, Copy, PartialEq, Eq, Drop)]
 pub enum Saving {
     SaveBranch,
     SaveStore,
@@ -196,7 +196,7 @@ pub enum Saving {
 /// follows. Where what follows the operands differs by version, each kind has a variant of its own:
 /// `save` branches in version 3 (`SaveBranch`), stores in version 4 (`SaveStore`), and is an extended
 /// opcode from version 5 on (`Save`).
-#[derive(Clone, Copy, Debug, PartialEq, Eq, Drop)]
+#[derive(Clone, Copy, PartialEq, Eq, Drop)]
 pub enum Opcode {
     Arithmetic(Arithmetic),
     Comparison(Comparison),

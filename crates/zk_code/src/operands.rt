@@ -6,7 +6,7 @@ use arrayvec::ArrayVec;
 use std::marker::Model;
 
 /// How an operand is given (Standard, section 4.2).
-#[derive(Clone, Copy, Debug, PartialEq, Eq, Drop)]
+#[derive(Clone, Copy, PartialEq, Eq, Drop)]
 pub enum OperandType {
     /// A constant of two bytes.
     LargeConstant,
@@ -29,7 +29,7 @@ impl OperandType {
 }
 
 /// An operand.
-#[derive(Clone, Copy, Debug, PartialEq, Eq, Drop)]
+#[derive(Clone, Copy, PartialEq, Eq, Drop)]
 pub enum Operand {
     /// A constant given in two bytes.
     Large(u16),
@@ -66,7 +66,7 @@ impl Operand {
 }
 
 /// The operands of an instruction in their order, at most eight (Standard, section 4.5.1).
-#[derive(Debug, Drop)]
+#[derive(Drop)]
 pub struct Operands {
     list: ArrayVec<Operand, 8>,
 }

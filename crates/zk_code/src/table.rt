@@ -9,7 +9,7 @@ use crate::opcode::{
 };
 
 /// What follows the operands of an instruction.
-#[derive(Clone, Copy, Debug, PartialEq, Eq, Drop)]
+#[derive(Clone, Copy, PartialEq, Eq, Drop)]
 pub enum Follows {
     Nothing,
     Stores,
@@ -39,7 +39,7 @@ impl Follows {
 }
 
 /// What the opcode tables say of an opcode.
-#[derive(Clone, Copy, Debug, PartialEq, Eq, Drop)]
+#[derive(Clone, Copy, PartialEq, Eq, Drop)]
 pub struct Entry {
     pub opcode: Opcode,
     /// The least number of operands.

@@ -1,7 +1,7 @@
 // What the words of the command line ask for.
 
 ghost use Rattle.std.specs.Prelude.{◌≡◌, ◌≤◌, ℕ, List, codes, IfErr, IfNone, IfOk, IfSome, OnErr, SomeIff, false, map};
-ghost use Rattle.clap.specs.Words.{app_of, first_of, found_of, kind_of, rows_of, rule_of};
+ghost use Rattle.clap.specs.Words.{app_of, new_app, with_rule, first_of, found_of, kind_of, rows_of, rule_of};
 ghost use Rattle.clap.specs.declared.Command.TheViews.{out-Command as fields_of};
 ghost use Rattle.zk_vm.specs.Bounds.{AreInRange};
 ghost use Rattle.zk_vm.specs.declared.limits.Limits.{Limits};
@@ -79,68 +79,50 @@ fn story_word_of<'a>(alloc: Global) -> Arg<'a>
         .help("The story's file, of version 3, 5 or 8")
 }
 
+/// A command with an argument as well. Arguments are made and added one by one, so that none waits where there is no memory
+/// for another.
+fn with_arg<'a>(command: Command<'a>, arg: Arg<'a>) -> Result<Command<'a>, AllocError>
+    requires local { (fields_of command).has_globals ≡ false }
+    requires arg_local { arg.global ≡ false }
+    ensures shape { IfOk result (λ c. app_of c ≡ with_rule (app_of command.entry) (rule_of arg.entry)) }
+    ensures local { IfOk result (λ c. (fields_of c).has_globals ≡ false) }
+{
+    command.arg(arg)
+}
+
+/// A command with its description and an example.
+fn described<'a>(alloc: Global, name: &'a str, about: &'a str, example: &'a str) -> Command<'a>
+    ensures shape { app_of result ≡ new_app name.entry.now }
+    ensures local { (fields_of result).has_globals ≡ false }
+{
+    Command::new(alloc, name).about(about).after_help(example)
+}
+
 /// The command `play`.
 fn play_command_of<'a>(alloc: Global) -> Result<Command<'a>, AllocError>
     ensures shape { IfOk result (λ c. app_of c ≡ play_command) }
     ensures local { IfOk result (λ c. (fields_of c).has_globals ≡ false) }
 {
-    let frames = number_option_of(
-        alloc,
-        "frames",
-        "1024",
-        "The most routines that may be open at once, 1 to 65535",
-    );
-    let words = number_option_of(
-        alloc,
-        "words",
-        "16384",
-        "The most words that the open routines may hold, 0 to 65535",
-    );
-    let undo = number_option_of(
-        alloc,
-        "undo",
-        "16",
-        "How many states can be gone back to, 0 to 64",
-    );
-    let steps = number_option_of(
-        alloc,
-        "steps",
-        "10000000",
-        "The most instructions without reading, 1 to 1000000000",
-    );
-    let seed = number_option_of(
-        alloc,
-        "seed",
-        "1",
-        "What begins the random numbers, 0 to 18446744073709551615",
-    );
-    let save = file_option_of(
-        alloc,
-        "save",
-        "The file that the game is saved to and restored from; without it there are no saved games",
-    );
-    let script = file_option_of(
-        alloc,
-        "script",
-        "The file that the transcript is written to; what it held goes",
-    );
-    let upper = flag_of(
-        alloc,
-        "upper",
-        "Shows the status line and the upper window, on lines of their own",
-    );
-    Command::new(alloc, "play")
-        .about("Plays a story")
-        .after_help("Example: zkit play --steps 50000000 story.z5")
-        .arg(frames)?
-        .arg(words)?
-        .arg(undo)?
-        .arg(steps)?
-        .arg(seed)?
-        .arg(save)?
-        .arg(script)?
-        .arg(upper)?
-        .arg(story_word_of(alloc))
+    let example = "Example: zkit play --steps 50000000 story.z5";
+    let command = described(alloc, "play", "Plays a story", example);
+    let help = "The most routines that may be open at once, 1 to 65535";
+    let command = with_arg(command, number_option_of(alloc, "frames", "1024", help))?;
+    let help = "The most words that the open routines may hold, 0 to 65535";
+    let command = with_arg(command, number_option_of(alloc, "words", "16384", help))?;
+    let help = "How many states can be gone back to, 0 to 64";
+    let command = with_arg(command, number_option_of(alloc, "undo", "16", help))?;
+    let help = "The most instructions without reading, 1 to 1000000000";
+    let command = with_arg(command, number_option_of(alloc, "steps", "10000000", help))?;
+    let help = "What begins the random numbers, 0 to 18446744073709551615";
+    let command = with_arg(command, number_option_of(alloc, "seed", "1", help))?;
+    let help =
+        "The file that the game is saved to and restored from; without it there are no saved games";
+    let command = with_arg(command, file_option_of(alloc, "save", help))?;
+    let help = "The file that the transcript is written to; what it held goes";
+    let command = with_arg(command, file_option_of(alloc, "script", help))?;
+    let help = "Shows the status line and the upper window, on lines of their own";
+    let command = with_arg(command, flag_of(alloc, "upper", help))?;
+    with_arg(command, story_word_of(alloc))
 }
 
 /// The command `info`.
@@ -148,22 +130,26 @@ fn info_command_of<'a>(alloc: Global) -> Result<Command<'a>, AllocError>
     ensures shape { IfOk result (λ c. app_of c ≡ info_command) }
     ensures local { IfOk result (λ c. (fields_of c).has_globals ≡ false) }
 {
-    let header = flag_of(alloc, "header", "Lists what the header says");
-    let map = flag_of(alloc, "map", "Lists where the parts of the story begin");
-    let abbreviations = flag_of(alloc, "abbreviations", "Lists the abbreviations");
-    let dictionary = flag_of(alloc, "dictionary", "Lists the words of the dictionary");
-    let objects = flag_of(alloc, "objects", "Lists the objects with their properties");
-    let tree = flag_of(alloc, "tree", "Lists the tree of objects");
-    Command::new(alloc, "info")
-        .about("Lists the tables of a story; without an option, what its header says")
-        .after_help("Example: zkit info --dictionary story.z5")
-        .arg(header)?
-        .arg(map)?
-        .arg(abbreviations)?
-        .arg(dictionary)?
-        .arg(objects)?
-        .arg(tree)?
-        .arg(story_word_of(alloc))
+    let about = "Lists the tables of a story; without an option, what its header says";
+    let command = described(
+        alloc,
+        "info",
+        about,
+        "Example: zkit info --dictionary story.z5",
+    );
+    let help = "Lists what the header says";
+    let command = with_arg(command, flag_of(alloc, "header", help))?;
+    let help = "Lists where the parts of the story begin";
+    let command = with_arg(command, flag_of(alloc, "map", help))?;
+    let help = "Lists the abbreviations";
+    let command = with_arg(command, flag_of(alloc, "abbreviations", help))?;
+    let help = "Lists the words of the dictionary";
+    let command = with_arg(command, flag_of(alloc, "dictionary", help))?;
+    let help = "Lists the objects with their properties";
+    let command = with_arg(command, flag_of(alloc, "objects", help))?;
+    let help = "Lists the tree of objects";
+    let command = with_arg(command, flag_of(alloc, "tree", help))?;
+    with_arg(command, story_word_of(alloc))
 }
 
 /// The command `disasm`.
@@ -171,10 +157,9 @@ fn disasm_command_of<'a>(alloc: Global) -> Result<Command<'a>, AllocError>
     ensures shape { IfOk result (λ c. app_of c ≡ disasm_command) }
     ensures local { IfOk result (λ c. (fields_of c).has_globals ≡ false) }
 {
-    Command::new(alloc, "disasm")
-        .about("Lists the instructions of a story that it can come to")
-        .after_help("Example: zkit disasm story.z5")
-        .arg(story_word_of(alloc))
+    let about = "Lists the instructions of a story that it can come to";
+    let command = described(alloc, "disasm", about, "Example: zkit disasm story.z5");
+    with_arg(command, story_word_of(alloc))
 }
 
 /// The command `check`.
@@ -182,10 +167,9 @@ fn check_command_of<'a>(alloc: Global) -> Result<Command<'a>, AllocError>
     ensures shape { IfOk result (λ c. app_of c ≡ check_command) }
     ensures local { IfOk result (λ c. (fields_of c).has_globals ≡ false) }
 {
-    Command::new(alloc, "check")
-        .about("Lists what is wrong with a story, and ends with status 6 where something is")
-        .after_help("Example: zkit check story.z5")
-        .arg(story_word_of(alloc))
+    let about = "Lists what is wrong with a story, and ends with status 6 where something is";
+    let command = described(alloc, "check", about, "Example: zkit check story.z5");
+    with_arg(command, story_word_of(alloc))
 }
 
 /// zkit's command line.
@@ -193,18 +177,18 @@ fn command_line_of<'a>(alloc: Global) -> Result<Command<'a>, AllocError>
     ensures { IfOk result (λ c. app_of c ≡ command_line) }
 {
     let play = play_command_of(alloc)?;
-    let info = info_command_of(alloc)?;
-    let disasm = disasm_command_of(alloc)?;
-    let check = check_command_of(alloc)?;
-    Command::new(alloc, "zkit")
+    let command = Command::new(alloc, "zkit")
         .about("Plays, lists and checks Z-machine stories")
         .version("0.1.0")
         .after_help("Example: zkit play story.z5")
         .subcommand_required(true)
-        .subcommand(play)?
-        .subcommand(info)?
-        .subcommand(disasm)?
-        .subcommand(check)
+        .subcommand(play)?;
+    let info = info_command_of(alloc)?;
+    let command = command.subcommand(info)?;
+    let disasm = disasm_command_of(alloc)?;
+    let command = command.subcommand(disasm)?;
+    let check = check_command_of(alloc)?;
+    command.subcommand(check)
 }
 
 /// The number that a word says, if it lies in a range.

@@ -6,7 +6,7 @@ use zk_vm::stop::Stop;
 
 /// How a play, a listing or a check ends: with a file that can't be read, with one that is no story, with a stop, or with
 /// something that is wrong.
-#[derive(Debug, Drop)]
+#[derive(Drop)]
 pub enum Ending {
     /// The file can't be opened or read.
     Unread(io::Error),

@@ -28,7 +28,7 @@ use zk_vm::stop::Stop;
 const UNDO_STATES: u8 = 16;
 
 /// A section of `info`.
-#[derive(Clone, Copy, Debug, PartialEq, Eq, Drop)]
+#[derive(Clone, Copy, PartialEq, Eq, Drop)]
 pub enum Section {
     Header,
     Map,
@@ -49,7 +49,7 @@ const SECTIONS: [Section; 6] = [
 ];
 
 /// Which sections are shown.
-#[derive(Clone, Copy, Debug, PartialEq, Eq, Drop)]
+#[derive(Clone, Copy, PartialEq, Eq, Drop)]
 pub struct Sections {
     pub header: bool,
     pub map: bool,
@@ -74,7 +74,7 @@ impl Sections {
 }
 
 /// What is listed of a story.
-#[derive(Clone, Copy, Debug, PartialEq, Eq, Drop)]
+#[derive(Clone, Copy, PartialEq, Eq, Drop)]
 pub enum Listing {
     /// Sections on its tables.
     Info(Sections),

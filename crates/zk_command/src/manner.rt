@@ -4,7 +4,7 @@ use zk_step::workspace::View;
 use zk_vm::limits::Limits;
 
 /// The manner in which a story is played.
-#[derive(Clone, Copy, Debug, PartialEq, Eq, Drop)]
+#[derive(Clone, Copy, PartialEq, Eq, Drop)]
 pub struct Manner {
     /// What a run holds and runs at most.
     pub limits: Limits,

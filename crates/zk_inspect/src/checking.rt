@@ -319,6 +319,31 @@ fn add_all(
     Ok(())
 }
 
+/// All kinds of findings, in the order of their numbers.
+const NUMBERS: [Number; 11] = [
+    Number::Checksum,
+    Number::Length,
+    Number::DictionaryOrder,
+    Number::DictionaryExtent,
+    Number::ObjectLinks,
+    Number::ChainWithARepeat,
+    Number::PropertyList,
+    Number::TextPastTheEnd,
+    Number::NestedAbbreviation,
+    Number::UndecodableCode,
+    Number::TargetOutOfTheStory,
+];
+
+/// All findings, from the parts of the story.
+fn find_all(alloc: Global, memory: &Memory, parts: &Parts) -> Result<Vec<Finding>, AllocError>
+    requires { AreParts memory.now parts.now }
+    ensures { IfOk result (λ list. AreFindings memory.now list.items) }
+{
+    let mut all = Vec::new(alloc);
+    add_all(alloc, memory, parts, &NUMBERS, &mut all)?;
+    Ok(all)
+}
+
 /// What is wrong with a story: each finding once, by number, then by address. Nothing is asked of a table whose word in the
 /// header is 0.
 ///
@@ -327,20 +352,5 @@ pub fn check(alloc: Global, memory: &Memory) -> Result<Vec<Finding>, AllocError>
     ensures { IfOk result (λ list. AreFindings memory.now list.items) }
 {
     let parts = find_parts(alloc, memory)?;
-    let mut all = Vec::new(alloc);
-    let numbers = [
-        Number::Checksum,
-        Number::Length,
-        Number::DictionaryOrder,
-        Number::DictionaryExtent,
-        Number::ObjectLinks,
-        Number::ChainWithARepeat,
-        Number::PropertyList,
-        Number::TextPastTheEnd,
-        Number::NestedAbbreviation,
-        Number::UndecodableCode,
-        Number::TargetOutOfTheStory,
-    ];
-    add_all(alloc, memory, &parts, &numbers, &mut all)?;
-    Ok(all)
+    find_all(alloc, memory, &parts)
 }

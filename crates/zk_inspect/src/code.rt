@@ -6,7 +6,7 @@ use std::alloc::{AllocError, Global};
 use std::marker::Model;
 
 /// A list of byte addresses.
-#[derive(Debug, Drop)]
+#[derive(Drop)]
 pub struct Addresses {
     list: Vec<u32>,
 }
@@ -62,7 +62,7 @@ impl Addresses {
 
 /// The reachable code of a story: what a run comes to from its first instruction on by what stands in the instructions,
 /// and the routines that are called there by a constant. Both lists ascend, and have each address once.
-#[derive(Debug, Drop)]
+#[derive(Drop)]
 pub struct Code {
     /// The byte addresses of instructions. There need be none: code may lead to data, or to the story's end.
     pub addresses: Addresses,

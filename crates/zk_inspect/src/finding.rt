@@ -4,7 +4,7 @@ ghost use Rattle.std.specs.Prelude.{◌≡◌};
 ghost use Rattle.zk_inspect.specs.FindingLines.{finding_number, finding_words};
 
 /// What may be wrong, by the numbers that reports show.
-#[derive(Clone, Copy, Debug, PartialEq, Eq, Drop)]
+#[derive(Clone, Copy, PartialEq, Eq, Drop)]
 pub enum Number {
     /// The sum of the file's bytes is not the one that its header states.
     Checksum,
@@ -71,7 +71,7 @@ impl Number {
 }
 
 /// Something that is wrong, and where: a byte address.
-#[derive(Clone, Copy, Debug, PartialEq, Eq, Drop)]
+#[derive(Clone, Copy, PartialEq, Eq, Drop)]
 pub struct Finding {
     pub number: Number,
     pub address: u32,

@@ -3,46 +3,29 @@
 ghost use Rattle.std.specs.Prelude.{◌≡◌};
 ghost use Rattle.zk_mem.specs.Faults.{fault_number};
 
+use std::fmt::{self, Display, Formatter, Write};
 use thiserror::Error;
 
 /// Why an instruction can't be carried out.
 #[derive(Clone, Copy, Debug, PartialEq, Eq, Drop, Error)]
 pub enum Fault {
-    #[error("the instruction runs past the end of the story")]
     CodePastEnd,
-    #[error("no such opcode in this version")]
     BadOpcode,
-    #[error("too few operands")]
     MissingOperand,
-    #[error("the evaluation stack of the frame is empty")]
     StackEmpty,
-    #[error("the routine has no such local variable")]
     NoSuchLocal,
-    #[error("the address lies outside readable memory")]
     BadAddress,
-    #[error("the address lies in static memory")]
     ReadOnly,
-    #[error("division by zero")]
     DivisionByZero,
-    #[error("no such object")]
     BadObject,
-    #[error("no such property, or a property list without an end")]
     BadProperty,
-    #[error("the object tree goes round in a circle, or misses the object")]
     BadTree,
-    #[error("a text runs past the end of the story")]
     TextPastEnd,
-    #[error("an abbreviation inside an abbreviation")]
     NestedAbbreviation,
-    #[error("too many open tables of output stream 3")]
     StreamDepth,
-    #[error("no such frame")]
     BadFrame,
-    #[error("a return from the first frame")]
     ReturnFromMain,
-    #[error("a branch, jump or call that leads out of the story")]
     BadTarget,
-    #[error("the dictionary lies outside readable memory, or its entries are too short")]
     BadDictionary,
 }
 
@@ -71,5 +54,36 @@ impl Fault {
             Fault::BadTarget => 17,
             Fault::BadDictionary => 18,
         }
+    }
+
+    /// What is wrong, in words.
+    pub fn text(self) -> &'static str {
+        match self {
+            Fault::CodePastEnd => "the instruction runs past the end of the story",
+            Fault::BadOpcode => "no such opcode in this version",
+            Fault::MissingOperand => "too few operands",
+            Fault::StackEmpty => "the evaluation stack of the frame is empty",
+            Fault::NoSuchLocal => "the routine has no such local variable",
+            Fault::BadAddress => "the address lies outside readable memory",
+            Fault::ReadOnly => "the address lies in static memory",
+            Fault::DivisionByZero => "division by zero",
+            Fault::BadObject => "no such object",
+            Fault::BadProperty => "no such property, or a property list without an end",
+            Fault::BadTree => "the object tree goes round in a circle, or misses the object",
+            Fault::TextPastEnd => "a text runs past the end of the story",
+            Fault::NestedAbbreviation => "an abbreviation inside an abbreviation",
+            Fault::StreamDepth => "too many open tables of output stream 3",
+            Fault::BadFrame => "no such frame",
+            Fault::ReturnFromMain => "a return from the first frame",
+            Fault::BadTarget => "a branch, jump or call that leads out of the story",
+            Fault::BadDictionary =>
+                "the dictionary lies outside readable memory, or its entries are too short",
+        }
+    }
+}
+
+impl Display for Fault {
+    fn fmt<W: Write>(&self, f: &mut Formatter<W>) -> fmt::Result {
+        f.write_str(self.text())
     }
 }

@@ -9,6 +9,7 @@ use crate::checks::{count, is_of_story, memory_fits};
 use crate::parts::{Parts, form, parts_in};
 use crate::reading::number;
 use crate::writes::{put_memory, put_stack};
+use std::fmt::{self, Display, Formatter, Write};
 use thiserror::Error;
 use zk_mem::memory::Memory;
 use zk_state::frames::Frames;
@@ -19,23 +20,37 @@ use zk_state::refusal::Limit;
 #[derive(Clone, Copy, Debug, PartialEq, Eq, Drop, Error)]
 pub enum RestoreError {
     /// The file is no saved game: no form of the kind `IFZS`.
-    #[error("the file is no saved game")]
     NotQuetzal,
     /// The file ends too early, or lacks a part.
-    #[error("the saved game is cut off")]
     Truncated,
     /// The saved game is of another story.
-    #[error("the saved game is of another story")]
     OtherStory,
     /// The memory does not fit the story.
-    #[error("the memory of the saved game is bad")]
     BadMemory,
     /// The frames can't be read.
-    #[error("the frames of the saved game are bad")]
     BadStack,
     /// There are more frames or words than there may be.
-    #[error(transparent)]
     Limit(Limit),
+}
+
+impl RestoreError {
+    /// What is wrong with the file, in words.
+    pub fn text(self) -> &'static str {
+        match self {
+            RestoreError::NotQuetzal => "the file is no saved game",
+            RestoreError::Truncated => "the saved game is cut off",
+            RestoreError::OtherStory => "the saved game is of another story",
+            RestoreError::BadMemory => "the memory of the saved game is bad",
+            RestoreError::BadStack => "the frames of the saved game are bad",
+            RestoreError::Limit(limit) => limit.text(),
+        }
+    }
+}
+
+impl Display for RestoreError {
+    fn fmt<W: Write>(&self, f: &mut Formatter<W>) -> fmt::Result {
+        f.write_str(self.text())
+    }
 }
 
 /// The parts of a saved game that can be restored, or why it can't be. Nothing is changed.

@@ -11,7 +11,7 @@ use std::marker::Model;
 use zk_mem::fault::Fault;
 
 /// Where a routine returns to: the byte address, and the variable that takes its result, if any.
-#[derive(Clone, Copy, Debug, PartialEq, Eq, Drop)]
+#[derive(Clone, Copy, PartialEq, Eq, Drop)]
 pub struct Return {
     pub place: u32,
     pub result: Option<u8>,
@@ -64,7 +64,7 @@ impl Model for FramesCopy {
 
 /// A frame as it stands: its local variables, its evaluation stack with the newest word last, the byte
 /// address that it returns to, the variable that takes its result, and how many arguments it was given.
-#[derive(Clone, Copy, Debug, Drop)]
+#[derive(Clone, Copy, Drop)]
 pub struct FrameView<'a> {
     pub locals: &'a [u16],
     pub words: &'a [u16],

@@ -8,7 +8,7 @@ use std::marker::Model;
 
 /// A frame: its local variables are the words from `base` to `floor`, and its evaluation stack is all that
 /// lies between them and the next frame.
-#[derive(Clone, Copy, Debug, PartialEq, Eq, Drop)]
+#[derive(Clone, Copy, PartialEq, Eq, Drop)]
 pub(crate) struct FrameRecord {
     pub(crate) base: u32,
     pub(crate) floor: u32,

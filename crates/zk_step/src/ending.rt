@@ -3,7 +3,7 @@
 use zk_arrays::rectangle::Rectangle;
 
 /// How an effect ends, before the next place is known.
-#[derive(Clone, Copy, Debug, PartialEq, Eq, Drop)]
+#[derive(Clone, Copy, PartialEq, Eq, Drop)]
 pub enum Ending {
     /// Goes on, with a result, a truth, both or neither.
     GoOn(Option<u16>, Option<bool>),
@@ -28,7 +28,7 @@ pub enum Ending {
 }
 
 /// What an instruction waits for.
-#[derive(Clone, Copy, Debug, PartialEq, Eq, Drop)]
+#[derive(Clone, Copy, PartialEq, Eq, Drop)]
 pub enum Wait {
     /// A line, for the text buffer and the parse buffer at two byte addresses.
     Line(u16, u16),
@@ -41,7 +41,7 @@ pub enum Wait {
 }
 
 /// What an instruction prints.
-#[derive(Clone, Copy, Debug, PartialEq, Eq, Drop)]
+#[derive(Clone, Copy, PartialEq, Eq, Drop)]
 pub enum Output {
     Nothing,
     /// A ZSCII code.
@@ -61,14 +61,14 @@ pub enum Output {
 }
 
 /// What an effect does beside its changes of the workspace.
-#[derive(Clone, Copy, Debug, PartialEq, Eq, Drop)]
+#[derive(Clone, Copy, PartialEq, Eq, Drop)]
 pub struct Effect {
     pub output: Output,
     pub ending: Ending,
 }
 
 /// Where a machine goes on.
-#[derive(Clone, Copy, Debug, PartialEq, Eq, Drop)]
+#[derive(Clone, Copy, PartialEq, Eq, Drop)]
 pub enum Next {
     /// At the instruction at a byte address.
     At(u32),

@@ -22,7 +22,7 @@ use zk_mem::fault::Fault;
 use zk_state::refusal::Refusal;
 
 /// The way on from an instruction.
-#[derive(Clone, Copy, Debug, PartialEq, Eq, Drop)]
+#[derive(Clone, Copy, PartialEq, Eq, Drop)]
 pub enum Way {
     /// To a byte address in the story.
     To(u32),

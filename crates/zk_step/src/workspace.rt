@@ -11,7 +11,7 @@ use zk_state::frames::Frames;
 use zk_term::windows::Windows;
 
 /// What a machine shows of the upper window and the status line.
-#[derive(Clone, Copy, Debug, PartialEq, Eq, Drop)]
+#[derive(Clone, Copy, PartialEq, Eq, Drop)]
 pub enum View {
     /// Nothing.
     Plain,

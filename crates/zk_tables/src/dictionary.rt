@@ -10,7 +10,7 @@ use zk_mem::memory::Memory;
 
 /// A dictionary of the story, which lies whole in readable data (Z-Machine Standards Document 1.1,
 /// section 13.2). It says where its parts stand; what they are is what memory holds.
-#[derive(Clone, Copy, Debug, PartialEq, Eq, Drop)]
+#[derive(Clone, Copy, PartialEq, Eq, Drop)]
 pub struct Dictionary {
     /// Its byte address.
     pub address: u32,

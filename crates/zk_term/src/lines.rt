@@ -24,7 +24,7 @@ const KEPT: usize = 1024;
 const TOO_LONG: u32 = 65_536;
 
 /// How an input is over.
-#[derive(Clone, Copy, Debug, PartialEq, Eq, Drop)]
+#[derive(Clone, Copy, PartialEq, Eq, Drop)]
 pub(crate) enum Over {
     /// It has no more bytes.
     End,
@@ -33,7 +33,7 @@ pub(crate) enum Over {
 }
 
 /// What is heard when a line is waited for.
-#[derive(Debug, PartialEq, Eq, Drop)]
+#[derive(PartialEq, Eq, Drop)]
 pub enum Input {
     /// A line, as ZSCII codes that may be typed: the first 255 of them.
     Line(ArrayVec<u8, 255>),

@@ -5,7 +5,7 @@ ghost use Rattle.std.specs.Io.KnownBytes.{Appends, WriteAppends};
 ghost use Rattle.zk_term.specs.Devices.{TookPart};
 
 /// A read or a write that failed.
-#[derive(Clone, Copy, Debug, PartialEq, Eq, Drop)]
+#[derive(Clone, Copy, PartialEq, Eq, Drop)]
 pub struct Failed;
 
 /// Takes bytes: a screen, a file, a list in memory.

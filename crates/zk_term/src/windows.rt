@@ -14,7 +14,7 @@ pub const ROWS: usize = 255;
 pub const COLUMNS: usize = 80;
 
 /// A window of the screen (Z-Machine Standards Document 1.1, section 8.6).
-#[derive(Clone, Copy, Debug, PartialEq, Eq, Drop)]
+#[derive(Clone, Copy, PartialEq, Eq, Drop)]
 pub enum Window {
     Lower,
     Upper,

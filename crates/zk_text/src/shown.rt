@@ -8,7 +8,7 @@ use crate::extra::Extra;
 use crate::unit::Unit;
 
 /// The characters that a unit shows.
-#[derive(Clone, Copy, Debug, PartialEq, Eq, Drop)]
+#[derive(Clone, Copy, PartialEq, Eq, Drop)]
 pub enum Shown {
     /// Of the null code.
     Nothing,

@@ -12,7 +12,7 @@ use zk_mem::fault::Fault;
 use zk_mem::memory::Memory;
 
 /// A sink that takes no notice.
-#[derive(Clone, Copy, Debug, PartialEq, Eq, Drop)]
+#[derive(Clone, Copy, PartialEq, Eq, Drop)]
 struct Silent;
 
 impl Sink for Silent {

@@ -1,7 +1,7 @@
 // What a printed text is made of.
 
 /// A unit of printed text.
-#[derive(Clone, Copy, Debug, PartialEq, Eq, Drop)]
+#[derive(Clone, Copy, PartialEq, Eq, Drop)]
 pub enum Unit {
     /// A ZSCII code (Z-Machine Standards Document 1.1, section 3.8). A text has codes below 1024;
     /// the operand of print_char may be any number, and one over 255 is no character's code.

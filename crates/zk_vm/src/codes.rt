@@ -15,7 +15,7 @@ pub struct Codes {
 }
 
 /// There is no room for a code.
-#[derive(Clone, Copy, Debug, PartialEq, Eq, Drop)]
+#[derive(Clone, Copy, PartialEq, Eq, Drop)]
 pub struct Full;
 
 impl Model for Codes {

@@ -4,7 +4,7 @@ ghost use Rattle.std.specs.Prelude.{◌↔◌, IsTrue};
 ghost use Rattle.zk_vm.specs.Bounds.{AreInRange};
 
 /// What a machine holds and runs at most.
-#[derive(Clone, Copy, Debug, PartialEq, Eq, Drop)]
+#[derive(Clone, Copy, PartialEq, Eq, Drop)]
 pub struct Limits {
     /// Frames, the first among them: from 1 on.
     pub frames: u16,

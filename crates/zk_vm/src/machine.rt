@@ -11,7 +11,7 @@ ghost use Rattle.zk_vm.specs.Answers.Answer.{Typed, Kept, File};
 ghost use Rattle.zk_vm.specs.Going.{IsAhead, limit_of, stop_by, verdict_by, place_by, steps_by, stopped_by, restored_on, Settles, LacksMemory, IsHalted};
 ghost use Rattle.zk_vm.specs.Halts.{ComesToKeep, IsLeftAs, IsLeftBy, IsRun, IsStep, event_by, event_waited, halt_by, halt_of, is_read_event};
 ghost use Rattle.zk_vm.specs.Laws.{IsWithin};
-ghost use Rattle.zk_vm.specs.Outcome.{begun, given, segment, with_stop};
+ghost use Rattle.zk_vm.specs.Outcome.{begun, first_workspace, given, segment, with_stop};
 ghost use Rattle.zk_vm.specs.Plays.{image_of};
 ghost use Rattle.zk_vm.specs.Step.{is_read, led_to, text_of};
 ghost use Rattle.zk_step.specs.Routing.{no_text};
@@ -88,6 +88,38 @@ impl Model for Machine {
     ghost invariant = { IsSound };
 }
 
+/// The workspace that a story begins with. `seed` begins its random numbers.
+fn fresh_workspace(
+    alloc: Global,
+    story: Story,
+    seed: u64,
+    limits: Limits,
+    view: View,
+) -> Result<Workspace, AllocError>
+    requires { AreInRange limits }
+    ensures { IfOk result (λ w. w ≡ first_workspace story seed limits view) }
+{
+    let setup = Setup {
+        undo_states: limits.undo,
+    };
+    let frames = Frames::new(alloc, limits.frames, limits.words)?;
+    let memory = Memory::start(alloc, story, setup)?;
+    let windows = Windows::new(alloc)?;
+    let generators = Generators {
+        free: seed,
+        predictable: None,
+    };
+    Ok(Workspace {
+        memory,
+        frames,
+        streams: Streams::new(),
+        windows,
+        generators,
+        at_line_start: true,
+        view,
+    })
+}
+
 impl Machine {
     /// A machine at the start of a story. `seed` begins its random numbers, and `view` says what it shows of
     /// the status line and the upper window.
@@ -103,29 +135,12 @@ impl Machine {
         ensures { IfOk result (λ m. m ≡ begun story seed limits view) }
     {
         let place = story.header().first_instruction as u32;
-        let setup = Setup {
-            undo_states: limits.undo,
-        };
-        let frames = Frames::new(alloc, limits.frames, limits.words)?;
-        let memory = Memory::start(alloc, story, setup)?;
-        let windows = Windows::new(alloc)?;
+        let workspace = fresh_workspace(alloc, story, seed, limits, view)?;
         let undo = Undo::new(alloc, limits.undo)?;
-        let cache = Cache::new(alloc, &memory)?;
+        let cache = Cache::new(alloc, &workspace.memory)?;
         let codes = Codes::new(alloc)?;
-        let generators = Generators {
-            free: seed,
-            predictable: None,
-        };
         Ok(Machine {
-            workspace: Workspace {
-                memory,
-                frames,
-                streams: Streams::new(),
-                windows,
-                generators,
-                at_line_start: true,
-                view,
-            },
+            workspace,
             place,
             steps: 0,
             reads: 0,

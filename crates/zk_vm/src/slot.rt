@@ -28,7 +28,7 @@ pub trait SaveSlot {
 }
 
 /// A slot that keeps nothing and has nothing.
-#[derive(Clone, Copy, Debug, PartialEq, Eq, Drop)]
+#[derive(Clone, Copy, PartialEq, Eq, Drop)]
 pub struct NoSlot;
 
 impl SaveSlot for NoSlot {

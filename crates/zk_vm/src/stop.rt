@@ -4,7 +4,7 @@ use zk_mem::fault::Fault;
 use zk_state::refusal::Limit;
 
 /// Why a machine stops. Addresses are byte addresses of instructions.
-#[derive(Clone, Copy, Debug, PartialEq, Eq, Drop)]
+#[derive(Clone, Copy, PartialEq, Eq, Drop)]
 pub enum Stop {
     /// The story has ended.
     Quit,
@@ -23,7 +23,7 @@ pub enum Stop {
 }
 
 /// What a machine waits for.
-#[derive(Clone, Copy, Debug, PartialEq, Eq, Drop)]
+#[derive(Clone, Copy, PartialEq, Eq, Drop)]
 pub enum Event {
     /// A line of input.
     Line,

@@ -14,7 +14,7 @@ pub(crate) struct Waiting {
 }
 
 /// Why a machine makes no further step.
-#[derive(Clone, Copy, Debug, PartialEq, Eq, Drop)]
+#[derive(Clone, Copy, PartialEq, Eq, Drop)]
 pub(crate) enum Halt {
     /// It waits for an answer.
     Waits(Wait),
