@@ -1,6 +1,6 @@
 // Lines of small inputs, against values worked out by hand.
 
-use crate::tests_same::{demand, same};
+use crate::tests_same::same;
 use std::alloc::Global;
 use std::io::{self, Read};
 use std::process::Abort;
@@ -13,7 +13,7 @@ use zk_text::extra::Extra;
 
 /// A story of version 5 whose header extension, at $40, names a table of two Cyrillic letters, where it is
 /// to have one.
-fn memory(alloc: Global, is_own: bool) -> Result<Memory, Fail> {
+pub(crate) fn memory(alloc: Global, is_own: bool) -> Result<Memory, Fail> {
     let mut file = [0; 0x80];
     file[0x00] = 5;
     file[0x05] = 0x60;
@@ -35,9 +35,9 @@ fn memory(alloc: Global, is_own: bool) -> Result<Memory, Fail> {
 
 /// Gives a few bytes at a time.
 #[derive(Drop)]
-struct Pieces<'a> {
-    bytes: &'a [u8],
-    size: usize,
+pub(crate) struct Pieces<'a> {
+    pub(crate) bytes: &'a [u8],
+    pub(crate) size: usize,
 }
 
 impl Read for Pieces<'_> {
@@ -52,10 +52,10 @@ impl Read for Pieces<'_> {
 
 /// Gives a text so many times, and then another.
 #[derive(Drop)]
-struct Repeated {
-    text: &'static [u8],
-    times: u32,
-    rest: &'static [u8],
+pub(crate) struct Repeated {
+    pub(crate) text: &'static [u8],
+    pub(crate) times: u32,
+    pub(crate) rest: &'static [u8],
 }
 
 impl Read for Repeated {
@@ -72,42 +72,8 @@ impl Read for Repeated {
     }
 }
 
-/// What a read answers.
-#[derive(Clone, Copy, Drop)]
-enum Step {
-    Bytes(&'static [u8]),
-    End,
-    Fails,
-}
-
-/// Answers each read by the next step, and counts them.
-#[derive(Drop)]
-struct Script {
-    steps: &'static [Step],
-    asked: u32,
-}
-
-impl Read for Script {
-    fn read(&mut self, buffer: &mut [u8]) -> io::Result<usize> {
-        self.asked = self.asked.saturating_add(1);
-        let [step, rest @ ..] = self.steps else {
-            return Ok(0);
-        };
-        self.steps = rest;
-        match step {
-            Step::Bytes(bytes) => {
-                let count = bytes.len().min(buffer.len());
-                buffer[..count].copy_from_slice(&bytes[..count]);
-                Ok(count)
-            }
-            Step::End => Ok(0),
-            Step::Fails => Err(io::ErrorKind::Other.into()),
-        }
-    }
-}
-
 /// The answers to so many calls: for each line its codes and a bar, an E for the end and an F for a failure.
-fn heard<R: Read>(
+pub(crate) fn heard<R: Read>(
     alloc: Global,
     source: &mut Over<R>,
     extra: &Extra,
@@ -129,7 +95,12 @@ fn heard<R: Read>(
 }
 
 /// Whether four calls answer this, where the bytes come one by one, some at a time, and all at once.
-fn hears(alloc: Global, extra: &Extra, bytes: &[u8], wanted: &[u8]) -> Result<bool, Fail> {
+pub(crate) fn hears(
+    alloc: Global,
+    extra: &Extra,
+    bytes: &[u8],
+    wanted: &[u8],
+) -> Result<bool, Fail> {
     for size in [1, 2, 3, 5, 2000] {
         let mut source = Over::new(Pieces { bytes, size });
         let found = heard(alloc, &mut source, extra, 4)?;
@@ -141,7 +112,10 @@ fn hears(alloc: Global, extra: &Extra, bytes: &[u8], wanted: &[u8]) -> Result<bo
 }
 
 /// Every row's bytes are heard as its answers, by the standard's extra characters.
-fn all_heard(rt: impl Abort + AllocGlobal + Copy, rows: &[(&[u8], &[u8])]) -> Result<(), Fail> {
+pub(crate) fn all_heard(
+    rt: impl Abort + AllocGlobal + Copy,
+    rows: &[(&[u8], &[u8])],
+) -> Result<(), Fail> {
     let memory = memory(rt.alloc(), false)?;
     let extra = Extra::of(&memory);
     for (bytes, wanted) in rows {
@@ -168,20 +142,6 @@ fn new_lines_end_lines(rt: HostRuntime) -> Result<(), Fail> {
 }
 
 #[test]
-fn one_return_before_a_new_line_is_dropped(rt: HostRuntime) -> Result<(), Fail> {
-    let rows: [(&[u8], &[u8]); 7] = [
-        (b"ab\r\nc\r\n", b"ab|c|EE"),
-        (b"\r\n", b"|EEE"),
-        (b"a\r\r\n", b"a?|EEE"),
-        (b"a\rb\n", b"a?b|EEE"),
-        (b"a\n\rb\n", b"a|?b|EE"),
-        (b"a\r", b"a?|EEE"),
-        (b"\r", b"?|EEE"),
-    ];
-    all_heard(rt, &rows)
-}
-
-#[test]
 fn characters_are_typed_as_codes(rt: HostRuntime) -> Result<(), Fail> {
     let rows: [(&[u8], &[u8]); 10] = [
         (b"A\xc3\x84\t\xff\r\n", b"A\x9e ?|EEE"),
@@ -199,96 +159,6 @@ fn characters_are_typed_as_codes(rt: HostRuntime) -> Result<(), Fail> {
 }
 
 #[test]
-fn stray_bytes_are_question_marks(rt: HostRuntime) -> Result<(), Fail> {
-    let rows: [(&[u8], &[u8]); 10] = [
-        (b"\x80a\xfe", b"?a?|EEE"),
-        (b"\xc3a", b"?a|EEE"),
-        (b"\xc3\xc3\x84", b"?\x9e|EEE"),
-        (b"\xe2\x82a", b"??a|EEE"),
-        (b"\xf0\x9f\x98", b"???|EEE"),
-        (b"\xc0\x80a", b"??a|EEE"),
-        (b"\xe0\x9f\xbfa", b"???a|EEE"),
-        (b"\xf0\x8f\xbf\xbfa", b"????a|EEE"),
-        (b"\xed\xa0\x80a", b"???a|EEE"),
-        (b"\xf4\x90\x80\x80a", b"????a|EEE"),
-    ];
-    all_heard(rt, &rows)
-}
-
-#[test]
-fn an_own_table_is_used_alone(rt: HostRuntime) -> Result<(), Fail> {
-    let memory = memory(rt.alloc(), true)?;
-    let extra = Extra::of(&memory);
-    let bytes = b"a\xd0\x96\xd0\x97\xc3\x84\n";
-    demand(&rt, hears(rt.alloc(), &extra, bytes, b"a\x9b\x9c?|EEE")?);
-    Ok(())
-}
-
-/// A text, how often it is repeated, and what is behind it; how long the answers are, and their end.
-type Long = (&'static [u8], u32, &'static [u8], usize, &'static [u8]);
-
-/// Whether four calls answer so many bytes with this end, of an input that has a short line before a text
-/// that is repeated.
-fn ends(
-    alloc: Global,
-    extra: &Extra,
-    input: Repeated,
-    (length, end): (usize, &[u8]),
-) -> Result<bool, Fail> {
-    let mut source = Over::new(b"c\n".as_slice().chain(input));
-    let found = heard(alloc, &mut source, extra, 4)?;
-    Ok(found.len() == length && found.as_slice().ends_with(end))
-}
-
-#[test]
-fn lines_have_255_codes_at_most(rt: HostRuntime) -> Result<(), Fail> {
-    let memory = memory(rt.alloc(), false)?;
-    let extra = Extra::of(&memory);
-    let rows: [Long; 8] = [
-        (b"a", 254, b"\xc3\x84\nb", 261, b"a\x9e|b|E"),
-        (b"a", 255, b"\xc3\x84\nb", 261, b"aa|b|E"),
-        (b"a", 254, b"\r\nb", 260, b"aa|b|E"),
-        (b"a", 253, b"\xe2\x82", 260, b"a??|EE"),
-        (b"\xf0\x9f\x98\x80", 254, b"\xc3\x84\nb", 261, b"?\x9e|b|E"),
-        (b"\xf0\x9f\x98\x80", 254, b"\xe2\x82\xac\nb", 261, b"??|b|E"),
-        (b"\xf0\x9f\x98\x80", 255, b"\nb", 261, b"??|b|E"),
-        (b"\xf0\x9f\x98\x80", 16_000, b"a\r\nb", 261, b"??|b|E"),
-    ];
-    for (text, times, rest, length, end) in rows {
-        let input = Repeated { text, times, rest };
-        same(
-            &rt,
-            (times, rest, ends(rt.alloc(), &extra, input, (length, end))?),
-            (times, rest, true),
-        );
-    }
-    Ok(())
-}
-
-#[test]
-fn lines_have_65_535_bytes_at_most(rt: HostRuntime) -> Result<(), Fail> {
-    let memory = memory(rt.alloc(), false)?;
-    let extra = Extra::of(&memory);
-    let rows: [Long; 6] = [
-        (b"a", 65_535, b"\nb", 261, b"aa|b|E"),
-        (b"a", 65_535, b"", 260, b"aa|EE"),
-        (b"a", 65_534, b"\r\nb", 261, b"aa|b|E"),
-        (b"a", 65_535, b"\r\nb", 5, b"c|FFF"),
-        (b"a", 65_536, b"\nb", 5, b"c|FFF"),
-        (b"a", 65_536, b"", 5, b"c|FFF"),
-    ];
-    for (text, times, rest, length, end) in rows {
-        let input = Repeated { text, times, rest };
-        same(
-            &rt,
-            (times, rest, ends(rt.alloc(), &extra, input, (length, end))?),
-            (times, rest, true),
-        );
-    }
-    Ok(())
-}
-
-#[test]
 fn too_many_bytes_are_not_waited_for(rt: HostRuntime) -> Result<(), Fail> {
     let memory = memory(rt.alloc(), false)?;
     let extra = Extra::of(&memory);
@@ -303,51 +173,5 @@ fn too_many_bytes_are_not_waited_for(rt: HostRuntime) -> Result<(), Fail> {
         b"FF".as_slice(),
     );
     same(&rt, source.into_inner().times, 4);
-    Ok(())
-}
-
-#[test]
-fn an_input_that_is_over_stays_so(rt: HostRuntime) -> Result<(), Fail> {
-    let memory = memory(rt.alloc(), false)?;
-    let extra = Extra::of(&memory);
-    let rows: [(&'static [Step], u32, &'static [u8]); 4] = [
-        (
-            &[Step::Bytes(b"a\nb"), Step::Fails, Step::Bytes(b"c\n")],
-            2,
-            b"a|FFF",
-        ),
-        (&[Step::Fails, Step::Bytes(b"c\n")], 1, b"FFFF"),
-        (
-            &[Step::Bytes(b"a\n"), Step::End, Step::Bytes(b"c\n")],
-            2,
-            b"a|EEE",
-        ),
-        (
-            &[Step::Bytes(b"a"), Step::End, Step::End, Step::Bytes(b"c\n")],
-            3,
-            b"a|EEE",
-        ),
-    ];
-    for (steps, asked, wanted) in rows {
-        let mut source = Over::new(Script { steps, asked: 0 });
-        let found = heard(rt.alloc(), &mut source, &extra, 4)?;
-        same(&rt, found.as_slice(), wanted);
-        same(&rt, source.into_inner().asked, asked);
-    }
-    Ok(())
-}
-
-#[test]
-fn lines_are_told_apart(rt: HostRuntime) -> Result<(), Fail> {
-    let memory = memory(rt.alloc(), false)?;
-    let extra = Extra::of(&memory);
-    let mut source = Over::new(b"a\na\nb".as_slice());
-    let mut lines = Lines::new();
-    let first = lines.line(&mut source, &extra);
-    let second = lines.line(&mut source, &extra);
-    let third = lines.line(&mut source, &extra);
-    same(&rt, second == first, true);
-    same(&rt, third == first, false);
-    same(&rt, lines.line(&mut source, &extra), Input::End);
     Ok(())
 }

@@ -14,31 +14,3 @@ fn runs_of_zeros_are_short(rt: HostRuntime) -> Result<(), Fail> {
     demand(&rt, packed.is_empty());
     Ok(())
 }
-
-// A pair is for 256 zeros at most.
-#[test]
-fn long_runs_are_cut(rt: HostRuntime) -> Result<(), Fail> {
-    for (zeros, length, second) in [
-        (255, 3, 254),
-        (256, 3, 255),
-        (257, 5, 255),
-        (512, 5, 255),
-        (513, 7, 255),
-    ] {
-        let mut bytes = vec![in rt.alloc(); 0u8; zeros]?;
-        bytes.push(1)?;
-        let packed = pack(rt.alloc(), bytes.as_slice())?;
-        same(&rt, (zeros, packed.len()), (zeros, length));
-        same(
-            &rt,
-            (zeros, packed.as_slice().get(1).copied()),
-            (zeros, Some(second)),
-        );
-        same(
-            &rt,
-            (zeros, packed.as_slice().last().copied()),
-            (zeros, Some(1)),
-        );
-    }
-    Ok(())
-}

@@ -6,7 +6,6 @@ use std::alloc::{AllocError, Global};
 use std::cell::Cell;
 use std::io::{self, Read, Write};
 use std::test::Fail;
-use zk_mem::fault::Fault;
 use zk_term::nothing::Nothing;
 use zk_term::over::Over;
 use zk_vm::limits::Limits;
@@ -14,7 +13,7 @@ use zk_vm::play::{play, turn};
 use zk_vm::slot::{NoSlot, SaveSlot};
 use zk_vm::stop::{Event, Stop};
 
-const AMPLE: Limits = Limits {
+pub(crate) const AMPLE: Limits = Limits {
     frames: 9,
     words: 9,
     undo: 0,
@@ -95,33 +94,6 @@ fn turns_go_from_read_to_read(rt: HostRuntime) -> Result<(), Fail> {
         );
         same(&rt, last, Err(Stop::Quit));
         same(&rt, taken.get(), 1);
-    }
-    Ok(())
-}
-
-#[test]
-fn answers_fault_in_the_next_turn(rt: HostRuntime) -> Result<(), Fail> {
-    // aread with its text buffer at 64, where byte 65 counts 127 letters of 228: a letter is past the story
-    let mut machine = started(&rt, AMPLE, &[0xe4, 0x7f, 0x40, 0x00])?;
-    let first = turn(
-        rt.alloc(),
-        &mut Nothing,
-        &mut Nothing,
-        &mut NoSlot,
-        &mut machine,
-    );
-    same(&rt, first, Ok(Event::Line));
-    if machine.waiting() == Some(Event::Line) {
-        machine.answer_line(b"a");
-        demand(&rt, machine.waiting() == None);
-        let next = turn(
-            rt.alloc(),
-            &mut Nothing,
-            &mut Nothing,
-            &mut NoSlot,
-            &mut machine,
-        );
-        same(&rt, next, Err(Stop::Fault(0x40, Fault::BadAddress)));
     }
     Ok(())
 }

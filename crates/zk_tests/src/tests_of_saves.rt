@@ -22,23 +22,3 @@ fn a_game_is_saved(rt: HostRuntime) -> Result<(), Fail> {
     same(&rt, file.as_slice(), wanted.as_slice());
     Ok(())
 }
-
-// Each frame has eight bytes and two for each of its words.
-#[test]
-fn frames_are_saved_from_the_first_on(rt: HostRuntime) -> Result<(), Fail> {
-    let memory = started(rt.alloc())?;
-    let mut frames = Frames::new(rt.alloc(), 3, 9)?;
-    same(&rt, frames.push(0x1234), Ok(()));
-    same(&rt, frames.call(&[7, 0x0809], 0x12345, Some(17), 2), Ok(()));
-    same(&rt, frames.call(&[], 66, None, 0), Ok(()));
-    same(&rt, frames.push(0xfffe), Ok(()));
-    let file = save(rt.alloc(), &memory, &frames, 0x41)?;
-    let wanted = [
-        0x00, 0x00, 0x00, 0x20, 0x00, 0x00, 0x00, 0x00, 0x00, 0x00, 0x00, 0x01, 0x12, 0x34, 0x01,
-        0x23, 0x45, 0x02, 0x11, 0x03, 0x00, 0x00, 0x00, 0x07, 0x08, 0x09, 0x00, 0x00, 0x42, 0x10,
-        0x00, 0x00, 0x00, 0x01, 0xff, 0xfe,
-    ];
-    same(&rt, file.len(), 90);
-    same(&rt, file.as_slice().get(54..), Some(wanted.as_slice()));
-    Ok(())
-}

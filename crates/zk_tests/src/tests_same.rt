@@ -2,12 +2,11 @@
 
 ghost use Rattle.std.specs.Prelude.{◌≡◌, true};
 
-use std::fmt::Debug;
 use std::process::Abort;
 
 /// Ends the test run where a value is not the one that is wanted.
-pub fn same<T: PartialEq + Debug + Drop>(rt: &impl Abort, told: T, wanted: T) {
-    assert_eq!(*rt; told, wanted);
+pub fn same<T: PartialEq + Drop>(rt: &impl Abort, told: T, wanted: T) {
+    assert!(*rt; told == wanted);
 }
 
 /// Ends the test run where a condition does not hold.
