@@ -2,7 +2,6 @@
 
 use crate::tests_of_machines::started;
 use crate::tests_same::{demand, same};
-use std::alloc::{AllocError, Global};
 use std::cell::Cell;
 use std::io::{self, Read, Write};
 use std::test::Fail;
@@ -10,7 +9,7 @@ use zk_term::nothing::Nothing;
 use zk_term::over::Over;
 use zk_vm::limits::Limits;
 use zk_vm::play::{play, turn};
-use zk_vm::slot::{NoSlot, SaveSlot};
+use zk_vm::slot::NoSlot;
 use zk_vm::stop::{Event, Stop};
 
 pub(crate) const AMPLE: Limits = Limits {
@@ -125,74 +124,5 @@ fn all_text_is_written_before_the_reader_is_asked(rt: HostRuntime) -> Result<(),
     // each of the four bytes was asked for when one, one, three and three bytes were written
     same(&rt, noted.get(), 1133);
     same(&rt, taken.get(), 3);
-    Ok(())
-}
-
-/// Takes nothing.
-#[derive(Drop)]
-struct Full;
-
-impl Write for Full {
-    fn write(&mut self, _bytes: &[u8]) -> io::Result<usize> {
-        Err(io::Error::from(io::ErrorKind::StorageFull))
-    }
-
-    fn flush(&mut self) -> io::Result<()> {
-        Ok(())
-    }
-}
-
-/// Notes that it was asked.
-#[derive(Drop)]
-struct Asked<'a> {
-    asked: &'a Cell<bool>,
-}
-
-impl SaveSlot for Asked<'_> {
-    ghost use Rattle.std.specs.Prelude.{None};
-
-    ghost held = { λ _. None };
-
-    ghost keeps = { λ _ _. None };
-
-    fn put(&mut self, _file: &[u8]) -> bool {
-        self.asked.set(true);
-        true
-    }
-
-    fn get(&mut self, _alloc: Global) -> Result<Option<Vec<u8>>, AllocError> {
-        self.asked.set(true);
-        Ok(None)
-    }
-}
-
-#[test]
-fn nobody_is_asked_after_a_failed_write(rt: HostRuntime) -> Result<(), Fail> {
-    // print_char a, save -> sp, restore -> sp, quit
-    let code = [
-        0xe5, 0x7f, 0x61, 0xbe, 0x00, 0xff, 0x00, 0xbe, 0x01, 0xff, 0x00, 0xba,
-    ];
-    let asked = Cell::new(false);
-    let mut machine = started(&rt, AMPLE, &code)?;
-    let mut slot = Asked { asked: &asked };
-    let first = turn(
-        rt.alloc(),
-        &mut Over::new(Full),
-        &mut Nothing,
-        &mut slot,
-        &mut machine,
-    );
-    same(&rt, first, Err(Stop::Write));
-    same(&rt, asked.get(), false);
-    let mut machine = started(&rt, AMPLE, &code)?;
-    let second = turn(
-        rt.alloc(),
-        &mut Nothing,
-        &mut Nothing,
-        &mut slot,
-        &mut machine,
-    );
-    same(&rt, second, Err(Stop::Quit));
-    same(&rt, asked.get(), true);
     Ok(())
 }

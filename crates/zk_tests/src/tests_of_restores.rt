@@ -4,15 +4,9 @@ use crate::tests_same::same;
 use crate::tests_story::started;
 use std::alloc::Global;
 use std::test::Fail;
-use zk_mem::memory::Memory;
-use zk_save::restore::{RestoreError, restore};
+use zk_save::restore::restore;
 use zk_save::save::save;
 use zk_state::frames::Frames;
-
-/// Memory and frames as a file.
-pub(crate) fn whole(alloc: Global, memory: &Memory, frames: &Frames) -> Result<Vec<u8>, Fail> {
-    Ok(save(alloc, memory, frames, 0x41)?)
-}
 
 /// Frames with local variables, words, a dropped result and arguments.
 pub(crate) fn deep(alloc: Global) -> Result<Frames, Fail> {
@@ -44,28 +38,5 @@ fn a_game_goes_on(rt: HostRuntime) -> Result<(), Fail> {
     same(&rt, other.dynamic(), memory.dynamic());
     let again = save(rt.alloc(), &other, &others, 0x41)?;
     same(&rt, again.as_slice(), file.as_slice());
-    Ok(())
-}
-
-#[test]
-fn no_part_of_a_file_will_do(rt: HostRuntime) -> Result<(), Fail> {
-    let alloc = rt.alloc();
-    let mut memory = started(alloc)?;
-    let mut frames = deep(alloc)?;
-    let _ = memory.set_byte(0x20, 7);
-    let file = whole(alloc, &memory, &frames)?;
-    let _ = memory.set_byte(0x20, 8);
-    same(&rt, frames.push(5), Ok(()));
-    let before = whole(alloc, &memory, &frames)?;
-    for len in 0..file.len() {
-        let part = file.as_slice().get(..len).unwrap_or(&[]);
-        let answer = restore(part, &mut memory, &mut frames);
-        same(&rt, (len, answer), (len, Err(RestoreError::Truncated)));
-        same(
-            &rt,
-            (len, whole(alloc, &memory, &frames)?.as_slice()),
-            (len, before.as_slice()),
-        );
-    }
     Ok(())
 }
