@@ -76,7 +76,7 @@ fn story_word_of<'a>(alloc: Global) -> Arg<'a>
 {
     Arg::new(alloc, "STORY")
         .required(true)
-        .help("The story's file, of version 3, 5 or 8")
+        .help("The story's file, of version 3, 4, 5 or 8")
 }
 
 /// A command with an argument as well. Arguments are made and added one by one, so that none waits where there is no memory

@@ -146,11 +146,13 @@ abbrev pub GreatestLengths : Type 0
 GreatestLengths =
     (is_over (greatest_length 3) 131072 ≡ false)
     × (is_over (greatest_length 3) 131073 ≡ true)
+    × (is_over (greatest_length 4) 262144 ≡ false)
+    × (is_over (greatest_length 4) 262145 ≡ true)
     × (is_over (greatest_length 5) 262144 ≡ false)
     × (is_over (greatest_length 5) 262145 ≡ true)
     × (is_over (greatest_length 8) 524288 ≡ false)
     × (is_over (greatest_length 8) 524289 ≡ true)
-    × (greatest_length 4 ≡ None)
+    × (greatest_length 2 ≡ None)
     × (greatest_length 6 ≡ None)
     × (greatest_length 7 ≡ None)
 
@@ -164,6 +166,7 @@ file_with version first base =
 abbrev pub StoriesAreOpened : Type 0
 StoriesAreOpened =
     (refusal (file_with 3 63 64) ≡ None)
+    × (refusal (file_with 4 0 64) ≡ None)
     × (refusal (file_with 5 0 64) ≡ None)
     × (refusal (file_with 8 63 64) ≡ None)
     × (refusal (file_with 3 63 63) ≡ Some StaticBase)
@@ -174,8 +177,8 @@ StoriesAreOpened =
 -- 11.1)
 abbrev pub ReasonsInOrder : Type 0
 ReasonsInOrder =
-    (refusal (replicate 63 4) ≡ Some TooShort)
-    × (refusal (file_with 4 64 63) ≡ Some (Version 4))
+    (refusal (replicate 63 7) ≡ Some TooShort)
+    × (refusal (file_with 7 64 63) ≡ Some (Version 7))
     × (refusal (file_with 6 63 64) ≡ Some (Version 6))
     × (refusal (file_with 3 64 63) ≡ Some StaticBase)
 

@@ -8,7 +8,7 @@ use Rattle.zk_mem.specs.Header.{word_in}
 abbrev pub greatest_length : ℕ → Option ℕ
 greatest_length version =
     if version == 3 then Some 131072
-    else if version == 5 then Some 262144
+    else if version == 4 || version == 5 then Some 262144
     else if version == 8 then Some 524288
     else None
 

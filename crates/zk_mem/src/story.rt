@@ -20,8 +20,8 @@ pub enum OpenError {
     /// A version that is not played, by its number.
     #[error("version {0} is not played")]
     Version(u8),
-    /// The file is longer than its version allows: 131,072 bytes in version 3, 262,144 in version 5,
-    /// 524,288 in version 8.
+    /// The file is longer than its version allows: 131,072 bytes in version 3, 262,144 in versions 4
+    /// and 5, 524,288 in version 8.
     #[error("the file is too long for its version")]
     TooLong,
     /// Static memory begins inside the header or past the file.
@@ -121,7 +121,7 @@ fn greatest_length_of(version: u8) -> Option<usize>
 {
     match version {
         3 => Some(131_072),
-        5 => Some(262_144),
+        4 | 5 => Some(262_144),
         8 => Some(524_288),
         _ => None,
     }

@@ -1,15 +1,16 @@
 -- What was saved is loaded.
-use Rattle.std.specs.Prelude.{reverse, nat_le, codes, if◌then◌else◌, ◌==◌}
+use Rattle.std.specs.Prelude.{reverse, nat_le, codes, if◌then◌else◌, ◌==◌, ◌||◌}
 use Rattle.std.specs.List.{flat_map, All}
 use Rattle.std.specs.Str.{bytes_eq}
 use Rattle.std.proofs.Common.{◌≡◌, ◌∙◌, ℕ, ◌+◌, ◌-◌, ◌*◌, ◌/◌, ◌%◌, ◌^◌, ◌≤◌, Bool, true, false, List, [], ◌∷◌, ◌++◌, length, take, drop, Option, Some, None, Ok, refl, ap, sym, arith, append_assoc, length-append}
 use Rattle.std.proofs.lemmas.Bool.Decides.{nat_tests}
+use Rattle.std.proofs.lemmas.Bool.{eq-eqb}
 use Rattle.std.proofs.lemmas.Slice.Eq.{bytes_eq-Decides}
 use Rattle.std.proofs.lemmas.List.Elements.{All-head, All-tail, All-cons, All-nil, All-push}
 use Rattle.zk_save.specs.Spelling.{HasName, ReadsWhatIsWritten}
 use Rattle.std.proofs.lemmas.List.{take_at, drop_at, drop-drop, reverse-append, reverse-reverse}
 use Rattle.zk_state.specs.Frames.{Frame, IsFrame, first_frame, oldest_of, BeginsFirst, FrameList, frames_of}
-use Rattle.zk_save.specs.Quetzal.{Chunk, padding, chunk_bytes, bytes_2, bytes_3, bytes_4, words_bytes, drop_flag, variable_of, frame_bytes, first_bytes, stack_content, with_stack, form_bytes, story_checksum, story_content, saved_chunks, saved}
+use Rattle.zk_save.specs.Quetzal.{Chunk, padding, chunk_bytes, bytes_2, bytes_3, bytes_4, words_bytes, drop_flag, variable_of, frame_bytes, first_bytes, stack_content, with_stack, form_bytes, story_checksum, story_content, difference_of, memory_part, saved_chunks, saved}
 use Rattle.zk_save.specs.Reading.{number_behind, number_of, bytes_behind, words_of, then_rest, with_first, result_in, arguments_in, first_chunk, content_of, first_of_frames, frames_read}
 use Rattle.zk_save.specs.Counted.{first_written, frames_rest}
 use Rattle.zk_mem.specs.Map.{MemoryMap}
@@ -254,10 +255,17 @@ module _ (file : List ℕ) (place : ℕ) (six : length (header_of file).serial �
 
 -- ---- memory
 
-memory_again : (m : MemoryMap) → m.static_base ≤ length m.file → length (take m.static_base m.bytes) ≡ m.static_base
-    → dynamic_in m (record { name = codes "CMem"; content = packed (xored (take m.static_base m.bytes) m.file) }) ≡ Some (take m.static_base m.bytes)
+-- a chunk that gives back dynamic memory
+record IsPart (m : MemoryMap) (c : Chunk) : Type 0 where
+  named : HasName c
+  is_memory : (bytes_eq c.name (codes "CMem") || bytes_eq c.name (codes "UMem")) ≡ true
+  no_stack : bytes_eq c.name (codes "Stks") ≡ false
+  gives : dynamic_in m c ≡ Some (take m.static_base m.bytes)
+
+packed_again : (m : MemoryMap) → m.static_base ≤ length m.file → length (take m.static_base m.bytes) ≡ m.static_base
+    → dynamic_in m (record { name = codes "CMem"; content = difference_of m }) ≡ Some (take m.static_base m.bytes)
 unfolding dynamic_in
-memory_again m le long =
+packed_again m le long =
     let bytes : List ℕ = take m.static_base m.bytes in
     let ds : List ℕ = xored bytes m.file in
     let fits : length bytes ≤ length m.file = omega (arith, le, long) in
@@ -266,24 +274,39 @@ memory_again m le long =
     let turned : xored (take m.static_base m.file) ds ≡ bytes = ap (λ (k : ℕ). xored (take k m.file) ds) (sym length_ds) ∙ bytes_again bytes m.file fits in
     rw (back, turned) refl
 
-module _ (a b d : List ℕ) where
-  have_names : All HasName (three a b d)
-  have_names =
+plain_again : (m : MemoryMap) → length (take m.static_base m.bytes) ≡ m.static_base → dynamic_in m (record { name = codes "UMem"; content = take m.static_base m.bytes }) ≡ Some (take m.static_base m.bytes)
+unfolding dynamic_in
+plain_again m long = let same : (length (take m.static_base m.bytes) == m.static_base) ≡ true = eq-eqb _ _ long in rw same refl
+
+part_again : (m : MemoryMap) → m.static_base ≤ length m.file → length (take m.static_base m.bytes) ≡ m.static_base → IsPart m (memory_part m)
+unfolding memory_part
+part_again m le long = by (nat_le (length (difference_of m)) m.static_base) refl
+  where
+    by : (b : Bool) → nat_le (length (difference_of m)) m.static_base ≡ b → IsPart m (memory_part m)
+    by true e = rw e (record { named = refl; is_memory = refl; no_stack = refl; gives = packed_again m le long })
+    by false e = rw e (record { named = refl; is_memory = refl; no_stack = refl; gives = plain_again m long })
+
+module _ (a : List ℕ) (c : Chunk) (d : List ℕ) where
+  have_names : HasName c → All HasName (three a c d)
+  have_names named =
       let third : All HasName (record { name = codes "Stks"; content = d } ∷ []) = All-cons HasName (record { name = codes "Stks"; content = d }) [] refl (All-nil HasName) in
-      let second : All HasName (record { name = codes "CMem"; content = b } ∷ record { name = codes "Stks"; content = d } ∷ []) = All-cons HasName (record { name = codes "CMem"; content = b }) (record { name = codes "Stks"; content = d } ∷ []) refl third in
-      All-cons HasName (record { name = codes "IFhd"; content = a }) (record { name = codes "CMem"; content = b } ∷ record { name = codes "Stks"; content = d } ∷ []) refl second
+      let second : All HasName (c ∷ record { name = codes "Stks"; content = d } ∷ []) = All-cons HasName c (record { name = codes "Stks"; content = d } ∷ []) named third in
+      All-cons HasName (record { name = codes "IFhd"; content = a }) (c ∷ record { name = codes "Stks"; content = d } ∷ []) refl second
 
 pub loaded_again : (m : MemoryMap) (s : FrameList) (place : ℕ) → length (header_of m.file).serial ≡ 6 → m.static_base ≤ length m.file → length (take m.static_base m.bytes) ≡ m.static_base → BeginsFirst s → All IsFrame (frames_of s)
     → IsLoadedAgain m s place (saved m s place)
 unfolding saved loaded parts_of content_of memory_chunk
 loaded_again m s place six le long begins each =
-    let names : All HasName (saved_chunks m s place) = have_names (story_content m.file place) (packed (xored (take m.static_base m.bytes) m.file)) (stack_content (reverse (frames_of s))) in
+    let part : IsPart m (memory_part m) = part_again m le long in
+    let names : All HasName (saved_chunks m s place) = have_names (story_content m.file place) (memory_part m) (stack_content (reverse (frames_of s))) part.named in
     rw (
       form_again (saved_chunks m s place),
       chunks_again (saved_chunks m s place) names,
       not_below (length (story_content m.file place)) 13 (omega (arith, story_length m.file place six)),
+      part.is_memory,
+      part.no_stack,
       story_again m.file place six,
-      memory_again m le long,
+      part.gives,
       stack_again s begins each,
       place_again m.file place six,
       reverse-reverse (frames_of s),

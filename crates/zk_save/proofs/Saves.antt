@@ -1,12 +1,13 @@
 -- Frames that are written one after another, and how long that is.
-use Rattle.std.specs.Prelude.{slice_get, reverse, codes, if◌then◌else◌, ◌==◌}
+use Rattle.std.specs.Prelude.{slice_get, reverse, codes, nat_le, if◌then◌else◌, ◌==◌}
 use Rattle.std.proofs.lemmas.Bool.Decides.{nat_tests}
 use Rattle.std.specs.List.{flat_map}
 use Rattle.std.proofs.Common.{◌≡◌, ◌∙◌, ℕ, Bool, true, false, ◌+◌, ◌*◌, ◌%◌, ◌≤◌, List, [], ◌∷◌, ◌++◌, length, take, get_or, Some, refl, ap, sym, arith, add-one, append_assoc, length-append}
 use Rattle.std.proofs.lemmas.List.{append-nil, take_all, take_more, flat_map_more, reverse-append}
 use Rattle.std.proofs.lemmas.Option.{slice_get_within, get_or_from_slice_get}
 use Rattle.zk_state.specs.Frames.{Frame, sizes_of}
-use Rattle.zk_save.specs.Quetzal.{Chunk, padding, chunk_bytes, form_bytes, bytes_4, words_bytes, frame_bytes, first_bytes, stack_content}
+use Rattle.zk_mem.specs.Map.{MemoryMap}
+use Rattle.zk_save.specs.Quetzal.{Chunk, padding, chunk_bytes, form_bytes, bytes_4, words_bytes, frame_bytes, first_bytes, stack_content, difference_of, memory_part}
 
 pub stack_start : (up : List Frame) (f : Frame) → slice_get up 0 ≡ Some f → first_bytes f ≡ stack_content (take 1 up)
 unfolding stack_content
@@ -72,34 +73,41 @@ length_chunk : (c : Chunk) → length (chunk_bytes c) ≡ length c.name + 4 + le
 unfolding chunk_bytes
 length_chunk c = omega (arith, length-append c.name (bytes_4 (length c.content) ++ c.content ++ padding (length c.content)), length-append (c.name ++ bytes_4 (length c.content) ++ c.content) (padding (length c.content)), length-append (c.name ++ bytes_4 (length c.content)) c.content, length-append c.name (bytes_4 (length c.content)), length_padding (length c.content))
 
-module _ (a b d : List ℕ) where
+module _ (a : List ℕ) (c : Chunk) (d : List ℕ) where
   -- the three chunks of a saved game
   abbrev pub three : List Chunk
-  three = record { name = codes "IFhd"; content = a } ∷ record { name = codes "CMem"; content = b } ∷ record { name = codes "Stks"; content = d } ∷ []
+  three = record { name = codes "IFhd"; content = a } ∷ c ∷ record { name = codes "Stks"; content = d } ∷ []
 
   abbrev pub inner : List ℕ
   inner = codes "IFZS" ++ flat_map chunk_bytes three
 
-  pub inner_is : codes "IFZS" ++ chunk_bytes (record { name = codes "IFhd"; content = a }) ++ chunk_bytes (record { name = codes "CMem"; content = b }) ++ chunk_bytes (record { name = codes "Stks"; content = d }) ≡ inner
+  pub inner_is : codes "IFZS" ++ chunk_bytes (record { name = codes "IFhd"; content = a }) ++ chunk_bytes c ++ chunk_bytes (record { name = codes "Stks"; content = d }) ≡ inner
   inner_is = simp (append_assoc, append-nil)
 
-  pub length_inner : length a ≡ 13 → length inner ≡ 42 + (length b + length b % 2) + (length d + length d % 2)
-  length_inner e =
+  pub length_inner : length a ≡ 13 → length c.name ≡ 4 → length inner ≡ 42 + (length c.content + length c.content % 2) + (length d + length d % 2)
+  length_inner e f =
       omega (
         arith,
         e,
+        f,
         ap length (sym inner_is),
         length_chunk (record { name = codes "IFhd"; content = a }),
-        length_chunk (record { name = codes "CMem"; content = b }),
+        length_chunk c,
         length_chunk (record { name = codes "Stks"; content = d }),
-        length-append (codes "IFZS" ++ chunk_bytes (record { name = codes "IFhd"; content = a }) ++ chunk_bytes (record { name = codes "CMem"; content = b })) (chunk_bytes (record { name = codes "Stks"; content = d })),
-        length-append (codes "IFZS" ++ chunk_bytes (record { name = codes "IFhd"; content = a })) (chunk_bytes (record { name = codes "CMem"; content = b })),
+        length-append (codes "IFZS" ++ chunk_bytes (record { name = codes "IFhd"; content = a }) ++ chunk_bytes c) (chunk_bytes (record { name = codes "Stks"; content = d })),
+        length-append (codes "IFZS" ++ chunk_bytes (record { name = codes "IFhd"; content = a })) (chunk_bytes c),
       )
 
-  pub length_form : length a ≡ 13 → length (form_bytes three) ≡ 50 + (length b + length b % 2) + (length d + length d % 2)
+  -- a saved game is as long as its chunks say
+  pub length_saved : (s : ℕ) → length a ≡ 13 → length c.name ≡ 4 → length d ≤ 2 * s → length (form_bytes three) ≤ 51 + length c.content + 2 * s
   unfolding form_bytes
-  length_form e = omega (arith, length_inner e, length_chunk (record { name = codes "FORM"; content = inner }))
+  length_saved s e f h = omega (arith, h, length_inner e f, length_chunk (record { name = codes "FORM"; content = inner }))
 
--- a saved game is as long as its chunks say
-pub length_saved : (a b d : List ℕ) (c s : ℕ) → length a ≡ 13 → length b ≡ c → length d ≤ 2 * s → length (form_bytes (three a b d)) ≤ 51 + c + 2 * s
-length_saved a b d c s e f h = omega (arith, length_form a b d e)
+-- the chunk of memory has a name of four letters
+pub part_named : (m : MemoryMap) → length (memory_part m).name ≡ 4
+unfolding memory_part
+part_named m = by (nat_le (length (difference_of m)) m.static_base) refl
+  where
+    by : (b : Bool) → nat_le (length (difference_of m)) m.static_base ≡ b → length (memory_part m).name ≡ 4
+    by true e = rw e refl
+    by false e = rw e refl

@@ -8,7 +8,7 @@ use Rattle.zk_save.specs.declared.restore.RestoreError.TheVariants.{NotQuetzal, 
 use Rattle.zk_state.specs.declared.refusal.Limit.TheVariants.{Frames, Words}
 use Rattle.zk_save.specs.Reading.{number_of, words_of, chunks_in, content_of, first_of_frames, frames_read}
 use Rattle.zk_save.specs.Loading.{memory_chunk, parts_of, is_of_story, dynamic_in, loaded, put_in_place}
-use Rattle.zk_save.specs.Quetzal.{Chunk, bytes_2, bytes_3, bytes_4, chunk_bytes, frame_bytes, stack_content, story_content, saved}
+use Rattle.zk_save.specs.Quetzal.{Chunk, bytes_2, bytes_3, bytes_4, chunk_bytes, frame_bytes, stack_content, story_content, memory_part, saved}
 use Rattle.zk_save.specs.States.{WholeState, state_of, states_in, gone_back}
 use Rattle.zk_state.specs.Frames.{Frame, FrameList}
 use Rattle.zk_mem.specs.Map.{MemoryMap}
@@ -123,6 +123,14 @@ abbrev pub StoriesAreKnown : Type 0
 StoriesAreKnown =
     (story_content (story_file 7) 65 ≡ 0 ∷ 9 ∷ 48 ∷ 49 ∷ 50 ∷ 51 ∷ 52 ∷ 53 ∷ 0 ∷ 7 ∷ 0 ∷ 0 ∷ 65 ∷ [])
     × (story_content (story_file 0) 65 ≡ 0 ∷ 9 ∷ 48 ∷ 49 ∷ 50 ∷ 51 ∷ 52 ∷ 53 ∷ 0x02 ∷ 0x31 ∷ 0 ∷ 0 ∷ 65 ∷ [])
+
+-- the packed difference where it has as many bytes as dynamic memory or fewer, else dynamic memory
+abbrev pub ShorterMemoryIsSaved : Type 0
+ShorterMemoryIsSaved =
+    (memory_part (memory_with (4 ∷ 5 ∷ 3 ∷ [])) ≡ record { name = codes "CMem"; content = 5 ∷ 7 ∷ [] })
+    × (memory_part (memory_with (1 ∷ 5 ∷ 3 ∷ [])) ≡ record { name = codes "UMem"; content = 1 ∷ 5 ∷ [] })
+    × (memory_part (memory_with (4 ∷ 2 ∷ 3 ∷ [])) ≡ record { name = codes "CMem"; content = 5 ∷ [] })
+    × (memory_part (memory_with (1 ∷ 2 ∷ 3 ∷ [])) ≡ record { name = codes "CMem"; content = [] })
 
 -- three bytes of dynamic memory of which the second differs from the file's, and the first frame alone
 abbrev pub GamesAreSaved : Type 0

@@ -1,5 +1,5 @@
 -- Saved games (Quetzal 1.4).
-use Rattle.std.specs.Prelude.{ℕ, ◌+◌, ◌-◌, ◌/◌, ◌%◌, ◌^◌, ◌==◌, List, [], ◌∷◌, ◌++◌, length, take, reverse, replicate, codes, if◌then◌else◌, Option, Some, None}
+use Rattle.std.specs.Prelude.{ℕ, ◌+◌, ◌-◌, ◌/◌, ◌%◌, ◌^◌, ◌==◌, List, [], ◌∷◌, ◌++◌, length, take, reverse, replicate, codes, nat_le, if◌then◌else◌, Option, Some, None}
 use Rattle.std.specs.List.{flat_map}
 use Rattle.zk_mem.specs.Map.{MemoryMap}
 use Rattle.zk_mem.specs.Header.{header_of}
@@ -87,12 +87,22 @@ stack_content (f ∷ fs) = first_bytes f ++ flat_map frame_bytes fs
 
 -- ---- the file (Quetzal 1.4, section 2)
 
--- the chunks of a saved game: the story, what dynamic memory differs in from the story's file, packed, and the frames
--- (Quetzal 1.4, sections 2 to 5)
+-- what dynamic memory differs in from the story's file, packed (Quetzal 1.4, section 3)
+abbrev pub difference_of : MemoryMap → List ℕ
+difference_of m = packed (xored (take m.static_base m.bytes) m.file)
+
+-- the chunk of memory: the difference where that has no more bytes than dynamic memory, else dynamic memory as it is (Quetzal
+-- 1.4, section 3, which leaves it open)
+unfoldable pub memory_part : MemoryMap → Chunk
+memory_part m =
+    if nat_le (length (difference_of m)) m.static_base then record { name = codes "CMem"; content = difference_of m }
+    else record { name = codes "UMem"; content = take m.static_base m.bytes }
+
+-- the chunks of a saved game: the story, its memory and the frames (Quetzal 1.4, sections 2 to 5)
 abbrev pub saved_chunks : MemoryMap → FrameList → ℕ → List Chunk
 saved_chunks m s place =
     record { name = codes "IFhd"; content = story_content m.file place }
-    ∷ record { name = codes "CMem"; content = packed (xored (take m.static_base m.bytes) m.file) }
+    ∷ memory_part m
     ∷ record { name = codes "Stks"; content = stack_content (reverse (frames_of s)) }
     ∷ []
 

@@ -1,6 +1,6 @@
 // Worked examples of the definitions, which refuse one that is turned together with its body.
 
-ghost use Rattle.zk_save.specs.Examples.{RunsAreCut, BytesArePacked, BytesAreUnpacked, DifferencesAreTurned, DifferencesAreKept, NewestIsGoneBackTo, NumbersAreWritten, ChunksAreWritten, FramesAreWritten, TheFirstComesFirst, StoriesAreKnown, GamesAreSaved, NumbersAreRead, ChunksAreRead, FirstsCount, FramesAreRead, TheFirstIsRead, StoriesAreMatched, MemoryIsRead, GamesAreLoaded, BoundsAreKept};
+ghost use Rattle.zk_save.specs.Examples.{RunsAreCut, BytesArePacked, BytesAreUnpacked, DifferencesAreTurned, DifferencesAreKept, NewestIsGoneBackTo, NumbersAreWritten, ChunksAreWritten, FramesAreWritten, TheFirstComesFirst, StoriesAreKnown, ShorterMemoryIsSaved, GamesAreSaved, NumbersAreRead, ChunksAreRead, FirstsCount, FramesAreRead, TheFirstIsRead, StoriesAreMatched, MemoryIsRead, GamesAreLoaded, BoundsAreKept};
 
 /// Packed bytes (Quetzal 1.4, section 3).
 #[tactic(auto, unfolding(crate::specs::Packing::runs_of, crate::specs::Packing::without_last_zeros, crate::specs::Packing::pairs, crate::specs::Packing::spelled, crate::specs::Packing::packed, crate::specs::Unpacking::given, crate::specs::Unpacking::unpacked, crate::specs::Unpacking::xored))]
@@ -19,13 +19,14 @@ pub fn states_by_example()
 {}
 
 /// Saved games (Quetzal 1.4, sections 2 to 5 and 8).
-#[tactic(auto, unfolding(crate::specs::Packing::runs_of, crate::specs::Packing::without_last_zeros, crate::specs::Packing::pairs, crate::specs::Packing::spelled, crate::specs::Packing::packed, crate::specs::Unpacking::xored, crate::specs::Quetzal::chunk_bytes, crate::specs::Quetzal::form_bytes, crate::specs::Quetzal::story_checksum, crate::specs::Quetzal::story_content, crate::specs::Quetzal::frame_bytes, crate::specs::Quetzal::first_bytes, crate::specs::Quetzal::stack_content, crate::specs::Quetzal::saved, zk_mem::specs::Header::header_of, zk_mem::specs::Header::unit_length, zk_mem::specs::Checksum::file_sum))]
+#[tactic(auto, unfolding(crate::specs::Packing::runs_of, crate::specs::Packing::without_last_zeros, crate::specs::Packing::pairs, crate::specs::Packing::spelled, crate::specs::Packing::packed, crate::specs::Unpacking::xored, crate::specs::Quetzal::chunk_bytes, crate::specs::Quetzal::form_bytes, crate::specs::Quetzal::story_checksum, crate::specs::Quetzal::story_content, crate::specs::Quetzal::frame_bytes, crate::specs::Quetzal::first_bytes, crate::specs::Quetzal::stack_content, crate::specs::Quetzal::memory_part, crate::specs::Quetzal::saved, zk_mem::specs::Header::header_of, zk_mem::specs::Header::unit_length, zk_mem::specs::Checksum::file_sum))]
 pub fn saves_by_example()
     ensures numbers_are_written { NumbersAreWritten }
     ensures chunks_are_written { ChunksAreWritten }
     ensures frames_are_written { FramesAreWritten }
     ensures the_first_comes_first { TheFirstComesFirst }
     ensures stories_are_known { StoriesAreKnown }
+    ensures shorter_memory_is_saved { ShorterMemoryIsSaved }
     ensures games_are_saved { GamesAreSaved }
 {}
 

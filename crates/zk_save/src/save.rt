@@ -1,11 +1,9 @@
 // Saved games.
 
-ghost use Rattle.std.specs.Prelude.{◌≡◌, ◌+◌, ◌*◌, ◌^◌, ◌<◌, ◌≤◌, ◌++◌, length, reverse, take, IfOk, OnOk};
+ghost use Rattle.std.specs.Prelude.{◌≡◌, ◌+◌, ◌*◌, ◌^◌, ◌<◌, ◌≤◌, ◌++◌, length, reverse, IfOk, OnOk};
 ghost use Rattle.zk_mem.specs.Header.{header_of};
 ghost use Rattle.zk_state.specs.Frames.{frames_of, total_of, IsFrame};
-ghost use Rattle.zk_save.specs.Packing.{packed};
-ghost use Rattle.zk_save.specs.Unpacking.{xored};
-ghost use Rattle.zk_save.specs.Quetzal.{bytes_2, bytes_3, bytes_4, words_bytes, chunk_bytes, story_checksum, story_content, drop_flag, variable_of, frame_bytes, first_bytes, stack_content, saved};
+ghost use Rattle.zk_save.specs.Quetzal.{bytes_2, bytes_3, bytes_4, words_bytes, chunk_bytes, story_checksum, story_content, drop_flag, variable_of, frame_bytes, first_bytes, stack_content, memory_part, saved};
 
 use crate::packing::pack_difference;
 use std::alloc::{AllocError, Global};
@@ -176,8 +174,26 @@ fn story_of(alloc: Global, memory: &Memory, place: u32) -> Result<Vec<u8>, Alloc
     Ok(out)
 }
 
-/// The file of a saved game (Quetzal 1.4): a form of the chunks `IFhd`, `CMem` and `Stks`, for a memory and
-/// frames that go on at a place. The place is the address of the branch data of `save` in version 3, and of
+/// Writes the chunk of memory: what differs from the story's file, packed, or dynamic memory as it is, where
+/// that is shorter (Quetzal 1.4, section 3).
+#[tactic(auto, unfolding(crate::specs::Quetzal::memory_part))]
+fn put_memory(alloc: Global, out: &mut Vec<u8>, memory: &Memory) -> Result<(), AllocError>
+    ensures value { OnOk result (out.new.items ≡ out.old.items ++ chunk_bytes (memory_part memory.now)) }
+    ensures short { length (memory_part memory.now).content ≤ memory.now.static_base }
+    ensures small { memory.now.static_base < 65536 }
+{
+    let dynamic = memory.dynamic();
+    let difference = pack_difference(alloc, dynamic, memory.original())?;
+    if difference.len() <= dynamic.len() {
+        put_chunk(out, b"CMem", difference.as_slice())?;
+        return Ok(());
+    }
+    put_chunk(out, b"UMem", dynamic)?;
+    Ok(())
+}
+
+/// The file of a saved game (Quetzal 1.4): a form of the chunks `IFhd`, `CMem` or `UMem`, whichever is shorter,
+/// and `Stks`, for a memory and frames that go on at a place. The place is the address of the branch data of `save` in version 3, and of
 /// its store byte from version 4 on.
 pub fn save(
     alloc: Global,
@@ -187,16 +203,15 @@ pub fn save(
 ) -> Result<Vec<u8>, AllocError>
     requires { place < 2 ^ 24 }
     ensures value { IfOk result (λ v. v.items ≡ saved memory.now frames.now place) }
-    ensures len { IfOk result (λ v. length v.items ≤ 51 + length (packed (xored (take memory.now.static_base memory.now.bytes) memory.now.file)) + 8 * frames.now.most_frames + 2 * frames.now.most_words) }
-    ensures short { OnOk result (2 * length (packed (xored (take memory.now.static_base memory.now.bytes) memory.now.file)) ≤ 3 * memory.now.static_base) }
+    ensures len { IfOk result (λ v. length v.items ≤ 51 + memory.now.static_base + 8 * frames.now.most_frames + 2 * frames.now.most_words) }
+    ensures short { OnOk result (length (memory_part memory.now).content ≤ memory.now.static_base) }
 {
     let story = story_of(alloc, memory, place)?;
-    let difference = pack_difference(alloc, memory.dynamic(), memory.original())?;
     let stack = stack_of(alloc, frames)?;
     let mut chunks = Vec::new(alloc);
     chunks.extend_from_slice(b"IFZS")?;
     put_chunk(&mut chunks, b"IFhd", story.as_slice())?;
-    put_chunk(&mut chunks, b"CMem", difference.as_slice())?;
+    put_memory(alloc, &mut chunks, memory)?;
     put_chunk(&mut chunks, b"Stks", stack.as_slice())?;
     let mut file = Vec::new(alloc);
     put_chunk(&mut file, b"FORM", chunks.as_slice())?;

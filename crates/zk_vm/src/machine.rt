@@ -1,6 +1,6 @@
 // A machine that runs a story.
 
-ghost use Rattle.std.specs.Prelude.{◌≡◌, ◌≤◌, ◌<◌, ◌+◌, ◌-◌, ◌^◌, ◌⊎◌, true, [], ◌∷◌, length, nat_lt, if◌then◌else◌, option_copied, Some, None, Ok, Err, IfOk, OnOk, OnErr, MatchResult};
+ghost use Rattle.std.specs.Prelude.{◌≡◌, ◌≤◌, ◌<◌, ◌+◌, ◌-◌, ◌*◌, ◌^◌, ◌⊎◌, true, [], ◌∷◌, length, nat_lt, if◌then◌else◌, option_copied, Some, None, Ok, Err, IfOk, OnOk, OnErr, MatchResult};
 ghost use Rattle.std.specs.List.{AllByRecursion};
 ghost use Rattle.zk_text.specs.Extra.{is_input_code};
 ghost use Rattle.zk_state.specs.Frames.{IsBounded, bounds_of};
@@ -475,10 +475,12 @@ impl Machine {
     }
 
     /// The file of the saved game that waits to be kept: the state before its instruction stores or branches
-    /// (Quetzal 1.4). The machine waits for it to be kept.
+    /// (Quetzal 1.4). It has at most 51 bytes, those of dynamic memory, 8 for each frame and 2 for each word that
+    /// there may be. The machine waits for it to be kept.
     pub fn image(&self, alloc: Global) -> Result<Vec<u8>, AllocError>
         requires waits { event_waited self.now.waiting ≡ Some Event.Save }
-        ensures { IfOk result (λ v. v.items ≡ image_of self.now) }
+        ensures value { IfOk result (λ v. v.items ≡ image_of self.now) }
+        ensures len { IfOk result (λ v. length v.items ≤ 51 + self.now.state.workspace.memory.static_base + 8 * self.now.limits.frames + 2 * self.now.limits.words) }
     {
         let next = match &self.waiting {
             Some(waiting) => waiting.instruction.next,
