@@ -1,10 +1,10 @@
 -- What a device is given of a report.
-use Rattle.std.proofs.Common.{◌≡◌, inl, inr, ℕ, List, [], ◌++◌, true, refl, sym, subst, append_assoc, append-nil}
+use Rattle.std.proofs.Common.{◌≡◌, inl, inr, ℕ, Bool, List, [], ◌++◌, true, refl, sym, subst, append_assoc, append-nil}
 use Rattle.std.proofs.KnownBytes.{Appends-nil}
 use Rattle.zk_term.specs.Devices.{Device, Took}
 use Rattle.zk_term.proofs.Shown.{took_twice}
 use Rattle.zk_command.specs.declared.ending.Ending.{Ending}
-use Rattle.zk_command.specs.LastLine.{IsExplained, TookExplained, line, last_line}
+use Rattle.zk_command.specs.LastLine.{IsExplained, TookExplained, words_line, last_line}
 
 -- a device with a failed write was given any text, and took nothing of it
 pub took_past : (a : Device) (text : List ℕ) → a.failed ≡ true → Took a a text
@@ -21,12 +21,12 @@ took_past a text e = record {
 pub reported : (ending : Ending) (a b c : Device) → TookExplained ending [] a b → Took b c (last_line ending) → TookExplained ending (last_line ending) a c
 reported ending a b c (inl h) k = inl (took_twice a b c [] (last_line ending) h k)
 reported ending a b c (inr h) k =
-    inr (h.0, (h.1.0, subst (λ (t : List ℕ). Took a c t) (append_assoc (line h.1.0) [] (last_line ending)) (took_twice a b c (line h.1.0 ++ []) (last_line ending) h.1.1 k)))
+    inr (h.0, (h.1.0, (h.1.1.0, subst (λ (t : List ℕ). Took a c t) (append_assoc (words_line h.1.0 h.1.1.0) [] (last_line ending)) (took_twice a b c (words_line h.1.0 h.1.1.0 ++ []) (last_line ending) h.1.1.1 k))))
 
 -- the words alone, where a write has failed
 pub cut_off : (ending : Ending) (a b : Device) → b.failed ≡ true → TookExplained ending [] a b → TookExplained ending (last_line ending) a b
 cut_off ending a b e h = reported ending a b b h (took_past b (last_line ending) e)
 
 -- words on an ending that can be explained
-pub explained : (ending : Ending) (a b : Device) (words : List ℕ) → IsExplained ending → Took a b (line words) → TookExplained ending [] a b
-explained ending a b words h k = inr (h, (words, subst (λ (t : List ℕ). Took a b t) (sym (append-nil (line words))) k))
+pub explained : (ending : Ending) (a b : Device) (apart : Bool) (words : List ℕ) → IsExplained ending → Took a b (words_line apart words) → TookExplained ending [] a b
+explained ending a b apart words h k = inr (h, (apart, (words, subst (λ (t : List ℕ). Took a b t) (sym (append-nil (words_line apart words))) k)))

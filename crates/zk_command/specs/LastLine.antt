@@ -1,5 +1,5 @@
 -- The last line on standard error.
-use Rattle.std.specs.Prelude.{◌⊎◌, ℕ, ◌+◌, ◌/◌, ◌%◌, ◌^◌, List, [], ◌∷◌, ◌++◌, map, drop, codes, decimal, nat_lt, if◌then◌else◌}
+use Rattle.std.specs.Prelude.{◌⊎◌, Bool, ℕ, ◌+◌, ◌/◌, ◌%◌, ◌^◌, List, [], ◌∷◌, ◌++◌, map, drop, codes, decimal, nat_lt, if◌then◌else◌}
 use Rattle.std.specs.IoError.{error_kind}
 use Rattle.std.specs.declared.io.ErrorKind.{ErrorKind}
 use Rattle.std.specs.declared.io.ErrorKind.TheVariants as kind
@@ -71,8 +71,14 @@ IsExplained (Unread e) = Unit {0}
 IsExplained (Refused e) = Unit {0}
 IsExplained (Stopped (Fault a f)) = Unit {0}
 IsExplained (Stopped (Limit a l)) = Unit {0}
+IsExplained (Stopped Read) = Unit {0}
+IsExplained (Stopped Write) = Unit {0}
 IsExplained _ = ⊥
+
+-- a line in words, perhaps after a new line, since the screen may stand in the middle of one
+abbrev pub words_line : Bool → List ℕ → List ℕ
+words_line apart words = if apart then 10 ∷ line words else line words
 
 -- a device was given a line in words on an ending and then some text, or that text alone
 abbrev pub TookExplained : Ending → List ℕ → Device → Device → Type 0
-TookExplained ending text old new = Took old new text ⊎ (IsExplained ending × ((words : List ℕ) × Took old new (line words ++ text)))
+TookExplained ending text old new = Took old new text ⊎ (IsExplained ending × ((apart : Bool) × ((words : List ℕ) × Took old new (words_line apart words ++ text))))

@@ -17,6 +17,14 @@ use std::alloc::{AllocError, Global};
 use zk_step::workspace::View;
 use zk_vm::limits::Limits;
 
+/// What `check` says of its findings.
+const CHECK_HELP: &str =
+    "A finding's address is that of an object's entry, a text, or an instruction. \
+`zkit info --objects` lists the objects in the order of their entries, and `zkit disasm` the instructions \
+by their addresses and the routines. Code that is reached only by numbers that a story works out is not looked at.
+
+Example: zkit check story.z5";
+
 /// What the program is asked to do.
 #[derive(Drop)]
 pub enum Choice<'a> {
@@ -116,9 +124,10 @@ fn play_command_of<'a>(alloc: Global) -> Result<Command<'a>, AllocError>
     let help = "What begins the random numbers, 0 to 18446744073709551615";
     let command = with_arg(command, number_option_of(alloc, "seed", "1", help))?;
     let help =
-        "The file that the game is saved to and restored from; without it there are no saved games";
+        "The file that the game is saved to and restored from; a save replaces what it held; without it there are no saved games";
     let command = with_arg(command, file_option_of(alloc, "save", help))?;
-    let help = "The file that the transcript is written to; what it held goes";
+    let help =
+        "The file of the transcript, emptied at the start and filled once the story turns its transcript on";
     let command = with_arg(command, file_option_of(alloc, "script", help))?;
     let help = "Shows the status line and the upper window, on lines of their own";
     let command = with_arg(command, flag_of(alloc, "upper", help))?;
@@ -168,7 +177,7 @@ fn check_command_of<'a>(alloc: Global) -> Result<Command<'a>, AllocError>
     ensures local { IfOk result (λ c. (fields_of c).has_globals ≡ false) }
 {
     let about = "Lists what is wrong with a story, and ends with status 6 where something is";
-    let command = described(alloc, "check", about, "Example: zkit check story.z5");
+    let command = described(alloc, "check", about, CHECK_HELP);
     with_arg(command, story_word_of(alloc))
 }
 
@@ -225,44 +234,57 @@ fn usage_error(command: &mut Command<'_>, kind: ErrorKind, text: &str) -> Error
     }
 }
 
+/// An error of an option of `play`, with that command's usage.
+fn option_error(alloc: Global, text: &str) -> Error
+    ensures { 1 ≤ usage_status (kind_of result) }
+{
+    match play_command_of(alloc) {
+        Err(error) => Error::from(error),
+        Ok(command) => match command.bin_name("zkit play") {
+            Err(error) => Error::from(error),
+            Ok(mut command) => usage_error(&mut command, ErrorKind::ValueValidation, text),
+        },
+    }
+}
+
 /// The error of an option that is no number in its range.
-fn out_of_range(
-    alloc: Global,
-    command: &mut Command<'_>,
-    option: &str,
-    least: u64,
-    most: u64,
-) -> Error
+fn out_of_range(alloc: Global, option: &str, least: u64, most: u64) -> Error
     ensures { 1 ≤ usage_status (kind_of result) }
 {
     match format!(in alloc; "'--{option} <n>' takes a number from {least} to {most}") {
-        Ok(text) => usage_error(command, ErrorKind::ValueValidation, text.as_str()),
+        Ok(text) => option_error(alloc, text.as_str()),
+        Err(error) => Error::from(error),
+    }
+}
+
+/// The error of an option that names the story's own file.
+pub fn story_named(alloc: Global, option: &str) -> Error
+    ensures { 1 ≤ usage_status (kind_of result) }
+{
+    match format!(in alloc; "'--{option} <FILE>' names the story itself, which would be lost") {
+        Ok(text) => option_error(alloc, text.as_str()),
         Err(error) => Error::from(error),
     }
 }
 
 /// The limits that the options of `play` say.
-fn limits_of(
-    alloc: Global,
-    command: &mut Command<'_>,
-    play: &ArgMatches<'_>,
-) -> Result<Limits, Error>
+fn limits_of(alloc: Global, play: &ArgMatches<'_>) -> Result<Limits, Error>
     ensures says { IfOk result (λ l. SaysLimits (rows_of (found_of play.now)) l) }
     ensures in_range { IfOk result (λ l. AreInRange l) }
     ensures mistake { IfErr result (λ e. 1 ≤ usage_status (kind_of e)) }
     ensures says_none { OnErr result ((l : Limits) → SaysLimits (rows_of (found_of play.now)) l → ⊥) }
 {
     let Some(frames) = number_of(play, "frames", 1, 65_535) else {
-        return Err(out_of_range(alloc, command, "frames", 1, 65_535));
+        return Err(out_of_range(alloc, "frames", 1, 65_535));
     };
     let Some(words) = number_of(play, "words", 0, 65_535) else {
-        return Err(out_of_range(alloc, command, "words", 0, 65_535));
+        return Err(out_of_range(alloc, "words", 0, 65_535));
     };
     let Some(undo) = number_of(play, "undo", 0, 64) else {
-        return Err(out_of_range(alloc, command, "undo", 0, 64));
+        return Err(out_of_range(alloc, "undo", 0, 64));
     };
     let Some(steps) = number_of(play, "steps", 1, 1_000_000_000) else {
-        return Err(out_of_range(alloc, command, "steps", 1, 1_000_000_000));
+        return Err(out_of_range(alloc, "steps", 1, 1_000_000_000));
     };
     Ok(Limits {
         frames: frames as u16,
@@ -294,22 +316,18 @@ fn view_of(play: &ArgMatches<'_>) -> View
 }
 
 /// The manner of a run that the options of `play` say.
-fn manner_of(
-    alloc: Global,
-    command: &mut Command<'_>,
-    play: &ArgMatches<'_>,
-) -> Result<Manner, Error>
+fn manner_of(alloc: Global, play: &ArgMatches<'_>) -> Result<Manner, Error>
     ensures says { IfOk result (λ m. SaysManner (rows_of (found_of play.now)) m) }
     ensures in_range { IfOk result (λ m. AreInRange m.limits) }
     ensures mistake { IfErr result (λ e. 1 ≤ usage_status (kind_of e)) }
     ensures says_none { OnErr result ((m : Manner) → SaysManner (rows_of (found_of play.now)) m → ⊥) }
 {
-    let limits = match limits_of(alloc, command, play) {
+    let limits = match limits_of(alloc, play) {
         Ok(limits) => limits,
         Err(error) => return Err(error),
     };
     let Some(seed) = number_of(play, "seed", 0, 18_446_744_073_709_551_615) else {
-        return Err(out_of_range(alloc, command, "seed", 0, 18_446_744_073_709_551_615));
+        return Err(out_of_range(alloc, "seed", 0, 18_446_744_073_709_551_615));
     };
     let view = view_of(play);
     Ok(Manner { limits, seed, view })
@@ -343,7 +361,7 @@ fn choose_play<'a>(
         Ok(story) => story,
         Err(error) => return Err(error),
     };
-    let manner = match manner_of(alloc, command, play) {
+    let manner = match manner_of(alloc, play) {
         Ok(manner) => manner,
         Err(error) => return Err(error),
     };

@@ -1,12 +1,18 @@
 // What the words of a command line ask for: stories that are played, listed and checked, and what is told of their endings.
 #![tactic(auto)]
 
+pub mod about;
+mod astray;
 pub mod choice;
 pub mod ending;
 mod gathered;
 pub mod listing;
 pub mod manner;
+pub mod missing;
 pub mod playing;
+mod reason;
 pub mod report;
+pub mod same_file;
 pub mod save_file;
 pub mod script;
+pub mod watched;

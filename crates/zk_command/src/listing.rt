@@ -7,6 +7,7 @@ ghost use Rattle.zk_command.specs.Listing.{EndsListing, EndsListingFrom, IsListe
 ghost use Rattle.zk_command.specs.declared.listing.Listing.{Listing};
 ghost use Rattle.zk_command.specs.declared.listing.Listing.TheVariants as listing;
 
+use crate::about::{About, Looks};
 use crate::ending::Ending;
 use crate::gathered::Gathered;
 use crate::playing::read_story;
@@ -236,10 +237,11 @@ pub fn list_bytes<S: Target>(
     }
 }
 
-/// Lists the story that a reader gives.
+/// Lists the story that a reader gives, and notes what its bytes look like.
 pub fn list_from<R: Read + Drop, S: Target>(
     alloc: Global,
     reader: R,
+    about: &About,
     listing: Listing,
     screen: &mut S,
 ) -> Ending
@@ -247,7 +249,10 @@ pub fn list_from<R: Read + Drop, S: Target>(
 {
     match read_story(alloc, reader) {
         Err(error) => Ending::Unread(error),
-        Ok(bytes) => list_bytes(alloc, bytes, listing, screen),
+        Ok(bytes) => {
+            about.looks.set(Looks::of(bytes.as_slice()));
+            list_bytes(alloc, bytes, listing, screen)
+        }
     }
 }
 
@@ -255,6 +260,7 @@ pub fn list_from<R: Read + Drop, S: Target>(
 pub fn list_and_report<R: Read + Drop, S: Target, E: Target>(
     alloc: Global,
     reader: R,
+    about: &About,
     listing: Listing,
     screen: &mut S,
     errors: &mut E,
@@ -262,6 +268,6 @@ pub fn list_and_report<R: Read + Drop, S: Target, E: Target>(
     requires { E.failed errors.old ≡ false }
     ensures { IsListedFrom listing (R.remaining reader) (record { taken = E.taken errors.old; failed = E.failed errors.old }) (record { taken = E.taken errors.new; failed = E.failed errors.new }) result }
 {
-    let ending = list_from(alloc, reader, listing, screen);
-    report_listing(alloc, &ending, errors)
+    let ending = list_from(alloc, reader, about, listing, screen);
+    report_listing(alloc, &ending, about, errors)
 }

@@ -5,11 +5,14 @@ ghost use Rattle.zk_vm.specs.Bounds.{AreInRange};
 ghost use Rattle.zk_vm.specs.Plays.{IsPlayed};
 ghost use Rattle.zk_command.specs.Playing.{EndsBy, EndsFrom, IsPlayedBy, IsPlayedFrom, IsRun, bytes_read};
 
+use crate::about::{About, Looks};
+use crate::astray::Astray;
 use crate::ending::Ending;
 use crate::manner::Manner;
 use crate::report::report;
 use std::alloc::Global;
 use std::io::{self, ErrorKind, Read};
+use zk_mem::fault::Fault;
 use zk_mem::story::Story;
 use zk_term::source::Source;
 use zk_term::target::{Failed, Target};
@@ -76,10 +79,18 @@ fn play_machine<I: Source, S: Target, T: Target, K: SaveSlot>(
     }
 }
 
+/// Notes where a bad target leads that has stopped a machine.
+fn note_target(about: &About, machine: &Machine, stop: &Stop) {
+    if let Stop::Fault(address, Fault::BadTarget) = stop {
+        about.astray.set(Astray::at(machine.memory(), *address));
+    }
+}
+
 /// Plays a story up to its stop.
 fn play_story<I: Source, S: Target, T: Target, K: SaveSlot>(
     alloc: Global,
     story: Story,
+    about: &About,
     manner: Manner,
     input: &mut I,
     screen: &mut S,
@@ -94,7 +105,11 @@ fn play_story<I: Source, S: Target, T: Target, K: SaveSlot>(
 {
     match Machine::start(alloc, story, manner.seed, manner.limits, manner.view) {
         Err(_) => Stop::Memory,
-        Ok(mut machine) => play_machine(alloc, &mut machine, input, screen, script, slot),
+        Ok(mut machine) => {
+            let stop = play_machine(alloc, &mut machine, input, screen, script, slot);
+            note_target(about, &machine, &stop);
+            stop
+        }
     }
 }
 
@@ -102,6 +117,7 @@ fn play_story<I: Source, S: Target, T: Target, K: SaveSlot>(
 pub fn play_bytes<I: Source, S: Target, T: Target, K: SaveSlot>(
     alloc: Global,
     bytes: Vec<u8>,
+    about: &About,
     manner: Manner,
     input: &mut I,
     screen: &mut S,
@@ -116,14 +132,17 @@ pub fn play_bytes<I: Source, S: Target, T: Target, K: SaveSlot>(
 {
     match Story::of(bytes) {
         Err(error) => Ending::Refused(error),
-        Ok(story) => Ending::Stopped(play_story(alloc, story, manner, input, screen, script, slot)),
+        Ok(story) => Ending::Stopped(play_story(
+            alloc, story, about, manner, input, screen, script, slot,
+        )),
     }
 }
 
-/// Plays the story that a reader gives.
+/// Plays the story that a reader gives, and notes what its bytes look like.
 pub fn play_from<R: Read + Drop, I: Source, S: Target, T: Target, K: SaveSlot>(
     alloc: Global,
     reader: R,
+    about: &About,
     manner: Manner,
     input: &mut I,
     screen: &mut S,
@@ -138,7 +157,10 @@ pub fn play_from<R: Read + Drop, I: Source, S: Target, T: Target, K: SaveSlot>(
 {
     match read_story(alloc, reader) {
         Err(error) => Ending::Unread(error),
-        Ok(bytes) => play_bytes(alloc, bytes, manner, input, screen, script, slot),
+        Ok(bytes) => {
+            about.looks.set(Looks::of(bytes.as_slice()));
+            play_bytes(alloc, bytes, about, manner, input, screen, script, slot)
+        }
     }
 }
 
@@ -147,6 +169,7 @@ pub fn play_from<R: Read + Drop, I: Source, S: Target, T: Target, K: SaveSlot>(
 pub fn play_and_report<R: Read + Drop, I: Source, S: Target, T: Target, K: SaveSlot, E: Target>(
     alloc: Global,
     reader: R,
+    about: &About,
     manner: Manner,
     input: &mut I,
     screen: &mut S,
@@ -162,6 +185,6 @@ pub fn play_and_report<R: Read + Drop, I: Source, S: Target, T: Target, K: SaveS
     ensures { IsPlayedFrom (IsPlayed K.held K.keeps slot.old slot.new) (record { typed = I.left input.old; unread = I.failed input.new }) (R.remaining reader) manner (record { screen = record { taken = S.taken screen.old; failed = S.failed screen.old }; script = record { taken = T.taken script.old; failed = T.failed script.old } }) (record { screen = record { taken = S.taken screen.new; failed = S.failed screen.new }; script = record { taken = T.taken script.new; failed = T.failed script.new } })
         (record { taken = E.taken errors.old; failed = E.failed errors.old }) (record { taken = E.taken errors.new; failed = E.failed errors.new }) result }
 {
-    let ending = play_from(alloc, reader, manner, input, screen, script, slot);
-    report(alloc, &ending, &manner.limits, errors)
+    let ending = play_from(alloc, reader, about, manner, input, screen, script, slot);
+    report(alloc, &ending, &manner.limits, about, errors)
 }

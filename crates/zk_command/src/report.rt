@@ -3,13 +3,17 @@
 ghost use Rattle.std.specs.Prelude.{◌≡◌, ◌<◌, false, is_err, map, [], IfOk, OnSome};
 ghost use Rattle.std.specs.List.{concat};
 ghost use Rattle.zk_term.specs.Devices.{Took};
-ghost use Rattle.zk_command.specs.LastLine.{IsExplained, TookExplained, cause_at, hex_digit, hex_digits, last_line, line, refused_line, stop_line, unread_line, zeros_left_out};
+ghost use Rattle.zk_command.specs.LastLine.{IsExplained, TookExplained, cause_at, hex_digit, hex_digits, last_line, line, refused_line, stop_line, unread_line, words_line, zeros_left_out};
 ghost use Rattle.zk_command.specs.Status.{ending_status};
 
+use crate::about::About;
 use crate::ending::Ending;
+use crate::reason::Reason;
+use crate::watched::Notes;
 use itoa::Buffer;
 use std::alloc::{AllocError, Global};
-use std::io::ErrorKind;
+use std::io::{self, ErrorKind};
+use zk_mem::fault::Fault;
 use zk_mem::story::OpenError;
 use zk_state::refusal::Limit;
 use zk_term::target::{Failed, Target, write_all};
@@ -95,6 +99,18 @@ fn write_line<E: Target>(errors: &mut E, text: &[u8]) -> Result<(), Failed>
     write_texts(errors, &[b"zkit: ", text, b"\n"])
 }
 
+/// Writes a line in words, after a new line where the screen does not stand at the start of a line.
+fn write_words_line<E: Target>(errors: &mut E, apart: bool, text: &[u8]) -> Result<(), Failed>
+    requires { E.failed errors.old ≡ false }
+    ensures text { Took (record { taken = E.taken errors.old; failed = E.failed errors.old }) (record { taken = E.taken errors.new; failed = E.failed errors.new }) (words_line apart text.now) }
+    ensures failed { E.failed errors.new ≡ is_err result }
+{
+    if apart {
+        return write_texts(errors, &[b"\n", b"zkit: ", text, b"\n"]);
+    }
+    write_texts(errors, &[b"zkit: ", text, b"\n"])
+}
+
 fn write_stop<E: Target>(errors: &mut E, stop: &Stop) -> Result<(), Failed>
     requires { E.failed errors.old ≡ false }
     ensures { Took (record { taken = E.taken errors.old; failed = E.failed errors.old }) (record { taken = E.taken errors.new; failed = E.failed errors.new }) (stop_line stop.now) }
@@ -170,16 +186,70 @@ fn words_on_limit(alloc: Global, limit: Limit, limits: &Limits) -> Result<String
     }
 }
 
+/// Why a story's file can't be read, in words.
+fn words_on_read(alloc: Global, error: &io::Error, about: &About) -> Result<String, AllocError> {
+    format!(in alloc; "{}: {}", about.path, Reason(error))
+}
+
+/// Why a story's file is no story, in words.
+fn words_on_refusal(alloc: Global, error: &OpenError, about: &About) -> Result<String, AllocError> {
+    let path = about.path;
+    match about.looks.get().text() {
+        Some(text) => format!(in alloc; "{path}: not a story: {text}"),
+        None => format!(in alloc; "{path}: not a story: {error}"),
+    }
+}
+
+/// Why a device failed, in words.
+fn words_on_device(
+    alloc: Global,
+    name: &str,
+    notes: &Notes,
+    otherwise: &str,
+) -> Result<String, AllocError> {
+    match notes.failure() {
+        Some(error) => format!(in alloc; "{name}: {}", Reason(&error)),
+        None => format!(in alloc; "{name}: {otherwise}"),
+    }
+}
+
+/// Why a write failed, in words.
+fn words_on_write(alloc: Global, about: &About) -> Result<String, AllocError> {
+    let text = "it takes nothing more";
+    if about.script.has_failed() {
+        return words_on_device(alloc, about.script_path, &about.script, text);
+    }
+    words_on_device(alloc, "the screen", &about.screen, text)
+}
+
+/// What is wrong with an instruction, in words.
+fn words_on_fault(alloc: Global, fault: Fault, about: &About) -> Result<String, AllocError> {
+    match about.astray.get() {
+        Some(astray) if fault == Fault::BadTarget => astray.text(alloc),
+        _ => format!(in alloc; "{fault}"),
+    }
+}
+
 /// What has happened, in words, where the last line does not say it in words.
-fn words_on(alloc: Global, ending: &Ending, limits: &Limits) -> Result<Option<String>, AllocError>
+fn words_on(
+    alloc: Global,
+    ending: &Ending,
+    limits: &Limits,
+    about: &About,
+) -> Result<Option<String>, AllocError>
     ensures { IfOk result (λ o. OnSome o (IsExplained ending.now)) }
 {
     match ending {
         Ending::Unread(error) if error.kind() == ErrorKind::OutOfMemory => Ok(None),
         Ending::Refused(OpenError::OutOfMemory) => Ok(None),
-        Ending::Unread(error) => Ok(Some(format!(in alloc; "{error}")?)),
-        Ending::Refused(error) => Ok(Some(format!(in alloc; "{error}")?)),
-        Ending::Stopped(Stop::Fault(_, fault)) => Ok(Some(format!(in alloc; "{fault}")?)),
+        Ending::Unread(error) => Ok(Some(words_on_read(alloc, error, about)?)),
+        Ending::Refused(error) => Ok(Some(words_on_refusal(alloc, error, about)?)),
+        Ending::Stopped(Stop::Fault(_, fault)) => Ok(Some(words_on_fault(alloc, *fault, about)?)),
+        Ending::Stopped(Stop::Read) => {
+            let text = "a line of it has more than 65535 bytes";
+            Ok(Some(words_on_device(alloc, "standard input", &about.input, text)?))
+        }
+        Ending::Stopped(Stop::Write) => Ok(Some(words_on_write(alloc, about)?)),
         Ending::Stopped(Stop::Limit(_, limit)) => Ok(Some(words_on_limit(alloc, *limit, limits)?)),
         _ => Ok(None),
     }
@@ -190,14 +260,15 @@ fn write_words<E: Target>(
     alloc: Global,
     ending: &Ending,
     limits: &Limits,
+    about: &About,
     errors: &mut E,
 ) -> Result<(), Failed>
     requires { E.failed errors.old ≡ false }
     ensures text { TookExplained ending.now [] (record { taken = E.taken errors.old; failed = E.failed errors.old }) (record { taken = E.taken errors.new; failed = E.failed errors.new }) }
     ensures failed { E.failed errors.new ≡ is_err result }
 {
-    match words_on(alloc, ending, limits) {
-        Ok(Some(words)) => write_line(errors, words.as_bytes()),
+    match words_on(alloc, ending, limits, about) {
+        Ok(Some(words)) => write_words_line(errors, !about.screen.begins_line(), words.as_bytes()),
         _ => Ok(()),
     }
 }
@@ -235,19 +306,30 @@ pub fn report_briefly<E: Target>(ending: &Ending, errors: &mut E) -> u8
 /// Writes why a play has ended, unless the story or its input has, and answers the program's status: 0 for an end,
 /// 1 for a file that is no story, 2 for a fault, 3 for a limit, 4 for a read or a write that failed, 5 for want of
 /// memory, 6 for something that a check has found. Before the last line it writes what has happened in words.
-pub fn report<E: Target>(alloc: Global, ending: &Ending, limits: &Limits, errors: &mut E) -> u8
+pub fn report<E: Target>(
+    alloc: Global,
+    ending: &Ending,
+    limits: &Limits,
+    about: &About,
+    errors: &mut E,
+) -> u8
     requires { E.failed errors.old ≡ false }
     ensures status { result ≡ ending_status ending.now }
     ensures lines { TookExplained ending.now (last_line ending.now) (record { taken = E.taken errors.old; failed = E.failed errors.old }) (record { taken = E.taken errors.new; failed = E.failed errors.new }) }
 {
-    match write_words(alloc, ending, limits, errors) {
+    match write_words(alloc, ending, limits, about, errors) {
         Ok(()) => report_briefly(ending, errors),
         Err(Failed) => status(ending),
     }
 }
 
 /// Writes why a listing has ended, unless it was written to its end, and answers the program's status, as `report` does.
-pub fn report_listing<E: Target>(alloc: Global, ending: &Ending, errors: &mut E) -> u8
+pub fn report_listing<E: Target>(
+    alloc: Global,
+    ending: &Ending,
+    about: &About,
+    errors: &mut E,
+) -> u8
     requires { E.failed errors.old ≡ false }
     ensures status { result ≡ ending_status ending.now }
     ensures lines { TookExplained ending.now (last_line ending.now) (record { taken = E.taken errors.old; failed = E.failed errors.old }) (record { taken = E.taken errors.new; failed = E.failed errors.new }) }
@@ -259,5 +341,5 @@ pub fn report_listing<E: Target>(alloc: Global, ending: &Ending, errors: &mut E)
         undo: 0,
         steps: 1,
     };
-    report(alloc, ending, &none, errors)
+    report(alloc, ending, &none, about, errors)
 }

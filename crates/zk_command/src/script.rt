@@ -2,6 +2,7 @@
 
 ghost use Rattle.std.specs.Prelude.{◌≡◌, ◌≤◌, ◌<◌, false, length, IfOk};
 
+use crate::watched::{Notes, Watched};
 use std::fs::File;
 use zk_term::over::Over;
 use zk_term::target::{Failed, Target};
@@ -11,17 +12,19 @@ use zk_term::target::{Failed, Target};
 pub struct ScriptFile<'a> {
     rt: &'a HostRuntime,
     path: &'a str,
-    file: Option<Over<File>>,
+    notes: &'a Notes,
+    file: Option<Over<Watched<'a, File>>>,
     failed: bool,
 }
 
 impl<'a> ScriptFile<'a> {
-    pub fn new(rt: &'a HostRuntime, path: &'a str) -> ScriptFile<'a>
+    pub fn new(rt: &'a HostRuntime, path: &'a str, notes: &'a Notes) -> ScriptFile<'a>
         ensures { result.failed ≡ false }
     {
         ScriptFile {
             rt,
             path,
+            notes,
             file: None,
             failed: false,
         }
@@ -29,10 +32,11 @@ impl<'a> ScriptFile<'a> {
 }
 
 /// Writes to a file, which is made or emptied where it is not open yet.
-fn write_to(
+fn write_to<'a>(
     rt: &HostRuntime,
     path: &str,
-    file: &mut Option<Over<File>>,
+    notes: &'a Notes,
+    file: &mut Option<Over<Watched<'a, File>>>,
     bytes: &[u8],
 ) -> Result<usize, Failed>
     ensures count { IfOk result (λ n. n ≤ length bytes.now) }
@@ -41,10 +45,14 @@ fn write_to(
     if let Some(open) = file {
         return open.write(bytes);
     }
-    let Ok(made) = File::create(rt, path) else {
-        return Err(Failed);
+    let made = match File::create(rt, path) {
+        Ok(made) => made,
+        Err(error) => {
+            notes.note(&error);
+            return Err(Failed);
+        }
     };
-    let mut open = Over::new(made);
+    let mut open = Over::new(Watched::new(made, notes));
     let written = open.write(bytes);
     *file = Some(open);
     written
@@ -58,7 +66,7 @@ impl Target for ScriptFile<'_> {
     ghost failed = { λ s. s.failed };
 
     fn write(&mut self, bytes: &[u8]) -> Result<usize, Failed> {
-        match write_to(self.rt, self.path, &mut self.file, bytes) {
+        match write_to(self.rt, self.path, self.notes, &mut self.file, bytes) {
             Ok(count) => Ok(count),
             Err(Failed) => {
                 self.failed = true;

@@ -5,6 +5,7 @@ use crate::tests_same::{demand, same};
 use std::alloc::{AllocError, Global};
 use std::process::Abort;
 use std::test::Fail;
+use zk_command::about::About;
 use zk_command::manner::Manner;
 use zk_command::playing::play_bytes;
 use zk_term::nothing::Nothing;
@@ -58,6 +59,7 @@ pub(crate) fn goes_on(
     let ending = play_bytes(
         rt.alloc(),
         bytes,
+        &About::new("story", "said"),
         manner,
         &mut Over::new(game.typed),
         &mut shown,

@@ -5,6 +5,7 @@ use crate::tests_of_written_plays::Short;
 use crate::tests_same::same;
 use std::process::Abort;
 use std::test::Fail;
+use zk_command::about::About;
 use zk_command::listing::{Listing, list_and_report, list_bytes};
 use zk_term::over::Over;
 
@@ -19,7 +20,8 @@ pub(crate) fn is_listed(
 ) -> Result<(), Fail> {
     let mut screen = Over::new(Vec::new(rt.alloc()));
     let mut errors = Over::new(Vec::new(rt.alloc()));
-    let ended = list_and_report(rt.alloc(), bytes, listing, &mut screen, &mut errors);
+    let about = About::new("story", "said");
+    let ended = list_and_report(rt.alloc(), bytes, &about, listing, &mut screen, &mut errors);
     same(&rt, screen.into_inner().as_slice(), shown.as_bytes());
     same(&rt, errors.into_inner().as_slice(), lines.as_bytes());
     same(&rt, ended, status);

@@ -4,6 +4,7 @@ use crate::tests_of_plays::{AMPLE, plainly, reported, story_bytes};
 use crate::tests_same::{demand, same};
 use std::process::Abort;
 use std::test::Fail;
+use zk_command::about::About;
 use zk_command::playing::play_bytes;
 use zk_term::nothing::Nothing;
 use zk_term::target::{Failed, Target};
@@ -50,6 +51,7 @@ fn a_failed_write_ends_the_play(rt: HostRuntime) -> Result<(), Fail> {
     let ending = play_bytes(
         rt.alloc(),
         bytes,
+        &About::new("story", "said"),
         plainly(limits),
         &mut Nothing,
         &mut screen,

@@ -8,28 +8,31 @@ ghost use Rattle.zk_command.specs.CommandLine.{usage_status};
 
 use clap::Error;
 use clap::error::ErrorKind;
-use std::fs::File;
+use std::fs::{self, File};
 use std::process::ExitCode;
 use std::{env, io};
-use zk_command::choice::{Choice, choose, usage_status_of};
+use zk_command::about::About;
+use zk_command::choice::{Choice, choose, story_named, usage_status_of};
 use zk_command::ending::Ending;
 use zk_command::listing::{Listing, list_and_report};
 use zk_command::manner::Manner;
+use zk_command::missing::{MissingSave, MissingScript};
 use zk_command::playing::play_and_report;
 use zk_command::report::{report, report_briefly, report_listing};
+use zk_command::same_file::is_same_file;
 use zk_command::save_file::SaveFile;
 use zk_command::script::ScriptFile;
-use zk_term::nothing::Nothing;
+use zk_command::watched::Watched;
 use zk_term::over::Over;
 use zk_term::target::Target;
-use zk_vm::slot::{NoSlot, SaveSlot};
+use zk_vm::slot::SaveSlot;
 use zk_vm::stop::Stop;
 
 /// Plays the story in a file, with its saved game in a slot and its transcript in a script, and answers the program's
 /// status.
 fn play_with<T: Target, K: SaveSlot>(
     rt: &HostRuntime,
-    path: &str,
+    about: &About,
     manner: Manner,
     script: &mut T,
     slot: &mut K,
@@ -38,19 +41,21 @@ fn play_with<T: Target, K: SaveSlot>(
     requires script_works { T.failed script.old ≡ false }
 {
     let mut errors = Over::new(rt.stderr());
-    match File::open(rt, path) {
+    match File::open(rt, about.path) {
         Err(error) => report(
             rt.alloc(),
             &Ending::Unread(error),
             &manner.limits,
+            about,
             &mut errors,
         ),
         Ok(file) => play_and_report(
             rt.alloc(),
             file,
+            about,
             manner,
-            &mut Over::new(rt.stdin()),
-            &mut Over::new(io::writer(rt)),
+            &mut Over::new(Watched::new(rt.stdin(), &about.input)),
+            &mut Over::new(Watched::new(io::writer(rt), &about.screen)),
             script,
             slot,
             &mut errors,
@@ -62,7 +67,7 @@ fn play_with<T: Target, K: SaveSlot>(
 /// named; and answers the program's status.
 fn play_saving<T: Target>(
     rt: &HostRuntime,
-    path: &str,
+    about: &About,
     save: Option<&str>,
     manner: Manner,
     script: &mut T,
@@ -71,8 +76,8 @@ fn play_saving<T: Target>(
     requires script_works { T.failed script.old ≡ false }
 {
     match save {
-        None => play_with(rt, path, manner, script, &mut NoSlot),
-        Some(save) => play_with(rt, path, manner, script, &mut SaveFile::new(rt, save)),
+        None => play_with(rt, about, manner, script, &mut MissingSave::new(rt)),
+        Some(save) => play_with(rt, about, manner, script, &mut SaveFile::new(rt, save)),
     }
 }
 
@@ -87,22 +92,28 @@ fn play_file(
 ) -> u8
     requires { AreInRange manner.limits }
 {
+    let about = About::new(path, script.unwrap_or(""));
     match script {
-        None => play_saving(rt, path, save, manner, &mut Nothing),
-        Some(script) => play_saving(rt, path, save, manner, &mut ScriptFile::new(rt, script)),
+        None => play_saving(rt, &about, save, manner, &mut MissingScript::new(rt)),
+        Some(script) => {
+            let mut file = ScriptFile::new(rt, script, &about.script);
+            play_saving(rt, &about, save, manner, &mut file)
+        }
     }
 }
 
 /// Lists the story in a file, and answers the program's status.
 fn list_file(rt: &HostRuntime, path: &str, listing: Listing) -> u8 {
     let mut errors = Over::new(rt.stderr());
+    let about = About::new(path, "");
     match File::open(rt, path) {
-        Err(error) => report_listing(rt.alloc(), &Ending::Unread(error), &mut errors),
+        Err(error) => report_listing(rt.alloc(), &Ending::Unread(error), &about, &mut errors),
         Ok(file) => list_and_report(
             rt.alloc(),
             file,
+            &about,
             listing,
-            &mut Over::new(io::writer(rt)),
+            &mut Over::new(Watched::new(io::writer(rt), &about.screen)),
             &mut errors,
         ),
     }
@@ -115,6 +126,16 @@ fn out_of_memory(rt: &HostRuntime) -> u8
     report_briefly(&Ending::Stopped(Stop::Memory), &mut Over::new(rt.stderr()))
 }
 
+/// Tells why help can't be written, and answers the program's status.
+fn tell_unwritten(rt: &HostRuntime, failure: &io::Error) -> u8
+    ensures { result ≡ 4 }
+{
+    let about = About::new("", "");
+    about.screen.note(failure);
+    let ending = Ending::Stopped(Stop::Write);
+    report_listing(rt.alloc(), &ending, &about, &mut Over::new(rt.stderr()))
+}
+
 /// Shows help, the version or what is wrong with the words, and answers the program's status: 4 where help can't be
 /// written.
 fn tell_usage(rt: &HostRuntime, error: &Error) -> u8
@@ -123,10 +144,40 @@ fn tell_usage(rt: &HostRuntime, error: &Error) -> u8
     if error.kind() == ErrorKind::OutOfMemory {
         return out_of_memory(rt);
     }
-    if error.print(rt).is_err() && !error.use_stderr() {
-        return report_briefly(&Ending::Stopped(Stop::Write), &mut Over::new(rt.stderr()));
+    match error.print(rt) {
+        Err(failure) if !error.use_stderr() => tell_unwritten(rt, &failure),
+        _ => usage_status_of(error),
     }
-    usage_status_of(error)
+}
+
+/// The option of `play` that names the story's own file, if one does.
+fn option_on_story(
+    rt: &HostRuntime,
+    story: &str,
+    save: Option<&str>,
+    script: Option<&str>,
+) -> Option<&'static str> {
+    match save {
+        Some(path) if is_same_file(rt, story, path) => return Some("save"),
+        _ => {}
+    }
+    match script {
+        Some(path) if is_same_file(rt, story, path) => Some("script"),
+        _ => None,
+    }
+}
+
+/// Tells how a story is played, where the first word names a file in a command's place.
+fn tell_command(rt: &HostRuntime, words: &[&str], error: &Error) {
+    if error.kind() != ErrorKind::InvalidSubcommand {
+        return;
+    }
+    let Some(word) = words.get(1) else {
+        return;
+    };
+    if fs::exists(rt, *word).unwrap_or(false) {
+        let _ = eprintln!(rt; "\nto play it: zkit play {}", word);
+    }
 }
 
 /// Does what the words ask for, and answers the program's status.
@@ -146,9 +197,16 @@ fn answer(rt: &HostRuntime, words: &[String]) -> u8 {
                 script,
                 manner,
             },
-        ) => play_file(rt, story, save, script, manner),
+        ) => match option_on_story(rt, story, save, script) {
+            Some(option) => tell_usage(rt, &story_named(rt.alloc(), option)),
+            None => play_file(rt, story, save, script, manner),
+        },
         Ok(Choice::Show { story, listing }) => list_file(rt, story, listing),
-        Err(error) => tell_usage(rt, &error),
+        Err(error) => {
+            let status = tell_usage(rt, &error);
+            tell_command(rt, words.as_slice(), &error);
+            status
+        }
     }
 }
 

@@ -1,0 +1,94 @@
+// Where an instruction leads that has a bad target, for the lines in words.
+
+use std::alloc::{AllocError, Global};
+use zk_code::branch::{Branch, Target};
+use zk_code::decode::decode;
+use zk_code::instr::Instr;
+use zk_code::opcode::Opcode;
+use zk_code::ways::is_jump;
+use zk_mem::memory::Memory;
+
+/// Where an instruction leads that has a bad target, by byte addresses.
+#[derive(Clone, Copy, PartialEq, Eq, Drop)]
+pub enum Astray {
+    /// It calls an address inside the story, where no routine begins.
+    Routine(u32),
+    /// It calls an address past the story.
+    PastRoutine(u32),
+    /// It calls what a variable says.
+    SomeRoutine,
+    /// It branches or jumps to an address past the story.
+    Past(u32),
+    /// It branches or jumps so many bytes before the story.
+    Before(u32),
+    /// It jumps by a variable.
+    SomeJump,
+    /// It restores a game that goes on out of the story.
+    SavedGame,
+}
+
+/// Where a call leads.
+fn called(memory: &Memory, i: &Instr) -> Astray {
+    match i.constant_call(memory) {
+        Some(address) if memory.cell(address).is_none() => Astray::PastRoutine(address),
+        Some(address) => Astray::Routine(address),
+        None => Astray::SomeRoutine,
+    }
+}
+
+/// Where a branch or a jump leads.
+fn led(target: Target) -> Option<Astray> {
+    match target {
+        Target::Past(address) => Some(Astray::Past(address)),
+        Target::Below(count) => Some(Astray::Before(count)),
+        _ => None,
+    }
+}
+
+impl Astray {
+    /// Where the instruction at a byte address leads, which has a bad target.
+    pub fn at(memory: &Memory, address: u32) -> Option<Astray> {
+        if address > 0x10_0000 {
+            return None;
+        }
+        let Ok(i) = decode(memory, address) else {
+            return None;
+        };
+        if let Opcode::Call(_) = i.opcode {
+            return Some(called(memory, &i));
+        }
+        if is_jump(i.opcode) {
+            return match i.constant_jump(memory) {
+                Some(target) => led(target),
+                None => Some(Astray::SomeJump),
+            };
+        }
+        match i.branch {
+            Some(Branch { on: _, target }) => led(target),
+            None => Some(Astray::SavedGame),
+        }
+    }
+
+    /// Where it leads, in words.
+    pub fn text(self, alloc: Global) -> Result<String, AllocError> {
+        match self {
+            Astray::Routine(a) => format!(in alloc;
+                "the story calls address {a:05x}, where no routine begins"
+            ),
+            Astray::PastRoutine(a) => format!(in alloc;
+                "the story calls address {a:05x}, which is past its end"
+            ),
+            Astray::SomeRoutine => format!(in alloc;
+                "the story calls an address past its end, or where no routine begins"
+            ),
+            Astray::Past(a) => format!(in alloc;
+                "the story goes on at address {a:05x}, which is past its end"
+            ),
+            Astray::Before(n) => format!(in alloc;
+                "the story goes on {n} bytes before its beginning"
+            ),
+            Astray::SomeJump => format!(in alloc; "the story jumps out of itself"),
+            Astray::SavedGame => format!(in alloc; "the saved game goes on past the story's end"),
+        }
+    }
+}
