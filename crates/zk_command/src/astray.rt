@@ -63,10 +63,12 @@ impl Astray {
                 None => Some(Astray::SomeJump),
             };
         }
-        match i.branch {
+        let led = match i.branch {
             Some(Branch { on: _, target }) => led(target),
-            None => Some(Astray::SavedGame),
-        }
+            None => None,
+        };
+        // a `restore` whose own branch leads somewhere
+        led.or(Some(Astray::SavedGame))
     }
 
     /// Where it leads, in words.
