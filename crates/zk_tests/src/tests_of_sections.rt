@@ -73,7 +73,11 @@ fn failed_writes_end_listings(rt: HostRuntime) -> Result<(), Fail> {
         same(&rt, taken.as_slice(), &text[..room]);
         let (status, lines) = reported(rt.alloc(), &ending, &AMPLE);
         same(&rt, status, 4);
-        same(&rt, lines.as_slice(), b"zkit: write failed\n".as_slice());
+        same(
+            &rt,
+            lines.as_slice(),
+            b"zkit: the screen: it takes nothing more\nzkit: write failed\n".as_slice(),
+        );
     }
     Ok(())
 }

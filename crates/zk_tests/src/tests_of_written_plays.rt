@@ -66,6 +66,10 @@ fn a_failed_write_ends_the_play(rt: HostRuntime) -> Result<(), Fail> {
     same(&rt, taken.as_slice(), b"hih".as_slice());
     let (status, lines) = reported(rt.alloc(), &ending, &limits);
     same(&rt, status, 4);
-    same(&rt, lines.as_slice(), b"zkit: write failed\n".as_slice());
+    same(
+        &rt,
+        lines.as_slice(),
+        b"zkit: the screen: it takes nothing more\nzkit: write failed\n".as_slice(),
+    );
     Ok(())
 }
