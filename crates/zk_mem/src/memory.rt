@@ -120,13 +120,11 @@ fn set_flags(bytes: &mut Vec<u8>, flags: u8)
 }
 
 /// Writes bytes over the first ones of a list.
-fn copy_bytes(bytes: &mut Vec<u8>, from: &[u8])
-    requires { length from.now ≤ length bytes.old.items }
-    ensures { bytes.new.items ≡ from.now ++ drop (length from.now) bytes.old.items }
+fn copy_bytes(bytes: &mut [u8], from: &[u8])
+    requires { length from.now ≤ length bytes.old }
+    ensures { bytes.new ≡ from.now ++ drop (length from.now) bytes.old }
 {
-    for i in 0..from.len() {
-        bytes[i] = from[i];
-    }
+    bytes[..from.len()].copy_from_slice(from);
 }
 
 /// The items of a list of bytes are below 256.
