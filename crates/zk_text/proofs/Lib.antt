@@ -8,6 +8,7 @@ pub mod SpellLaws
 pub mod KeyText
 pub mod Cases
 pub mod Tables
+pub mod ShortTexts
 pub mod Standard
 pub mod Lower
 pub mod LowerLaws

@@ -4,6 +4,7 @@ pub mod Words
 pub mod Pieces
 pub mod Reading
 pub mod Meaning
+pub mod Lengths
 pub mod Walks
 pub mod Sweeps
 pub mod Extra

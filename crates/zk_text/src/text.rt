@@ -1,6 +1,7 @@
 // Texts: where they end, and their units given to a sink.
 
 ghost use Rattle.std.specs.Prelude.{◌≡◌, ◌≤◌, List, Ok, Err, IsOk, OnOk, OnErr, IfOk, MatchResult, length};
+ghost use Rattle.zk_text.specs.Lengths.{HasShortText, HasShortTexts};
 ghost use Rattle.zk_text.specs.Meaning.{text_units, checked_end, meaning_at, no_abbreviation};
 ghost use Rattle.zk_text.specs.declared.unit.Unit.{Unit};
 
@@ -37,12 +38,14 @@ impl Sink for Silent {
 /// Standards Document 1.1, section 3). It is `TextPastEnd` where the text has no last word inside
 /// the story. Else its first abbreviation without a meaning decides: `TextPastEnd` where the
 /// abbreviation's address can't be read or its text has no last word, `NestedAbbreviation` where
-/// its text uses an abbreviation.
-#[tactic(auto, unfolding(crate::specs::Meaning::checked_end, crate::specs::Meaning::text_units, zk_mem::specs::Words::text_end_at))]
+/// its text uses an abbreviation. Such a text, and that of each abbreviation that it uses, has at most half as many
+/// words as the story has bytes.
+#[tactic(auto, unfolding(crate::specs::Meaning::checked_end, crate::specs::Meaning::text_units, zk_mem::specs::Words::text_end_at), using(crate::proofs::ShortTexts::short_texts))]
 pub fn check_text(memory: &Memory, address: u32) -> Result<u32, Fault>
     ensures value { result ≡ checked_end memory.now address }
     ensures meaning { OnOk result (IsOk (text_units memory.now address)) }
     ensures inside { IfOk result (λ end. end ≤ length memory.now.bytes) }
+    ensures short { OnOk result (HasShortTexts memory.now address) }
 {
     let end = memory.text_end(address).ok_or(Fault::TextPastEnd)?;
     match walk_text::<Outside, Silent>(memory, Alphabet::of(memory), address, &mut Silent) {
@@ -54,10 +57,12 @@ pub fn check_text(memory: &Memory, address: u32) -> Result<u32, Fault>
 }
 
 /// Whether the text of an abbreviation at a byte address has a meaning (Z-Machine Standards Document 1.1, section 3.3):
-/// `TextPastEnd` where it has no last word inside the story, `NestedAbbreviation` where it uses an abbreviation.
-#[tactic(auto, unfolding(zk_mem::specs::Words::text_end_at))]
+/// `TextPastEnd` where it has no last word inside the story, `NestedAbbreviation` where it uses an abbreviation. Such a
+/// text has at most half as many words as the story has bytes.
+#[tactic(auto, unfolding(zk_mem::specs::Words::text_end_at), using(crate::proofs::ShortTexts::short_text))]
 pub fn check_abbreviation(memory: &Memory, address: u32) -> Result<(), Fault>
-    ensures { MatchResult result (λ _. IsOk (meaning_at no_abbreviation memory.now address)) (λ e. meaning_at no_abbreviation memory.now address ≡ Err e) }
+    ensures meaning { MatchResult result (λ _. IsOk (meaning_at no_abbreviation memory.now address)) (λ e. meaning_at no_abbreviation memory.now address ≡ Err e) }
+    ensures short { OnOk result (HasShortText memory.now address) }
 {
     memory.text_end(address).ok_or(Fault::TextPastEnd)?;
     match walk_text::<Inside, Silent>(memory, Alphabet::of(memory), address, &mut Silent) {
@@ -69,14 +74,16 @@ pub fn check_abbreviation(memory: &Memory, address: u32) -> Result<(), Fault>
 }
 
 /// Gives a sink the units of the text at a byte address, which has a meaning (see `check_text`), in
-/// one pass. Where the sink refuses, it was given a first part of them.
-#[tactic(auto, unfolding(crate::specs::Meaning::text_units), using(crate::proofs::Joins::refused_alone))]
+/// one pass. Where the sink refuses, it was given a first part of them. The text, and that of each abbreviation that it
+/// uses, has at most half as many words as the story has bytes.
+#[tactic(auto, unfolding(crate::specs::Meaning::text_units), using(crate::proofs::Joins::refused_alone, crate::proofs::ShortTexts::short_texts))]
 pub fn print_text<S: Sink>(memory: &Memory, address: u32, sink: &mut S) -> Result<(), SinkFault>
     requires { IsOk (text_units memory.now address) }
     ensures ok { OnOk result ((us : List Unit) → text_units memory.now address ≡ Ok us →
         S.gave sink.old sink.new us) }
     ensures err { OnErr result ((us : List Unit) → text_units memory.now address ≡ Ok us →
         S.refused sink.old sink.new us) }
+    ensures short { HasShortTexts memory.now address }
 {
     match walk_text::<Outside, S>(memory, Alphabet::of(memory), address, sink) {
         Ok(()) => Ok(()),
