@@ -4,7 +4,7 @@ use Rattle.std.proofs.lemmas.Bool.Decides.{nat_tests}
 use Rattle.std.specs.List.{list_all, slice_split}
 use Rattle.std.specs.Str.Lines.{lines_of_parts, strip_carriage_return}
 use Rattle.zk_term.specs.declared.lines.Over.TheVariants as over
-use Rattle.zk_term.specs.Lines.{heard, heard_in, behind, nothing_more, is_new_line, is_short, while_short, IsPlain, AreLines}
+use Rattle.zk_term.specs.Lines.{heard, heard_in, behind, nothing_more, is_new_line, is_short, while_short, ended_in, ended_lines, IsPlain, AreLines}
 
 -- ---- parts
 
@@ -62,6 +62,14 @@ too_long line rest plain long =
     let test : is_short (line ++ p.first) ≡ false = grind (arith, nat_tests, length-append line p.first) in
     ap heard_in (split_long line rest plain p) ∙ rw test refl
 
+complete : (line rest : List ℕ) → IsPlain line → ended_lines (line ++ 10 ∷ rest) ≡ strip_carriage_return line ∷ ended_lines rest
+unfolding ended_lines ended_in
+complete line rest plain = let p = parts rest in rw (split_ended line rest plain, p.are) refl
+
+cut_off : (line : List ℕ) → IsPlain line → ended_lines line ≡ []
+unfolding ended_lines ended_in
+cut_off line plain = rw (split_last line plain) refl
+
 pub are_lines : AreLines
 unfolding heard
-are_lines = record { ended = ended; last = last; none = refl; too_long = too_long }
+are_lines = record { ended = ended; last = last; none = refl; complete = complete; cut_off = cut_off; too_long = too_long }

@@ -1,5 +1,5 @@
 -- Bytes that a reader of lines takes from a source, one after another.
-use Rattle.std.proofs.Common.{◌≡◌, ◌≢◌, ◌≤◌, ◌<◌, ℕ, suc, ◌+◌, ◌-◌, Bool, true, false, List, [], ◌∷◌, ◌++◌, length, take, drop, get_or, Option, Some, append_assoc, drop-cons, add-one, refl, sym, ◌∙◌, ap, arith, length-drop, length-append, Ok, Err, inl, inr, ⊎_elim, lit≤, cond, nat_lt}
+use Rattle.std.proofs.Common.{◌≡◌, ◌≢◌, ◌≤◌, ◌<◌, ℕ, suc, ◌+◌, ◌-◌, Bool, true, false, List, [], ◌∷◌, ◌++◌, length, take, drop, get_or, Option, Some, None, append_assoc, drop-cons, add-one, refl, sym, ◌∙◌, ap, arith, length-drop, length-append, Ok, Err, inl, inr, ⊎_elim, lit≤, cond, nat_lt}
 use Rattle.std.proofs.lemmas.List.{length-take, length-take-le, take-take, take_all, take_at, take-append-le, append-nil}
 use Rattle.std.proofs.lemmas.Bool.{ne_eqb, cases_lt}
 use Rattle.std.proofs.lemmas.Bool.Decides.{nat_tests}
@@ -8,7 +8,7 @@ use Rattle.arrayvec.specs.ArrayVec.{ArrayVec}
 use Rattle.zk_term.specs.declared.lines.Over.TheVariants as over
 use Rattle.zk_text.specs.Extra.{ExtraTable}
 use Rattle.zk_term.specs.Characters.{line_codes}
-use Rattle.zk_term.specs.Lines.{heard, behind, nothing_more, Reading, Gives, GivesEach, GivesLine, IsPlain, is_new_line}
+use Rattle.zk_term.specs.Lines.{heard, Reading, Gives, GivesEach, GivesLine, IsPlain, is_new_line}
 use Rattle.zk_term.proofs.Cutting.{cut_codes}
 use Rattle.zk_term.proofs.Hearing.{are_lines}
 
@@ -83,12 +83,12 @@ taken_on r m r' left leftm left' n b kept kept' t g h e = record {
   keeps = e ∙ ap (λ ks. take 1024 (ks ++ b ∷ [])) t.keeps ∙ take_again 1024 t.front (b ∷ []);
 }
 
-pub taken_line : (r m r' : Reading) (left leftm left' : Option (List ℕ)) (failed : Bool) (n : ℕ) (kept : List ℕ) (result : ArrayVec ℕ) → Taken r left m leftm n kept → n < 65536 → Gives m leftm r' left' (10 ∷ []) → result.items ≡ strip_carriage_return kept → GivesLine r left r' left' failed (Ok result)
-taken_line r m r' left leftm left' failed n kept result t h g e = λ bytes k.
+pub taken_line : (r m r' : Reading) (left leftm left' : Option (List ℕ)) (n : ℕ) (kept : List ℕ) (result : ArrayVec ℕ) → Taken r left m leftm n kept → n < 65536 → Gives m leftm r' left' (10 ∷ []) → result.items ≡ strip_carriage_return kept → r'.over ≡ None → GivesLine r left r' left' (Unit {0}) (Unit {0}) (Ok result)
+taken_line r m r' left leftm left' n kept result t h g e goes = λ bytes k.
     let all = gives_on r m r' left leftm left' t.front (10 ∷ []) t.gives g bytes k in
     let short : nat_lt (length t.front) 65536 ≡ true = grind (arith, nat_tests, t.long) in
     let whole : r.ahead ++ bytes ≡ t.front ++ 10 ∷ (r'.ahead ++ all.0) = all.2 ∙ append_assoc t.front (10 ∷ []) (r'.ahead ++ all.0) in
-    (all.0, all.1, (strip_carriage_return t.front, ap heard whole ∙ are_lines.ended t.front (r'.ahead ++ all.0) t.plain short, λ x. ap (line_codes x) (e ∙ ap strip_carriage_return t.keeps) ∙ strip_codes x t.front))
+    (all.0, all.1, (strip_carriage_return t.front, inl (record { part = t.front; whole = whole; plain = t.plain; short = short; is = refl }, goes), λ x. ap (line_codes x) (e ∙ ap strip_carriage_return t.keeps) ∙ strip_codes x t.front))
 
 ends : (m r' : Reading) (leftm left' : Option (List ℕ)) → GivesEach {X = ℕ} (λ b. b ∷ []) m leftm r' left' (Err over.End) → (bytes : List ℕ) → leftm ≡ Some bytes → (later : List ℕ) × (left' ≡ Some later) × (m.ahead ++ bytes ≡ []) × (r'.ahead ++ later ≡ [])
 ends m r' leftm left' g bytes e =
@@ -96,33 +96,32 @@ ends m r' leftm left' g bytes e =
     let none = g.1 bytes e in
     (given.0, given.1, none, sym given.2 ∙ none)
 
-last_by : (line : List ℕ) → 0 < length line → IsPlain line → nat_lt (length line) 65536 ≡ true → heard line ≡ behind line (nothing_more over.End)
-last_by [] some plain short = absurd (omega arith)
-last_by (b ∷ line) some plain short = are_lines.last b line plain short
-
-pub taken_last : (r m r' : Reading) (left leftm left' : Option (List ℕ)) (failed : Bool) (n : ℕ) (result : ArrayVec ℕ) → Taken r left m leftm n result.items → n < 65536 → 0 < n → GivesEach {X = ℕ} (λ b. b ∷ []) m leftm r' left' (Err over.End) → GivesLine r left r' left' failed (Ok result)
-taken_last r m r' left leftm left' failed n result t h some g = λ bytes k.
+pub taken_last : (r m r' : Reading) (left leftm left' : Option (List ℕ)) (n : ℕ) (result : ArrayVec ℕ) → Taken r left m leftm n result.items → n < 65536 → 0 < n → GivesEach {X = ℕ} (λ b. b ∷ []) m leftm r' left' (Err over.End) → r'.over ≡ Some over.End → GivesLine r left r' left' (Unit {0}) (Unit {0}) (Ok result)
+taken_last r m r' left leftm left' n result t h some g is = λ bytes k.
     let mid = t.gives bytes k in
     let end = ends m r' leftm left' g mid.0 mid.1 in
     let short : nat_lt (length t.front) 65536 ≡ true = grind (arith, nat_tests, t.long) in
     let whole : r.ahead ++ bytes ≡ t.front = mid.2 ∙ ap (λ l. t.front ++ l) end.2 ∙ append-nil t.front in
-    (end.0, end.1, (t.front, ap heard whole ∙ last_by t.front (omega (arith, t.long)) t.plain short ∙ ap (behind t.front) (sym are_lines.none ∙ ap heard (sym end.3)), λ x. ap (line_codes x) t.keeps ∙ cut_codes x t.front 1024 (lit≤ tt)))
+    (end.0, end.1, (t.front, inr (record { whole = whole; some = omega (arith, t.long); plain = t.plain; short = short; none = end.3 }, is), λ x. ap (line_codes x) t.keeps ∙ cut_codes x t.front 1024 (lit≤ tt)))
 
 none_by : (line : List ℕ) → length line ≡ 0 → line ≡ []
 none_by [] e = refl
 none_by (b ∷ line) e = absurd (omega arith)
 
-pub taken_end : (r m r' : Reading) (left leftm left' : Option (List ℕ)) (failed : Bool) (n : ℕ) (kept : List ℕ) → Taken r left m leftm n kept → n ≡ 0 → GivesEach {X = ℕ} (λ b. b ∷ []) m leftm r' left' (Err over.End) → GivesLine r left r' left' failed (Err over.End)
-taken_end r m r' left leftm left' failed n kept t h g = λ bytes k.
+pub taken_end : (r m r' : Reading) (left leftm left' : Option (List ℕ)) (n : ℕ) (kept : List ℕ) → Taken r left m leftm n kept → n ≡ 0 → GivesEach {X = ℕ} (λ b. b ∷ []) m leftm r' left' (Err over.End) → GivesLine r left r' left' (Unit {0}) (Unit {0}) (Err over.End)
+taken_end r m r' left leftm left' n kept t h g = λ bytes k.
     let mid = t.gives bytes k in
     let end = ends m r' leftm left' g mid.0 mid.1 in
     let none : r.ahead ++ bytes ≡ [] = mid.2 ∙ ap (λ l. l ++ (m.ahead ++ mid.0)) (none_by t.front (t.long ∙ h)) ∙ end.2 in
-    (end.0, end.1, ap heard none ∙ are_lines.none)
+    (end.0, end.1, (none, end.3))
 
-pub taken_failed : (r m r' : Reading) (left leftm left' : Option (List ℕ)) (failed : Bool) (n : ℕ) (kept : List ℕ) → Taken r left m leftm n kept → Gives m leftm r' left' [] → failed ≡ true → GivesLine r left r' left' failed (Err over.Failed)
-taken_failed r m r' left leftm left' failed n kept t g e = λ bytes k. let all = gives_on r m r' left leftm left' t.front [] t.gives g bytes k in (all.0, all.1, inl e)
+pub taken_failed : (r m r' : Reading) (left leftm left' : Option (List ℕ)) (failed sound : Type 0) (n : ℕ) (kept : List ℕ) → Taken r left m leftm n kept → n < 65536 → Gives m leftm r' left' [] → failed → GivesLine r left r' left' failed sound (Err over.Failed)
+taken_failed r m r' left leftm left' failed sound n kept t h g e = λ bytes k.
+    let all = gives_on r m r' left leftm left' t.front [] t.gives g bytes k in
+    let short : nat_lt (length t.front) 65536 ≡ true = grind (arith, nat_tests, t.long) in
+    (all.0, all.1, inl (e, record { part = t.front; whole = all.2 ∙ ap (λ l. l ++ (r'.ahead ++ all.0)) (append-nil t.front); plain = t.plain; short = short }))
 
-pub taken_long : (r r' : Reading) (left left' : Option (List ℕ)) (failed : Bool) (n : ℕ) (kept : List ℕ) → Taken r left r' left' n kept → n ≡ 65536 → GivesLine r left r' left' failed (Err over.Failed)
-taken_long r r' left left' failed n kept t h = λ bytes k.
+pub taken_long : (r r' : Reading) (left left' : Option (List ℕ)) (failed sound : Type 0) (n : ℕ) (kept : List ℕ) → Taken r left r' left' n kept → n ≡ 65536 → sound → GivesLine r left r' left' failed sound (Err over.Failed)
+taken_long r r' left left' failed sound n kept t h e = λ bytes k.
     let all = t.gives bytes k in
-    (all.0, all.1, inr (ap heard all.2 ∙ are_lines.too_long t.front (r'.ahead ++ all.0) t.plain (t.long ∙ h)))
+    (all.0, all.1, inr (e, ap heard all.2 ∙ are_lines.too_long t.front (r'.ahead ++ all.0) t.plain (t.long ∙ h)))

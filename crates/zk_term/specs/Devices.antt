@@ -2,6 +2,10 @@
 use Rattle.std.specs.Prelude.{◌≡◌, ℕ, Bool, true, false, List, [], ◌++◌, Option, encode_utf8_all}
 use Rattle.std.specs.Io.KnownBytes.{Appends}
 
+-- the last that a device did was this
+abbrev pub HasJust : {D : Type 0} → (D → D → Type 0) → D → Type 0
+HasJust {D} does now = (before : D) × does before now
+
 -- a first part of some bytes was taken
 pub record TookPart (old new : Option (List ℕ)) (bytes : List ℕ) : Type 0 where
   pub part : List ℕ

@@ -1,5 +1,5 @@
 -- The lines of an input.
-use Rattle.std.specs.Prelude.{◌≡◌, ◌⊎◌, ℕ, Bool, true, false, List, [], ◌∷◌, ◌++◌, length, Option, Some, None, Result, Ok, Err, nat_lt, nat_eq, if◌then◌else◌}
+use Rattle.std.specs.Prelude.{◌≡◌, ◌⊎◌, ◌<◌, ℕ, Bool, true, false, List, [], ◌∷◌, ◌++◌, length, Option, Some, None, Result, Ok, Err, nat_lt, nat_eq, if◌then◌else◌}
 use Rattle.std.specs.List.{list_all, slice_split, AllByRecursion}
 use Rattle.std.specs.Str.Lines.{lines_of_parts, strip_carriage_return}
 use Rattle.arrayvec.specs.ArrayVec.{ArrayVec}
@@ -9,6 +9,7 @@ use Rattle.zk_term.specs.declared.lines.Over.TheVariants as over
 use Rattle.zk_term.specs.declared.lines.Input.{Input}
 use Rattle.zk_term.specs.declared.lines.Input.TheVariants as input
 use Rattle.zk_term.specs.Characters.{line_codes}
+use Rattle.zk_term.specs.Devices.{HasJust}
 
 -- what can be read of an input: its lines, and how it is over behind them
 pub record Heard : Type 0 where
@@ -61,40 +62,73 @@ abbrev pub over_input : Over → Input
 over_input over.End = input.End
 over_input over.Failed = input.Failed
 
--- how the input is over after an answer
-abbrev pub over_after : Input → Option Over
-over_after (input.Line codes) = None
-over_after input.End = Some over.End
-over_after input.Failed = Some over.Failed
+-- how the input is over after an answer: after a line it goes on, unless the line was the last
+abbrev pub IsOverAfter : Input → Option Over → Type 0
+IsOverAfter (input.Line codes) how = (how ≡ None) ⊎ (how ≡ Some over.End)
+IsOverAfter input.End how = how ≡ Some over.End
+IsOverAfter input.Failed how = how ≡ Some over.Failed
 
--- an answer is what is heard next: of the bytes from here on, of those behind it, and whether a read has failed
-abbrev pub Hears : ExtraTable → List ℕ → List ℕ → Bool → Input → Type 0
-Hears t bytes later failed (input.Line codes) = (line : List ℕ) × (heard bytes ≡ behind line (heard later)) × (codes.items ≡ line_codes t line)
-Hears t bytes later failed input.End = heard bytes ≡ nothing_more over.End
-Hears t bytes later failed input.Failed = (failed ≡ true) ⊎ (heard bytes ≡ nothing_more over.Failed)
+-- no byte of a line is a new line
+abbrev pub IsPlain : List ℕ → Type 0
+IsPlain line = AllByRecursion (λ b. is_new_line b ≡ false) line
+
+-- a line that a new line ends comes first, without a return before that
+pub record IsEndedLine (bytes later line : List ℕ) : Type 0 where
+  pub part : List ℕ
+  pub whole : bytes ≡ part ++ 10 ∷ later
+  pub plain : IsPlain part
+  pub short : is_short part ≡ true
+  pub is : line ≡ strip_carriage_return part
+
+-- a line is all that comes, with no new line at its end
+pub record IsLastLine (bytes later line : List ℕ) : Type 0 where
+  pub whole : bytes ≡ line
+  pub some : 0 < length line
+  pub plain : IsPlain line
+  pub short : is_short line ≡ true
+  pub none : later ≡ []
+
+-- a line comes first, and the input goes on or is over after it
+abbrev pub IsNextLine : List ℕ → List ℕ → List ℕ → Option Over → Type 0
+IsNextLine bytes later line how = (IsEndedLine bytes later line × (how ≡ None)) ⊎ (IsLastLine bytes later line × (how ≡ Some over.End))
+
+-- a read failed in a line: a part of the line had come, with no new line, and this is what comes later
+pub record BreaksOff (bytes later : List ℕ) : Type 0 where
+  pub part : List ℕ
+  pub whole : bytes ≡ part ++ later
+  pub plain : IsPlain part
+  pub short : is_short part ≡ true
+
+-- the last that a source did was a read that failed, and its reader has no byte read ahead
+pub record ReadFailed {S : Type 0} (fails : S → S → Type 0) (failed : S → Bool) (source : S) (reading : Reading) : Type 0 where
+  pub just : HasJust fails source
+  pub stays : failed source ≡ true
+  pub none : reading.ahead ≡ []
+
+-- an answer is what comes next of the bytes from here on, before those that come later; where a line is not there either
+-- a read has failed, or none has failed and too many bytes came
+abbrev pub Hears : ExtraTable → List ℕ → List ℕ → Option Over → Type 0 → Type 0 → Input → Type 0
+Hears t bytes later how failed sound (input.Line codes) = (line : List ℕ) × IsNextLine bytes later line how × (codes.items ≡ line_codes t line)
+Hears t bytes later how failed sound input.End = (bytes ≡ []) × (later ≡ [])
+Hears t bytes later how failed sound input.Failed = (failed × BreaksOff bytes later) ⊎ (sound × (heard bytes ≡ nothing_more over.Failed))
 
 -- the codes of an answer are codes that may be typed
 abbrev pub HasInputCodes : Input → Type 0
 HasInputCodes (input.Line codes) = AllByRecursion (λ c. is_input_code c ≡ true) codes.items
 HasInputCodes _ = Unit {0}
 
--- an answer is Failed
-abbrev pub is_failed : Input → Bool
-is_failed input.Failed = true
-is_failed _ = false
-
--- no read has failed in between, unless this may be so; and a read that has failed stays so
-abbrev pub FailsAlone : Bool → Bool → Bool → Type 0
-FailsAlone true before now = before ≡ true → now ≡ true
-FailsAlone false before now = now ≡ before
+-- a read has failed at an answer Failed alone, and else none has
+abbrev pub FailsAlone : Type 0 → Type 0 → Input → Type 0
+FailsAlone failed sound input.Failed = failed ⊎ sound
+FailsAlone failed sound _ = sound
 
 -- ---- one step of it
 
 -- a line's bytes are heard next, or how the input is over: those kept have the line's codes
-abbrev pub HearsBytes : List ℕ → List ℕ → Bool → Result (ArrayVec ℕ) Over → Type 0
-HearsBytes bytes later failed (Ok kept) = (line : List ℕ) × (heard bytes ≡ behind line (heard later)) × ((t : ExtraTable) → line_codes t kept.items ≡ line_codes t line)
-HearsBytes bytes later failed (Err over.End) = heard bytes ≡ nothing_more over.End
-HearsBytes bytes later failed (Err over.Failed) = (failed ≡ true) ⊎ (heard bytes ≡ nothing_more over.Failed)
+abbrev pub HearsBytes : List ℕ → List ℕ → Option Over → Type 0 → Type 0 → Result (ArrayVec ℕ) Over → Type 0
+HearsBytes bytes later how failed sound (Ok kept) = (line : List ℕ) × IsNextLine bytes later line how × ((t : ExtraTable) → line_codes t kept.items ≡ line_codes t line)
+HearsBytes bytes later how failed sound (Err over.End) = (bytes ≡ []) × (later ≡ [])
+HearsBytes bytes later how failed sound (Err over.Failed) = (failed × BreaksOff bytes later) ⊎ (sound × (heard bytes ≡ nothing_more over.Failed))
 
 -- a reader and its source, which tells its bytes or not, give some bytes
 abbrev pub Gives : Reading → Option (List ℕ) → Reading → Option (List ℕ) → List ℕ → Type 0
@@ -107,25 +141,33 @@ GivesEach given r left r' left' (Err over.End) = Gives r left r' left' [] × ((b
 GivesEach given r left r' left' (Err over.Failed) = Gives r left r' left' []
 
 -- they give a line, of which these bytes are kept, or how the input is over
-abbrev pub GivesLine : Reading → Option (List ℕ) → Reading → Option (List ℕ) → Bool → Result (ArrayVec ℕ) Over → Type 0
-GivesLine r left r' left' failed result = (bytes : List ℕ) → left ≡ Some bytes → (later : List ℕ) × (left' ≡ Some later) × HearsBytes (r.ahead ++ bytes) (r'.ahead ++ later) failed result
+abbrev pub GivesLine : Reading → Option (List ℕ) → Reading → Option (List ℕ) → Type 0 → Type 0 → Result (ArrayVec ℕ) Over → Type 0
+GivesLine r left r' left' failed sound result = (bytes : List ℕ) → left ≡ Some bytes → (later : List ℕ) × (left' ≡ Some later) × HearsBytes (r.ahead ++ bytes) (r'.ahead ++ later) r'.over failed sound result
 
--- a read has failed
-abbrev pub has_failed : {X : Type 0} → Result X Over → Bool
-has_failed (Ok x) = false
-has_failed (Err over.End) = false
-has_failed (Err over.Failed) = true
+-- what holds of the source after a step, by how it has gone
+abbrev pub GoesBy : {X : Type 0} → Type 0 → Type 0 → Type 0 → Result X Over → Type 0
+GoesBy failed ended sound (Ok x) = sound
+GoesBy failed ended sound (Err over.End) = ended × sound
+GoesBy failed ended sound (Err over.Failed) = failed
 
 -- ---- laws
 
--- no byte of a line is a new line
-abbrev pub IsPlain : List ℕ → Type 0
-IsPlain line = AllByRecursion (λ b. is_new_line b ≡ false) line
+-- the lines that new lines end, among the parts between these: all but the last part
+unfoldable pub ended_in : List (List ℕ) → List (List ℕ)
+ended_in [] = []
+ended_in (part ∷ []) = []
+ended_in (part ∷ next ∷ parts) = strip_carriage_return part ∷ ended_in (next ∷ parts)
 
--- The beginnings of an input: a line and its new line, with a return before that or not; a last line without one; no
+-- the lines of an input that are complete, each with its new line
+unfoldable pub ended_lines : List ℕ → List (List ℕ)
+ended_lines bytes = ended_in (slice_split is_new_line bytes)
+
+-- The beginnings of an input, and of its complete lines: a line and its new line, with a return before that or not; a last line without one; no
 -- bytes; and too many bytes without a new line.
 pub record AreLines : Type 0 where
   pub ended : (line rest : List ℕ) → IsPlain line → nat_lt (length line) 65536 ≡ true → heard (line ++ 10 ∷ rest) ≡ behind (strip_carriage_return line) (heard rest)
   pub last : (b : ℕ) (line : List ℕ) → IsPlain (b ∷ line) → nat_lt (length (b ∷ line)) 65536 ≡ true → heard (b ∷ line) ≡ behind (b ∷ line) (nothing_more over.End)
   pub none : heard [] ≡ nothing_more over.End
+  pub complete : (line rest : List ℕ) → IsPlain line → ended_lines (line ++ 10 ∷ rest) ≡ strip_carriage_return line ∷ ended_lines rest
+  pub cut_off : (line : List ℕ) → IsPlain line → ended_lines line ≡ []
   pub too_long : (line rest : List ℕ) → IsPlain line → length line ≡ 65536 → heard (line ++ rest) ≡ nothing_more over.Failed

@@ -1,12 +1,13 @@
 // The lines of an input.
 
-ghost use Rattle.std.specs.Prelude.{◌≡◌, ◌<◌, ◌≤◌, ◌||◌, ◌∷◌, ◌++◌, take, List, ℕ, Bool, Option, None, Some, [], length, true, IfOk};
+ghost use Rattle.std.specs.Prelude.{◌≡◌, ◌<◌, ◌≤◌, ◌⊎◌, ◌∷◌, ◌++◌, take, List, ℕ, Bool, Option, None, Some, [], length, true, IfOk, OnErr, OnOk};
 ghost use Rattle.std.specs.List.{AllByRecursion};
 ghost use Rattle.std.specs.Str.Lines.{strip_carriage_return};
 ghost use Rattle.zk_text.specs.Extra.{is_input_code};
 ghost use Rattle.zk_term.specs.Characters.{character_length, character_of, character_step, typed_code, line_codes};
 ghost use Rattle.zk_term.specs.declared.lines.Over.{Over};
-ghost use Rattle.zk_term.specs.Lines.{Reading, GivesEach, GivesLine, has_failed, is_failed, FailsAlone, Hears, HasInputCodes, over_input, over_after};
+ghost use Rattle.zk_term.specs.Devices.{HasJust};
+ghost use Rattle.zk_term.specs.Lines.{Reading, ReadFailed, GivesEach, GivesLine, GoesBy, FailsAlone, Hears, HasInputCodes, IsOverAfter, over_input};
 
 use crate::source::Source;
 use crate::target::Failed;
@@ -169,7 +170,7 @@ impl Lines {
         ensures room { IfOk result (λ _. 0 < length self.new.ahead) }
         ensures bytes { GivesEach (λ _. []) self.old (S.left source.old) self.new (S.left source.new) result }
         ensures over { self.new.over ≡ self.old.over }
-        ensures failed { S.failed source.new ≡ (has_failed result || S.failed source.old) }
+        ensures goes { GoesBy (ReadFailed S.fails S.failed source.new self.new) (HasJust S.ends source.new) (S.failed source.new ≡ S.failed source.old) result }
     {
         match source.read(&mut self.buffer) {
             Ok(0) => Err(Over::End),
@@ -199,7 +200,7 @@ impl Lines {
     fn next_byte<S: Source>(&mut self, source: &mut S) -> Result<u8, Over>
         ensures bytes { GivesEach (λ b. b ∷ []) self.old (S.left source.old) self.new (S.left source.new) result }
         ensures over { self.new.over ≡ self.old.over }
-        ensures failed { S.failed source.new ≡ (has_failed result || S.failed source.old) }
+        ensures goes { GoesBy (ReadFailed S.fails S.failed source.new self.new) (HasJust S.ends source.new) (S.failed source.new ≡ S.failed source.old) result }
     {
         if self.start == self.end {
             self.fill(source)?;
@@ -207,12 +208,16 @@ impl Lines {
         Ok(self.take_ahead())
     }
 
-    /// The bytes of the next line, of a longer one the first 1,024 alone.
+    /// The bytes of the next line, of a longer one the first 1,024 alone. After a last line, which no new line ends, the
+    /// input is over.
     #[tactic(auto, using(crate::proofs::Taking::taken_on, crate::proofs::Taking::taken_line, crate::proofs::Taking::taken_last, crate::proofs::Taking::taken_end, crate::proofs::Taking::taken_failed, crate::proofs::Taking::taken_long))]
     fn take_line<S: Source>(&mut self, source: &mut S) -> Result<ArrayVec<u8, KEPT>, Over>
-        ensures heard { GivesLine self.old (S.left source.old) self.new (S.left source.new) (S.failed source.new) result }
-        ensures over { self.new.over ≡ self.old.over }
-        ensures failed { FailsAlone (has_failed result) (S.failed source.old) (S.failed source.new) }
+        requires { self.old.over ≡ None }
+        ensures heard { GivesLine self.old (S.left source.old) self.new (S.left source.new) (ReadFailed S.fails S.failed source.new self.new) (S.failed source.new ≡ S.failed source.old) result }
+        ensures over { OnOk result ((self.new.over ≡ None) ⊎ (self.new.over ≡ Some Over.End)) }
+        ensures none { OnErr result (self.new.over ≡ None) }
+        ensures ends { self.new.over ≡ Some Over.End → HasJust S.ends source.new }
+        ensures goes { GoesBy (ReadFailed S.fails S.failed source.new self.new ⊎ (S.failed source.new ≡ S.failed source.old)) (HasJust S.ends source.new) (S.failed source.new ≡ S.failed source.old) result }
     {
         let mut line = ArrayVec::new();
         for taken in 0..TOO_LONG {
@@ -223,6 +228,7 @@ impl Lines {
                     if taken == 0 {
                         return Err(Over::End);
                     }
+                    self.over = Some(Over::End);
                     return Ok(line);
                 }
                 Err(Over::Failed) => return Err(Over::Failed),
@@ -234,24 +240,26 @@ impl Lines {
     /// Waits for the next line, and answers its codes.
     ///
     /// A line is the bytes before a new line (10); a return (13) just before that is no part of it. The
-    /// bytes behind the last new line are a line too, with all their returns, where there is at least one.
+    /// bytes after the last new line are a line too, with all their returns, where there is at least one.
     /// So an input without bytes has no line, and one of a new line alone has an empty one.
     ///
     /// The bytes are read as UTF-8. Each character gives one code, by `extra`, and so does each byte that
     /// belongs to none. A tab gives a space, and what has no code a question mark. What is behind the
     /// 255th code of a line is dropped.
     ///
-    /// `End` says that the source has no more bytes. `Failed` says that a read failed, and what had come
-    /// of a line is lost, or that 65,536 bytes came without a new line; more are not waited for. After
-    /// `End` or `Failed` the answer stays the same, and the source is not asked again.
+    /// `End` says that the last read gave no bytes. `Failed` says that the last read failed, and what had come
+    /// of a line is lost, or that no read failed and 65,536 bytes came without a new line; more are not waited
+    /// for. After `End` or `Failed` the answer stays the same, and after a last line without a new line it is `End`: the
+    /// source is not asked again.
     ///
     /// `Lines` reads ahead of the line that it answers: it is to be given the same source each time.
     pub fn line<S: Source>(&mut self, source: &mut S, extra: &Extra) -> Input
         ensures over { (o : Over) → self.old.over ≡ Some o → (result ≡ over_input o) × (self.new ≡ self.old) × (source.new ≡ source.old) }
-        ensures heard { (bytes : List ℕ) → self.old.over ≡ None → S.left source.old ≡ Some bytes → (later : List ℕ) × (S.left source.new ≡ Some later) × Hears extra.now (self.old.ahead ++ bytes) (self.new.ahead ++ later) (S.failed source.new) result }
-        ensures next { self.old.over ≡ None → self.new.over ≡ over_after result }
+        ensures heard { (bytes : List ℕ) → self.old.over ≡ None → S.left source.old ≡ Some bytes → (later : List ℕ) × (S.left source.new ≡ Some later) × Hears extra.now (self.old.ahead ++ bytes) (self.new.ahead ++ later) self.new.over (ReadFailed S.fails S.failed source.new self.new) (S.failed source.new ≡ S.failed source.old) result }
+        ensures next { self.old.over ≡ None → IsOverAfter result self.new.over }
         ensures codes { HasInputCodes result }
-        ensures failed { FailsAlone (is_failed result) (S.failed source.old) (S.failed source.new) }
+        ensures failed { FailsAlone (ReadFailed S.fails S.failed source.new self.new) (S.failed source.new ≡ S.failed source.old) result }
+        ensures ends { self.old.over ≡ None → self.new.over ≡ Some Over.End → HasJust S.ends source.new }
     {
         if let Some(over) = self.over {
             return over.input();

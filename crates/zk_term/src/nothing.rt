@@ -14,6 +14,10 @@ impl Source for Nothing {
 
     ghost failed = { λ _. false };
 
+    ghost fails = { λ _ _. ⊥ };
+
+    ghost ends = { λ _ _. Unit {0} };
+
     fn read(&mut self, _buffer: &mut [u8]) -> Result<usize, Failed> {
         Ok(0)
     }
@@ -25,6 +29,8 @@ impl Target for Nothing {
     ghost taken = { λ _. None };
 
     ghost failed = { λ _. false };
+
+    ghost fails = { λ _ _. ⊥ };
 
     fn write(&mut self, bytes: &[u8]) -> Result<usize, Failed> {
         Ok(bytes.len())

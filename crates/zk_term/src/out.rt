@@ -2,7 +2,7 @@
 
 ghost use Rattle.std.specs.Prelude.{◌≡◌, [], ◌++◌, ◌||◌, is_err, OnOk, OnErr, encode_utf8};
 ghost use Rattle.std.specs.Io.KnownBytes.{Appends};
-ghost use Rattle.zk_term.specs.Devices.{PassedOn, TookPart};
+ghost use Rattle.zk_term.specs.Devices.{HasJust, PassedOn, TookPart};
 
 use crate::target::{Failed, Target, write_all};
 use arrayvec::ArrayVec;
@@ -33,12 +33,14 @@ impl Out {
         }
     }
 
-    /// Gives all bytes that wait to a target, or where a write fails a first part of them.
+    /// Gives all bytes that wait to a target, or where a write fails a first part of them. `Failed` says that the last write
+    /// failed.
     pub fn flush<T: Target>(&mut self, target: &mut T) -> Result<(), Failed>
         ensures all { OnOk result (Appends (T.taken target.old) (T.taken target.new) self.old) }
         ensures none { OnOk result (self.new ≡ []) }
         ensures part { OnErr result (TookPart (T.taken target.old) (T.taken target.new) self.old) }
         ensures failed { T.failed target.new ≡ (is_err result || T.failed target.old) }
+        ensures fails { OnErr result (HasJust T.fails target.new) }
     {
         match write_all(target, self.waiting.as_slice()) {
             Ok(()) => {
@@ -50,11 +52,12 @@ impl Out {
     }
 
     /// Adds the UTF-8 of a character to the bytes that wait. Where there is no room for it these go out first, or
-    /// where a write fails a first part of them.
+    /// where a write fails a first part of them. `Failed` says that the last write failed.
     pub fn put<T: Target>(&mut self, target: &mut T, c: char) -> Result<(), Failed>
         ensures all { OnOk result (PassedOn (T.taken target.old) (T.taken target.new) (self.old ++ encode_utf8 c) self.new) }
         ensures part { OnErr result (TookPart (T.taken target.old) (T.taken target.new) self.old) }
         ensures failed { T.failed target.new ≡ (is_err result || T.failed target.old) }
+        ensures fails { OnErr result (HasJust T.fails target.new) }
     {
         let mut buffer = [0u8; 4];
         let bytes = c.encode_utf8(&mut buffer).as_bytes();

@@ -1,6 +1,7 @@
 // Sources and targets over std's readers and writers.
 
-ghost use Rattle.std.specs.Prelude.{◌≡◌, false};
+ghost use Rattle.std.specs.Prelude.{◌≡◌, false, true};
+ghost use Rattle.std.specs.Io.KnownBytes.{IsAtEnd};
 
 use crate::source::Source;
 use crate::target::{Failed, Target};
@@ -37,6 +38,10 @@ impl<R: Read> Source for Over<R> {
 
     ghost failed = { λ o. o.failed };
 
+    ghost fails = { λ _ o. o.failed ≡ true };
+
+    ghost ends = { λ _ o. IsAtEnd (R.remaining o.inner) };
+
     fn read(&mut self, buffer: &mut [u8]) -> Result<usize, Failed> {
         match self.inner.read(buffer) {
             Ok(n) => Ok(n),
@@ -52,6 +57,8 @@ impl<W: Write> Target for Over<W> {
     ghost taken = { λ o. W.contents o.inner };
 
     ghost failed = { λ o. o.failed };
+
+    ghost fails = { λ _ o. o.failed ≡ true };
 
     fn write(&mut self, bytes: &[u8]) -> Result<usize, Failed> {
         match self.inner.write(bytes) {

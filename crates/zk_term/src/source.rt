@@ -1,6 +1,6 @@
 // Where bytes come from.
 
-ghost use Rattle.std.specs.Prelude.{◌≡◌, ◌||◌, is_err};
+ghost use Rattle.std.specs.Prelude.{◌≡◌, ◌<◌, ◌||◌, length, is_err, IfOk, OnErr};
 ghost use Rattle.std.specs.Io.{ReadsAtMost};
 ghost use Rattle.std.specs.Io.KnownBytes.{ReadConsumes};
 
@@ -16,10 +16,18 @@ pub trait Source {
     // that a read has failed
     ghost failed: { Self → Bool };
 
+    // that a read that failed led from the one to the other
+    ghost fails: { Self → Self → Type 0 };
+
+    // that a read without bytes, at the end of the input, led from the one to the other
+    ghost ends: { Self → Self → Type 0 };
+
     /// Puts bytes at the front of `buffer` and says how many: none at the end of the input alone. A read
     /// that fails uses up no bytes.
     fn read(&mut self, buffer: &mut [u8]) -> Result<usize, Failed>
         ensures count { ReadsAtMost result buffer.new }
         ensures bytes { ReadConsumes (left self.old) (left self.new) result buffer.new }
-        ensures failed { failed self.new ≡ (is_err result || failed self.old) };
+        ensures failed { failed self.new ≡ (is_err result || failed self.old) }
+        ensures fails { OnErr result (fails self.old self.new) }
+        ensures ends { 0 < length buffer.new → IfOk result (λ n. n ≡ 0 → ends self.old self.new) };
 }

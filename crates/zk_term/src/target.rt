@@ -2,7 +2,7 @@
 
 ghost use Rattle.std.specs.Prelude.{◌≡◌, ◌≤◌, ◌<◌, ◌||◌, length, is_err, IfOk, OnOk, OnErr, encode_utf8};
 ghost use Rattle.std.specs.Io.KnownBytes.{Appends, WriteAppends};
-ghost use Rattle.zk_term.specs.Devices.{TookPart};
+ghost use Rattle.zk_term.specs.Devices.{HasJust, TookPart};
 
 /// A read or a write that failed.
 #[derive(Clone, Copy, PartialEq, Eq, Drop)]
@@ -18,20 +18,25 @@ pub trait Target {
     // that a write has failed
     ghost failed: { Self → Bool };
 
+    // that a write that failed led from the one to the other
+    ghost fails: { Self → Self → Type 0 };
+
     /// Takes bytes from the front of `bytes`, at least one where there is one, and says how many. A
     /// write that fails takes none.
     fn write(&mut self, bytes: &[u8]) -> Result<usize, Failed>
         ensures count { IfOk result (λ n. n ≤ length bytes.now) }
         ensures progress { 0 < length bytes.now → IfOk result (λ n. 0 < n) }
         ensures bytes { WriteAppends (taken self.old) (taken self.new) result bytes.now }
-        ensures failed { failed self.new ≡ (is_err result || failed self.old) };
+        ensures failed { failed self.new ≡ (is_err result || failed self.old) }
+        ensures fails { OnErr result (fails self.old self.new) };
 }
 
-/// Writes all bytes, or where a write fails a first part of them.
+/// Writes all bytes, or where a write fails a first part of them. `Failed` says that the last write failed.
 pub fn write_all<T: Target>(target: &mut T, bytes: &[u8]) -> Result<(), Failed>
     ensures all { OnOk result (Appends (T.taken target.old) (T.taken target.new) bytes.now) }
     ensures part { OnErr result (TookPart (T.taken target.old) (T.taken target.new) bytes.now) }
     ensures failed { T.failed target.new ≡ (is_err result || T.failed target.old) }
+    ensures fails { OnErr result (HasJust T.fails target.new) }
 {
     let mut sent = 0;
     while sent < bytes.len() {
@@ -43,11 +48,12 @@ pub fn write_all<T: Target>(target: &mut T, bytes: &[u8]) -> Result<(), Failed>
     Ok(())
 }
 
-/// Writes a character as UTF-8, or where a write fails a first part of its bytes.
+/// Writes a character as UTF-8, or where a write fails a first part of its bytes. `Failed` says that the last write failed.
 pub fn write_char<T: Target>(target: &mut T, c: char) -> Result<(), Failed>
     ensures all { OnOk result (Appends (T.taken target.old) (T.taken target.new) (encode_utf8 c)) }
     ensures part { OnErr result (TookPart (T.taken target.old) (T.taken target.new) (encode_utf8 c)) }
     ensures failed { T.failed target.new ≡ (is_err result || T.failed target.old) }
+    ensures fails { OnErr result (HasJust T.fails target.new) }
 {
     let mut buffer = [0u8; 4];
     write_all(target, c.encode_utf8(&mut buffer).as_bytes())
