@@ -31,7 +31,7 @@ undo_seen u = record { states = ring_states u.ring; most = u.most }
 -- there is a ring for as many states as there may be, unless there may be none
 abbrev pub RingFits : Option (Buffer KeptState) → ℕ → Type 0
 RingFits None n = n ≡ 0
-RingFits (Some b) n = (b.capacity ≡ n) × (length b.items ≤ n)
+RingFits (Some b) n = (b.capacity ≡ n) × (length b.items ≤ n) × (1 ≤ n)
 
 -- at most as many states as there may be, which are at most 64
 pub record IsRing (u : Undo.Inside) : Type 0 where

@@ -1,6 +1,6 @@
 // The newest states, to go back to.
 
-ghost use Rattle.std.specs.Prelude.{◌≡◌, ◌<◌, ◌≤◌, [], ◌∷◌, take, length, Some, None, MatchOption, IfOk, OnOk, OnErr};
+ghost use Rattle.std.specs.Prelude.{◌≡◌, ◌<◌, ◌≤◌, [], ◌∷◌, take, length, Some, None, MatchOption, IsOk, IfOk, OnOk, OnErr};
 ghost use Rattle.zk_mem.specs.Map.{MemoryMap};
 ghost use Rattle.zk_state.specs.Frames.{FrameList};
 ghost use Rattle.zk_save.specs.States.{state_of, states_in, gone_back, AreOf};
@@ -43,6 +43,7 @@ impl Undo {
     pub fn new(alloc: Global, most: u8) -> Result<Undo, AllocError>
         requires { most ≤ 64 }
         ensures value { IfOk result (λ u. u ≡ record { states = []; most = most }) }
+        ensures none { most ≡ 0 → IsOk result }
         ensures are_of { IfOk result (λ u. (m : MemoryMap) (f : FrameList) → AreOf m f u) }
     {
         let most = most as usize;
@@ -74,11 +75,12 @@ impl Undo {
     }
 
     /// Keeps the state of a memory and frames that goes on at a place, and drops the oldest state where
-    /// there are too many. Where none is wanted, none is kept, and no memory is asked for. Where there is
+    /// there are too many. Where none is wanted, nothing changes, and no memory is asked for. Where there is
     /// no memory, all states stay.
     pub fn put(&mut self, memory: &Memory, frames: &Frames, place: u32) -> Result<(), AllocError>
         ensures ok { OnOk result (states_in memory.now.file self.new ≡ take self.old.most (state_of memory.now frames.now place ∷ states_in memory.now.file self.old)) }
         ensures err { OnErr result (self.new ≡ self.old) }
+        ensures none { self.old.most ≡ 0 → IsOk result × (self.new ≡ self.old) }
         ensures most { self.new.most ≡ self.old.most }
         ensures are_of { AreOf memory.now frames.now self.old → AreOf memory.now frames.now self.new }
     {
