@@ -11,3 +11,4 @@ pub mod Room
 pub mod Cut
 pub mod Same
 pub mod Reached
+pub mod ReachedByExample

@@ -8,3 +8,4 @@ pub mod Laws
 pub mod Routines
 pub mod Reach
 pub mod Examples
+pub mod ReachExamples

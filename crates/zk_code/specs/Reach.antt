@@ -9,7 +9,6 @@ use Rattle.zk_code.specs.declared.opcode.Opcode.{Opcode}
 use Rattle.zk_code.specs.declared.opcode.Opcode.TheVariants.{Call, Routine, Control, Printing, Saving}
 use Rattle.zk_code.specs.declared.opcode.Routine.{Routine as RoutineOperation}
 use Rattle.zk_code.specs.declared.opcode.Routine.TheVariants.{Catch, CheckArgCount}
-use Rattle.zk_code.specs.declared.opcode.Control.{Control as ControlOperation}
 use Rattle.zk_code.specs.declared.opcode.Control.TheVariants.{Jump}
 use Rattle.zk_code.specs.declared.opcode.Printing.{Printing as PrintingOperation}
 use Rattle.zk_code.specs.declared.opcode.Printing.TheVariants.{PrintRet}
