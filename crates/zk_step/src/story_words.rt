@@ -44,7 +44,7 @@ impl StoryWords {
     }
 
     /// The dictionary at a byte address. `BadDictionary` as `Dictionary::at` has it.
-    #[tactic(auto, unfolding(crate::specs::StoryWords::AreWordsOf))]
+    #[tactic(auto, unfolding(crate::specs::StoryWords::AreWordsOf), using(zk_tables::proofs::Finding::read_stands))]
     pub(crate) fn dictionary_at(&self, memory: &Memory, address: u16) -> Result<Dictionary, Fault>
         requires { AreWordsOf (fixed_parts memory.now) self.now }
         ensures value { result ≡ dictionary_at memory.now address }

@@ -1,5 +1,5 @@
 -- One link more of a chain.
-use Rattle.std.proofs.Common.{◌≡◌, ◌≢◌, ℕ, zero, suc, ◌+◌, ◌-◌, ◌<◌, ◌≤◌, true, false, List, [], ◌∷◌, Result, Ok, Err, refl, sym, ◌∙◌, ap, arith, eqb}
+use Rattle.std.proofs.Common.{◌≡◌, ◌≢◌, ℕ, zero, suc, ◌+◌, ◌-◌, ◌<◌, ◌≤◌, true, false, List, [], ◌∷◌, length, Result, Ok, Err, refl, sym, ◌∙◌, ap, arith, eqb}
 use Rattle.std.specs.Prelude.{IsOk}
 use Rattle.std.proofs.lemmas.Bool.{ne_eqb, eq-eqb}
 use Rattle.zk_mem.specs.declared.fault.Fault.{Fault}
@@ -9,9 +9,11 @@ use Rattle.zk_mem.specs.Map.{MemoryMap}
 use Rattle.zk_tables.specs.declared.links.Place.{Place}
 use Rattle.zk_tables.specs.Layout.{entry_of, entries}
 use Rattle.zk_tables.specs.Links.{link_at, sibling_of, child_of}
-use Rattle.zk_tables.specs.Chain.{chain_from, children_of}
+use Rattle.zk_tables.specs.Chain.{chain_from, children_of, how_many}
 use Rattle.zk_tables.specs.Tree.{naming_in, naming_among}
-use Rattle.zk_tables.proofs.Steps.{fault_in, no_fault, its_fault}
+
+abbrev kept : ℕ → Result ℕ Fault
+kept n = Ok n
 
 pub zero_test : (x : ℕ) → x ≢ 0 → eqb x 0 ≡ false
 zero_test x h = ne_eqb x 0 h
@@ -43,22 +45,43 @@ pub chain_full_bad : (m : MemoryMap) (n i x : ℕ) (e : Fault) → n ≤ i → x
 unfolding chain_from
 chain_full_bad m n i x e le ne h = let none : n - i ≡ zero = omega arith in rw (none, zero_test x ne, h) refl
 
-fault_behind : (r : Result (List ℕ) Fault) (x : ℕ) → fault_in (r >>= λ xs. Ok (x ∷ xs)) ≡ fault_in r
-fault_behind (Ok xs) x = refl
-fault_behind (Err e) x = refl
+-- how many objects a chain has, behind so many that were met
+abbrev pub after_them : ℕ → Result (List ℕ) Fault → Result ℕ Fault
+after_them n (Ok xs) = Ok (n + length xs)
+after_them n (Err e) = Err e
 
--- the fault of a chain is that of what is left
-pub fault_next : (m : MemoryMap) (n i x z : ℕ) → i < n → x ≢ 0 → link_at m (sibling_of x) ≡ Ok z → fault_in (chain_from m (n - i) x) ≡ fault_in (chain_from m (n - (i + 1)) z)
-fault_next m n i x z lt ne h = ap (λ (r : Result (List ℕ) Fault). fault_in r) (chain_next m n i x z lt ne h) ∙ fault_behind (chain_from m (n - (i + 1)) z) x
+one_more : (r : Result (List ℕ) Fault) (n x : ℕ) → after_them n (r >>= λ xs. Ok (x ∷ xs)) ≡ after_them (n + 1) r
+one_more (Ok xs) n x = let e : n + suc (length xs) ≡ n + 1 + length xs = omega arith in ap (λ (k : ℕ). kept k) e
+one_more (Err e) n x = refl
+
+none_yet : (r : Result (List ℕ) Fault) → after_them 0 r ≡ how_many r
+none_yet (Ok xs) = let e : 0 + length xs ≡ length xs = omega arith in ap (λ (k : ℕ). kept k) e
+none_yet (Err e) = refl
+
+-- the whole chain, met from its front on
+pub count_start : (m : MemoryMap) (n x : ℕ) → after_them 0 (chain_from m (n - 0) x) ≡ how_many (chain_from m n x)
+count_start m n x = let e : n - 0 ≡ n = omega arith in rw e (none_yet (chain_from m n x))
+
+pub count_next : (m : MemoryMap) (n i x z : ℕ) → i < n → x ≢ 0 → link_at m (sibling_of x) ≡ Ok z → after_them i (chain_from m (n - i) x) ≡ after_them (i + 1) (chain_from m (n - (i + 1)) z)
+count_next m n i x z lt ne h = ap (λ (r : Result (List ℕ) Fault). after_them i r) (chain_next m n i x z lt ne h) ∙ one_more (chain_from m (n - (i + 1)) z) i x
 
 -- what is left decides
-pub chain_done : (m : MemoryMap) (most first n x : ℕ) → fault_in (chain_from m n x) ≡ fault_in (chain_from m most first) → x ≡ 0 → IsOk (chain_from m most first)
-chain_done m most first n x same h =
-    no_fault (chain_from m most first) (sym same ∙ ap (λ (r : Result (List ℕ) Fault). fault_in r) (chain_end m n x h))
+pub count_done : (m : MemoryMap) (most first n i x : ℕ) → after_them i (chain_from m n x) ≡ how_many (chain_from m most first) → x ≡ 0 → Ok i ≡ how_many (chain_from m most first)
+count_done m most first n i x whole h =
+    let e : i + 0 ≡ i = omega arith in
+    sym (ap (λ (r : Result (List ℕ) Fault). after_them i r) (chain_end m n x h) ∙ ap (λ (k : ℕ). kept k) e) ∙ whole
 
-pub chain_failed : (m : MemoryMap) (most first n x : ℕ) (e : Fault) → fault_in (chain_from m n x) ≡ fault_in (chain_from m most first) → chain_from m n x ≡ Err e → chain_from m most first ≡ Err e
-chain_failed m most first n x e same h =
-    its_fault (chain_from m most first) e (sym same ∙ ap (λ (r : Result (List ℕ) Fault). fault_in r) h)
+pub count_failed : (m : MemoryMap) (most first n i x : ℕ) (e : Fault) → after_them i (chain_from m n x) ≡ how_many (chain_from m most first) → chain_from m n x ≡ Err e → Err e ≡ how_many (chain_from m most first)
+count_failed m most first n i x e whole h = sym (ap (λ (r : Result (List ℕ) Fault). after_them i r) h) ∙ whole
+
+-- a chain that is counted is one
+pub counted_chain : (r : Result (List ℕ) Fault) (n : ℕ) → Ok n ≡ how_many r → IsOk r
+counted_chain (Ok xs) n e = refl
+counted_chain (Err d) n e = absurd cc
+
+pub uncounted_chain : (r : Result (List ℕ) Fault) (e : Fault) → Err e ≡ how_many r → r ≡ Err e
+uncounted_chain (Ok xs) e h = absurd cc
+uncounted_chain (Err d) e h = cc
 
 -- ---- the link that names an object
 

@@ -1,5 +1,5 @@
 -- Looking a key up.
-use Rattle.std.proofs.Common.{◌≡◌, ◌≢◌, ◌≤◌, ◌<◌, ℕ, zero, suc, ◌+◌, ◌*◌, ◌-◌, true, false, List, [], ◌∷◌, length, drop, get_or, Option, Some, None, Result, Ok, Err, nat_lt, ◌==◌, drop-cons, add-one, refl, sym, subst, arith, inl, inr}
+use Rattle.std.proofs.Common.{◌≡◌, ◌≢◌, ◌≤◌, ◌<◌, ℕ, zero, suc, ◌+◌, ◌*◌, ◌-◌, true, false, List, [], ◌∷◌, length, drop, get_or, Option, Some, None, Result, Ok, Err, nat_lt, ◌==◌, drop-cons, add-one, refl, sym, ◌∙◌, ap, subst, arith, inl, inr}
 use Rattle.std.specs.Prelude.{slice_get, IfOk}
 use Rattle.std.proofs.Math.Nat.{mul-le-mul_left, mul-suc}
 use Rattle.std.proofs.lemmas.Bool.{ne_eqb, eq-eqb, cases_Bool}
@@ -8,7 +8,7 @@ use Rattle.std.proofs.lemmas.List.{drop_all}
 use Rattle.zk_mem.specs.declared.fault.Fault.{Fault}
 use Rattle.zk_mem.specs.Map.{MemoryMap, readable_end, cell_at}
 use Rattle.zk_tables.specs.declared.dictionary.Dictionary.{Dictionary}
-use Rattle.zk_tables.specs.Dictionaries.{key_length, magnitude, dictionary_byte, dictionary_word, dictionary_by, dictionary_at, IsDictionaryOf, parts_at, begins_with, has_key, found_from, entry_start}
+use Rattle.zk_tables.specs.Dictionaries.{key_length, magnitude, dictionary_byte, dictionary_word, dictionary_by, dictionary_at, IsDictionaryOf, parts_at, bytes_from, keys_from, begins_with, has_key, found_from, entry_start}
 use Rattle.zk_tables.proofs.Steps.{bind_ok}
 
 -- what stands behind a byte that is there
@@ -73,18 +73,41 @@ dictionary_address m a d h =
     let n = bind_ok (dictionary_word m (a + s.0 + 2)) _ d l.2 in
     (by_inside m a s.0 l.0 n.0 d n.2).1
 
+-- a memory with another static base
+abbrev pub based : MemoryMap → ℕ → MemoryMap
+based m base = record m { static_base = base }
+
 -- what was read at an address is the dictionary that stands there
+pub read_stands : (m : MemoryMap) (a : ℕ) (d : Dictionary) → dictionary_at m a ≡ Ok d → IsDictionaryOf m d
+unfolding IsDictionaryOf
+read_stands m a d h = (m.static_base, subst (λ x. dictionary_at m x ≡ Ok d) (sym (dictionary_address m a d h)) h)
+
 pub dictionary_stands : (m : MemoryMap) (a : ℕ) (r : Result Dictionary Fault) → r ≡ dictionary_at m a → IfOk r (λ d. IsDictionaryOf m d)
-dictionary_stands m a (Ok d) h = record { stands = subst (λ x. dictionary_at m x ≡ Ok d) (sym (dictionary_address m a d (sym h))) (sym h) }
+dictionary_stands m a (Ok d) h = read_stands m a d (sym h)
 dictionary_stands m a (Err e) h = tt
 
+-- keys are their bytes alone
+bytes_by_bytes : (m : MemoryMap) (base a n : ℕ) → bytes_from (based m base) a n ≡ bytes_from m a n
+unfolding bytes_from
+bytes_by_bytes m base a zero = refl
+bytes_by_bytes m base a (suc n) = ap (λ (xs : List ℕ). get_or m.bytes a 0 ∷ xs) (bytes_by_bytes m base (a + 1) n)
+
+pub keys_by_bytes : (m : MemoryMap) (base a l n : ℕ) → keys_from (based m base) a l n ≡ keys_from m a l n
+unfolding keys_from
+keys_by_bytes m base a l zero = refl
+keys_by_bytes m base a l (suc n) =
+    ap (λ (k : List ℕ). k ∷ keys_from (based m base) (a + l) l n) (bytes_by_bytes m base a (key_length m.version))
+    ∙ ap (λ (ks : List (List ℕ)). bytes_from m a (key_length m.version) ∷ ks) (keys_by_bytes m base (a + l) l n)
+
 pub dictionary_inside : (m : MemoryMap) (d : Dictionary) → IsDictionaryOf m d → IsInside m d
-unfolding dictionary_at
+unfolding dictionary_at IsDictionaryOf
 dictionary_inside m d h =
-    let s = bind_ok (dictionary_byte m d.address) _ d h.stands in
-    let l = bind_ok (dictionary_byte m (d.address + s.0 + 1)) _ d s.2 in
-    let n = bind_ok (dictionary_word m (d.address + s.0 + 2)) _ d l.2 in
-    (by_inside m d.address s.0 l.0 n.0 d n.2).0
+    let b = based m h.0 in
+    let s = bind_ok (dictionary_byte b d.address) _ d h.1 in
+    let l = bind_ok (dictionary_byte b (d.address + s.0 + 1)) _ d s.2 in
+    let n = bind_ok (dictionary_word b (d.address + s.0 + 2)) _ d l.2 in
+    let inside = (by_inside b d.address s.0 l.0 n.0 d n.2).0 in
+    record { end = inside.end; room = inside.room; some = inside.some }
 
 rows_below : (l i n : ℕ) → i < n → l * i + l ≤ l * n
 rows_below l i n below = let all : l * suc i ≤ l * n = mul-le-mul_left l (omega arith) in omega (arith, all, mul-suc l i)

@@ -7,11 +7,11 @@ use Rattle.std.proofs.lemmas.Option.{slice_get-get_or}
 use Rattle.zk_mem.specs.Map.{MemoryMap, readable_end}
 use Rattle.zk_tables.specs.declared.dictionary.Dictionary.{Dictionary}
 use Rattle.zk_tables.specs.Dictionaries.{key_length, magnitude, dictionary_byte, dictionary_word, dictionary_by, dictionary_at, parts_at, is_above, do_not_fall, bytes_from, keys_from, begins_with, has_key, found_from, found_in, entry_start, IsDictionaryOf}
-use Rattle.zk_tables.specs.Halves.{entry_key, halved, halved_whole, found_by_halves, compared_by_halves, IsFoundByHalves, HalvesFindTheFirst}
+use Rattle.zk_tables.specs.Halves.{entry_key, halved, halved_whole, found_at_end, found_by_halves, compared_to_end, compared_by_halves, IsFoundByHalves, HalvesFindTheFirst}
 use Rattle.zk_tables.proofs.Steps.{bind_ok}
 use Rattle.zk_tables.proofs.Ordering.{length_bytes}
 use Rattle.zk_tables.proofs.TableLaw.{table_is_read}
-use Rattle.zk_tables.proofs.Finding.{drop_some, found_on, found_here, entry_inside}
+use Rattle.zk_tables.proofs.Finding.{drop_some, found_on, found_here, entry_inside, based, keys_by_bytes}
 
 -- ---- the order of keys
 
@@ -279,9 +279,14 @@ found_between m d key first o long b =
           rw none (sym (skip ∙ none_behind m d key (d.entries - first) first (λ j late early. absurd (omega (arith, late, early, e))))))
     ]
 
-pub is_found_by_halves : (m : MemoryMap) (d : Dictionary) (key : List ℕ) → IsOrdered m d → length key ≡ key_length m.version → IsFoundByHalves m d key
-unfolding found_by_halves compared_by_halves halved_whole found_in doubled
-is_found_by_halves m d key o long =
+-- what the search comes to, for a key of the right length
+record ComesToFirst (m : MemoryMap) (d : Dictionary) (key : List ℕ) : Type 0 where
+  first : found_at_end m d key ≡ found_from m d key d.entries 0
+  few : compared_to_end m d key ≤ 16
+
+comes_to_first : (m : MemoryMap) (d : Dictionary) (key : List ℕ) → IsOrdered m d → length key ≡ key_length m.version → ComesToFirst m d key
+unfolding halved_whole doubled
+comes_to_first m d key o long =
     let all : Between m d key 0 d.entries = record { before = λ j early. absurd (omega (arith, early)); behind = λ j late inside. absurd (omega (arith, late, inside)); inside = omega arith } in
     let end = halved_ends m d key 15 0 0 d.entries o (let f = o.few in omega (arith, f)) all in
     let few = halved_few m d key 15 0 0 d.entries in
@@ -289,6 +294,13 @@ is_found_by_halves m d key o long =
       first = found_between m d key (halved m d key 15 0 0 d.entries).entry o long end;
       few = elim (cases_Bool (nat_lt (halved m d key 15 0 0 d.entries).entry d.entries)) [ inl t ↦ rw t (omega (arith, few)) | inr t ↦ rw t (omega (arith, few)) ];
     }
+
+pub is_found_by_halves : (m : MemoryMap) (d : Dictionary) (key : List ℕ) → IsOrdered m d → IsFoundByHalves m d key
+unfolding found_by_halves compared_by_halves found_in
+is_found_by_halves m d key o = elim (cases_Bool (length key == key_length m.version)) [
+  | inl t ↦ (let c = comes_to_first m d key o (eqb-true (length key) (key_length m.version) t) in record { first = rw t c.first; few = rw t c.few })
+  | inr t ↦ record { first = rw t refl; few = rw t (omega arith) }
+]
 
 -- ---- the dictionaries that allow it
 
@@ -313,36 +325,34 @@ ordered_by m a s l n d h allows = elim (cases_Bool (nat_lt l (key_length m.versi
 ]
 
 pub is_ordered : (m : MemoryMap) (d : Dictionary) → IsDictionaryOf m d → d.allows_halves ≡ true → IsOrdered m d
-unfolding dictionary_at
+unfolding dictionary_at IsDictionaryOf
 is_ordered m d stands allows =
-    let s = bind_ok (dictionary_byte m d.address) _ d stands.stands in
-    let l = bind_ok (dictionary_byte m (d.address + s.0 + 1)) _ d s.2 in
-    let n = bind_ok (dictionary_word m (d.address + s.0 + 2)) _ d l.2 in
-    let o = ordered_by m d.address s.0 l.0 n.0 d n.2 allows in
-    record { stands = stands; keys = o.0; few = o.1 }
+    let b = based m stands.0 in
+    let s = bind_ok (dictionary_byte b d.address) _ d stands.1 in
+    let l = bind_ok (dictionary_byte b (d.address + s.0 + 1)) _ d s.2 in
+    let n = bind_ok (dictionary_word b (d.address + s.0 + 2)) _ d l.2 in
+    let o = ordered_by b d.address s.0 l.0 n.0 d n.2 allows in
+    record { stands = stands; keys = sym (ap do_not_fall (keys_by_bytes m stands.0 (d.address + d.separators + 4) d.entry_length d.entries)) ∙ o.0; few = o.1 }
 
 pub halves_find_the_first : HalvesFindTheFirst
-halves_find_the_first m a t key h allows long =
-    is_found_by_halves m _ key (is_ordered m _ (table_is_read m a t h) allows) long
+halves_find_the_first m a t key h allows =
+    is_found_by_halves m _ key (is_ordered m _ (table_is_read m a t h) allows)
 
 -- what the search gives, by the entry that it comes to
 
-pub first_past : (m : MemoryMap) (d : Dictionary) (key : List ℕ) (i : ℕ) → IsDictionaryOf m d → d.allows_halves ≡ true → length key ≡ key_length m.version → i ≡ (halved_whole m d key).entry → d.entries ≤ i → 0 ≡ found_in m d key
-unfolding found_by_halves
+pub first_past : (m : MemoryMap) (d : Dictionary) (key : List ℕ) (i : ℕ) → IsDictionaryOf m d → d.allows_halves ≡ true → length key ≡ key_length m.version → i ≡ (halved_whole m d key).entry → d.entries ≤ i → 0 ≡ found_from m d key d.entries 0
 first_past m d key i stands allows long is past =
     let test : nat_lt (halved_whole m d key).entry d.entries ≡ false = rw is at (le-ltb i d.entries past) in
-    rw test at (is_found_by_halves m d key (is_ordered m d stands allows) long).first
+    rw test at (comes_to_first m d key (is_ordered m d stands allows) long).first
 
-pub first_other : (m : MemoryMap) (d : Dictionary) (key : List ℕ) (i : ℕ) → IsDictionaryOf m d → d.allows_halves ≡ true → length key ≡ key_length m.version → i ≡ (halved_whole m d key).entry → i < d.entries → has_key m d key i ≡ false → 0 ≡ found_in m d key
-unfolding found_by_halves
+pub first_other : (m : MemoryMap) (d : Dictionary) (key : List ℕ) (i : ℕ) → IsDictionaryOf m d → d.allows_halves ≡ true → length key ≡ key_length m.version → i ≡ (halved_whole m d key).entry → i < d.entries → has_key m d key i ≡ false → 0 ≡ found_from m d key d.entries 0
 first_other m d key i stands allows long is below other =
     let test : nat_lt (halved_whole m d key).entry d.entries ≡ true = rw is at (lt-ltb i d.entries below) in
     let key_test : has_key m d key (halved_whole m d key).entry ≡ false = rw is at other in
-    rw (test, key_test) at (is_found_by_halves m d key (is_ordered m d stands allows) long).first
+    rw (test, key_test) at (comes_to_first m d key (is_ordered m d stands allows) long).first
 
-pub first_here : (m : MemoryMap) (d : Dictionary) (key : List ℕ) (i : ℕ) → IsDictionaryOf m d → d.allows_halves ≡ true → length key ≡ key_length m.version → i ≡ (halved_whole m d key).entry → i < d.entries → has_key m d key i ≡ true → entry_start d i ≡ found_in m d key
-unfolding found_by_halves
+pub first_here : (m : MemoryMap) (d : Dictionary) (key : List ℕ) (i : ℕ) → IsDictionaryOf m d → d.allows_halves ≡ true → length key ≡ key_length m.version → i ≡ (halved_whole m d key).entry → i < d.entries → has_key m d key i ≡ true → entry_start d i ≡ found_from m d key d.entries 0
 first_here m d key i stands allows long is below here =
     let test : nat_lt (halved_whole m d key).entry d.entries ≡ true = rw is at (lt-ltb i d.entries below) in
     let key_test : has_key m d key (halved_whole m d key).entry ≡ true = rw is at here in
-    rw is (rw (test, key_test) at (is_found_by_halves m d key (is_ordered m d stands allows) long).first)
+    rw is (rw (test, key_test) at (comes_to_first m d key (is_ordered m d stands allows) long).first)

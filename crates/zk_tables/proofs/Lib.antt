@@ -11,6 +11,7 @@ pub mod Dividing
 pub mod Storing
 pub mod TokenLaw
 pub mod LookUpLaw
+pub mod Lasting
 pub mod TableLaw
 pub mod Halving
 pub mod OrderLaw
@@ -21,6 +22,7 @@ pub mod LinkLaw
 pub mod Changes
 pub mod Paths
 pub mod DecidedLaw
+pub mod ShortLists
 pub mod RemovalLaw
 pub mod TakenLaw
 pub mod PutInLaw

@@ -1,9 +1,9 @@
 -- A look-up finds the first entry that begins with the key.
-use Rattle.std.proofs.Common.{◌≡◌, ◌≤◌, ◌<◌, ℕ, ◌+◌, ◌/◌, ◌%◌, true, List, [], ◌∷◌, ◌++◌, length, length-append, drop, get_or, Some, Ok, nat_lt, refl, ◌∙◌, ap, subst, arith, inl, inr, add-one}
+use Rattle.std.proofs.Common.{◌≡◌, ◌≤◌, ◌<◌, ℕ, ◌+◌, ◌/◌, ◌%◌, true, List, [], ◌∷◌, ◌++◌, length, length-append, drop, get_or, Some, Ok, nat_lt, ◌==◌, refl, ◌∙◌, ap, subst, arith, inl, inr, add-one}
 use Rattle.std.specs.Prelude.{slice_get}
 use Rattle.std.specs.List.{concat, AllByRecursion}
 use Rattle.std.proofs.Math.Nat.{mul-suc}
-use Rattle.std.proofs.lemmas.Bool.{ltb-true}
+use Rattle.std.proofs.lemmas.Bool.{cases_Bool, eq-eqb, eqb-true, ltb-true, ne_eqb}
 use Rattle.std.proofs.lemmas.Option.{slice_get-get_or}
 use Rattle.zk_mem.specs.Map.{MemoryMap, readable_end, byte_at}
 use Rattle.zk_tables.specs.declared.dictionary.Dictionary.{Dictionary}
@@ -109,7 +109,11 @@ whole m a t key h long = record { end = h.end; bytes = table_entries_stand m a t
 
 pub look_ups_are_first : LookUpsAreFirst
 unfolding found_in
-look_ups_are_first m a t key h long = record {
-  first = λ before behind entry same is none. walk_to m (described m a t) key t.entries before behind entry (whole m a t key h long) same is none;
-  none = λ none. walk_none m (described m a t) key 0 t.entries (whole m a t key h long) none;
+look_ups_are_first m a t key h = record {
+  first = λ before behind entry long same is none. rw (eq-eqb (length key) (key_length m.version) long) (walk_to m (described m a t) key t.entries before behind entry (whole m a t key h long) same is none);
+  none = λ none. elim (cases_Bool (length key == key_length m.version)) [
+    | inl u ↦ rw u (walk_none m (described m a t) key 0 t.entries (whole m a t key h (eqb-true (length key) (key_length m.version) u)) none)
+    | inr u ↦ rw u refl
+  ];
+  other = λ long. rw (ne_eqb (length key) (key_length m.version) long) refl;
 }

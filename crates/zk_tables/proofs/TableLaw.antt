@@ -15,6 +15,7 @@ use Rattle.zk_tables.specs.Dictionaries.{key_length, magnitude, Table, IsTable, 
 use Rattle.zk_tables.proofs.Steps.{bind_ok, bind_err, chosen, same_value}
 use Rattle.zk_tables.proofs.ListLaw.{byte_small}
 use Rattle.zk_tables.proofs.Ordering.{length_bytes}
+use Rattle.zk_tables.proofs.Finding.{read_stands}
 use Rattle.zk_tables.proofs.LookUpLaw.{stands_first, stands_behind, table_entries_stand}
 
 -- ---- bytes of data
@@ -310,7 +311,7 @@ refused_there m a (Err e) h fits none = rw (fault_is m a e h) refl
 
 -- a table is the dictionary at its address
 pub table_is_read : (m : MemoryMap) (a : ℕ) (t : Table) → IsTable m a t → IsDictionaryOf m (described m a t)
-table_is_read m a t h = record { stands = table_found m a t h }
+table_is_read m a t h = read_stands m a (described m a t) (table_found m a t h)
 
 pub dictionaries_are_tables : DictionariesAreTables
 dictionaries_are_tables m a fits = record {

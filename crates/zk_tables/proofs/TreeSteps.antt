@@ -1,16 +1,21 @@
 -- What a removal and an insertion come to.
-use Rattle.std.proofs.Common.{◌≡◌, ◌≢◌, ℕ, Bool, true, false, [], ◌∷◌, Option, Some, None, Result, Ok, Err, refl, ◌∙◌, eqb, inl, inr, ◌||◌}
+use Rattle.std.proofs.Common.{◌≡◌, ◌≢◌, ◌≤◌, ℕ, Bool, true, false, [], ◌∷◌, Option, Some, None, Result, Ok, Err, refl, ◌∙◌, eqb, inl, inr, ◌||◌, nat_lt, arith}
 use Rattle.std.specs.Prelude.{IsOk, MatchResult}
 use Rattle.std.proofs.lemmas.Bool.{ne_eqb, eq-eqb, eqb-true, cases_Bool}
 use Rattle.zk_mem.specs.declared.fault.Fault.{Fault}
 use Rattle.zk_mem.specs.Results.{◌>>=◌}
 use Rattle.zk_mem.specs.Map.{MemoryMap}
 use Rattle.zk_tables.specs.declared.links.Place.{Place}
-use Rattle.zk_tables.specs.Layout.{entry_of}
+use Rattle.zk_tables.specs.Layout.{layout_of, entry_of, entries_in, entries}
 use Rattle.zk_tables.specs.Links.{parent_of, sibling_of, child_of, link_at, link_put, write_tests}
 use Rattle.zk_tables.specs.Tree.{naming_of, unlinked, unlinked_where, removed, linked, inserted}
 use Rattle.zk_tables.proofs.Steps.{bind_ok, value_of, is_ok_of, not_err}
 use Rattle.zk_tables.proofs.Writes.{IsSameShape, same_shape, shape_join, has_link, link_entry, put_all, all_written, all_refused, entry_same, put_shape}
+
+-- there are no more entries than objects have numbers
+pub entries_bounded : (m : MemoryMap) → entries m ≤ 65535
+unfolding entries entries_in layout_of
+entries_bounded m = elim (cases_Bool (nat_lt m.version 4)) [ inl t ↦ rw t (omega arith) | inr t ↦ rw t (omega arith) ]
 
 pub no_removal : (m : MemoryMap) (o : ℕ) → naming_of m o ≡ Ok None → removed m o ≡ Ok m
 unfolding removed unlinked_where

@@ -52,6 +52,10 @@ chain_from m (suc n) x =
 unfoldable pub children_of : MemoryMap → ℕ → Result (List ℕ) Fault
 children_of m o = link_at m (child_of o) >>= chain_from m (entries m)
 
+-- how many objects a chain has
+abbrev pub how_many : Result (List ℕ) Fault → Result ℕ Fault
+how_many chain = chain >>= λ xs. Ok (length xs)
+
 -- ---- a law
 
 -- the children are the chain, and each fault has its reason; one of the three is there, and no two are

@@ -1,5 +1,5 @@
 -- Dictionaries and their entries (Standard, sections 13.2 to 13.5).
-use Rattle.std.specs.Prelude.{◌≡◌, ℕ, zero, suc, ◌+◌, ◌*◌, ◌-◌, ◌<◌, ◌≤◌, Bool, true, false, ◌&&◌, ◌||◌, List, [], ◌∷◌, ◌++◌, length, map, take, drop, get_or, Result, Ok, Err, nat_lt, nat_le, ◌==◌, ◌↔◌, if◌then◌else◌}
+use Rattle.std.specs.Prelude.{◌≡◌, ◌≢◌, ℕ, zero, suc, ◌+◌, ◌*◌, ◌-◌, ◌<◌, ◌≤◌, Bool, true, false, ◌&&◌, ◌||◌, List, [], ◌∷◌, ◌++◌, length, map, take, drop, get_or, Result, Ok, Err, nat_lt, nat_le, ◌==◌, ◌↔◌, if◌then◌else◌}
 use Rattle.std.specs.List.{concat, AllByRecursion}
 use Rattle.zk_mem.specs.declared.fault.Fault.{Fault}
 use Rattle.zk_mem.specs.declared.fault.Fault.TheVariants.{BadDictionary}
@@ -118,9 +118,9 @@ dictionary_at m a = do
   count ← dictionary_word m (a + separators + 2)
   dictionary_by m a separators entry_length count
 
--- this is the dictionary that stands at its address
-pub record IsDictionaryOf (m : MemoryMap) (d : Dictionary) : Type 0 where
-  pub stands : dictionary_at m d.address ≡ Ok d
+-- the dictionary was read from this version and these bytes; the static base may have been another
+unfoldable pub IsDictionaryOf : MemoryMap → Dictionary → Type 0
+IsDictionaryOf m d = (base : ℕ) × (dictionary_at (record m { static_base = base }) d.address ≡ Ok d)
 
 -- ---- its separators and entries
 
@@ -147,9 +147,9 @@ unfoldable pub found_from : MemoryMap → Dictionary → List ℕ → ℕ → �
 found_from m d key zero i = 0
 found_from m d key (suc n) i = if has_key m d key i then entry_start d i else found_from m d key n (i + 1)
 
--- the address of the first entry that begins with a key, or 0 (section 13.5)
+-- the address of the first entry that has a key, or 0; none has a key of another length (section 13.5)
 unfoldable pub found_in : MemoryMap → Dictionary → List ℕ → ℕ
-found_in m d key = found_from m d key d.entries 0
+found_in m d key = if length key == key_length m.version then found_from m d key d.entries 0 else 0
 
 -- ---- laws
 
@@ -163,15 +163,29 @@ pub record IsTableReading (m : MemoryMap) (a : ℕ) : Type 0 where
 abbrev pub DictionariesAreTables : Type 0
 DictionariesAreTables = (m : MemoryMap) (a : ℕ) → HasBytes m → IsTableReading m a
 
+-- the bytes of a dictionary, from its address to its end (section 13.2)
+abbrev pub bytes_of : MemoryMap → Dictionary → List ℕ
+bytes_of m d = take (d.separators + 4 + d.entry_length * d.entries) (drop d.address m.bytes)
+
+-- what is read is a dictionary of the memory
+abbrev pub ReadDictionariesStand : Type 0
+ReadDictionariesStand = (m : MemoryMap) (a : ℕ) (d : Dictionary) → dictionary_at m a ≡ Ok d → IsDictionaryOf m d
+
+-- and of each other memory of the version that has the same bytes there, whatever its length and its static base
+abbrev pub DictionariesAreTheirBytes : Type 0
+DictionariesAreTheirBytes = (m n : MemoryMap) (d : Dictionary) → IsDictionaryOf m d → n.version ≡ m.version → bytes_of n d ≡ bytes_of m d → IsDictionaryOf n d
+
 -- no entry begins with a key
 abbrev pub NoneBegins : List (List ℕ) → List ℕ → Type 0
 NoneBegins entries key = AllByRecursion (λ e. begins_with e key ≡ false) entries
 
 -- a key is looked up: the first entry that begins with it is found, and 0 where there is none (section 13.5)
 pub record IsLookUp (m : MemoryMap) (a : ℕ) (t : Table) (key : List ℕ) : Type 0 where
-  pub first : (before behind : List (List ℕ)) (entry : List ℕ) → t.entries ≡ before ++ entry ∷ behind → begins_with entry key ≡ true → NoneBegins before key → found_in m (described m a t) key ≡ entry_start (described m a t) (length before)
+  pub first : (before behind : List (List ℕ)) (entry : List ℕ) → length key ≡ key_length m.version → t.entries ≡ before ++ entry ∷ behind → begins_with entry key ≡ true → NoneBegins before key → found_in m (described m a t) key ≡ entry_start (described m a t) (length before)
   pub none : NoneBegins t.entries key → found_in m (described m a t) key ≡ 0
+  -- no entry has a key of another length
+  pub other : length key ≢ key_length m.version → found_in m (described m a t) key ≡ 0
 
 -- in each dictionary
 abbrev pub LookUpsAreFirst : Type 0
-LookUpsAreFirst = (m : MemoryMap) (a : ℕ) (t : Table) (key : List ℕ) → IsTable m a t → length key ≡ key_length m.version → IsLookUp m a t key
+LookUpsAreFirst = (m : MemoryMap) (a : ℕ) (t : Table) (key : List ℕ) → IsTable m a t → IsLookUp m a t key

@@ -11,8 +11,8 @@ use Rattle.zk_tables.specs.Tokens.{tokens, token}
 use Rattle.zk_tables.specs.Parsing.{letters_of, letters_start, words_put}
 use Rattle.zk_tables.specs.Layout.{layout_of, is_entry_in, entry_of, entries}
 use Rattle.zk_tables.specs.Attributes.{attribute_at, attribute_put}
-use Rattle.zk_tables.specs.Links.{parent_of, sibling_of, child_of, link_at, link_put}
-use Rattle.zk_tables.specs.Chain.{children_of}
+use Rattle.zk_tables.specs.Links.{parent_of, sibling_of, child_of, walked_link, link_at, link_put}
+use Rattle.zk_tables.specs.Chain.{children_of, how_many}
 use Rattle.zk_tables.specs.Tree.{removed, inserted}
 use Rattle.zk_tables.specs.Properties.{default_of, property_value, property_address_of, next_property_of, property_put, length_by, property_length_of, name_of}
 
@@ -144,7 +144,11 @@ family = tree_of (0 ∷ 0 ∷ 2 ∷ []) (1 ∷ 3 ∷ 0 ∷ []) (1 ∷ 4 ∷ 0 �
 -- the children begin with the child and go on with the siblings (sections 12.3 and 12.5)
 abbrev pub ChildrenFollowSiblings : Type 0
 ChildrenFollowSiblings =
-    (children_of family 1 ≡ Ok (2 ∷ 3 ∷ 4 ∷ []))
+    (link_at family (walked_link 1 true) ≡ Ok 2)
+    × (link_at family (walked_link 2 false) ≡ Ok 3)
+    × (children_of family 1 ≡ Ok (2 ∷ 3 ∷ 4 ∷ []))
+    × (how_many (children_of family 1) ≡ Ok 3)
+    × (how_many (children_of family 3) ≡ Ok 0)
     × (children_of family 3 ≡ Ok [])
     × (children_of (tree_of (0 ∷ 0 ∷ 2 ∷ []) (1 ∷ 3 ∷ 0 ∷ []) (1 ∷ 2 ∷ 0 ∷ []) (0 ∷ 0 ∷ 0 ∷ [])) 1 ≡ Err BadTree)
     × (children_of (tree_of (0 ∷ 0 ∷ 9 ∷ []) (0 ∷ 0 ∷ 0 ∷ []) (0 ∷ 0 ∷ 0 ∷ []) (0 ∷ 0 ∷ 0 ∷ [])) 1 ≡ Err BadObject)
@@ -375,6 +379,22 @@ ComparisonsAreCounted =
     × (compared_by_halves (dictionary_from 3 64 two_and_one) (at_64 4 3 true true) (0x64 ∷ 0xd0 ∷ 0xa8 ∷ 0xa6 ∷ []) ≡ 3)
     × (compared_by_halves (dictionary_from 3 64 two_and_one) (at_64 4 3 true true) (0x66 ∷ 0 ∷ 0 ∷ 0 ∷ []) ≡ 2)
     × (compared_by_halves (dictionary_from 3 64 (0 ∷ 4 ∷ 0 ∷ 0 ∷ [])) (at_64 4 0 true true) (0x66 ∷ 0 ∷ 0 ∷ 0 ∷ []) ≡ 0)
+
+-- one entry in version 5
+abbrev pub one_of_six : List ℕ
+one_of_six = 0 ∷ 6 ∷ 0 ∷ 1 ∷ 0x64 ∷ 0xd0 ∷ 0xa8 ∷ 0x14 ∷ 0x94 ∷ 0xa5 ∷ []
+
+-- a key of 3 or 5 bytes in version 3 and one of 4 bytes in version 5 are no entry's, though an entry begins with them,
+-- and are compared with none (sections 13.3 to 13.5)
+abbrev pub OtherLengthsAreNotFound : Type 0
+OtherLengthsAreNotFound =
+    (found_in (memory_of 3 (three_entries 0)) (described_three true) (0x64 ∷ 0xd0 ∷ 0xa8 ∷ []) ≡ 0)
+    × (found_in (memory_of 3 (three_entries 0)) (described_three true) (0x64 ∷ 0xd0 ∷ 0xa8 ∷ 0xa5 ∷ 0x64 ∷ []) ≡ 0)
+    × (found_in (dictionary_from 5 64 one_of_six) (at_64 6 1 true true) (0x64 ∷ 0xd0 ∷ 0xa8 ∷ 0x14 ∷ 0x94 ∷ 0xa5 ∷ []) ≡ 0x44)
+    × (found_in (dictionary_from 5 64 one_of_six) (at_64 6 1 true true) (0x64 ∷ 0xd0 ∷ 0xa8 ∷ 0x14 ∷ []) ≡ 0)
+    × (found_by_halves (dictionary_from 5 64 one_of_six) (at_64 6 1 true true) (0x64 ∷ 0xd0 ∷ 0xa8 ∷ 0x14 ∷ []) ≡ 0)
+    × (compared_by_halves (dictionary_from 5 64 one_of_six) (at_64 6 1 true true) (0x64 ∷ 0xd0 ∷ 0xa8 ∷ 0x14 ∷ []) ≡ 0)
+    × (compared_by_halves (dictionary_from 3 64 two_and_one) (at_64 4 3 true true) (0x64 ∷ 0xd0 ∷ 0xa8 ∷ 0xa5 ∷ 0x64 ∷ []) ≡ 0)
 
 -- ---- words (sections 13.6 and 15)
 

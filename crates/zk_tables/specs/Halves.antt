@@ -1,5 +1,5 @@
 -- Search by halves in a dictionary whose keys do not fall (Standard, section 13.5).
-use Rattle.std.specs.Prelude.{◌≡◌, ℕ, zero, suc, ◌+◌, ◌-◌, ◌/◌, ◌<◌, ◌≤◌, true, List, ◌∷◌, ◌++◌, length, nat_lt, ◌↔◌, if◌then◌else◌}
+use Rattle.std.specs.Prelude.{◌≡◌, ℕ, zero, suc, ◌+◌, ◌-◌, ◌/◌, ◌<◌, ◌≤◌, true, List, ◌∷◌, ◌++◌, length, nat_lt, ◌==◌, ◌↔◌, if◌then◌else◌}
 use Rattle.std.specs.List.{AllByRecursion}
 use Rattle.zk_mem.specs.Map.{MemoryMap}
 use Rattle.zk_tables.specs.declared.dictionary.Dictionary.{Dictionary}
@@ -30,16 +30,24 @@ unfoldable pub halved_whole : MemoryMap → Dictionary → List ℕ → Place
 halved_whole m d key = halved m d key 15 0 0 d.entries
 
 -- the address of the entry that the search comes to, where it begins with the key, else 0
-unfoldable pub found_by_halves : MemoryMap → Dictionary → List ℕ → ℕ
-found_by_halves m d key =
+abbrev pub found_at_end : MemoryMap → Dictionary → List ℕ → ℕ
+found_at_end m d key =
     if nat_lt (halved_whole m d key).entry d.entries
     then (if has_key m d key (halved_whole m d key).entry then entry_start d (halved_whole m d key).entry else 0)
     else 0
 
+-- the same, and 0 for a key of another length, which no entry has
+unfoldable pub found_by_halves : MemoryMap → Dictionary → List ℕ → ℕ
+found_by_halves m d key = if length key == key_length m.version then found_at_end m d key else 0
+
 -- how many keys are compared: those on the way, and that of the entry that the search comes to
-unfoldable pub compared_by_halves : MemoryMap → Dictionary → List ℕ → ℕ
-compared_by_halves m d key =
+abbrev pub compared_to_end : MemoryMap → Dictionary → List ℕ → ℕ
+compared_to_end m d key =
     if nat_lt (halved_whole m d key).entry d.entries then (halved_whole m d key).compared + 1 else (halved_whole m d key).compared
+
+-- the same, and none for a key of another length
+unfoldable pub compared_by_halves : MemoryMap → Dictionary → List ℕ → ℕ
+compared_by_halves m d key = if length key == key_length m.version then compared_to_end m d key else 0
 
 -- ---- laws
 
@@ -70,4 +78,4 @@ pub record IsFoundByHalves (m : MemoryMap) (d : Dictionary) (key : List ℕ) : T
 
 -- in each dictionary that can be searched so
 abbrev pub HalvesFindTheFirst : Type 0
-HalvesFindTheFirst = (m : MemoryMap) (a : ℕ) (t : Table) (key : List ℕ) → IsTable m a t → (described m a t).allows_halves ≡ true → length key ≡ key_length m.version → IsFoundByHalves m (described m a t) key
+HalvesFindTheFirst = (m : MemoryMap) (a : ℕ) (t : Table) (key : List ℕ) → IsTable m a t → (described m a t).allows_halves ≡ true → IsFoundByHalves m (described m a t) key

@@ -1,5 +1,5 @@
 -- The three links of an object, to its parent, its sibling and its child (Standard, section 12.3).
-use Rattle.std.specs.Prelude.{◌≡◌, ◌≢◌, ℕ, List, [], ◌∷◌, ◌+◌, ◌*◌, ◌%◌, ◌<◌, Result, Ok, Err, nat_le, ◌==◌, if◌then◌else◌}
+use Rattle.std.specs.Prelude.{◌≡◌, ◌≢◌, ℕ, Bool, List, [], ◌∷◌, ◌+◌, ◌*◌, ◌%◌, ◌<◌, ◌≤◌, Result, Ok, Err, nat_le, ◌==◌, if◌then◌else◌}
 use Rattle.zk_mem.specs.declared.fault.Fault.{Fault}
 use Rattle.zk_mem.specs.declared.fault.Fault.TheVariants.{ReadOnly}
 use Rattle.zk_mem.specs.Results.{◌>>=◌}
@@ -21,11 +21,19 @@ sibling_of o = record { link = Sibling; object = o }
 abbrev pub child_of : ℕ → Place
 child_of o = record { link = Child; object = o }
 
+-- the link of an object that a walk along children reads: its child where the walk begins, else its sibling
+abbrev pub walked_link : ℕ → Bool → Place
+walked_link o first = if first then child_of o else sibling_of o
+
 -- they follow the attributes in this order
 abbrev pub order_of : Link → ℕ
 order_of Parent = 0
 order_of Sibling = 1
 order_of Child = 2
+
+-- of links that are counted, so many at most were read
+abbrev pub CountsUpTo : ℕ → ℕ → ℕ → Type 0
+CountsUpTo old new most = (old ≤ new) × (new ≤ old + most)
 
 -- where a link stands
 unfoldable pub address_of : MemoryMap → Place → Result ℕ Fault

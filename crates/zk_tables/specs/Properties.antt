@@ -1,9 +1,9 @@
 -- The properties and the name of an object (Standard, sections 12.2, 12.4 and 15).
-use Rattle.std.specs.Prelude.{◌≡◌, ◌≢◌, ℕ, List, ◌+◌, ◌*◌, ◌-◌, ◌/◌, ◌%◌, Option, Some, None, Result, Ok, Err, nat_lt, ◌==◌, ◌||◌, if◌then◌else◌}
+use Rattle.std.specs.Prelude.{◌≡◌, ◌≢◌, ◌≤◌, ℕ, List, length, ◌+◌, ◌*◌, ◌-◌, ◌/◌, ◌%◌, Option, Some, None, Result, Ok, Err, nat_lt, ◌==◌, ◌||◌, if◌then◌else◌}
 use Rattle.zk_mem.specs.declared.fault.Fault.{Fault}
 use Rattle.zk_mem.specs.declared.fault.Fault.TheVariants.{BadProperty}
 use Rattle.zk_mem.specs.Results.{◌>>=◌}
-use Rattle.zk_mem.specs.Map.{MemoryMap, HasBytes, byte_at, word_at, byte_put, word_put}
+use Rattle.zk_mem.specs.Map.{MemoryMap, HasBytes, readable_end, byte_at, word_at, byte_put, word_put}
 use Rattle.zk_tables.specs.declared.lists.Property.{Property}
 use Rattle.zk_tables.specs.Layout.{layout_of, entry_of, default_words_start}
 use Rattle.zk_tables.specs.PropertyList.{IsPropertyList, LeavesData, properties_at, list_byte, long_length, first_with, first_number, number_after, found_at, first_number_at, number_after_at}
@@ -24,6 +24,12 @@ list_of m o = do
 -- the properties of an object, in their order
 unfoldable pub properties_of : MemoryMap → ℕ → Result (List Property) Fault
 properties_of m o = list_of m o >>= properties_at m
+
+-- the properties of an object are there, and at most half as many as data has bytes, since each takes two
+pub record HasShortList (m : MemoryMap) (o : ℕ) : Type 0 where
+  pub list : List Property
+  pub is : properties_of m o ≡ Ok list
+  pub short : 2 * length list ≤ readable_end m
 
 -- the first property of a number that an object has
 unfoldable pub property_of : MemoryMap → ℕ → ℕ → Result (Option Property) Fault

@@ -1,27 +1,38 @@
 // Walks along the children of an object.
 
-ghost use Rattle.std.specs.Prelude.{◌≡◌, Err, IsOk, MatchResult};
-ghost use Rattle.zk_tables.specs.Chain.{chain_from};
+ghost use Rattle.std.specs.Prelude.{◌≡◌, ◌≤◌, ◌+◌, IfOk};
+ghost use Rattle.zk_tables.specs.Chain.{chain_from, how_many};
+ghost use Rattle.zk_tables.specs.Layout.{entries};
+ghost use Rattle.zk_tables.specs.Links.{CountsUpTo};
 ghost use Rattle.zk_tables.specs.Tree.{naming_among};
 
 use crate::layout::{count_entries, entry};
-use crate::links::{Place, child_link, read_link, sibling_link};
+use crate::links::{Links, Place, child_link, sibling_link};
 use zk_mem::fault::Fault;
 use zk_mem::memory::Memory;
 
-/// Whether the siblings from an object on come to an end, with so many objects at most.
-pub(crate) fn check_chain(memory: &Memory, first: u16, most: u16) -> Result<(), Fault>
-    ensures { MatchResult result (λ _. IsOk (chain_from memory.now most first)) (λ e. chain_from memory.now most first ≡ Err e) }
+/// How many siblings there are from an object on, with so many objects at most.
+pub(crate) fn count_chain(
+    memory: &Memory,
+    first: u16,
+    most: u16,
+    links: &mut Links,
+) -> Result<u16, Fault>
+    requires { links.old ≤ 4100000000 }
+    ensures value { result ≡ how_many (chain_from memory.now most first) }
+    ensures bound { IfOk result (λ n. n ≤ most) }
+    ensures few { CountsUpTo links.old links.new most }
+    ensures each { IfOk result (λ n. links.new ≡ links.old + n) }
 {
     let mut at = first;
-    for _i in 0..most {
+    for i in 0..most {
         if at == 0 {
-            return Ok(());
+            return Ok(i);
         }
-        at = read_link(memory, sibling_link(at))?;
+        at = links.link(memory, at, false)?;
     }
     if at == 0 {
-        return Ok(());
+        return Ok(most);
     }
     entry(memory, at)?;
     Err(Fault::BadTree)
@@ -29,22 +40,29 @@ pub(crate) fn check_chain(memory: &Memory, first: u16, most: u16) -> Result<(), 
 
 /// The link that names an object among the children of its parent. The whole chain decides: `BadObject`
 /// where it meets an object without an entry, `BadTree` where it repeats an object or lacks this one.
-pub(crate) fn find_naming(memory: &Memory, parent: u16, object: u16) -> Result<Place, Fault>
-    ensures { result ≡ naming_among memory.now parent object }
+pub(crate) fn find_naming(
+    memory: &Memory,
+    parent: u16,
+    object: u16,
+    links: &mut Links,
+) -> Result<Place, Fault>
+    requires { links.old ≤ 4000000000 }
+    ensures value { result ≡ naming_among memory.now parent object }
+    ensures few { CountsUpTo links.old links.new (entries memory.now + 1) }
 {
     let most = count_entries(memory);
     let mut place = child_link(parent);
-    let mut named = read_link(memory, place)?;
+    let mut named = links.link(memory, parent, true)?;
     for i in 0..most {
         if named == 0 {
             return Err(Fault::BadTree);
         }
         if named == object {
-            check_chain(memory, named, most - i)?;
+            count_chain(memory, named, most - i, links)?;
             return Ok(place);
         }
         place = sibling_link(named);
-        named = read_link(memory, place)?;
+        named = links.link(memory, named, false)?;
     }
     if named != 0 {
         entry(memory, named)?;

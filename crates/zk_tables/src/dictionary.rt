@@ -3,7 +3,7 @@
 ghost use Rattle.std.specs.Prelude.{◌≡◌, ◌≤◌, ◌<◌, ◌+◌, ◌*◌, IfOk, true, length, drop, get_or};
 ghost use Rattle.zk_mem.specs.Map.{readable_end};
 ghost use Rattle.zk_tables.specs.Dictionaries.{key_length, magnitude, dictionary_byte, dictionary_word, dictionary_by, dictionary_at, IsDictionaryOf, begins_with, is_above, do_not_fall, bytes_from, keys_from, entry_start, has_key, found_from, found_in};
-ghost use Rattle.zk_tables.specs.Halves.{Place, entry_key, halved_whole, compared_by_halves};
+ghost use Rattle.zk_tables.specs.Halves.{Place, entry_key, halved_whole, compared_to_end, compared_by_halves};
 
 use zk_mem::fault::Fault;
 use zk_mem::memory::Memory;
@@ -261,14 +261,30 @@ impl Dictionary {
     }
 
     /// The address of the first entry whose first bytes are a key, or 0 where there is none, and how many
-    /// keys were compared: at most 16. The entry is found by halves (Standard, section 13.5).
-    #[tactic(auto, unfolding(crate::specs::Halves::compared_by_halves), using(crate::proofs::Halving::first_past, crate::proofs::Halving::first_other, crate::proofs::Halving::first_here))]
+    /// keys were compared: at most 16. The entry is found by halves (Standard, section 13.5). A key of another
+    /// length than 4 bytes up to version 3, or 6 from version 4 on, is not found, and is compared with none.
+    #[tactic(auto, unfolding(crate::specs::Dictionaries::found_in, crate::specs::Halves::compared_by_halves))]
     pub fn halves(&self, memory: &Memory, key: &[u8]) -> (u16, u32)
         requires stands { IsDictionaryOf memory.now self.now }
-        requires key { length key.now ≡ key_length memory.now.version }
         requires ordered { self.now.allows_halves ≡ true }
         ensures address { result.0 ≡ found_in memory.now self.now key.now }
         ensures compared { result.1 ≡ compared_by_halves memory.now self.now key.now }
+        ensures bound { result.1 ≤ 16 }
+    {
+        if key.len() != key_bytes(memory) as usize {
+            return (0, 0);
+        }
+        self.halve(memory, key)
+    }
+
+    /// The same, for a key of that length.
+    #[tactic(auto, using(crate::proofs::Halving::first_past, crate::proofs::Halving::first_other, crate::proofs::Halving::first_here))]
+    fn halve(&self, memory: &Memory, key: &[u8]) -> (u16, u32)
+        requires stands { IsDictionaryOf memory.now self.now }
+        requires key { length key.now ≡ key_length memory.now.version }
+        requires ordered { self.now.allows_halves ≡ true }
+        ensures address { result.0 ≡ found_from memory.now self.now key.now self.now.entries 0 }
+        ensures compared { result.1 ≡ compared_to_end memory.now self.now key.now }
         ensures bound { result.1 ≤ 16 }
     {
         let (index, compared) = self.first_not_below(memory, key);
@@ -282,12 +298,12 @@ impl Dictionary {
     }
 
     /// The address of the first entry whose first bytes are a key, or 0 where there is none: one entry after
-    /// the other (Standard, section 13.5).
-    #[tactic(auto, unfolding(crate::specs::Dictionaries::found_in), using(crate::proofs::Finding::found_on, crate::proofs::Finding::found_here, crate::proofs::Finding::found_none))]
+    /// the other (Standard, section 13.5). The key has the length of one.
+    #[tactic(auto, using(crate::proofs::Finding::found_on, crate::proofs::Finding::found_here, crate::proofs::Finding::found_none))]
     fn walk(&self, memory: &Memory, key: &[u8]) -> u16
         requires stands { IsDictionaryOf memory.now self.now }
         requires key { length key.now ≡ key_length memory.now.version }
-        ensures { result ≡ found_in memory.now self.now key.now }
+        ensures { result ≡ found_from memory.now self.now key.now self.now.entries 0 }
     {
         for index in 0..self.entries {
             if self.entry_begins_with(memory, key, index) {
@@ -298,15 +314,19 @@ impl Dictionary {
     }
 
     /// The address of the first entry whose first bytes are a key, or 0 where there is none (Standard,
-    /// section 13.5). It is found by halves where the dictionary allows it.
+    /// section 13.5). It is found by halves where the dictionary allows it. A key of another length than 4
+    /// bytes up to version 3, or 6 from version 4 on, is not found.
+    #[tactic(auto, unfolding(crate::specs::Dictionaries::found_in))]
     pub fn find(&self, memory: &Memory, key: &[u8]) -> u16
         requires stands { IsDictionaryOf memory.now self.now }
-        requires key { length key.now ≡ key_length memory.now.version }
         ensures { result ≡ found_in memory.now self.now key.now }
     {
         if self.allows_halves {
             let (address, _) = self.halves(memory, key);
             return address;
+        }
+        if key.len() != key_bytes(memory) as usize {
+            return 0;
         }
         self.walk(memory, key)
     }

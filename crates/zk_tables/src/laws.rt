@@ -6,7 +6,7 @@ ghost use Rattle.zk_tables.specs.Properties.{ListsDecide};
 ghost use Rattle.zk_tables.specs.Tree.{ChainsDecide};
 ghost use Rattle.zk_tables.specs.TreeLaws.{RemovalsTakeOut, RemovalsAreMade, InsertionsPutFirst, InsertionsAreMade};
 ghost use Rattle.zk_tables.specs.PropertyList.{ListsAreRead, AtMostOneList};
-ghost use Rattle.zk_tables.specs.Dictionaries.{DictionariesAreTables, LookUpsAreFirst};
+ghost use Rattle.zk_tables.specs.Dictionaries.{DictionariesAreTables, ReadDictionariesStand, DictionariesAreTheirBytes, LookUpsAreFirst};
 ghost use Rattle.zk_tables.specs.Halves.{KeysAreInOrder, HalvesFindTheFirst};
 ghost use Rattle.zk_tables.specs.Tokens.{TokensAreWords, TokensAreDetermined};
 
@@ -80,7 +80,15 @@ pub fn dictionaries_are_tables()
     ensures { DictionariesAreTables }
 {}
 
-/// A look-up finds the first entry of all that begins with the key, and 0 where none does.
+/// A dictionary that was read in one memory is one of each memory of the same version that has the same bytes from its
+/// address to its end, whatever length and static base that memory has.
+pub fn dictionaries_are_their_bytes()
+    ensures read { ReadDictionariesStand }
+    ensures same { DictionariesAreTheirBytes }
+{}
+
+/// A look-up finds the first entry of all that begins with the key, and 0 where none does, as for each key of another
+/// length than keys have.
 pub fn look_ups_are_first()
     ensures { LookUpsAreFirst }
 {}
@@ -91,8 +99,7 @@ pub fn keys_are_in_order()
     ensures { KeysAreInOrder }
 {}
 
-/// In a dictionary that allows it a search by halves finds the first entry of all that begins with the key,
-/// and 0 where none does, and compares at most 16 keys.
+/// In a dictionary that allows it a search by halves finds what a look-up finds, and compares at most 16 keys.
 pub fn halves_find_the_first()
     ensures { HalvesFindTheFirst }
 {}

@@ -7,7 +7,7 @@ pub mod dictionary;
 pub mod examples;
 pub mod laws;
 mod layout;
-mod links;
+pub mod links;
 pub mod lists;
 pub mod parsing;
 pub mod properties;

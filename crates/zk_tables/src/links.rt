@@ -1,10 +1,11 @@
 // The links of objects.
 
-ghost use Rattle.std.specs.Prelude.{◌≡◌, ◌≤◌, ◌<◌, [], ◌∷◌, Ok, Err, IfOk, MatchResult};
+ghost use Rattle.std.specs.Prelude.{◌≡◌, ◌≤◌, ◌<◌, ◌+◌, [], ◌∷◌, Ok, Err, IfOk, MatchResult};
 ghost use Rattle.zk_tables.specs.Layout.{layout_of};
-ghost use Rattle.zk_tables.specs.Links.{address_of, number_at, number_put, link_at, link_put, write_test, write_tests, order_of, parent_of, sibling_of, child_of};
+ghost use Rattle.zk_tables.specs.Links.{address_of, number_at, number_put, link_at, link_put, write_test, write_tests, order_of, parent_of, sibling_of, child_of, walked_link};
 
 use crate::layout::{EARLY, LATE, Layout, entry_in, layout_for};
+use std::marker::Model;
 use zk_mem::fault::Fault;
 use zk_mem::memory::Memory;
 
@@ -61,6 +62,17 @@ pub(crate) fn child_link(object: u16) -> Place
     Place {
         link: Link::Child,
         object,
+    }
+}
+
+#[inline(always)]
+fn walked(object: u16, first: bool) -> Place
+    ensures { result ≡ walked_link object first }
+{
+    if first {
+        child_link(object)
+    } else {
+        sibling_link(object)
     }
 }
 
@@ -164,4 +176,50 @@ pub(crate) fn check_writes(
     check_write(memory, first)?;
     check_write(memory, second)?;
     check_write(memory, third)
+}
+
+/// Reads the links to children and siblings, and counts them. Contracts see it as how many were read.
+#[derive(Drop)]
+pub struct Links {
+    count: u32,
+}
+
+impl Model for Links {
+    ghost use Rattle.std.specs.Prelude.{ℕ};
+
+    ghost Value = { ℕ };
+
+    ghost view = { λ l. l.count };
+}
+
+impl Links {
+    /// None were read.
+    pub fn new() -> Links
+        ensures { result ≡ 0 }
+    {
+        Links { count: 0 }
+    }
+
+    /// How many were read.
+    pub fn count(&self) -> u32
+        ensures { result ≡ self.now }
+    {
+        self.count
+    }
+
+    /// The child of an object where `first` is set, else its sibling, or 0 (Standard, section 12.3). Object 0 has
+    /// none. What is read counts as one more.
+    ///
+    /// `BadObject` where the object has no entry in data; then nothing is counted.
+    #[inline(always)]
+    pub fn link(&mut self, memory: &Memory, object: u16, first: bool) -> Result<u16, Fault>
+        requires { self.old ≤ 4200000000 }
+        ensures value { result ≡ link_at memory.now (walked_link object first) }
+        ensures counted { MatchResult result (λ _. self.new ≡ self.old + 1) (λ _. self.new ≡ self.old) }
+    {
+        let place = walked(object, first);
+        let named = read_link(memory, place)?;
+        self.count += 1;
+        Ok(named)
+    }
 }

@@ -1,8 +1,8 @@
 // The properties and names of objects.
 
-ghost use Rattle.std.specs.Prelude.{◌≡◌, ◌≤◌, ◌<◌, Ok, Err, IfOk, IfSome, IsOk, MatchResult};
+ghost use Rattle.std.specs.Prelude.{◌≡◌, ◌≢◌, ◌≤◌, ◌<◌, Ok, Err, IfOk, IfSome, IsOk, MatchResult, OnOk};
 ghost use Rattle.zk_tables.specs.Layout.{entries, entry_of, layout_of};
-ghost use Rattle.zk_tables.specs.Properties.{table_of, list_of, properties_of, property_of, default_of, value_in, value_put_in, property_value, property_address_of, next_property_of, property_put, length_by, property_length_of, name_of};
+ghost use Rattle.zk_tables.specs.Properties.{HasShortList, table_of, list_of, properties_of, property_of, default_of, value_in, value_put_in, property_value, property_address_of, next_property_of, property_put, length_by, property_length_of, name_of};
 
 use crate::layout::{EARLY, LATE, Layout, count_entries, entry, entry_in, layout_for};
 use crate::lists::{
@@ -73,18 +73,22 @@ pub fn list_address(memory: &Memory, object: u16) -> Result<u32, Fault>
 /// property table, does not lie in data.
 #[tactic(auto, unfolding(crate::specs::Properties::properties_of))]
 pub fn check_properties(memory: &Memory, object: u16) -> Result<(), Fault>
-    ensures { MatchResult result (λ _. IsOk (properties_of memory.now object)) (λ e. properties_of memory.now object ≡ Err e) }
+    ensures value { MatchResult result (λ _. IsOk (properties_of memory.now object)) (λ e. properties_of memory.now object ≡ Err e) }
+    ensures walked { OnOk result (HasShortList memory.now object) }
 {
+    memory.has_bytes();
     let list = list_address(memory, object)?;
     check_list(memory, list)
 }
 
 /// The first property of a number that an object has.
-#[tactic(auto, unfolding(crate::specs::Properties::property_of))]
+#[tactic(auto, unfolding(crate::specs::Properties::property_of), using(crate::proofs::ShortLists::found_short))]
 fn find_property(memory: &Memory, object: u16, number: u16) -> Result<Option<Property>, Fault>
     ensures value { result ≡ property_of memory.now object number }
     ensures bound { IfOk result (λ r. IfSome r (λ p. p.address < 65536)) }
+    ensures walked { OnOk result (HasShortList memory.now object) }
 {
+    memory.has_bytes();
     let list = list_address(memory, object)?;
     find(memory, list, number)
 }
@@ -136,9 +140,10 @@ fn set_value(memory: &mut Memory, value: u16, property: Option<Property>) -> Res
 /// `BadObject` where the object has no entry in data. `BadProperty` where its property list, or the
 /// first byte of its property table, does not lie in data, and where a default of that number is wanted
 /// and there is none. `BadAddress` where the default lies outside data.
-#[tactic(auto, unfolding(crate::specs::Properties::property_value))]
+#[tactic(auto, unfolding(crate::specs::Properties::property_value), using(crate::proofs::ShortLists::walked_by))]
 pub fn property(memory: &Memory, object: u16, number: u16) -> Result<u16, Fault>
-    ensures { result ≡ property_value memory.now object number }
+    ensures value { result ≡ property_value memory.now object number }
+    ensures walked { OnOk result (object ≢ 0 → HasShortList memory.now object) }
 {
     if object == 0 {
         return default_value(memory, number);
@@ -153,7 +158,8 @@ pub fn property(memory: &Memory, object: u16, number: u16) -> Result<u16, Fault>
 /// first byte of its property table, does not lie in data.
 #[tactic(auto, unfolding(crate::specs::Properties::property_address_of))]
 pub fn property_address(memory: &Memory, object: u16, number: u16) -> Result<u16, Fault>
-    ensures { result ≡ property_address_of memory.now object number }
+    ensures value { result ≡ property_address_of memory.now object number }
+    ensures walked { OnOk result (object ≢ 0 → HasShortList memory.now object) }
 {
     if object == 0 {
         return Ok(0);
@@ -169,10 +175,12 @@ pub fn property_address(memory: &Memory, object: u16, number: u16) -> Result<u16
 ///
 /// `BadObject` where the object has no entry in data. `BadProperty` where its property list, or the
 /// first byte of its property table, does not lie in data, and where it does not have the property.
-#[tactic(auto, unfolding(crate::specs::Properties::next_property_of))]
+#[tactic(auto, unfolding(crate::specs::Properties::next_property_of), using(crate::proofs::ShortLists::first_short, crate::proofs::ShortLists::next_short))]
 pub fn next_property(memory: &Memory, object: u16, number: u16) -> Result<u16, Fault>
-    ensures { result ≡ next_property_of memory.now object number }
+    ensures value { result ≡ next_property_of memory.now object number }
+    ensures walked { OnOk result (object ≢ 0 → HasShortList memory.now object) }
 {
+    memory.has_bytes();
     if object == 0 {
         return if number == 0 {
             Ok(0)
@@ -194,9 +202,10 @@ pub fn next_property(memory: &Memory, object: u16, number: u16) -> Result<u16, F
 /// `BadObject` where the object has no entry in data. `BadProperty` where its property list, or the
 /// first byte of its property table, does not lie in data, and where it does not have the property.
 /// `ReadOnly` where the value lies outside dynamic memory. A refusal changes nothing.
-#[tactic(auto, unfolding(crate::specs::Properties::property_put))]
+#[tactic(auto, unfolding(crate::specs::Properties::property_put), using(crate::proofs::ShortLists::walked_by))]
 pub fn put_property(memory: &mut Memory, object: u16, number: u16, value: u16) -> Result<(), Fault>
-    ensures { MatchResult result (λ _. property_put memory.old object number value ≡ Ok memory.new) (λ e. (property_put memory.old object number value ≡ Err e) × (memory.new ≡ memory.old)) }
+    ensures value { MatchResult result (λ _. property_put memory.old object number value ≡ Ok memory.new) (λ e. (property_put memory.old object number value ≡ Err e) × (memory.new ≡ memory.old)) }
+    ensures walked { OnOk result (object ≢ 0 → HasShortList memory.old object) }
 {
     if object == 0 {
         return Ok(());
