@@ -44,7 +44,7 @@ use Rattle.zk_vm.specs.View.{viewed, viewed_by, lines_shown, rows_shown, status_
 use Rattle.zk_vm.proofs.Going.{stops_by}
 use Rattle.zk_vm.proofs.Keeping.{seen, same_states}
 use Rattle.zk_vm.specs.declared.limits.Limits.{Limits}
-use Rattle.zk_vm.proofs.OnlySaveUndo.{only_save_undo_keeps}
+use Rattle.zk_vm.proofs.Pauses.{pauses}
 use Rattle.zk_step.proofs.SameStory.{same_version}
 use Rattle.zk_vm.proofs.Sounds.{running, while_running, same_most, sound_now, story_stays}
 
@@ -251,7 +251,18 @@ stepped_keep {S} shows a b m new i w t answer h told quiet (inl settles) shown =
 stepped_keep {S} shows a b m new i w t answer h told quiet (inr lacks) shown =
     let is = move_is (carried_out m.workspace i) (w, (Keeps, t)) told in
     let most = same_most m.workspace.memory w.memory (carried_fixed m.workspace i w Keeps t told) in
-    let keeping : IsKeeping (state_seen m) = record { instruction = i; fetched = h; keeps = only_save_undo_keeps m.workspace i w t is; some = subst (λ (k : ℕ). 0 < k) most lacks.some } in
+    let paused = pauses m.workspace i w Keeps t is tt in
+    let undo = same_states m.workspace.memory w.memory m.undo (carried_fixed m.workspace i w Keeps t told) in
+    let keeping : IsKeeping (state_seen m) new.state = record {
+      instruction = i;
+      fetched = h;
+      keeps = paused.keeps refl;
+      some = subst (λ (k : ℕ). 0 < k) most lacks.some;
+      workspace = w;
+      values = paused.values;
+      operands = paused.operands;
+      beside = lacks.same ∙ ap (λ (u : List WholeState). let s : State = record (state_seen m) { workspace = w; undo = u } in s) undo;
+    } in
     inr (lacks.tells, lacks.waiting, (keeping, subst (λ (y : Texts). shows a b y.screen y.script) quiet shown))
 
 -- it goes on at a place

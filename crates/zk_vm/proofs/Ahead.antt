@@ -18,7 +18,7 @@ use Rattle.zk_vm.specs.declared.waiting.Halt.{Halt}
 use Rattle.zk_vm.specs.declared.waiting.Halt.TheVariants as halt
 use Rattle.zk_vm.specs.declared.waiting.Waiting.{Waiting}
 use Rattle.zk_vm.specs.Going.{GoesAhead, IsAhead, IsHalted, StopsAhead, behind_strides, steps_left, stop_by}
-use Rattle.zk_vm.specs.Halts.{ComesToKeep, IsLeftBy, halt_of}
+use Rattle.zk_vm.specs.Halts.{ComesToKeepAt, IsLeftBy, halt_of}
 use Rattle.zk_vm.specs.Outcome.{Segment, Session, segment}
 use Rattle.zk_vm.specs.Step.{State, goes_by, step, state_after, text_of, text_within, verdict_of}
 use Rattle.zk_vm.specs.Step.Verdict.{GoesOn, StopsBy}
@@ -85,20 +85,20 @@ abbrev moved : Session → ℕ → Workspace → ℕ → Session
 moved s n w place = record s { state = behind_strides s.state n w place }
 
 comes_behind : (n : ℕ) (w end : Workspace) (place last : ℕ) → Strides n w place end last → (s : Session) → s.state.workspace ≡ w → s.state.place ≡ place → s.stopped ≡ None → s.state.due ≡ []
-    → (text : Texts) → ComesToKeep (moved s n end last) text → ComesToKeep s text
-comes_behind _ _ _ _ _ (none {w} {place}) s here there runs silent text comes =
+    → (text : Texts) (taken : State) → ComesToKeepAt (moved s n end last) text taken → ComesToKeepAt s text taken
+comes_behind _ _ _ _ _ (none {w} {place}) s here there runs silent text taken comes =
     let e : behind_strides s.state zero w place ≡ s.state = rw (← here, ← there) (none_behind s.state) in
-    subst (λ (t : State). ComesToKeep (record s { state = t }) text) e comes
-comes_behind _ _ _ _ _ (more {n} {w} {v} {end} {place} {next} {last} stride rest) s here there runs silent text comes =
+    subst (λ (t : State). ComesToKeepAt (record s { state = t }) text taken) e comes
+comes_behind _ _ _ _ _ (more {n} {w} {v} {end} {place} {next} {last} stride rest) s here there runs silent text taken comes =
     let now : IsStride s.state.workspace s.state.place v next = rw (here, there) stride in
     let one = stride_step s.state v next now in
     let mid : Session = record s { state = record s.state { workspace = v; place = next; steps = s.state.steps + 1 } } in
-    let inner : ComesToKeep (moved mid n end last) text = subst (λ (t : State). ComesToKeep (record s { state = t }) text) (sym (more_behind s.state v end next last n)) comes in
-    comes_before s mid no_text text runs silent silent refl (sym one.after) refl one.goes one.shows (comes_behind n v end next last rest mid refl refl runs silent text inner)
+    let inner : ComesToKeepAt (moved mid n end last) text taken = subst (λ (t : State). ComesToKeepAt (record s { state = t }) text taken) (sym (more_behind s.state v end next last n)) comes in
+    comes_before s mid no_text text taken runs silent silent refl (sym one.after) refl one.goes one.shows (comes_behind n v end next last rest mid refl refl runs silent text taken inner)
 
-pub comes_ahead : (old new : Session) (ahead : GoesAhead old new) → old.stopped ≡ None → old.state.due ≡ [] → (text : Texts) → ComesToKeep new text → ComesToKeep old text
-comes_ahead old new ahead runs silent text comes =
-    comes_behind ahead.steps _ _ _ _ ahead.strides old refl refl runs silent text (subst (λ (s : Session). ComesToKeep s text) ahead.there comes)
+pub comes_ahead : (old new : Session) (ahead : GoesAhead old new) → old.stopped ≡ None → old.state.due ≡ [] → (text : Texts) (taken : State) → ComesToKeepAt new text taken → ComesToKeepAt old text taken
+comes_ahead old new ahead runs silent text taken comes =
+    comes_behind ahead.steps _ _ _ _ ahead.strides old refl refl runs silent text taken (subst (λ (s : Session). ComesToKeepAt s text taken) ahead.there comes)
 
 -- an instruction that is refused behind them
 refused_step : (s : State) (r : Refusal) → IsRefused s.workspace s.place r → (verdict_of s (step s) ≡ StopsBy (stop_by s.place r)) × (text_of s (step s) ≡ no_text)

@@ -124,7 +124,7 @@ unfolding put_in_place
 loaded_fixed (Ok w) m n s g p h = fit_fixed (frames_fit (within_bounds (with_frames s w.frames))) w m n g p h
 loaded_fixed (Err e) m n s g p h = absurd cc
 
-restored_fixed : (file : List ℕ) (m n : MemoryMap) (s g : FrameList) (p : ℕ) → restored file m s ≡ Ok (n, g, p) → fixed_parts n ≡ fixed_parts m
+pub restored_fixed : (file : List ℕ) (m n : MemoryMap) (s g : FrameList) (p : ℕ) → restored file m s ≡ Ok (n, g, p) → fixed_parts n ≡ fixed_parts m
 unfolding restored
 restored_fixed file m n s g p h = loaded_fixed (loaded m file) m n s g p h
 

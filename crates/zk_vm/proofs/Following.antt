@@ -31,7 +31,7 @@ follows_ahead {S} shows first now old s mid on runs ahead few =
       end = ap (λ (g : Segment). g.end) (sym e) ∙ on.end;
       state = ap (λ (g : Segment). g.state) (sym e) ∙ on.state;
       text = subst (λ (g : Segment). ShowsRest shows first now g.text (steps_left old).text) e on.text;
-      comes = λ text k. on.comes text (comes_ahead s mid ahead runs on.silent text k);
+      comes = λ text taken k. on.comes text taken (comes_ahead s mid ahead runs on.silent text taken k);
       left = left_on old s mid mid.state on.left (ahead.there ∙ ap (λ (t : State). record s { state = t }) (sym (ap (λ (m : Session). m.state) ahead.there)));
       silent = ap (λ (m : Session). m.state.due) ahead.there ∙ on.silent;
     }
@@ -57,9 +57,9 @@ follows_step {S} shows twice first now next old s new on runs room counted due s
       end = sym (ap (λ (g : Segment). g.end) e) ∙ on.end;
       state = sym (ap (λ (g : Segment). g.state) e) ∙ on.state;
       text = rest_shown shows twice first now next _ _ _ _ (ap (λ (g : Segment). g.text) e) made.2 on.text;
-      comes = λ text k.
-          let before = comes_before s new (text_of s.state (step s.state)) text runs on.silent still whole here counted verdict refl k in
-          let all = on.comes (text_joined (text_of s.state (step s.state)) text) before in
+      comes = λ text taken k.
+          let before = comes_before s new (text_of s.state (step s.state)) text taken runs on.silent still whole here counted verdict refl k in
+          let all = on.comes (text_joined (text_of s.state (step s.state)) text) taken before in
           (all.0, (all.1.0, rest_shown shows twice first now next _ _ _ _ refl made.2 all.1.1));
       left = left_on old s new (state_after s.state (step s.state)) on.left left;
       silent = still;

@@ -1,5 +1,5 @@
 -- Limits on frames and words, step by step.
-use Rattle.std.proofs.Common.{◌≡◌, ◌∙◌, ℕ, zero, suc, ◌+◌, ◌≤◌, ◌⊎◌, inl, inr, Bool, true, false, List, [], ◌∷◌, ◌++◌, length, Result, Ok, Err, refl, ap, sym, subst, arith, nat_lt}
+use Rattle.std.proofs.Common.{◌≡◌, ◌∙◌, ℕ, zero, suc, ◌+◌, ◌≤◌, ◌⊎◌, inl, inr, Bool, true, false, List, [], ◌∷◌, ◌++◌, length, Result, Ok, Err, refl, ap, sym, arith, nat_lt}
 use Rattle.std.specs.Prelude.{if◌then◌else◌}
 use Rattle.std.proofs.lemmas.Bool.Decides.{nat_tests}
 use Rattle.std.proofs.lemmas.List.{length-take}
@@ -9,7 +9,7 @@ use Rattle.zk_state.specs.declared.refusal.Limit.{Limit}
 use Rattle.zk_state.specs.declared.refusal.Limit.TheVariants.{Frames, Words, Steps, Reads}
 use Rattle.zk_state.specs.declared.refusal.Refusal.{Refusal}
 use Rattle.zk_state.specs.declared.refusal.Refusal.TheVariants as refusal
-use Rattle.zk_state.specs.Frames.{Frame, FrameList, with_frames, frames_of, total_of, sizes_of, with_bounds, bounds_of, within_bounds}
+use Rattle.zk_state.specs.Frames.{Frame, FrameList, with_frames, frames_of, total_of, with_bounds, bounds_of, within_bounds}
 use Rattle.zk_state.proofs.Calls.{within_bounds_ok}
 use Rattle.zk_code.specs.declared.instr.Instr.{Instr}
 use Rattle.zk_code.specs.Reading.{instr_at}
@@ -35,10 +35,10 @@ use Rattle.zk_vm.specs.declared.stop.Stop.TheVariants.{Limit as LimitAt}
 use Rattle.zk_vm.specs.Step.{State, Step, Verdict, step, fetched, settled, led_to, waits_by, verdict_of, text_of, state_after, back_to, goes_by, goes_to, is_past_reads, kept_answer, text_within, most_reads, view_before, with_kept}
 use Rattle.zk_vm.specs.Step.Step.{Goes, Waits, Quits, Faults, Exceeds}
 use Rattle.zk_vm.specs.Step.Verdict.{GoesOn, WaitsFor, StopsBy}
-use Rattle.zk_vm.specs.Outcome.{Segment, segment, continued, begun, Leads}
+use Rattle.zk_vm.specs.Outcome.{Segment, segment, continued}
 use Rattle.zk_vm.specs.View.{viewed, viewed_by, lines_shown, rows_shown, status_shown}
-use Rattle.zk_vm.proofs.Sounds.{back_fixed, first_undo}
-use Rattle.zk_vm.specs.Laws.{IsWithin, RunsStayWithin, state_in, segment_in, IsNoFrameLimit, FrameLimitsOnlyCut, FrameLimitsCutThere}
+use Rattle.zk_vm.proofs.Sounds.{back_fixed}
+use Rattle.zk_vm.specs.Laws.{IsWithin, state_in, segment_in, IsNoFrameLimit, FrameLimitsOnlyCut, LimitsCutThere, Passes}
 
 -- a step from a state with other bounds
 unfoldable pub step_in : ℕ → ℕ → Step → Step
@@ -251,14 +251,23 @@ frame_limits_only_cut (suc n) f m s few short own =
     rw (step_same f m s, parts.0, parts.1, parts.2)
     (same_here f m s (verdict_of s (step s)) (state_after s (step s)) (text_of s (step s)) (segment n (state_after s (step s))) (segment n (state_in f m (state_after s (step s)))) more own)
 
-pub frame_limits_cut_there : FrameLimitsCutThere
+-- what passes a limit stops a run there, and shows nothing
+pub passes_stops : (l : Limit) (s : State) (x : Step) → Passes l s x → (verdict_of s x ≡ StopsBy (LimitAt s.place l)) × (text_of s x ≡ no_text)
+passes_stops l s (Goes t text) h = rw h (refl, refl)
+passes_stops l s (Waits t waiting text) h = rw (h.1, h.0) (refl, refl)
+passes_stops l s (Quits text) h = absurd h
+passes_stops l s (Faults f) h = absurd h
+passes_stops l s (Exceeds m) h = rw h (refl, refl)
+
+pub limits_cut_there : LimitsCutThere
 unfolding segment
-frame_limits_cut_there zero k s end over text more l lead goes h =
+limits_cut_there zero k s end text l lead h =
     let e : zero + suc k ≡ suc k = omega arith in
-    rw (e, lead.0, goes, h, lead.1) (refl, refl)
-frame_limits_cut_there (suc n) k s end over text more l lead goes h =
+    let stops = passes_stops l end (step end) h in
+    rw (e, lead.0, stops.0, stops.1, lead.1) (refl, refl)
+limits_cut_there (suc n) k s end text l lead h =
     let e : suc n + suc k ≡ suc (n + suc k) = omega arith in
-    let rest = frame_limits_cut_there n k (state_after s (step s)) end over lead.0 more l lead.2 goes h in
+    let rest = limits_cut_there n k (state_after s (step s)) end lead.0 l lead.2 h in
     rw (e, lead.1, rest.0, rest.1, lead.3) (refl, refl)
 
 -- a step that waits does not go on
@@ -273,7 +282,7 @@ pub record Counts (s t : State) : Type 0 where
   pub most : t.workspace.memory.undo_states ≡ s.workspace.memory.undo_states
   pub undo : length s.undo ≤ s.workspace.memory.undo_states → length t.undo ≤ s.workspace.memory.undo_states
 
-same_most : (m n : MemoryMap) → fixed_parts n ≡ fixed_parts m → n.undo_states ≡ m.undo_states
+pub same_most : (m n : MemoryMap) → fixed_parts n ≡ fixed_parts m → n.undo_states ≡ m.undo_states
 unfolding fixed_parts
 same_most m n e = ap (λ (p : (ℕ × ℕ) × (List ℕ × ℕ)). p.1.1) e
 
@@ -335,7 +344,7 @@ goes_within place (Ok u) h = (u, refl)
 goes_within place (Err (refusal.Limit l)) h = absurd cc
 goes_within place (Err (refusal.Fault e)) h = absurd cc
 
-after_goes : (l : Limits) (s t : State) (text : Texts) → step s ≡ Goes t text → bounds_of s.workspace.frames ≡ (l.frames, l.words) → s.workspace.memory.undo_states ≡ l.undo → s.steps + 1 ≤ l.steps → s.reads ≤ most_reads → length s.undo ≤ l.undo
+pub after_goes : (l : Limits) (s t : State) (text : Texts) → step s ≡ Goes t text → bounds_of s.workspace.frames ≡ (l.frames, l.words) → s.workspace.memory.undo_states ≡ l.undo → s.steps + 1 ≤ l.steps → s.reads ≤ most_reads → length s.undo ≤ l.undo
     → goes_by s.place (within_bounds t.workspace.frames) ≡ GoesOn → IsWithin l t × (bounds_of t.workspace.frames ≡ (l.frames, l.words)) × (t.workspace.memory.undo_states ≡ l.undo) × (t.steps ≡ s.steps + 1)
 unfolding bounds_of
 after_goes l s t text e b most few read kept h =
@@ -348,18 +357,3 @@ after_goes l s t text e b most few read kept h =
     let before : length s.undo ≤ s.workspace.memory.undo_states = omega (arith, kept, most) in
     let after = more.undo before in
     (record { frames = omega (arith, most_of.0, f); words = omega (arith, most_of.1, w); steps = omega (arith, more.steps); reads = omega (arith, more.reads); undo = omega (arith, after, most) }, same, more.most ∙ most, more.steps)
-
-stays : (l : Limits) (n : ℕ) (s end : State) (text : Texts) → bounds_of s.workspace.frames ≡ (l.frames, l.words) → s.workspace.memory.undo_states ≡ l.undo → IsWithin l s → s.steps + n ≤ l.steps → Leads n s end text → IsWithin l end
-stays l zero s end text b most within few lead = subst (λ (u : State). IsWithin l u) lead.0 within
-stays l (suc n) s end text b most within few lead =
-    let to = goes_on_to s (step s) lead.1 in
-    let there : state_after s (step s) ≡ to.0 = ap (state_after s) to.1.1 in
-    let verdict : goes_by s.place (within_bounds to.0.workspace.frames) ≡ GoesOn = sym (ap (verdict_of s) to.1.1) ∙ lead.1 in
-    let next = after_goes l s to.0 to.1.0 to.1.1 b most (omega arith) within.reads within.undo verdict in
-    let rest : Leads n to.0 end lead.0 = subst (λ (u : State). Leads n u end lead.0) there lead.2 in
-    stays l n to.0 end lead.0 next.1 next.2 next.0 (omega (arith, next.3)) rest
-
-pub runs_stay_within : RunsStayWithin
-unfolding begun bounds_of sizes_of
-runs_stay_within story seed l view n end text range few lead =
-    stays l n (begun story seed l view).state end text refl (first_undo story l.undo) (record { frames = range.frames; words = omega arith; steps = omega arith; reads = omega arith; undo = omega arith }) (omega (arith, few)) lead

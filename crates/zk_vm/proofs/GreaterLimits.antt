@@ -1,6 +1,6 @@
 -- Whole runs under greater limits.
 use Rattle.std.specs.Prelude.{if◌then◌else◌}
-use Rattle.std.proofs.Common.{◌≡◌, ◌≤◌, ◌<◌, ℕ, ◌+◌, ◌-◌, Bool, true, false, List, [], ◌∷◌, Option, Some, None, Result, Ok, Err, refl, ap, arith}
+use Rattle.std.proofs.Common.{◌≡◌, ◌≤◌, ◌<◌, ℕ, ◌+◌, ◌-◌, Bool, true, false, List, [], ◌∷◌, Option, Some, None, Result, Ok, Err, refl, ap, sym, ◌∙◌, arith}
 use Rattle.zk_mem.specs.declared.fault.Fault.{Fault}
 use Rattle.zk_state.specs.declared.refusal.Refusal.{Refusal}
 use Rattle.zk_state.specs.declared.refusal.Refusal.TheVariants as refusal
@@ -18,18 +18,21 @@ use Rattle.zk_mem.specs.Map.{MemoryMap}
 use Rattle.zk_save.specs.declared.restore.RestoreError.{RestoreError}
 use Rattle.zk_save.specs.declared.restore.RestoreError.TheVariants as restore_error
 use Rattle.zk_save.specs.Loading.{restored}
-use Rattle.zk_save.specs.States.{WholeState}
 use Rattle.zk_state.specs.declared.refusal.Limit.TheVariants.{Reads}
 use Rattle.zk_vm.specs.declared.stop.Stop.TheVariants.{Limit}
+use Rattle.zk_step.specs.Laws.{fixed_parts}
 use Rattle.zk_step.specs.Routing.{Texts, no_text, text_joined}
+use Rattle.zk_step.proofs.Stories.{answers_leave_stories}
 use Rattle.zk_vm.specs.declared.stop.Stop.{Stop}
 use Rattle.zk_vm.specs.declared.waiting.Waiting.{Waiting}
 use Rattle.zk_vm.specs.Answers.{Answer, answered, answered_by, answer_settled, codes_of, file_of, first_code, is_kept, restored_from, restored_to, transcribed, truth_word}
 use Rattle.zk_vm.specs.Laws.{IsNoStepLimit, IsNoStepStop, with_more_steps, StepLimitOnlyCutsRuns}
 use Rattle.zk_vm.specs.Outcome.{Outcome, Segment, Session, segment_by, segment_of, behind_due, followed, outcome, ended, ran, given, given_to, resumed}
-use Rattle.zk_vm.specs.Step.{State, Step, Verdict, verdict_of, state_after, goes_by, goes_to, is_past_reads}
+use Rattle.zk_vm.specs.Step.{State, Step, Verdict, verdict_of, state_after, goes_by, goes_to, is_past_reads, is_read}
 use Rattle.zk_vm.specs.Step.Step.{Goes, Waits, Quits, Faults, Exceeds}
 use Rattle.zk_vm.specs.Step.Verdict.{GoesOn, WaitsFor, StopsBy}
+use Rattle.zk_vm.proofs.Answering.{restored_fixed}
+use Rattle.zk_vm.proofs.FrameLimits.{same_most}
 use Rattle.zk_vm.proofs.Outcomes.{ran_few, ran_waiting}
 use Rattle.zk_vm.proofs.Runs.{step_limit_only_cuts}
 
@@ -73,50 +76,90 @@ given_more : (k : ℕ) (s : Session) (a : Answer) → given (with_more_steps k s
 unfolding given
 given_more k s a = given_more_by s.waiting k s a
 
--- an answer makes no step, or one
+-- an answer makes no step, or one, and at most one read; the states to go back to stay, and as many may be kept
+pub record AnswersSo (s t : State) : Type 0 where
+  pub steps : t.steps ≤ s.steps + 1
+  pub reads : t.reads ≤ s.reads + 1
+  pub undo : t.undo ≡ s.undo
+  pub most : t.workspace.memory.undo_states ≡ s.workspace.memory.undo_states
 
-settled_goes : (s t : State) (due : List ℕ) (text : Texts) (r : Result (Workspace × Next) Fault) → answer_settled s due r ≡ Goes t text → t.steps ≤ s.steps + 1
-settled_goes s t due text (Ok (w, next.At p)) h =
+-- the same, for an answer that is no read
+pub record AnswersNoRead (s t : State) : Type 0 where
+  pub so : AnswersSo s t
+  pub same : t.reads ≡ s.reads
+
+-- what an instruction leads to has memory that keeps as many states
+abbrev KeepsAsMany : State → Result (Workspace × Next) Fault → Type 0
+KeepsAsMany s r = (v : Workspace) (n : Next) → r ≡ Ok (v, n) → v.memory.undo_states ≡ s.workspace.memory.undo_states
+
+settled_goes : (s t : State) (due : List ℕ) (text : Texts) (r : Result (Workspace × Next) Fault) → KeepsAsMany s r → answer_settled s due r ≡ Goes t text → AnswersSo s t
+settled_goes s t due text (Ok (w, next.At p)) most h =
     let same : record s { workspace = w; place = p; steps = 0; reads = s.reads + 1; due = due } ≡ t = cc in
-    let none : 0 ≡ t.steps = ap (λ (u : State). u.steps) same in omega (arith, none)
-settled_goes s t due text (Ok (w, next.Waits x)) h = absurd cc
-settled_goes s t due text (Ok (w, next.Keeps)) h = absurd cc
-settled_goes s t due text (Ok (w, next.Resumes)) h = absurd cc
-settled_goes s t due text (Ok (w, next.End)) h = absurd cc
-settled_goes s t due text (Err f) h = absurd cc
+    let none : 0 ≡ t.steps = ap (λ (u : State). u.steps) same in
+    let one : s.reads + 1 ≡ t.reads = ap (λ (u : State). u.reads) same in
+    record { steps = omega (arith, none); reads = omega (arith, one); undo = sym (ap (λ (u : State). u.undo) same); most = sym (ap (λ (u : State). u.workspace.memory.undo_states) same) ∙ most w (next.At p) refl }
+settled_goes s t due text (Ok (w, next.Waits x)) most h = absurd cc
+settled_goes s t due text (Ok (w, next.Keeps)) most h = absurd cc
+settled_goes s t due text (Ok (w, next.Resumes)) most h = absurd cc
+settled_goes s t due text (Ok (w, next.End)) most h = absurd cc
+settled_goes s t due text (Err f) most h = absurd cc
 
-goes_goes : (s t : State) (undo : List WholeState) (text : Texts) (r : Result (Workspace × Next) Fault) → goes_to s undo r ≡ Goes t text → t.steps ≤ s.steps + 1
-goes_goes s t undo text (Ok (w, next.At p)) h =
-    let same : record s { workspace = w; place = p; steps = s.steps + 1; undo = undo } ≡ t = cc in
-    let one : s.steps + 1 ≡ t.steps = ap (λ (u : State). u.steps) same in omega (arith, one)
-goes_goes s t undo text (Ok (w, next.Waits x)) h = absurd cc
-goes_goes s t undo text (Ok (w, next.Keeps)) h = absurd cc
-goes_goes s t undo text (Ok (w, next.Resumes)) h = absurd cc
-goes_goes s t undo text (Ok (w, next.End)) h = absurd cc
-goes_goes s t undo text (Err f) h = absurd cc
+goes_goes : (s t : State) (text : Texts) (r : Result (Workspace × Next) Fault) → KeepsAsMany s r → goes_to s s.undo r ≡ Goes t text → AnswersNoRead s t
+goes_goes s t text (Ok (w, next.At p)) most h =
+    let same : record s { workspace = w; place = p; steps = s.steps + 1; undo = s.undo } ≡ t = cc in
+    let one : s.steps + 1 ≡ t.steps = ap (λ (u : State). u.steps) same in
+    let none : s.reads ≡ t.reads = ap (λ (u : State). u.reads) same in
+    record {
+      so = record { steps = omega (arith, one); reads = omega (arith, none); undo = sym (ap (λ (u : State). u.undo) same); most = sym (ap (λ (u : State). u.workspace.memory.undo_states) same) ∙ most w (next.At p) refl };
+      same = sym none;
+    }
+goes_goes s t text (Ok (w, next.Waits x)) most h = absurd cc
+goes_goes s t text (Ok (w, next.Keeps)) most h = absurd cc
+goes_goes s t text (Ok (w, next.Resumes)) most h = absurd cc
+goes_goes s t text (Ok (w, next.End)) most h = absurd cc
+goes_goes s t text (Err f) most h = absurd cc
 
-restored_goes : (s t : State) (i : Instr) (text : Texts) (q : Result (MemoryMap × FrameList × ℕ) RestoreError) → restored_to s i q ≡ Goes t text → t.steps ≤ s.steps + 1
-restored_goes s t i text (Ok (m, f, p)) h = goes_goes s t s.undo text (back (renewed (record s.workspace { memory = m; frames = f })) p) h
-restored_goes s t i text (Err (restore_error.Limit l)) h = absurd cc
-restored_goes s t i text (Err restore_error.NotQuetzal) h = goes_goes s t s.undo text (result_answered s.workspace i 0 false) h
-restored_goes s t i text (Err restore_error.Truncated) h = goes_goes s t s.undo text (result_answered s.workspace i 0 false) h
-restored_goes s t i text (Err restore_error.OtherStory) h = goes_goes s t s.undo text (result_answered s.workspace i 0 false) h
-restored_goes s t i text (Err restore_error.BadMemory) h = goes_goes s t s.undo text (result_answered s.workspace i 0 false) h
-restored_goes s t i text (Err restore_error.BadStack) h = goes_goes s t s.undo text (result_answered s.workspace i 0 false) h
+result_most : (s : State) (i : Instr) (x : ℕ) (truth : Bool) → KeepsAsMany s (result_answered s.workspace i x truth)
+result_most s i x truth v n e = same_most s.workspace.memory v.memory (answers_leave_stories.result s.workspace i x truth (v, n) e)
 
-from_goes : (s t : State) (i : Instr) (text : Texts) (file : Option (List ℕ)) → restored_from s i file ≡ Goes t text → t.steps ≤ s.steps + 1
-from_goes s t i text None h = goes_goes s t s.undo text (result_answered s.workspace i 0 false) h
-from_goes s t i text (Some file) h = restored_goes s t i text (restored file s.workspace.memory s.workspace.frames) h
+restored_goes : (s t : State) (i : Instr) (text : Texts) (q : Result (MemoryMap × FrameList × ℕ) RestoreError) → ((m : MemoryMap) (f : FrameList) (p : ℕ) → q ≡ Ok (m, f, p) → fixed_parts m ≡ fixed_parts s.workspace.memory) → restored_to s i q ≡ Goes t text → AnswersNoRead s t
+unfolding renewed
+restored_goes s t i text (Ok (m, f, p)) fixed h =
+    let u : Workspace = renewed (record s.workspace { memory = m; frames = f }) in
+    goes_goes s t text (back u p) (λ v n e. same_most s.workspace.memory v.memory (answers_leave_stories.back u p (v, n) e ∙ fixed m f p refl)) h
+restored_goes s t i text (Err (restore_error.Limit l)) fixed h = absurd cc
+restored_goes s t i text (Err restore_error.NotQuetzal) fixed h = goes_goes s t text (result_answered s.workspace i 0 false) (result_most s i 0 false) h
+restored_goes s t i text (Err restore_error.Truncated) fixed h = goes_goes s t text (result_answered s.workspace i 0 false) (result_most s i 0 false) h
+restored_goes s t i text (Err restore_error.OtherStory) fixed h = goes_goes s t text (result_answered s.workspace i 0 false) (result_most s i 0 false) h
+restored_goes s t i text (Err restore_error.BadMemory) fixed h = goes_goes s t text (result_answered s.workspace i 0 false) (result_most s i 0 false) h
+restored_goes s t i text (Err restore_error.BadStack) fixed h = goes_goes s t text (result_answered s.workspace i 0 false) (result_most s i 0 false) h
 
-by_goes : (s t : State) (i : Instr) (x : Wait) (a : Answer) (text : Texts) → answered_by s i x a ≡ Goes t text → t.steps ≤ s.steps + 1
-by_goes s t i (wait.Line buffer parse) a text h = settled_goes s t (transcribed s.workspace (wait.Line buffer parse) (codes_of a)) text (line_answered s.workspace i buffer parse (codes_of a)) h
-by_goes s t i wait.Char a text h = settled_goes s t [] text (character_answered s.workspace i (first_code (codes_of a))) h
-by_goes s t i wait.Save a text h = goes_goes s t s.undo text (result_answered s.workspace i (truth_word (is_kept a)) (is_kept a)) h
-by_goes s t i wait.Restore a text h = from_goes s t i text (file_of a) h
+from_goes : (s t : State) (i : Instr) (text : Texts) (file : Option (List ℕ)) → restored_from s i file ≡ Goes t text → AnswersNoRead s t
+from_goes s t i text None h = goes_goes s t text (result_answered s.workspace i 0 false) (result_most s i 0 false) h
+from_goes s t i text (Some file) h =
+    restored_goes s t i text (restored file s.workspace.memory s.workspace.frames) (λ m f p e. restored_fixed file s.workspace.memory m s.workspace.frames f p e) h
 
-answered_goes : (s t : State) (w : Waiting) (a : Answer) (text : Texts) → answered s w a ≡ Goes t text → t.steps ≤ s.steps + 1
+-- a read may be one more only where it is one
+abbrev ReadsSo : Wait → State → State → Type 0
+ReadsSo x s t = AnswersSo s t × (is_read x ≡ false → t.reads ≡ s.reads)
+
+no_read : (x : Wait) (s t : State) → AnswersNoRead s t → ReadsSo x s t
+no_read x s t a = (a.so, λ e. a.same)
+
+by_goes : (s t : State) (i : Instr) (x : Wait) (a : Answer) (text : Texts) → answered_by s i x a ≡ Goes t text → ReadsSo x s t
+by_goes s t i (wait.Line buffer parse) a text h = (
+  settled_goes s t (transcribed s.workspace (wait.Line buffer parse) (codes_of a)) text (line_answered s.workspace i buffer parse (codes_of a))
+      (λ v n e. same_most s.workspace.memory v.memory (answers_leave_stories.line s.workspace i buffer parse (codes_of a) (v, n) e)) h,
+  λ e. absurd cc,
+)
+by_goes s t i wait.Char a text h =
+    (settled_goes s t [] text (character_answered s.workspace i (first_code (codes_of a))) (λ v n e. same_most s.workspace.memory v.memory (answers_leave_stories.character s.workspace i (first_code (codes_of a)) (v, n) e)) h, λ e. absurd cc)
+by_goes s t i wait.Save a text h = no_read wait.Save s t (goes_goes s t text (result_answered s.workspace i (truth_word (is_kept a)) (is_kept a)) (result_most s i (truth_word (is_kept a)) (is_kept a)) h)
+by_goes s t i wait.Restore a text h = no_read wait.Restore s t (from_goes s t i text (file_of a) h)
+
+pub answered_so : (s t : State) (w : Waiting) (a : Answer) (text : Texts) → answered s w a ≡ Goes t text → ReadsSo w.wait s t
 unfolding answered
-answered_goes s t w a text h = by_goes s t w.instruction w.wait a text h
+answered_so s t w a text h = by_goes s t w.instruction w.wait a text h
 
 few_goes : (s : Session) (place : ℕ) (r : Result FrameList Refusal) (t : State) → t.steps ≤ s.limits.steps → (resumed s (goes_by place r) t).stopped ≡ None → (resumed s (goes_by place r) t).state.steps ≤ (resumed s (goes_by place r) t).limits.steps
 few_goes s place (Ok u) t e h = e
@@ -136,13 +179,13 @@ few_step s (Faults f) few goes h = absurd cc
 few_step s (Exceeds l) few goes h = absurd cc
 
 few_given : (s : Session) (w : Waiting) (a : Answer) → s.state.steps < s.limits.steps → (given_to (Some w) s a).stopped ≡ None → (given_to (Some w) s a).state.steps ≤ (given_to (Some w) s a).limits.steps
-few_given s w a less h = few_step s (answered s.state w a) (omega (arith, less)) (λ t text e. let one = answered_goes s.state t w a text e in omega (arith, one, less)) h
+few_given s w a less h = few_step s (answered s.state w a) (omega (arith, less)) (λ t text e. let one = (answered_so s.state t w a text e).0.steps in omega (arith, one, less)) h
 
 few_by : (s : Session) (x : Option Waiting) (w : Waiting) (a : Answer) → x ≡ Some w → s.state.steps < s.limits.steps → (given_to x s a).stopped ≡ None → (given_to x s a).state.steps ≤ (given_to x s a).limits.steps
 few_by s None w a e less = absurd cc
 few_by s (Some v) w a e less = few_given s v a less
 
-few_after : (s : Session) (w : Waiting) (a : Answer) → (ran s).waiting ≡ Some w → (ran s).state.steps < (ran s).limits.steps → (given (ran s) a).stopped ≡ None → (given (ran s) a).state.steps ≤ (given (ran s) a).limits.steps
+pub few_after : (s : Session) (w : Waiting) (a : Answer) → (ran s).waiting ≡ Some w → (ran s).state.steps < (ran s).limits.steps → (given (ran s) a).stopped ≡ None → (given (ran s) a).state.steps ≤ (given (ran s) a).limits.steps
 unfolding given
 few_after s w a e less = few_by (ran s) (ran s).waiting w a e less
 

@@ -200,7 +200,7 @@ bounds_by s w a (Waits t v text) e = own_bounds s w a (Waits t v text) e (λ l h
 bounds_by s w a (Quits text) e = own_bounds s w a (Quits text) e (λ l h. absurd cc)
 bounds_by s w a (Faults f) e = own_bounds s w a (Faults f) e (λ l h. absurd cc)
 
-answered_bounds : (s : State) (w : Waiting) (a : Answer) → (most_f (state_after s (answered s w a)) ≡ most_f s) × (most_w (state_after s (answered s w a)) ≡ most_w s)
+pub answered_bounds : (s : State) (w : Waiting) (a : Answer) → (most_f (state_after s (answered s w a)) ≡ most_f s) × (most_w (state_after s (answered s w a)) ≡ most_w s)
 answered_bounds s w a = bounds_by s w a (answered s w a) refl
 
 goes_bounds : (s : State) (x : Step) (f m : ℕ) → (most_f (state_after s x) ≡ most_f s) × (most_w (state_after s x) ≡ most_w s) → most_f s ≤ f → most_w s ≤ m

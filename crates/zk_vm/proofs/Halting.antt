@@ -10,7 +10,7 @@ use Rattle.zk_vm.specs.declared.waiting.Halt.{Halt}
 use Rattle.zk_vm.specs.declared.waiting.Halt.TheVariants as halt
 use Rattle.zk_vm.specs.declared.waiting.Waiting.{Waiting}
 use Rattle.zk_vm.specs.Going.{IsHalted, steps_left}
-use Rattle.zk_vm.specs.Halts.{ComesToKeep, IsKeeping, IsLeftAs, IsLeftAt, IsLeftBy, IsRun, IsStep, event_by, event_of, halt_by, halt_of}
+use Rattle.zk_vm.specs.Halts.{ComesToKeepAt, IsKeeping, IsLeftAs, IsLeftAt, IsLeftBy, IsRun, IsStep, event_by, event_of, halt_by, halt_of}
 use Rattle.zk_vm.specs.Outcome.{Leads, Segment, Session, behind_due, ended, ran, segment, segment_by, segment_of}
 use Rattle.zk_vm.specs.Step.{State, step, state_after, text_of, verdict_of}
 use Rattle.zk_vm.specs.Step.Verdict.{GoesOn}
@@ -18,12 +18,12 @@ use Rattle.zk_vm.proofs.Runs.{ShowsRest, last_shown, run_ends, run_limit}
 
 -- where a machine comes to keep a state, so does one that has led to it, and what shows the rest shows the whole
 abbrev pub ComesOn : {S : Type 0} → (S → S → List ℕ → List ℕ → Type 0) → S → S → Session → Session → Type 0
-ComesOn {S} shows old now first s = (text : Texts) → ComesToKeep s text → (whole : Texts) × (ComesToKeep first whole × ShowsRest shows old now text whole)
+ComesOn {S} shows old now first s = (text : Texts) (taken : State) → ComesToKeepAt s text taken → (whole : Texts) × (ComesToKeepAt first whole taken × ShowsRest shows old now text whole)
 
 -- a step before it
-pub comes_before : (old new : Session) (t rest : Texts) → old.stopped ≡ None → old.state.due ≡ [] → new.state.due ≡ [] → new ≡ record old { state = new.state } → new.state ≡ state_after old.state (step old.state) → new.state.steps ≡ old.state.steps + 1
-    → verdict_of old.state (step old.state) ≡ GoesOn → text_of old.state (step old.state) ≡ t → ComesToKeep new rest → ComesToKeep old (text_joined t rest)
-comes_before old new t rest runs silent still same next count verdict shown comes =
+pub comes_before : (old new : Session) (t rest : Texts) (taken : State) → old.stopped ≡ None → old.state.due ≡ [] → new.state.due ≡ [] → new ≡ record old { state = new.state } → new.state ≡ state_after old.state (step old.state) → new.state.steps ≡ old.state.steps + 1
+    → verdict_of old.state (step old.state) ≡ GoesOn → text_of old.state (step old.state) ≡ t → ComesToKeepAt new rest taken → ComesToKeepAt old (text_joined t rest) taken
+comes_before old new t rest taken runs silent still same next count verdict shown comes =
     let limits : new.limits ≡ old.limits = ap (λ (s : Session). s.limits) same in
     let here : record old.state { due = [] } ≡ old.state = ap (λ (due : List ℕ). let s : State = record old.state { due = due } in s) (sym silent) in
     let there : record new.state { due = [] } ≡ new.state = ap (λ (due : List ℕ). let s : State = record new.state { due = due } in s) (sym still) in
@@ -45,15 +45,15 @@ comes_before old new t rest runs silent still same next count verdict shown come
     }
 
 -- it comes to keep a state here
-pub comes_here : (s : Session) → s.stopped ≡ None → s.state.due ≡ [] → s.state.steps < s.limits.steps → IsKeeping s.state → ComesToKeep s no_text
-comes_here s runs silent room keeping = record {
+pub comes_here : (s : Session) (taken : State) → s.stopped ≡ None → s.state.due ≡ [] → s.state.steps < s.limits.steps → IsKeeping s.state taken → ComesToKeepAt s no_text taken
+comes_here s taken runs silent room keeping = record {
   runs = runs;
   steps = 0;
   few = omega (arith, room);
-  end = record s.state { due = [] };
+  end = s.state;
   behind = no_text;
-  leads = (refl, refl);
-  keeping = record { instruction = keeping.instruction; fetched = keeping.fetched; keeps = keeping.keeps; some = keeping.some };
+  leads = (ap (λ (due : List ℕ). let t : State = record s.state { due = due } in t) (sym silent), refl);
+  keeping = keeping;
   shown = sym (ap (λ (due : List ℕ). text_joined (on_script due) no_text) silent);
 }
 
@@ -74,7 +74,7 @@ run_halts {S} shows first now last n i old mid new h lt same runs silent room en
 run_halts {S} shows first now last n i old mid new h lt same runs silent room end state text comes (inr keeps) =
     let tells = keeps.0 in
     let is : h ≡ halt.Stops stops.Memory = cc in
-    let all = comes no_text (comes_here mid runs silent room keeps.2.0) in
+    let all = comes no_text new.state (comes_here mid new.state runs silent room keeps.2.0) in
     inr (is, keeps.1, (all.0, all.1.0, all.1.1 last keeps.2.1))
 
 -- no step is left
@@ -106,7 +106,7 @@ told_due s = record s { state = record s.state { due = [] } }
 abbrev Ends : Session → Session → Result Event Stop → (Texts → Type 0) → Segment → Type 0
 Ends old new answer Shown g = (answer ≡ event_of g.end) × IsLeftAs new (ended old g g.end) (ended old g g.end).stopped × Shown g.text
 
-segment_is : (s : Session) → s.stopped ≡ None → segment_of s ≡ behind_due s.state.due (steps_left (told_due s))
+pub segment_is : (s : Session) → s.stopped ≡ None → segment_of s ≡ behind_due s.state.due (steps_left (told_due s))
 unfolding segment_of
 segment_is s runs = ap (λ (x : Option Stop). segment_by x s.limits s.state) runs
 
@@ -137,16 +137,16 @@ free_by old mid stop (Ok w) s h left = absurd cc
 free_by old mid stop (Err e) s h left = left
 
 pub run_stops : {S : Type 0} (shows : S → S → List ℕ → List ℕ → Type 0) (twice : (a b c : S) (s t u v : List ℕ) → shows a b s u → shows b c t v → shows a c (s ++ t) (u ++ v)) (a b c : S) (old mid new : Session) (stop : Stop) → old.stopped ≡ None
-    → shows a b [] old.state.due → IsHalted (told_due old) mid (halt.Stops stop) (λ t. shows b c t.screen t.script) → new.stopped ≡ Some stop → new.waiting ≡ mid.waiting → new.limits ≡ old.limits → IsRun old new (Err stop) (λ t. shows a c t.screen t.script)
-run_stops {S} shows twice a b c old mid new stop runs first (inl h) stopped free limits =
+    → shows a b [] old.state.due → IsHalted (told_due old) mid (halt.Stops stop) (λ t. shows b c t.screen t.script) → new.stopped ≡ Some stop → new.waiting ≡ mid.waiting → new.limits ≡ old.limits → new.state ≡ mid.state → IsRun old new (Err stop) (λ t. shows a c t.screen t.script)
+run_stops {S} shows twice a b c old mid new stop runs first (inl h) stopped free limits same =
     let none = free_by (told_due old) mid stop (steps_left (told_due old)).end (steps_left (told_due old)).state h.0 h.1 in
     let ends = stops_end old new stop (behind_due old.state.due (steps_left (told_due old))) (steps_left (told_due old)).end h.0 stopped (free ∙ none) limits in
     run_ended old new (Err stop) (λ t. shows a c t.screen t.script) runs (ends.0, ends.1, twice a b c [] _ old.state.due _ first h.2)
-run_stops {S} shows twice a b c old mid new stop runs first (inr h) stopped free limits =
+run_stops {S} shows twice a b c old mid new stop runs first (inr h) stopped free limits same =
     let tells = h.0 in
     let is : stop ≡ stops.Memory = cc in
     let comes = h.2.1 in
-    let whole : ComesToKeep old (text_joined (on_script old.state.due) h.2.0) = record {
+    let whole : ComesToKeepAt old (text_joined (on_script old.state.due) h.2.0) mid.state = record {
       runs = runs;
       steps = comes.steps;
       few = comes.few;
@@ -156,7 +156,7 @@ run_stops {S} shows twice a b c old mid new stop runs first (inr h) stopped free
       keeping = comes.keeping;
       shown = ap (text_joined (on_script old.state.due)) comes.shown;
     } in
-    inr (ap Err is, stopped ∙ ap Some is, free ∙ h.1, (text_joined (on_script old.state.due) h.2.0, whole, twice a b c [] _ old.state.due _ first h.2.2))
+    inr (ap Err is, stopped ∙ ap Some is, free ∙ h.1, (text_joined (on_script old.state.due) h.2.0, subst (ComesToKeepAt old (text_joined (on_script old.state.due) h.2.0)) (sym same) whole, twice a b c [] _ old.state.due _ first h.2.2))
 
 pub halted_waits : (old new : Session) (x : Wait) (Shown : Texts → Type 0) → IsHalted old new (halt.Waits x) Shown → (w : Waiting) × (new.waiting ≡ Some w)
 halted_waits old new x Shown (inl h) = go (steps_left old).end h.0 h.1

@@ -9,7 +9,7 @@ pub mod GivenCodes
 pub mod Going
 pub mod Halting
 pub mod Keeping
-pub mod OnlySaveUndo
+pub mod Pauses
 pub mod Sounds
 pub mod GreaterLimits
 pub mod GreaterRoom
@@ -24,3 +24,6 @@ pub mod Transcripts
 pub mod Writes
 pub mod UpperRows
 pub mod Viewing
+pub mod Popping
+pub mod Within
+pub mod Cuts

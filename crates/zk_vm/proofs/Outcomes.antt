@@ -27,6 +27,8 @@ use Rattle.zk_vm.specs.Step.{State, Step, back_to, fetched, goes_by, goes_to, is
 use Rattle.zk_vm.specs.Step.Step.{Goes, Waits, Quits, Faults, Exceeds}
 use Rattle.zk_vm.specs.Step.Verdict.{WaitsFor, StopsBy}
 use Rattle.zk_vm.proofs.FrameLimits.{counts}
+use Rattle.zk_vm.proofs.Pauses.{pauses}
+use Rattle.zk_vm.proofs.Popping.{Pops, pops_twice, shown_pops, taken_pops}
 
 pub ran_waiting : (s : Session) (w : Waiting) → (segment_of s).end ≡ Ok w → (ran s).waiting ≡ Some w
 unfolding ran
@@ -60,28 +62,38 @@ back_no_wait : (s t : State) (i : Instr) (v : Workspace) (w : Waiting) (text : T
 back_no_wait s t i v w text None h = goes_no_wait s t s.undo w text (result_answered v i 0 false) h
 back_no_wait s t i v w text (Some (m, f, p, others)) h = goes_no_wait s t others w text (resumed (record v { memory = m; frames = f }) p) h
 
-waits_steps : (s t : State) (i : Instr) (x : Wait) (w : Waiting) (text : Texts) (r : Result (Workspace × Texts) Fault) → waits_by s i x r ≡ Waits t w text → t.steps ≡ s.steps
-waits_steps s t i x w text (Ok v) h = let same : record s { workspace = v.0 } ≡ t = cc in sym (ap (λ (u : State). u.steps) same)
-waits_steps s t i x w text (Err f) h = absurd cc
+-- a step that waits has taken operands, and shown what is shown before a read
+pub record WaitsSo (s t : State) : Type 0 where
+  pub workspace : Workspace
+  pub pops : Pops s.workspace workspace
+  pub same : t ≡ record s { workspace = workspace }
 
-led_steps : (s t : State) (i : Instr) (v : Workspace) (w : Waiting) (shown text : Texts) (n : Next) → led_to s i v shown n ≡ Waits t w text → t.steps ≡ s.steps
-led_steps s t i v w shown text (next.At p) h = absurd cc
-led_steps s t i v w shown text (next.Waits x) h = waits_steps s t i x w text (view_before x v) h
-led_steps s t i v w shown text next.Keeps h = absurd (goes_no_wait s t (with_kept s i v) w text (result_answered v i (kept_answer v.memory.undo_states) true) h)
-led_steps s t i v w shown text next.Resumes h = absurd (back_no_wait s t i v w text (gone_back s.undo v.memory v.frames) h)
-led_steps s t i v w shown text next.End h = absurd cc
+waits_so : (s t : State) (i : Instr) (x : Wait) (v : Workspace) (w : Waiting) (text : Texts) (r : Result (Workspace × Texts) Fault) → view_before x v ≡ r → Pops s.workspace v → waits_by s i x r ≡ Waits t w text → WaitsSo s t
+waits_so s t i x v w text (Ok r) e pops h =
+    let same : record s { workspace = r.0 } ≡ t = cc in
+    record { workspace = r.0; pops = pops_twice s.workspace v r.0 pops (shown_pops x v r.0 r.1 e); same = sym same }
+waits_so s t i x v w text (Err f) e pops h = absurd cc
 
-settled_steps : (s t : State) (i : Instr) (w : Waiting) (text : Texts) (r : Result (Workspace × (Next × Texts)) Fault) → settled s i r ≡ Waits t w text → t.steps ≡ s.steps
-settled_steps s t i w text (Ok r) h = led_steps s t i r.0 w r.1.1 text r.1.0 h
-settled_steps s t i w text (Err f) h = absurd cc
+led_so : (s t : State) (i : Instr) (v : Workspace) (w : Waiting) (shown text : Texts) (n : Next) → carried_out s.workspace i ≡ Ok (v, (n, shown)) → led_to s i v shown n ≡ Waits t w text → WaitsSo s t
+led_so s t i v w shown text (next.At p) c h = absurd cc
+led_so s t i v w shown text (next.Waits x) c h =
+    let paused = pauses s.workspace i v (next.Waits x) shown c tt in
+    waits_so s t i x v w text (view_before x v) refl (taken_pops s.workspace v i.operands paused.values paused.operands) h
+led_so s t i v w shown text next.Keeps c h = absurd (goes_no_wait s t (with_kept s i v) w text (result_answered v i (kept_answer v.memory.undo_states) true) h)
+led_so s t i v w shown text next.Resumes c h = absurd (back_no_wait s t i v w text (gone_back s.undo v.memory v.frames) h)
+led_so s t i v w shown text next.End c h = absurd cc
 
-fetched_steps : (s t : State) (w : Waiting) (text : Texts) (r : Result Instr Fault) → fetched s r ≡ Waits t w text → t.steps ≡ s.steps
-fetched_steps s t w text (Ok i) h = settled_steps s t i w text (carried_out s.workspace i) h
-fetched_steps s t w text (Err f) h = absurd cc
+settled_so : (s t : State) (i : Instr) (w : Waiting) (text : Texts) (r : Result (Workspace × (Next × Texts)) Fault) → carried_out s.workspace i ≡ r → settled s i r ≡ Waits t w text → WaitsSo s t
+settled_so s t i w text (Ok r) c h = led_so s t i r.0 w r.1.1 text r.1.0 c h
+settled_so s t i w text (Err f) c h = absurd cc
 
-step_waits : (s t : State) (w : Waiting) (text : Texts) → step s ≡ Waits t w text → t.steps ≡ s.steps
+fetched_so : (s t : State) (w : Waiting) (text : Texts) (r : Result Instr Fault) → fetched s r ≡ Waits t w text → WaitsSo s t
+fetched_so s t w text (Ok i) h = settled_so s t i w text (carried_out s.workspace i) refl h
+fetched_so s t w text (Err f) h = absurd cc
+
+pub step_waits : (s t : State) (w : Waiting) (text : Texts) → step s ≡ Waits t w text → WaitsSo s t
 unfolding step
-step_waits s t w text h = fetched_steps s t w text (instr_at s.workspace.memory s.place) h
+step_waits s t w text h = fetched_so s t w text (instr_at s.workspace.memory s.place) h
 
 continued_few : (s : State) (x : Step) (n : ℕ) (rest : Segment) (w : Waiting) → ((t : State) (text : Texts) → x ≡ Goes t text → t.steps ≡ s.steps + 1) → ((t : State) (v : Waiting) (text : Texts) → x ≡ Waits t v text → t.steps ≡ s.steps)
     → (rest.end ≡ Ok w → rest.state.steps < (state_after s x).steps + n) → (continued (verdict_of s x) (state_after s x) (text_of s x) rest).end ≡ Ok w → (continued (verdict_of s x) (state_after s x) (text_of s x) rest).state.steps < s.steps + suc n
@@ -101,11 +113,11 @@ continued_few s (Quits text) n rest w counted waited few h = absurd cc
 continued_few s (Faults f) n rest w counted waited few h = absurd cc
 continued_few s (Exceeds l) n rest w counted waited few h = absurd cc
 
-segment_few : (n : ℕ) (s : State) (w : Waiting) → (segment n s).end ≡ Ok w → (segment n s).state.steps < s.steps + n
+pub segment_few : (n : ℕ) (s : State) (w : Waiting) → (segment n s).end ≡ Ok w → (segment n s).state.steps < s.steps + n
 unfolding segment
 segment_few zero s w h = absurd cc
 segment_few (suc n) s w h =
-    continued_few s (step s) n (segment n (state_after s (step s))) w (λ t text e. (counts s t text e).steps) (λ t v text e. step_waits s t v text e) (segment_few n (state_after s (step s)) w) h
+    continued_few s (step s) n (segment n (state_after s (step s))) w (λ t text e. (counts s t text e).steps) (λ t v text e. ap (λ (u : State). u.steps) (step_waits s t v text e).same) (segment_few n (state_after s (step s)) w) h
 
 by_few : (x : Option Stop) (s : Session) (w : Waiting) → (x ≡ None → s.state.steps ≤ s.limits.steps) → (segment_by x s.limits s.state).end ≡ Ok w → (segment_by x s.limits s.state).state.steps < s.limits.steps
 by_few None s w few h = let least = few refl in let less = segment_few (s.limits.steps - s.state.steps) (record s.state { due = [] }) w h in omega (arith, least, less)

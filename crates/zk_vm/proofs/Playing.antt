@@ -1,11 +1,14 @@
 -- Turn after turn.
-use Rattle.std.proofs.Common.{◌≡◌, ◌∙◌, ◌≤◌, ◌<◌, ◌⊎◌, ◌||◌, inl, inr, ℕ, suc, ◌+◌, ◌-◌, Bool, true, false, List, [], ◌∷◌, ◌++◌, append_assoc, append-nil, Option, Some, None, Result, Ok, Err, refl, ap, sym, subst, arith}
+use Rattle.std.proofs.Common.{◌≡◌, ◌∙◌, ◌≤◌, ◌<◌, ◌⊎◌, ◌||◌, inl, inr, ℕ, ◌+◌, ◌-◌, Bool, true, false, List, [], ◌∷◌, ◌++◌, append_assoc, append-nil, Option, Some, None, Result, Ok, Err, refl, ap, sym, subst, arith, length}
 use Rattle.std.specs.List.{AllByRecursion}
 use Rattle.zk_text.specs.Extra.{is_input_code}
 use Rattle.zk_term.specs.declared.lines.Over.{Over}
-use Rattle.zk_term.specs.declared.lines.Over.TheVariants.{Failed}
-use Rattle.zk_term.specs.Devices.{Shows}
-use Rattle.zk_term.specs.Lines.{Heard, behind, nothing_more}
+use Rattle.zk_term.specs.declared.lines.Over.TheVariants.{End, Failed}
+use Rattle.arrayvec.specs.ArrayVec.{ArrayVec}
+use Rattle.zk_term.specs.Devices.{HasJust, Shows}
+use Rattle.zk_term.specs.declared.lines.Input.TheVariants as input
+use Rattle.zk_term.specs.Lines.{Heard, heard, ended_lines, behind, is_short, nothing_more, over_input, BreaksOff, IsNextLine, IsPlain}
+use Rattle.zk_term.proofs.Hearing.{are_lines}
 use Rattle.zk_term.proofs.Shown.{shows_twice, shows_past, shows_nothing}
 use Rattle.zk_step.specs.declared.ending.Wait.{Wait}
 use Rattle.zk_step.specs.declared.ending.Wait.TheVariants as wait
@@ -19,7 +22,7 @@ use Rattle.zk_vm.specs.Answers.{Answer, first_code, answered}
 use Rattle.zk_vm.specs.Answers.Answer.{Typed, Kept, File}
 use Rattle.zk_vm.specs.Halts.{event_by, event_of, event_waited, is_read_event, ComesToKeep, IsLeftAs}
 use Rattle.zk_vm.specs.Outcome.{Outcome, Session, Segment, ended, followed, outcome, segment_of, segment_by, ran, given, given_to, given_all, shown_up_to, with_stop}
-use Rattle.zk_vm.specs.Plays.{codes_read, AsksForLine, AsksForFile, IsSlotAnswer, IsLastSlot, AreSlotAnswers, IsServed, ShowsOfRun, IsRunOn, AsksForNoFile, EndsTurn, IsLeftByTurn, EndsTurnOrFails, TookTexts, IsTurn, stop_behind, stop_waiting, IsOutcomeOn, CanBeGiven, IsAnswered, ArePlayed, IsLastAnswered, IsHeard, IsPlayed, IsPlay}
+use Rattle.zk_vm.specs.Plays.{codes_read, AsksForLine, AsksForFile, IsSlotAnswer, IsLastSlot, AreSlotAnswers, IsServed, ShowsOfRun, IsRunOn, AsksForNoFile, EndsTurn, IsLeftByTurn, EndsTurnOrFails, TookTexts, IsTurn, stop_behind, stop_waiting, IsOutcomeOn, CanBeGiven, FoundNoLine, IsLastRead, IsNoLine, IsAnswered, ArePlayed, IsLastAnswered, IsHeard, IsPlayed, IsPlay}
 
 -- a character is a line's first code
 char_to : (x : Wait) (w : Waiting) (s : Session) (codes : List ℕ) → w.wait ≡ x → event_by x ≡ event.Char → given_to (Some w) s (Typed (first_code codes ∷ [])) ≡ given_to (Some w) s (Typed codes)
@@ -95,7 +98,7 @@ no_wait : (s : Session) (stop : Stop) → s.stopped ≡ Some stop → (w : Waiti
 no_wait s stop h w = not_both s.stopped stop (runs_on s w.0 w.1) h
 
 no_keeping : (s : Session) (stop : Stop) (text : Texts) → s.stopped ≡ Some stop → ComesToKeep s text → ⊥
-no_keeping s stop text h k = not_both s.stopped stop k.runs h
+no_keeping s stop text h k = not_both s.stopped stop k.1.runs h
 
 stops_or_waits : (r : Result Waiting Stop) (stop : Stop) (w : Waiting) → r ≡ Err stop → r ≡ Ok w → ⊥
 stops_or_waits r stop w h k = absurd cc
@@ -116,7 +119,7 @@ stopped_given : (s : Session) (a : Answer) (stop : Stop) → s.stopped ≡ Some 
 unfolding given ran
 stopped_given s a stop h = rw (stopped_end s stop h) refl
 
-stopped_all : (answers : List Answer) (s : Session) (stop : Stop) → s.stopped ≡ Some stop → (given_all answers s).stopped ≡ Some stop
+pub stopped_all : (answers : List Answer) (s : Session) (stop : Stop) → s.stopped ≡ Some stop → (given_all answers s).stopped ≡ Some stop
 unfolding given_all
 stopped_all [] s stop h = h
 stopped_all (a ∷ answers) s stop h = stopped_all answers (given (ran s) a) stop (stopped_given s a stop h)
@@ -142,16 +145,16 @@ slot_can held keeps before after s (Typed codes) h = absurd h
 slot_can held keeps before after s (Kept kept) h = tt
 slot_can held keeps before after s (File file) h = tt
 
-slots_can : {K : Type 0} (held : K → Option (Option (List ℕ))) (keeps : K → List ℕ → Option Bool) (answers : List Answer) (before after : K) (s : Session) → AreSlotAnswers held keeps before after s answers → AllByRecursion CanBeGiven answers
+slots_can : {K : Type 0} (held : K → Option (Option (List ℕ))) (keeps : K → List ℕ → Option Bool) (unwritten : Bool) (answers : List Answer) (before after : K) (s : Session) → AreSlotAnswers held keeps unwritten before after s answers → AllByRecursion CanBeGiven answers
 unfolding AreSlotAnswers
-slots_can held keeps [] before after s h = tt
-slots_can held keeps (a ∷ answers) before after s h = (slot_can held keeps before h.0 (ran s) a h.1.0, slots_can held keeps answers h.0 after (given (ran s) a) h.1.1)
+slots_can held keeps unwritten [] before after s h = tt
+slots_can held keeps unwritten (a ∷ answers) before after s h = (slot_can held keeps before h.0 (ran s) a h.1.0, slots_can held keeps unwritten answers h.0 after (given (ran s) a) h.1.1)
 
 -- ---- a turn that goes on
 
-last_stopped : {K : Type 0} (held : K → Option (Option (List ℕ))) (before after : K) (m s : Session) (stop : Stop) → m.stopped ≡ Some stop → IsLastSlot held before after m → IsLastSlot held before after s
-last_stopped held before after m s stop e (inl h) = inl h
-last_stopped held before after m s stop e (inr h) = absurd (no_wait m stop e (file_asked m h.0))
+last_stopped : {K : Type 0} (held : K → Option (Option (List ℕ))) (unwritten : Bool) (before after : K) (m s : Session) (stop : Stop) → m.stopped ≡ Some stop → IsLastSlot held unwritten before after m → IsLastSlot held unwritten before after s
+last_stopped held unwritten before after m s stop e (inl h) = inl h
+last_stopped held unwritten before after m s stop e (inr h) = absurd (no_wait m stop e (file_asked m h.1))
 
 shows_stopped : (m s : Session) (stop : Stop) (text : Texts) → m.stopped ≡ Some stop → s.stopped ≡ Some stop → ShowsOfRun m text → ShowsOfRun s text
 shows_stopped m s stop text e f (inl h) = inl (h ∙ stopped_text m stop e ∙ sym (stopped_text s stop f))
@@ -177,12 +180,12 @@ left_stopped unwritten m s new stop (Ok e) text k ends h = absurd (no_wait m sto
 left_stopped unwritten m s new stop (Err x) text k ends h = h
 
 turn_stopped : {K : Type 0} (held : K → Option (Option (List ℕ))) (keeps : K → List ℕ → Option Bool) (before after : K) (m s new : Session) (stop : Stop) (answer : Result Event Stop) (unwritten : Bool) (Shown : Texts → Texts → Type 0) (answers : List Answer) (text : Texts)
-    → m.stopped ≡ Some stop → s.stopped ≡ Some stop → AreSlotAnswers held keeps before after m answers → EndsTurnOrFails unwritten (given_all answers m) answer text → IsLeftByTurn new (given_all answers m) answer → Shown (shown_up_to answers m) text
-    → IsTurn (AreSlotAnswers held keeps before after s) s new answer unwritten Shown
+    → m.stopped ≡ Some stop → s.stopped ≡ Some stop → AreSlotAnswers held keeps unwritten before after m answers → EndsTurnOrFails unwritten (given_all answers m) answer text → IsLeftByTurn new (given_all answers m) answer → Shown (shown_up_to answers m) text
+    → IsTurn (AreSlotAnswers held keeps unwritten before after s) s new answer unwritten Shown
 unfolding AreSlotAnswers given_all shown_up_to
 turn_stopped held keeps before after m s new stop answer unwritten Shown [] text e f gives ends left shown = record {
   answers = [];
-  gives = last_stopped held before after m s stop e gives;
+  gives = last_stopped held unwritten before after m s stop e gives;
   text = text;
   ends = ends_stopped unwritten m s stop answer text e f ends;
   left = left_stopped unwritten m s new stop answer text e ends left;
@@ -192,8 +195,8 @@ turn_stopped held keeps before after m s new stop answer unwritten Shown (a ∷ 
     absurd (no_wait m stop e (file_asked m (slot_asks held keeps before gives.0 (ran m) a gives.1.0)))
 
 turn_left_by : {K : Type 0} (held : K → Option (Option (List ℕ))) (keeps : K → List ℕ → Option Bool) (before after : K) (m s new : Session) (answer : Result Event Stop) (unwritten : Bool) (Shown : Texts → Texts → Type 0) (x : Option Stop)
-    → s.stopped ≡ x → IsLeftAs m s x → IsTurn (AreSlotAnswers held keeps before after m) m new answer unwritten Shown → IsTurn (AreSlotAnswers held keeps before after s) s new answer unwritten Shown
-turn_left_by held keeps before after m s new answer unwritten Shown None e left t = subst (λ (n : Session). IsTurn (AreSlotAnswers held keeps before after n) n new answer unwritten Shown) left t
+    → s.stopped ≡ x → IsLeftAs m s x → IsTurn (AreSlotAnswers held keeps unwritten before after m) m new answer unwritten Shown → IsTurn (AreSlotAnswers held keeps unwritten before after s) s new answer unwritten Shown
+turn_left_by held keeps before after m s new answer unwritten Shown None e left t = subst (λ (n : Session). IsTurn (AreSlotAnswers held keeps unwritten before after n) n new answer unwritten Shown) left t
 turn_left_by held keeps before after m s new answer unwritten Shown (Some stop) e left t = turn_stopped held keeps before after m s new stop answer unwritten Shown t.answers t.text left.0 e t.gives t.ends t.left t.shown
 
 -- texts that are these
@@ -202,8 +205,8 @@ AreTexts first second a b = (a ≡ first) × (b ≡ second)
 
 -- a turn behind an answer of a slot
 turn_behind : {K : Type 0} (held : K → Option (Option (List ℕ))) (keeps : K → List ℕ → Option Bool) (before mid after : K) (s new : Session) (answer : Result Event Stop) (unwritten : Bool) (a : Answer) (first second : Texts)
-    → IsSlotAnswer held keeps before mid (ran s) a → IsTurn (AreSlotAnswers held keeps mid after (given (ran s) a)) (given (ran s) a) new answer unwritten (AreTexts first second)
-    → IsTurn (AreSlotAnswers held keeps before after s) s new answer unwritten (AreTexts (text_joined (segment_of s).text first) second)
+    → IsSlotAnswer held keeps before mid (ran s) a → IsTurn (AreSlotAnswers held keeps unwritten mid after (given (ran s) a)) (given (ran s) a) new answer unwritten (AreTexts first second)
+    → IsTurn (AreSlotAnswers held keeps unwritten before after s) s new answer unwritten (AreTexts (text_joined (segment_of s).text first) second)
 unfolding AreSlotAnswers given_all shown_up_to
 turn_behind held keeps before mid after s new answer unwritten a first second is t = record {
   answers = a ∷ t.answers;
@@ -216,14 +219,14 @@ turn_behind held keeps before mid after s new answer unwritten a first second is
 
 -- a turn with no answer
 pub turn_alone : {K : Type 0} (held : K → Option (Option (List ℕ))) (keeps : K → List ℕ → Option Bool) (before after : K) (s new : Session) (answer : Result Event Stop) (unwritten : Bool) (text : Texts)
-    → IsLastSlot held before after s → EndsTurnOrFails unwritten s answer text → IsLeftByTurn new s answer → IsTurn (AreSlotAnswers held keeps before after s) s new answer unwritten (AreTexts no_text text)
+    → IsLastSlot held unwritten before after s → EndsTurnOrFails unwritten s answer text → IsLeftByTurn new s answer → IsTurn (AreSlotAnswers held keeps unwritten before after s) s new answer unwritten (AreTexts no_text text)
 unfolding AreSlotAnswers given_all shown_up_to
 turn_alone held keeps before after s new answer unwritten text last ends left = record { answers = []; gives = last; text = text; ends = ends; left = left; shown = (refl, refl) }
 
 same_text : (a b c : Texts) → text_joined a (text_joined b c) ≡ text_joined (text_joined a b) c
 same_text a b c = rw (append_assoc a.screen b.screen c.screen, append_assoc a.script b.script c.script) refl
 
-no_text_behind : (t : Texts) → text_joined t no_text ≡ t
+pub no_text_behind : (t : Texts) → text_joined t no_text ≡ t
 no_text_behind t = rw (append-nil t.screen, append-nil t.script) refl
 
 -- a text was shown, and a turn from here on is, behind it, the whole turn
@@ -231,8 +234,8 @@ pub record TurnSoFar {K : Type 0} (held : K → Option (Option (List ℕ))) (kee
   pub text : Texts
   pub screen : Shows (record { taken = screen0; failed = false }) (record { taken = screen1; failed = false }) text.screen
   pub script : Shows (record { taken = script0; failed = false }) (record { taken = script1; failed = false }) text.script
-  pub rest : (after : K) (new : Session) (answer : Result Event Stop) (unwritten : Bool) (first second : Texts) → IsTurn (AreSlotAnswers held keeps slot1 after now) now new answer unwritten (AreTexts first second)
-      → IsTurn (AreSlotAnswers held keeps slot0 after start) start new answer unwritten (AreTexts (text_joined text first) second)
+  pub rest : (after : K) (new : Session) (answer : Result Event Stop) (unwritten : Bool) (first second : Texts) → IsTurn (AreSlotAnswers held keeps unwritten slot1 after now) now new answer unwritten (AreTexts first second)
+      → IsTurn (AreSlotAnswers held keeps unwritten slot0 after start) start new answer unwritten (AreTexts (text_joined text first) second)
 
 pub turn_begins : {K : Type 0} (held : K → Option (Option (List ℕ))) (keeps : K → List ℕ → Option Bool) (start : Session) (slot : K) (screen script : Option (List ℕ)) → TurnSoFar held keeps start start slot slot screen screen script script
 turn_begins held keeps start slot screen script = record {
@@ -255,14 +258,14 @@ turn_served held keeps start now mid next slot0 slot1 slot2 screen0 screen1 scre
       let left = subst (λ (m : Session). IsLeftAs next (given m served.answer) (given m served.answer).stopped) same served.left in
       let here = turn_left_by held keeps slot2 after next (given (ran now) served.answer) new answer unwritten (AreTexts first second) (given (ran now) served.answer).stopped refl left t in
       let one = turn_behind held keeps slot1 slot2 after now new answer unwritten served.answer first second is here in
-      subst (λ (u : Texts). IsTurn (AreSlotAnswers held keeps slot0 after start) start new answer unwritten (AreTexts u second)) (same_text s.text (segment_of now).text first)
+      subst (λ (u : Texts). IsTurn (AreSlotAnswers held keeps unwritten slot0 after start) start new answer unwritten (AreTexts u second)) (same_text s.text (segment_of now).text first)
       (s.rest after new answer unwritten (text_joined (segment_of now).text first) second one);
 }
 
 pub turn_ends : {K : Type 0} (held : K → Option (Option (List ℕ))) (keeps : K → List ℕ → Option Bool) (start now new : Session) (slot0 slot1 slot2 : K) (screen0 screen1 screen2 script0 script1 script2 : Option (List ℕ)) (answer : Result Event Stop) (unwritten : Bool) (text : Texts)
-    → TurnSoFar held keeps start now slot0 slot1 screen0 screen1 script0 script1 → IsLastSlot held slot1 slot2 now → EndsTurnOrFails unwritten now answer text → IsLeftByTurn new now answer
+    → TurnSoFar held keeps start now slot0 slot1 screen0 screen1 script0 script1 → IsLastSlot held unwritten slot1 slot2 now → EndsTurnOrFails unwritten now answer text → IsLeftByTurn new now answer
     → Shows (record { taken = screen1; failed = false }) (record { taken = screen2; failed = unwritten }) text.screen → Shows (record { taken = script1; failed = false }) (record { taken = script2; failed = unwritten }) text.script
-    → IsTurn (AreSlotAnswers held keeps slot0 slot2 start) start new answer unwritten (TookTexts screen0 screen2 script0 script2 unwritten)
+    → IsTurn (AreSlotAnswers held keeps unwritten slot0 slot2 start) start new answer unwritten (TookTexts screen0 screen2 script0 script2 unwritten)
 turn_ends held keeps start now new slot0 slot1 slot2 screen0 screen1 screen2 script0 script1 script2 answer unwritten text s last ends left screen script =
     let t = s.rest slot2 new answer unwritten no_text text (turn_alone held keeps slot1 slot2 now new answer unwritten text last ends left) in
     let first = t.shown.0 ∙ no_text_behind s.text in
@@ -347,7 +350,7 @@ run_stops false now mid stop Shown free (inl h) = record {
 }
 run_stops false now mid stop Shown free (inr h) = record {
   text = h.3.0;
-  ends = inr (h.0, inl h.3.1);
+  ends = inr (h.0, inl (mid.state, h.3.1));
   left = (h.1 ∙ ap (λ (x : Stop). Some x) (sym (same_stop stop Memory h.0)), free);
   shown = h.3.2;
 }
@@ -376,7 +379,7 @@ fewer_steps x (Some stop) before mid after most most' e f h k counted = absurd c
 abbrev pub shown_before : Texts → Outcome → Outcome
 shown_before t o = record { stop = o.stop; text = text_joined t o.text }
 
-same_shown : (a b : Texts) (o : Outcome) → shown_before a (shown_before b o) ≡ shown_before (text_joined a b) o
+pub same_shown : (a b : Texts) (o : Outcome) → shown_before a (shown_before b o) ≡ shown_before (text_joined a b) o
 same_shown a b o = ap (λ (t : Texts). let p : Outcome = record { stop = o.stop; text = t } in p) (same_text a b o.text)
 
 more_after : (r : Result Waiting Stop) (t : Texts) (o : Outcome) → (more : Texts) × ((followed r t o).text ≡ text_joined t more)
@@ -387,7 +390,7 @@ alone_begins : (end : Stop) (s : Session) → (more : Texts) × ((outcome [] end
 unfolding outcome
 alone_begins end s = more_after (segment_of s).end (segment_of s).text (record { stop = end; text = no_text })
 
-outcome_stops : (answers : List Answer) (end stop : Stop) (s : Session) → (segment_of s).end ≡ Err stop → outcome answers end s ≡ record { stop = stop; text = (segment_of s).text }
+pub outcome_stops : (answers : List Answer) (end stop : Stop) (s : Session) → (segment_of s).end ≡ Err stop → outcome answers end s ≡ record { stop = stop; text = (segment_of s).text }
 unfolding outcome
 outcome_stops [] end stop s h = rw h refl
 outcome_stops (a ∷ answers) end stop s h = rw h refl
@@ -401,17 +404,17 @@ pub outcome_stopped : (answers : List Answer) (end : Stop) (s : Session) (stop :
 outcome_stopped answers end s stop e =
     outcome_stops answers end stop s (stopped_end s stop e) ∙ ap (λ (t : Texts). let o : Outcome = record { stop = stop; text = t } in o) (stopped_text s stop e)
 
-outcome_on : (a : Answer) (answers : List Answer) (end : Stop) (s : Session) (w : Waiting) → (segment_of s).end ≡ Ok w → outcome (a ∷ answers) end s ≡ shown_before (segment_of s).text (outcome answers end (given (ran s) a))
+pub outcome_on : (a : Answer) (answers : List Answer) (end : Stop) (s : Session) (w : Waiting) → (segment_of s).end ≡ Ok w → outcome (a ∷ answers) end s ≡ shown_before (segment_of s).text (outcome answers end (given (ran s) a))
 unfolding outcome
 outcome_on a answers end s w e = rw e refl
 
-outcome_all : {K : Type 0} (held : K → Option (Option (List ℕ))) (keeps : K → List ℕ → Option Bool) (answers : List Answer) (before after : K) (s : Session) (end : Stop) → AreSlotAnswers held keeps before after s answers
+outcome_all : {K : Type 0} (held : K → Option (Option (List ℕ))) (keeps : K → List ℕ → Option Bool) (unwritten : Bool) (answers : List Answer) (before after : K) (s : Session) (end : Stop) → AreSlotAnswers held keeps unwritten before after s answers
     → outcome answers end s ≡ shown_before (shown_up_to answers s) (outcome [] end (given_all answers s))
 unfolding AreSlotAnswers given_all shown_up_to
-outcome_all held keeps [] before after s end h = refl
-outcome_all held keeps (a ∷ answers) before after s end h =
+outcome_all held keeps unwritten [] before after s end h = refl
+outcome_all held keeps unwritten (a ∷ answers) before after s end h =
     let w = file_asked s (slot_asks held keeps before h.0 (ran s) a h.1.0) in
-    outcome_on a answers end s w.0 w.1 ∙ ap (shown_before (segment_of s).text) (outcome_all held keeps answers h.0 after (given (ran s) a) end h.1.1) ∙ same_shown (segment_of s).text (shown_up_to answers (given (ran s) a)) _
+    outcome_on a answers end s w.0 w.1 ∙ ap (shown_before (segment_of s).text) (outcome_all held keeps unwritten answers h.0 after (given (ran s) a) end h.1.1) ∙ same_shown (segment_of s).text (shown_up_to answers (given (ran s) a)) _
 
 -- ---- an answer in front
 
@@ -420,56 +423,76 @@ unfolding given_all shown_up_to
 on_outcome a answers over IsLast s w o e (inl h) = inl (ap (shown_before (segment_of s).text) h.0 ∙ sym (outcome_on a answers _ s w e), h.1)
 on_outcome a answers over IsLast s w o e (inr h) = inr (h.0, (h.1.0, (h.1.1.0, ap (text_joined (segment_of s).text) h.1.1.1 ∙ same_text (segment_of s).text (shown_up_to answers (given (ran s) a)) h.1.0)))
 
-answered_one : (a : Answer) (s : Session) (w : Waiting) → (segment_of s).end ≡ Ok w → CanBeGiven a → (o : Outcome) → IsAnswered (given (ran s) a) o → IsAnswered s (shown_before (segment_of s).text o)
-answered_one a s w e can o p = (a ∷ p.0, (p.1.0, ((can, p.1.1.0), on_outcome a p.0 p.1.0 (Unit {0}) s w o e p.1.1.1)))
-
-answered_slots : {K : Type 0} (held : K → Option (Option (List ℕ))) (keeps : K → List ℕ → Option Bool) (answers : List Answer) (before after : K) (s : Session) → AreSlotAnswers held keeps before after s answers
-    → (o : Outcome) → IsAnswered (given_all answers s) o → IsAnswered s (shown_before (shown_up_to answers s) o)
-unfolding AreSlotAnswers given_all shown_up_to
-answered_slots held keeps [] before after s h o p = p
-answered_slots held keeps (a ∷ answers) before after s h o p =
-    let w = file_asked s (slot_asks held keeps before h.0 (ran s) a h.1.0) in
-    subst (IsAnswered s) (same_shown (segment_of s).text (shown_up_to answers (given (ran s) a)) o)
-    (answered_one a s w.0 w.1 (slot_can held keeps before h.0 (ran s) a h.1.0) (shown_before (shown_up_to answers (given (ran s) a)) o) (answered_slots held keeps answers h.0 after (given (ran s) a) h.1.1 o p))
-
-slot_played : {K : Type 0} (held : K → Option (Option (List ℕ))) (keeps : K → List ℕ → Option Bool) (before mid after : K) (lines left : List (List ℕ)) (s : Session) (a : Answer) (answers : List Answer)
-    → IsSlotAnswer held keeps before mid (ran s) a → ArePlayed held keeps mid after lines left (given (ran s) a) answers → ArePlayed held keeps before after lines left s (a ∷ answers)
-unfolding ArePlayed
-slot_played held keeps before mid after lines left s (Typed codes) answers h p = absurd h
-slot_played held keeps before mid after lines left s (Kept kept) answers h p = (mid, (h, p))
-slot_played held keeps before mid after lines left s (File file) answers h p = (mid, (h, p))
-
-played_alone : {K : Type 0} (held : K → Option (Option (List ℕ))) (keeps : K → List ℕ → Option Bool) (answers : List Answer) (before after : K) (lines : List (List ℕ)) (s : Session) → AreSlotAnswers held keeps before after s answers → ArePlayed held keeps before after lines lines s answers
-unfolding AreSlotAnswers ArePlayed
-played_alone held keeps [] before after lines s h = (h, refl)
-played_alone held keeps (a ∷ answers) before after lines s h = slot_played held keeps before h.0 after lines lines s a answers h.1.0 (played_alone held keeps answers h.0 after lines (given (ran s) a) h.1.1)
-
-played_slot : {K : Type 0} (held : K → Option (Option (List ℕ))) (keeps : K → List ℕ → Option Bool) (before mid after : K) (whole : Heard) (failed unwritten : Bool) (s : Session) (a : Answer) → IsSlotAnswer held keeps before mid (ran s) a
-    → (o : Outcome) → IsPlayed held keeps mid after whole failed unwritten (given (ran s) a) o → IsPlayed held keeps before after whole failed unwritten s (shown_before (segment_of s).text o)
+answered_one : {R : Type 0} (ends fails : R → R → Type 0) (failed : R → Bool) (start mid last : R) (unwritten : Bool) (a : Answer) (s : Session) (w : Waiting) → (segment_of s).end ≡ Ok w → CanBeGiven a → (IsNoLine a → mid ≡ start)
+    → (o : Outcome) → IsAnswered ends fails failed mid last unwritten (given (ran s) a) o → IsAnswered ends fails failed start last unwritten s (shown_before (segment_of s).text o)
 unfolding given_all
-played_slot held keeps before mid after whole failed unwritten s a h o p =
-    let w = file_asked s (slot_asks held keeps before mid (ran s) a h) in
-    (p.0, (p.1.0, (a ∷ p.1.1.0, (p.1.1.1.0, (slot_played held keeps before mid after p.0.lines p.1.1.1.0 s a p.1.1.0 h p.1.1.1.1.0, on_outcome a p.1.1.0 p.0.over _ s w.0 o w.1 p.1.1.1.1.1)))))
+answered_one {R} ends fails failed start mid last unwritten a s w e can same o p =
+    (a ∷ p.0, (p.1.0, ((can, p.1.1.0), ((λ none asks. p.1.1.1.0 none.1 asks ∙ same none.0), on_outcome a p.0 p.1.0 _ s w o e p.1.1.1.1))))
 
-played_slots : {K : Type 0} (held : K → Option (Option (List ℕ))) (keeps : K → List ℕ → Option Bool) (answers : List Answer) (before mid after : K) (whole : Heard) (failed unwritten : Bool) (s : Session) → AreSlotAnswers held keeps before mid s answers
-    → (AsksForFile (ran (given_all answers s)) → ⊥) → (o : Outcome) → IsPlayed held keeps mid after whole failed unwritten (given_all answers s) o → IsPlayed held keeps before after whole failed unwritten s (shown_before (shown_up_to answers s) o)
+answered_slots : {K : Type 0} (held : K → Option (Option (List ℕ))) (keeps : K → List ℕ → Option Bool) (unwritten : Bool) {R : Type 0} (ends fails : R → R → Type 0) (failed : R → Bool) (start last : R) (never : Bool) (answers : List Answer) (before after : K) (s : Session) → AreSlotAnswers held keeps unwritten before after s answers
+    → (o : Outcome) → IsAnswered ends fails failed start last never (given_all answers s) o → IsAnswered ends fails failed start last never s (shown_before (shown_up_to answers s) o)
 unfolding AreSlotAnswers given_all shown_up_to
-played_slots {K} held keeps [] before mid after whole failed unwritten s (inl h) none o p = subst (λ (k : K). IsPlayed held keeps k after whole failed unwritten s o) h p
-played_slots held keeps [] before mid after whole failed unwritten s (inr h) none o p = absurd (none h.0)
-played_slots held keeps (a ∷ answers) before mid after whole failed unwritten s h none o p =
-    subst (IsPlayed held keeps before after whole failed unwritten s) (same_shown (segment_of s).text (shown_up_to answers (given (ran s) a)) o)
-    (played_slot held keeps before h.0 after whole failed unwritten s a h.1.0 (shown_before (shown_up_to answers (given (ran s) a)) o) (played_slots held keeps answers h.0 mid after whole failed unwritten (given (ran s) a) h.1.1 none o p))
+answered_slots held keeps unwritten ends fails failed start last never [] before after s h o p = p
+answered_slots held keeps unwritten ends fails failed start last never (a ∷ answers) before after s h o p =
+    let w = file_asked s (slot_asks held keeps before h.0 (ran s) a h.1.0) in
+    subst (IsAnswered ends fails failed start last never s) (same_shown (segment_of s).text (shown_up_to answers (given (ran s) a)) o)
+    (answered_one ends fails failed start start last never a s w.0 w.1 (slot_can held keeps before h.0 (ran s) a h.1.0) (λ n. refl) (shown_before (shown_up_to answers (given (ran s) a)) o) (answered_slots held keeps unwritten ends fails failed start last never answers h.0 after (given (ran s) a) h.1.1 o p))
 
-heard_behind : (line : List ℕ) (h h' : Heard) (failed : Bool) (g : Heard) → h ≡ behind line h' → IsHeard h' failed g → IsHeard h failed (behind line g)
-heard_behind line h h' failed g e (inl k) = inl (ap (behind line) k ∙ sym e)
-heard_behind line h h' failed g e (inr k) = inr (k.0, (suc k.1.0, ap (behind line) k.1.1 ∙ rw e refl))
+slot_played : {K : Type 0} (held : K → Option (Option (List ℕ))) (keeps : K → List ℕ → Option Bool) (unwritten : Bool) (before mid after : K) (lines left : List (List ℕ)) (s : Session) (a : Answer) (answers : List Answer)
+    → IsSlotAnswer held keeps before mid (ran s) a → ArePlayed held keeps unwritten mid after lines left (given (ran s) a) answers → ArePlayed held keeps unwritten before after lines left s (a ∷ answers)
+unfolding ArePlayed
+slot_played held keeps unwritten before mid after lines left s (Typed codes) answers h p = absurd h
+slot_played held keeps unwritten before mid after lines left s (Kept kept) answers h p = (mid, (h, p))
+slot_played held keeps unwritten before mid after lines left s (File file) answers h p = (mid, (h, p))
 
-played_line : {K : Type 0} (held : K → Option (Option (List ℕ))) (keeps : K → List ℕ → Option Bool) (before after : K) (line : List ℕ) (h h' : Heard) (failed unwritten : Bool) (s : Session) (codes : List ℕ) → AsksForLine (ran s) → h ≡ behind line h' → codes ≡ codes_read (ran s) line
-    → (o : Outcome) → IsPlayed held keeps before after h' failed unwritten (given (ran s) (Typed codes)) o → IsPlayed held keeps before after h failed unwritten s (shown_before (segment_of s).text o)
+played_alone : {K : Type 0} (held : K → Option (Option (List ℕ))) (keeps : K → List ℕ → Option Bool) (unwritten : Bool) (answers : List Answer) (before after : K) (lines : List (List ℕ)) (s : Session) → AreSlotAnswers held keeps unwritten before after s answers → ArePlayed held keeps unwritten before after lines lines s answers
+unfolding AreSlotAnswers ArePlayed
+played_alone held keeps unwritten [] before after lines s h = (h, refl)
+played_alone held keeps unwritten (a ∷ answers) before after lines s h = slot_played held keeps unwritten before h.0 after lines lines s a answers h.1.0 (played_alone held keeps unwritten answers h.0 after lines (given (ran s) a) h.1.1)
+
+played_slot : {K : Type 0} (held : K → Option (Option (List ℕ))) (keeps : K → List ℕ → Option Bool) (before mid after : K) (bytes later : List ℕ) (failed unwritten : Bool) (s : Session) (a : Answer) → IsSlotAnswer held keeps before mid (ran s) a
+    → (o : Outcome) → IsPlayed held keeps mid after bytes later failed unwritten (given (ran s) a) o → IsPlayed held keeps before after bytes later failed unwritten s (shown_before (segment_of s).text o)
+unfolding given_all
+played_slot held keeps before mid after bytes later failed unwritten s a h o p =
+    let w = file_asked s (slot_asks held keeps before mid (ran s) a h) in
+    (p.0, (a ∷ p.1.0, (p.1.1.0, (p.1.1.1.0, (slot_played held keeps unwritten before mid after p.0.lines p.1.1.0 s a p.1.0 h p.1.1.1.1.0, on_outcome a p.1.0 p.0.over _ s w.0 o w.1 p.1.1.1.1.1)))))
+
+played_slots : {K : Type 0} (held : K → Option (Option (List ℕ))) (keeps : K → List ℕ → Option Bool) (answers : List Answer) (before mid after : K) (bytes later : List ℕ) (failed unwritten : Bool) (s : Session) → AreSlotAnswers held keeps false before mid s answers
+    → (AsksForFile (ran (given_all answers s)) → ⊥) → (o : Outcome) → IsPlayed held keeps mid after bytes later failed unwritten (given_all answers s) o → IsPlayed held keeps before after bytes later failed unwritten s (shown_before (shown_up_to answers s) o)
+unfolding AreSlotAnswers given_all shown_up_to
+played_slots {K} held keeps [] before mid after bytes later failed unwritten s (inl h) none o p = subst (λ (k : K). IsPlayed held keeps k after bytes later failed unwritten s o) h p
+played_slots held keeps [] before mid after bytes later failed unwritten s (inr h) none o p = absurd (none h.1)
+played_slots held keeps (a ∷ answers) before mid after bytes later failed unwritten s h none o p =
+    subst (IsPlayed held keeps before after bytes later failed unwritten s) (same_shown (segment_of s).text (shown_up_to answers (given (ran s) a)) o)
+    (played_slot held keeps before h.0 after bytes later failed unwritten s a h.1.0 (shown_before (shown_up_to answers (given (ran s) a)) o) (played_slots held keeps answers h.0 mid after bytes later failed unwritten (given (ran s) a) h.1.1 none o p))
+
+-- ---- what is heard
+
+last_heard : (line : List ℕ) → 0 < length line → IsPlain line → is_short line ≡ true → heard line ≡ behind line (nothing_more End)
+last_heard [] some plain short = absurd (omega arith)
+last_heard (b ∷ line) some plain short = are_lines.last b line plain short
+
+true_is_no_end : (failed : Bool) → failed ≡ true → failed ≡ false → ⊥
+true_is_no_end failed h k = absurd cc
+
+-- a line more in front
+heard_on : (bytes next later line : List ℕ) (failed : Bool) (how : Option Over) (h : Heard) (left : List (List ℕ)) → IsNextLine bytes next line how → (how ≡ Some End → failed ≡ false) → IsHeard next later failed h left → IsHeard bytes later failed (behind line h) left
+heard_on bytes next later line false how h left (inl (e, goes)) sound k = ap (behind line) k ∙ sym (ap heard e.whole ∙ are_lines.ended e.part next e.plain e.short ∙ ap (λ (l : List ℕ). behind l (heard next)) (sym e.is))
+heard_on bytes next later line false how h left (inr (e, ends)) sound k =
+    ap (behind line) (k ∙ ap heard e.none ∙ are_lines.none) ∙ sym (ap heard e.whole ∙ last_heard line e.some e.plain e.short)
+heard_on bytes next later line true how h left (inl (e, goes)) sound k =
+    let gone : List ℕ = e.part ++ 10 ∷ k.0 in
+    let whole : bytes ≡ gone ++ later = e.whole ∙ ap (λ (l : List ℕ). e.part ++ 10 ∷ l) k.1.0 ∙ sym (append_assoc e.part (10 ∷ k.0) later) in
+    let lines : line ∷ ended_lines k.0 ≡ ended_lines gone = ap (λ (l : List ℕ). l ∷ ended_lines k.0) e.is ∙ sym (are_lines.complete e.part k.0 e.plain) in
+    (gone, (whole, ap (behind line) k.1.1 ∙ ap (λ (ls : List (List ℕ)). let x : Heard = record { lines = ls; over = Failed } in x) lines, k.1.2))
+heard_on bytes next later line true how h left (inr (e, ends)) sound k = absurd (true_is_no_end true refl (sound ends))
+
+played_line : {K : Type 0} (held : K → Option (Option (List ℕ))) (keeps : K → List ℕ → Option Bool) (before after : K) (line bytes next later : List ℕ) (how : Option Over) (failed unwritten : Bool) (s : Session) (codes : List ℕ) → AsksForLine (ran s) → IsNextLine bytes next line how → (how ≡ Some End → failed ≡ false) → codes ≡ codes_read (ran s) line
+    → (o : Outcome) → IsPlayed held keeps before after next later failed unwritten (given (ran s) (Typed codes)) o → IsPlayed held keeps before after bytes later failed unwritten s (shown_before (segment_of s).text o)
 unfolding given_all ArePlayed
-played_line held keeps before after line h h' failed unwritten s codes asks hear read o p =
+played_line held keeps before after line bytes next later how failed unwritten s codes asks comes sound read o p =
     let w = line_asked s asks in
-    (behind line p.0, (heard_behind line h h' failed p.0 hear p.1.0, (Typed codes ∷ p.1.1.0, (p.1.1.1.0, ((line, (p.0.lines, (refl, asks, read, p.1.1.1.1.0))), on_outcome (Typed codes) p.1.1.0 p.0.over _ s w.0 o w.1 p.1.1.1.1.1)))))
+    (behind line p.0, (Typed codes ∷ p.1.0, (p.1.1.0, (heard_on bytes next later line failed how p.0 p.1.1.0 comes sound p.1.1.1.0, ((line, (p.0.lines, (refl, asks, read, p.1.1.1.1.0))), on_outcome (Typed codes) p.1.0 p.0.over _ s w.0 o w.1 p.1.1.1.1.1)))))
 
 -- ---- a machine that an answer has stopped
 
@@ -483,26 +506,29 @@ outcome_of_stopped : (answers : List Answer) (over : Over) (IsLast Last : Type 0
 outcome_of_stopped answers over IsLast Last m s stop o e f last (inl h) = inl (h.0 ∙ outcome_stopped answers _ m stop e ∙ sym (outcome_stopped answers _ s stop f), last)
 outcome_of_stopped answers over IsLast Last m s stop o e f last (inr h) = absurd (no_keeping (given_all answers m) stop h.1.0 (stopped_all answers m stop e) h.1.1.0)
 
-answered_left_by : (m s : Session) (x : Option Stop) → s.stopped ≡ x → IsLeftAs m s x → (o : Outcome) → IsAnswered m o → IsAnswered s o
-answered_left_by m s None e left o p = subst (λ (n : Session). IsAnswered n o) left p
-answered_left_by m s (Some stop) e left o p = (p.0, (p.1.0, (p.1.1.0, outcome_of_stopped p.0 p.1.0 (Unit {0}) (Unit {0}) m s stop o left.0 e tt p.1.1.1)))
+answered_left_by : {R : Type 0} (ends fails : R → R → Type 0) (failed : R → Bool) (start last : R) (unwritten : Bool) (m s : Session) (x : Option Stop) → s.stopped ≡ x → IsLeftAs m s x → (o : Outcome) → IsAnswered ends fails failed start last unwritten m o → IsAnswered ends fails failed start last unwritten s o
+answered_left_by ends fails failed start last unwritten m s None e left o p = subst (λ (n : Session). IsAnswered ends fails failed start last unwritten n o) left p
+answered_left_by ends fails failed start last unwritten m s (Some stop) e left o p =
+    let in_m = no_line (given_all p.0 m) stop (stopped_all p.0 m stop left.0) in
+    let in_s = no_line (given_all p.0 s) stop (stopped_all p.0 s stop e) in
+    (p.0, (p.1.0, (p.1.1.0, ((λ none asks. p.1.1.1.0 none in_m), outcome_of_stopped p.0 p.1.0 _ _ m s stop o left.0 e (λ f asks. absurd (in_s asks)) p.1.1.1.1))))
 
 last_of_stopped : (unwritten : Bool) (left : List (List ℕ)) (s : Session) (stop : Stop) → s.stopped ≡ Some stop → IsLastAnswered unwritten left s
 last_of_stopped unwritten left s stop e = λ f asks. absurd (no_line s stop e asks)
 
 played_stopped : {K : Type 0} (held : K → Option (Option (List ℕ))) (keeps : K → List ℕ → Option Bool) (before after : K) (unwritten : Bool) (m s : Session) (stop : Stop) (o : Outcome) (h : Heard) (left : List (List ℕ)) (answers : List Answer) → m.stopped ≡ Some stop → s.stopped ≡ Some stop
-    → ArePlayed held keeps before after h.lines left m answers → IsOutcomeOn answers h.over (IsLastAnswered unwritten left (given_all answers m)) m o → ArePlayed held keeps before after h.lines left s answers × IsOutcomeOn answers h.over (IsLastAnswered unwritten left (given_all answers s)) s o
+    → ArePlayed held keeps unwritten before after h.lines left m answers → IsOutcomeOn answers h.over (IsLastAnswered unwritten left (given_all answers m)) m o → ArePlayed held keeps unwritten before after h.lines left s answers × IsOutcomeOn answers h.over (IsLastAnswered unwritten left (given_all answers s)) s o
 unfolding ArePlayed given_all
-played_stopped held keeps before after unwritten m s stop o h left [] e f p q = ((last_stopped held before after m s stop e p.0, p.1), outcome_of_stopped [] h.over _ _ m s stop o e f (last_of_stopped unwritten left s stop f) q)
+played_stopped held keeps before after unwritten m s stop o h left [] e f p q = ((last_stopped held unwritten before after m s stop e p.0, p.1), outcome_of_stopped [] h.over _ _ m s stop o e f (last_of_stopped unwritten left s stop f) q)
 played_stopped held keeps before after unwritten m s stop o h left (Typed codes ∷ answers) e f p q = absurd (no_line m stop e p.1.1.1)
 played_stopped held keeps before after unwritten m s stop o h left (Kept kept ∷ answers) e f p q = absurd (no_file m stop e (slot_asks held keeps before p.0 (ran m) (Kept kept) p.1.0))
 played_stopped held keeps before after unwritten m s stop o h left (File file ∷ answers) e f p q = absurd (no_file m stop e (slot_asks held keeps before p.0 (ran m) (File file) p.1.0))
 
-played_left_by : {K : Type 0} (held : K → Option (Option (List ℕ))) (keeps : K → List ℕ → Option Bool) (before after : K) (whole : Heard) (failed unwritten : Bool) (m s : Session) (x : Option Stop) → s.stopped ≡ x → IsLeftAs m s x
-    → (o : Outcome) → IsPlayed held keeps before after whole failed unwritten m o → IsPlayed held keeps before after whole failed unwritten s o
-played_left_by held keeps before after whole failed unwritten m s None e left o p = subst (λ (n : Session). IsPlayed held keeps before after whole failed unwritten n o) left p
-played_left_by held keeps before after whole failed unwritten m s (Some stop) e left o p =
-    (p.0, (p.1.0, (p.1.1.0, (p.1.1.1.0, played_stopped held keeps before after unwritten m s stop o p.0 p.1.1.1.0 p.1.1.0 left.0 e p.1.1.1.1.0 p.1.1.1.1.1))))
+played_left_by : {K : Type 0} (held : K → Option (Option (List ℕ))) (keeps : K → List ℕ → Option Bool) (before after : K) (bytes later : List ℕ) (failed unwritten : Bool) (m s : Session) (x : Option Stop) → s.stopped ≡ x → IsLeftAs m s x
+    → (o : Outcome) → IsPlayed held keeps before after bytes later failed unwritten m o → IsPlayed held keeps before after bytes later failed unwritten s o
+played_left_by held keeps before after bytes later failed unwritten m s None e left o p = subst (λ (n : Session). IsPlayed held keeps before after bytes later failed unwritten n o) left p
+played_left_by held keeps before after bytes later failed unwritten m s (Some stop) e left o p =
+    (p.0, (p.1.0, (p.1.1.0, (p.1.1.1.0, played_stopped held keeps before after unwritten m s stop o p.0 p.1.1.0 p.1.0 left.0 e p.1.1.1.1.0 p.1.1.1.1.1))))
 
 -- ---- a turn that asks
 
@@ -531,7 +557,7 @@ pub record Asked {K : Type 0} (held : K → Option (Option (List ℕ))) (keeps :
   pub screen_works : screen_failed ≡ false
   pub script_works : script_failed ≡ false
   pub answers : List Answer
-  pub gives : AreSlotAnswers held keeps before after now answers
+  pub gives : AreSlotAnswers held keeps false before after now answers
   pub same : mid ≡ ran (given_all answers now)
   pub asks : AsksForLine (ran (given_all answers now))
   pub runs : now.stopped ≡ None
@@ -542,7 +568,7 @@ runs_now answers s None e asks = e
 runs_now answers s (Some stop) e asks = absurd (no_line (given_all answers s) stop (stopped_all answers s stop e) asks)
 
 pub turn_asked : {K : Type 0} (held : K → Option (Option (List ℕ))) (keeps : K → List ℕ → Option Bool) (before after : K) (now mid : Session) (a b : Bool) (screen0 screen1 script0 script1 : Option (List ℕ)) (e : Event)
-    → event_waited mid.waiting ≡ Some e → is_read_event e ≡ true → IsTurn (AreSlotAnswers held keeps before after now) now mid (Ok e) (a || b) (TookTexts screen0 screen1 script0 script1 (a || b))
+    → event_waited mid.waiting ≡ Some e → is_read_event e ≡ true → IsTurn (AreSlotAnswers held keeps (a || b) before after now) now mid (Ok e) (a || b) (TookTexts screen0 screen1 script0 script1 (a || b))
     → Asked held keeps before after now mid a b screen0 screen1 script0 script1
 turn_asked held keeps before after now mid a b screen0 screen1 script0 script1 e waits k t =
     let asked = turn_asks (a || b) (given_all t.answers now) e t.text t.ends in
@@ -552,7 +578,7 @@ turn_asked held keeps before after now mid a b screen0 screen1 script0 script1 e
       screen_works = works.0;
       script_works = works.1;
       answers = t.answers;
-      gives = t.gives;
+      gives = subst (λ (f : Bool). AreSlotAnswers held keeps f before after now t.answers) asked.0 t.gives;
       same = t.left;
       asks = asks;
       runs = runs_now t.answers now now.stopped refl asks;
@@ -586,27 +612,28 @@ so_far_on Whole Rest Then screen0 screen1 screen2 script0 script1 script2 first 
 }
 
 -- what is answered behind a turn and a line
-pub on_answered : {K : Type 0} (held : K → Option (Option (List ℕ))) (keeps : K → List ℕ → Option Bool) (before after : K) (Whole : Outcome → Type 0) (now mid next : Session) (a b : Bool) (screen0 screen1 screen2 script0 script1 script2 : Option (List ℕ)) (codes : List ℕ)
+pub on_answered : {K : Type 0} (held : K → Option (Option (List ℕ))) (keeps : K → List ℕ → Option Bool) {R : Type 0} (ends fails : R → R → Type 0) (failed : R → Bool) (start mid_reader last : R) (unwritten : Bool) (before after : K) (Whole : Outcome → Type 0) (now mid next : Session) (a b : Bool) (screen0 screen1 screen2 script0 script1 script2 : Option (List ℕ)) (codes : List ℕ)
     → Asked held keeps before after now mid a b screen1 screen2 script1 script2 → AllByRecursion (λ c. is_input_code c ≡ true) codes → IsLeftAs next (given mid (Typed codes)) (given mid (Typed codes)).stopped
-    → SoFar Whole (IsAnswered now) screen0 screen1 script0 script1 → SoFar Whole (IsAnswered next) screen0 screen2 script0 script2
-on_answered held keeps before after Whole now mid next a b screen0 screen1 screen2 script0 script1 script2 codes t typed left s =
+    → SoFar Whole (IsAnswered ends fails failed start last unwritten now) screen0 screen1 script0 script1 → SoFar Whole (IsAnswered ends fails failed mid_reader last unwritten next) screen0 screen2 script0 script2
+on_answered held keeps ends fails failed start mid_reader last unwritten before after Whole now mid next a b screen0 screen1 screen2 script0 script1 script2 codes t typed left s =
     let end = given_all t.answers now in
     let w = line_asked end t.asks in
     let left_here = subst (λ (m : Session). IsLeftAs next (given m (Typed codes)) (given m (Typed codes)).stopped) t.same left in
-    so_far_on Whole (IsAnswered now) (IsAnswered next) screen0 screen1 screen2 script0 script1 script2 (shown_up_to t.answers now) (segment_of end).text s t.took
-    (λ o p. answered_slots held keeps t.answers before after now t.gives _ (answered_one (Typed codes) end w.0 w.1 typed o (answered_left_by next (given (ran end) (Typed codes)) _ refl left_here o p)))
+    so_far_on Whole (IsAnswered ends fails failed start last unwritten now) (IsAnswered ends fails failed mid_reader last unwritten next) screen0 screen1 screen2 script0 script1 script2 (shown_up_to t.answers now) (segment_of end).text s t.took
+    (λ o p. answered_slots held keeps false ends fails failed start last unwritten t.answers before after now t.gives _
+    (answered_one ends fails failed start mid_reader last unwritten (Typed codes) end w.0 w.1 typed (λ n. absurd n) o (answered_left_by ends fails failed mid_reader last unwritten next (given (ran end) (Typed codes)) _ refl left_here o p)))
 
 -- what is played behind a turn and a line
-pub on_played : {K : Type 0} (held : K → Option (Option (List ℕ))) (keeps : K → List ℕ → Option Bool) (before mid_slot after : K) (Whole : Outcome → Type 0) (h h' : Heard) (failed unwritten : Bool) (now mid next : Session) (a b : Bool) (screen0 screen1 screen2 script0 script1 script2 : Option (List ℕ)) (line codes : List ℕ)
-    → Asked held keeps before mid_slot now mid a b screen1 screen2 script1 script2 → h ≡ behind line h' → codes ≡ codes_read mid line → IsLeftAs next (given mid (Typed codes)) (given mid (Typed codes)).stopped
-    → SoFar Whole (IsPlayed held keeps before after h failed unwritten now) screen0 screen1 script0 script1 → SoFar Whole (IsPlayed held keeps mid_slot after h' failed unwritten next) screen0 screen2 script0 script2
-on_played held keeps before mid_slot after Whole h h' failed unwritten now mid next a b screen0 screen1 screen2 script0 script1 script2 line codes t hear read left s =
+pub on_played : {K : Type 0} (held : K → Option (Option (List ℕ))) (keeps : K → List ℕ → Option Bool) (before mid_slot after : K) (Whole : Outcome → Type 0) (bytes next_bytes later : List ℕ) (how : Option Over) (failed unwritten : Bool) (now mid next : Session) (a b : Bool) (screen0 screen1 screen2 script0 script1 script2 : Option (List ℕ)) (line codes : List ℕ)
+    → Asked held keeps before mid_slot now mid a b screen1 screen2 script1 script2 → IsNextLine bytes next_bytes line how → (how ≡ Some End → failed ≡ false) → codes ≡ codes_read mid line → IsLeftAs next (given mid (Typed codes)) (given mid (Typed codes)).stopped
+    → SoFar Whole (IsPlayed held keeps before after bytes later failed unwritten now) screen0 screen1 script0 script1 → SoFar Whole (IsPlayed held keeps mid_slot after next_bytes later failed unwritten next) screen0 screen2 script0 script2
+on_played held keeps before mid_slot after Whole bytes next_bytes later how failed unwritten now mid next a b screen0 screen1 screen2 script0 script1 script2 line codes t comes sound read left s =
     let end = given_all t.answers now in
     let left_here = subst (λ (m : Session). IsLeftAs next (given m (Typed codes)) (given m (Typed codes)).stopped) t.same left in
-    so_far_on Whole (IsPlayed held keeps before after h failed unwritten now) (IsPlayed held keeps mid_slot after h' failed unwritten next) screen0 screen1 screen2 script0 script1 script2 (shown_up_to t.answers now) (segment_of end).text s t.took
-    (λ o p. played_slots held keeps t.answers before mid_slot after h failed unwritten now t.gives (not_file _ t.asks) _
-    (played_line held keeps mid_slot after line h h' failed unwritten end codes t.asks hear (read ∙ ap (λ (m : Session). codes_read m line) t.same) o
-    (played_left_by held keeps mid_slot after h' failed unwritten next (given (ran end) (Typed codes)) _ refl left_here o p)))
+    so_far_on Whole (IsPlayed held keeps before after bytes later failed unwritten now) (IsPlayed held keeps mid_slot after next_bytes later failed unwritten next) screen0 screen1 screen2 script0 script1 script2 (shown_up_to t.answers now) (segment_of end).text s t.took
+    (λ o p. played_slots held keeps t.answers before mid_slot after bytes later failed unwritten now t.gives (not_file _ t.asks) _
+    (played_line held keeps mid_slot after line bytes next_bytes later how failed unwritten end codes t.asks comes sound (read ∙ ap (λ (m : Session). codes_read m line) t.same) o
+    (played_left_by held keeps mid_slot after next_bytes later failed unwritten next (given (ran end) (Typed codes)) _ refl left_here o p)))
 
 -- ---- the end of a play
 
@@ -647,114 +674,161 @@ true_or_false A h = absurd cc
 kept_end : (answers : List Answer) (over : Over) (Last : Type 0) (now : Session) (text : Texts) → ComesToKeep (given_all answers now) text → IsOutcomeOn answers over Last now (record { stop = Memory; text = text_joined (shown_up_to answers now) text })
 kept_end answers over Last now text comes = inr (refl, (text, (comes, refl)))
 
-turn_stops : {K : Type 0} (held : K → Option (Option (List ℕ))) (keeps : K → List ℕ → Option Bool) (before after : K) (unwritten : Bool) (answers : List Answer) (over : Over) (left : List (List ℕ)) (now : Session) (stop : Stop) (text : Texts)
-    → AreSlotAnswers held keeps before after now answers → EndsTurnOrFails unwritten (given_all answers now) (Err stop) text → EndOf answers over unwritten (IsLastAnswered unwritten left (given_all answers now)) now stop text
-turn_stops held keeps before after true answers over left now stop text gives (e, inl t) =
+turn_stops : {K : Type 0} (held : K → Option (Option (List ℕ))) (keeps : K → List ℕ → Option Bool) (before after : K) (unwritten : Bool) (answers : List Answer) (over : Over) (Last : Type 0) (now : Session) (stop : Stop) (text : Texts) → ((unwritten ≡ false → AsksForLine (ran (given_all answers now)) → ⊥) → Last)
+    → AreSlotAnswers held keeps unwritten before after now answers → EndsTurnOrFails unwritten (given_all answers now) (Err stop) text → EndOf answers over unwritten Last now stop text
+turn_stops held keeps before after true answers over Last now stop text vacuous gives (e, inl t) =
     let s = given_all answers now in
     let end = stop_waiting (event_waited (ran s).waiting) over in
     let more = alone_begins end s in
     record {
       o = outcome answers end now;
-      is = inl (refl, λ f. true_or_false _ f);
+      is = inl (refl, vacuous (λ f. true_or_false _ f));
       ends = (
         same_stop stop Write e,
         (
           more.0,
-          ap (λ (o : Outcome). o.text) (outcome_all held keeps answers before after now end gives) ∙ ap (text_joined (shown_up_to answers now)) more.1
+          ap (λ (o : Outcome). o.text) (outcome_all held keeps true answers before after now end gives) ∙ ap (text_joined (shown_up_to answers now)) more.1
               ∙ same_text (shown_up_to answers now) (segment_of s).text more.0 ∙ ap (λ (u : Texts). text_joined (text_joined (shown_up_to answers now) u) more.0) (sym t),
         ),
       );
     }
-turn_stops held keeps before after true answers over left now stop text gives (e, inr comes) = record {
+turn_stops held keeps before after true answers over Last now stop text vacuous gives (e, inr comes) = record {
   o = record { stop = Memory; text = text_joined (shown_up_to answers now) text };
-  is = kept_end answers over _ now text comes;
+  is = kept_end answers over Last now text comes;
   ends = (same_stop stop Write e, (no_text, sym (no_text_behind (text_joined (shown_up_to answers now) text))));
 }
-turn_stops held keeps before after false answers over left now stop text gives (inl h) =
+turn_stops held keeps before after false answers over Last now stop text vacuous gives (inl h) =
     let s = given_all answers now in
     let end = stop_waiting (event_waited (ran s).waiting) over in
     let stops = stops_by (segment_of s).end stop (sym h.0) in
-    let all = outcome_all held keeps answers before after now end gives ∙ ap (shown_before (shown_up_to answers now)) (outcome_stops [] end stop s stops) in
+    let all = outcome_all held keeps false answers before after now end gives ∙ ap (shown_before (shown_up_to answers now)) (outcome_stops [] end stop s stops) in
     record {
       o = outcome answers end now;
-      is = inl (refl, λ f asks. let w = line_asked s asks in absurd (stops_or_waits (segment_of s).end stop w.0 stops w.1));
+      is = inl (refl, vacuous (λ f asks. let w = line_asked s asks in stops_or_waits (segment_of s).end stop w.0 stops w.1));
       ends = (sym (ap (λ (o : Outcome). o.stop) all), ap (λ (o : Outcome). o.text) all ∙ ap (text_joined (shown_up_to answers now)) (sym h.2));
     }
-turn_stops held keeps before after false answers over left now stop text gives (inr (e, inl comes)) = record {
+turn_stops held keeps before after false answers over Last now stop text vacuous gives (inr (e, inl comes)) = record {
   o = record { stop = Memory; text = text_joined (shown_up_to answers now) text };
-  is = kept_end answers over _ now text comes;
+  is = kept_end answers over Last now text comes;
   ends = (same_stop stop Memory e, refl);
 }
-turn_stops held keeps before after false answers over left now stop text gives (inr (e, inr h)) =
+turn_stops held keeps before after false answers over Last now stop text vacuous gives (inr (e, inr h)) =
     let s = given_all answers now in
     let end = stop_waiting (event_waited (ran s).waiting) over in
     let w = file_asked s h.0 in
-    let all = outcome_all held keeps answers before after now end gives ∙ ap (shown_before (shown_up_to answers now)) (alone_waits end s w.0 w.1) in
+    let all = outcome_all held keeps false answers before after now end gives ∙ ap (shown_before (shown_up_to answers now)) (alone_waits end s w.0 w.1) in
     record {
       o = outcome answers end now;
-      is = inl (refl, λ f asks. absurd (not_file _ asks h.0));
+      is = inl (refl, vacuous (λ f asks. not_file _ asks h.0));
       ends = (
         same_stop stop Memory e ∙ sym (ap (λ (o : Outcome). o.stop) all ∙ file_stop _ over h.0),
         ap (λ (o : Outcome). o.text) all ∙ ap (text_joined (shown_up_to answers now)) (no_text_behind (segment_of s).text ∙ sym h.1),
       );
     }
 
-read_ends : {K : Type 0} (held : K → Option (Option (List ℕ))) (keeps : K → List ℕ → Option Bool) (before after : K) (answers : List Answer) (over : Over) (now : Session)
-    → AreSlotAnswers held keeps before after now answers → AsksForLine (ran (given_all answers now)) → EndOf answers over false (IsLastAnswered false [] (given_all answers now)) now (stop_behind over) (segment_of (given_all answers now)).text
-read_ends held keeps before after answers over now gives asks =
+read_ends : {K : Type 0} (held : K → Option (Option (List ℕ))) (keeps : K → List ℕ → Option Bool) (before after : K) (answers : List Answer) (over : Over) (Last : Type 0) (now : Session) → Last
+    → AreSlotAnswers held keeps false before after now answers → AsksForLine (ran (given_all answers now)) → EndOf answers over false Last now (stop_behind over) (segment_of (given_all answers now)).text
+read_ends held keeps before after answers over Last now last gives asks =
     let s = given_all answers now in
     let end = stop_waiting (event_waited (ran s).waiting) over in
     let w = line_asked s asks in
-    let all = outcome_all held keeps answers before after now end gives ∙ ap (shown_before (shown_up_to answers now)) (alone_waits end s w.0 w.1) in
+    let all = outcome_all held keeps false answers before after now end gives ∙ ap (shown_before (shown_up_to answers now)) (alone_waits end s w.0 w.1) in
     record {
       o = outcome answers end now;
-      is = inl (refl, λ f a. refl);
+      is = inl (refl, last);
       ends = (sym (ap (λ (o : Outcome). o.stop) all ∙ line_stop _ over asks), ap (λ (o : Outcome). o.text) all ∙ ap (text_joined (shown_up_to answers now)) (no_text_behind (segment_of s).text));
     }
 
-any_last : (answers : List Answer) (over : Over) (Last : Type 0) (s : Session) (o : Outcome) → IsOutcomeOn answers over Last s o → IsOutcomeOn answers over (Unit {0}) s o
-any_last answers over Last s o (inl h) = inl (h.0, tt)
-any_last answers over Last s o (inr h) = inr h
-
 -- a turn that stops, or whose write has failed
-pub stops_played : {K : Type 0} (held : K → Option (Option (List ℕ))) (keeps : K → List ℕ → Option Bool) (before after : K) (Whole : Outcome → Type 0) (h : Heard) (failed unwritten : Bool) (now mid : Session) (screen0 screen1 screen2 script0 script1 script2 : Option (List ℕ)) (stop : Stop)
-    → IsTurn (AreSlotAnswers held keeps before after now) now mid (Err stop) unwritten (TookTexts screen1 screen2 script1 script2 unwritten) → SoFar Whole (IsPlayed held keeps before after h failed unwritten now) screen0 screen1 script0 script1
-    → IsPlay Whole stop unwritten screen0 screen2 script0 script2
-stops_played held keeps before after Whole h failed unwritten now mid screen0 screen1 screen2 script0 script1 script2 stop t s =
-    let e = turn_stops held keeps before after unwritten t.answers h.over h.lines now stop t.text t.gives t.ends in
-    play_ends Whole (IsPlayed held keeps before after h failed unwritten now) screen0 screen1 screen2 script0 script1 script2 unwritten stop e.o (shown_up_to t.answers now) t.text s
-    (h, (inl refl, (t.answers, (h.lines, (played_alone held keeps t.answers before after h.lines now t.gives, e.is))))) e.ends t.shown
+pub heard_whole : (bytes later : List ℕ) (failed : Bool) (left : List (List ℕ)) → failed ≡ false → IsHeard bytes later failed (heard bytes) left
+heard_whole bytes later failed left e = rw e refl
 
-pub stops_answered : {K : Type 0} (held : K → Option (Option (List ℕ))) (keeps : K → List ℕ → Option Bool) (before after : K) (Whole : Outcome → Type 0) (unwritten : Bool) (now mid : Session) (screen0 screen1 screen2 script0 script1 script2 : Option (List ℕ)) (stop : Stop)
-    → IsTurn (AreSlotAnswers held keeps before after now) now mid (Err stop) unwritten (TookTexts screen1 screen2 script1 script2 unwritten) → SoFar Whole (IsAnswered now) screen0 screen1 script0 script1
+pub stops_played : {K : Type 0} (held : K → Option (Option (List ℕ))) (keeps : K → List ℕ → Option Bool) (before after : K) (Whole : Outcome → Type 0) (bytes later : List ℕ) (failed unwritten : Bool) (now mid : Session) (screen0 screen1 screen2 script0 script1 script2 : Option (List ℕ)) (stop : Stop) → failed ≡ false
+    → IsTurn (AreSlotAnswers held keeps unwritten before after now) now mid (Err stop) unwritten (TookTexts screen1 screen2 script1 script2 unwritten) → SoFar Whole (IsPlayed held keeps before after bytes later failed unwritten now) screen0 screen1 script0 script1
     → IsPlay Whole stop unwritten screen0 screen2 script0 script2
-stops_answered held keeps before after Whole unwritten now mid screen0 screen1 screen2 script0 script1 script2 stop t s =
-    let e = turn_stops held keeps before after unwritten t.answers Failed [] now stop t.text t.gives t.ends in
-    play_ends Whole (IsAnswered now) screen0 screen1 screen2 script0 script1 script2 unwritten stop e.o (shown_up_to t.answers now) t.text s
-    (t.answers, (Failed, (slots_can held keeps t.answers before after now t.gives, any_last t.answers Failed _ now e.o e.is))) e.ends t.shown
+stops_played held keeps before after Whole bytes later failed unwritten now mid screen0 screen1 screen2 script0 script1 script2 stop sound t s =
+    let h = heard bytes in
+    let e = turn_stops held keeps before after unwritten t.answers h.over (IsLastAnswered unwritten h.lines (given_all t.answers now)) now stop t.text (λ never f asks. absurd (never f asks)) t.gives t.ends in
+    play_ends Whole (IsPlayed held keeps before after bytes later failed unwritten now) screen0 screen1 screen2 script0 script1 script2 unwritten stop e.o (shown_up_to t.answers now) t.text s
+    (h, (t.answers, (h.lines, (heard_whole bytes later failed h.lines sound, (played_alone held keeps unwritten t.answers before after h.lines now t.gives, e.is))))) e.ends t.shown
+
+pub stops_answered : {K : Type 0} (held : K → Option (Option (List ℕ))) (keeps : K → List ℕ → Option Bool) {R : Type 0} (ends fails : R → R → Type 0) (failed : R → Bool) (reader : R) (before after : K) (Whole : Outcome → Type 0) (unwritten : Bool) (now mid : Session) (screen0 screen1 screen2 script0 script1 script2 : Option (List ℕ)) (stop : Stop)
+    → IsTurn (AreSlotAnswers held keeps unwritten before after now) now mid (Err stop) unwritten (TookTexts screen1 screen2 script1 script2 unwritten) → SoFar Whole (IsAnswered ends fails failed reader reader unwritten now) screen0 screen1 script0 script1
+    → IsPlay Whole stop unwritten screen0 screen2 script0 script2
+stops_answered held keeps ends fails failed reader before after Whole unwritten now mid screen0 screen1 screen2 script0 script1 script2 stop t s =
+    let e = turn_stops held keeps before after unwritten t.answers Failed (IsLastRead ends fails failed reader unwritten Failed (given_all t.answers now)) now stop t.text (λ never f asks. absurd (never f asks)) t.gives t.ends in
+    play_ends Whole (IsAnswered ends fails failed reader reader unwritten now) screen0 screen1 screen2 script0 script1 script2 unwritten stop e.o (shown_up_to t.answers now) t.text s
+    (t.answers, (Failed, (slots_can held keeps unwritten t.answers before after now t.gives, ((λ none asks. refl), e.is)))) e.ends t.shown
 
 -- a read that finds no line
-pub reads_end : {K : Type 0} (held : K → Option (Option (List ℕ))) (keeps : K → List ℕ → Option Bool) (before after : K) (Whole : Outcome → Type 0) (h : Heard) (over : Over) (failed : Bool) (now mid : Session) (a b : Bool) (screen0 screen1 screen2 script0 script1 script2 : Option (List ℕ))
-    → Asked held keeps before after now mid a b screen1 screen2 script1 script2 → IsHeard h failed (nothing_more over) → SoFar Whole (IsPlayed held keeps before after h failed false now) screen0 screen1 script0 script1
+pub reads_end : {K : Type 0} (held : K → Option (Option (List ℕ))) (keeps : K → List ℕ → Option Bool) (before after : K) (Whole : Outcome → Type 0) (bytes later : List ℕ) (over : Over) (failed : Bool) (now mid : Session) (a b : Bool) (screen0 screen1 screen2 script0 script1 script2 : Option (List ℕ))
+    → Asked held keeps before after now mid a b screen1 screen2 script1 script2 → IsHeard bytes later failed (nothing_more over) [] → SoFar Whole (IsPlayed held keeps before after bytes later failed false now) screen0 screen1 script0 script1
     → IsPlay Whole (stop_behind over) false screen0 screen2 script0 script2
-reads_end held keeps before after Whole h over failed now mid a b screen0 screen1 screen2 script0 script1 script2 t hear s =
-    let e = read_ends held keeps before after t.answers over now t.gives t.asks in
-    play_ends Whole (IsPlayed held keeps before after h failed false now) screen0 screen1 screen2 script0 script1 script2 false (stop_behind over) e.o (shown_up_to t.answers now) (segment_of (given_all t.answers now)).text s
-    (nothing_more over, (hear, (t.answers, ([], (played_alone held keeps t.answers before after [] now t.gives, e.is))))) e.ends t.took
+reads_end held keeps before after Whole bytes later over failed now mid a b screen0 screen1 screen2 script0 script1 script2 t hear s =
+    let e = read_ends held keeps before after t.answers over (IsLastAnswered false [] (given_all t.answers now)) now (λ f asks. refl) t.gives t.asks in
+    play_ends Whole (IsPlayed held keeps before after bytes later failed false now) screen0 screen1 screen2 script0 script1 script2 false (stop_behind over) e.o (shown_up_to t.answers now) (segment_of (given_all t.answers now)).text s
+    (nothing_more over, (t.answers, ([], (hear, (played_alone held keeps false t.answers before after [] now t.gives, e.is))))) e.ends t.took
 
-pub answers_end : {K : Type 0} (held : K → Option (Option (List ℕ))) (keeps : K → List ℕ → Option Bool) (before after : K) (Whole : Outcome → Type 0) (over : Over) (now mid : Session) (a b : Bool) (screen0 screen1 screen2 script0 script1 script2 : Option (List ℕ))
-    → Asked held keeps before after now mid a b screen1 screen2 script1 script2 → SoFar Whole (IsAnswered now) screen0 screen1 script0 script1 → IsPlay Whole (stop_behind over) false screen0 screen2 script0 script2
-answers_end held keeps before after Whole over now mid a b screen0 screen1 screen2 script0 script1 script2 t s =
-    let e = read_ends held keeps before after t.answers over now t.gives t.asks in
-    play_ends Whole (IsAnswered now) screen0 screen1 screen2 script0 script1 script2 false (stop_behind over) e.o (shown_up_to t.answers now) (segment_of (given_all t.answers now)).text s
-    (t.answers, (over, (slots_can held keeps t.answers before after now t.gives, any_last t.answers over _ now e.o e.is))) e.ends t.took
+pub answers_end : {K : Type 0} (held : K → Option (Option (List ℕ))) (keeps : K → List ℕ → Option Bool) {R : Type 0} (ends fails : R → R → Type 0) (failed : R → Bool) (start last : R) (before after : K) (Whole : Outcome → Type 0) (over : Over) (now mid : Session) (a b : Bool) (screen0 screen1 screen2 script0 script1 script2 : Option (List ℕ))
+    → Asked held keeps before after now mid a b screen1 screen2 script1 script2 → FoundNoLine ends fails failed last over → SoFar Whole (IsAnswered ends fails failed start last false now) screen0 screen1 script0 script1 → IsPlay Whole (stop_behind over) false screen0 screen2 script0 script2
+answers_end held keeps ends fails failed start last before after Whole over now mid a b screen0 screen1 screen2 script0 script1 script2 t found s =
+    let e = read_ends held keeps before after t.answers over (IsLastRead ends fails failed last false over (given_all t.answers now)) now (λ f asks. found) t.gives t.asks in
+    play_ends Whole (IsAnswered ends fails failed start last false now) screen0 screen1 screen2 script0 script1 script2 false (stop_behind over) e.o (shown_up_to t.answers now) (segment_of (given_all t.answers now)).text s
+    (t.answers, (over, (slots_can held keeps false t.answers before after now t.gives, ((λ none asks. absurd (asks t.asks)), e.is)))) e.ends t.took
 
-pub heard_end : (h : Heard) (failed : Bool) (over : Over) → h ≡ nothing_more over → IsHeard h failed (nothing_more over)
-heard_end h failed over e = inl (sym e)
+-- ---- a reader of lines, whose input goes on or is over
 
-pub heard_failed : (h : Heard) (failed : Bool) → (failed ≡ true) ⊎ (h ≡ nothing_more Failed) → IsHeard h failed (nothing_more Failed)
-heard_failed h failed (inl f) = inr (f, (0, refl))
-heard_failed h failed (inr e) = heard_end h failed Failed e
+abbrev pub GoesOnOr : Option Over → Type 0 → Type 0
+GoesOnOr how J = (how ≡ None) ⊎ ((how ≡ Some End) × J)
+
+pub over_on : (how : Option Over) (J : Type 0) → (how ≡ None) ⊎ (how ≡ Some End) → (how ≡ Some End → J) → GoesOnOr how J
+over_on how J (inl h) k = inl h
+over_on how J (inr h) k = inr (h, k h)
+
+-- one that answers a line or a failure goes on
+pub line_open : (how : Option Over) (J : Type 0) (codes : ArrayVec ℕ) → GoesOnOr how J → ((o : Over) → how ≡ Some o → input.Line codes ≡ over_input o) → how ≡ None
+line_open how J codes (inl h) k = h
+line_open how J codes (inr h) k = let e = k End h.0 in absurd cc
+
+pub failed_open : (how : Option Over) (J : Type 0) → GoesOnOr how J → ((o : Over) → how ≡ Some o → input.Failed ≡ over_input o) → how ≡ None
+failed_open how J (inl h) k = h
+failed_open how J (inr h) k = let e = k End h.0 in absurd cc
+
+pub no_end : (how : Option Over) (A : Type 0) → how ≡ None → how ≡ Some End → A
+no_end how A h k = absurd cc
+
+-- after a last line nothing is left
+pub last_none : (bytes next line : List ℕ) (how : Option Over) → IsNextLine bytes next line how → how ≡ Some End → next ≡ []
+last_none bytes next line how (inl h) e = no_end how (next ≡ []) h.1 e
+last_none bytes next line how (inr h) e = h.0.none
+
+-- an end that was found before, or is found now
+pub end_left : {R : Type 0} (left : R → Option (List ℕ)) (old new : R) (how : Option Over) (J : Type 0) (ahead bytes more : List ℕ) → left old ≡ Some bytes → GoesOnOr how J → (how ≡ Some End → ahead ++ bytes ≡ [])
+    → (how ≡ None → (later : List ℕ) × (left new ≡ Some later) × ((ahead ++ bytes ≡ []) × (more ++ later ≡ []))) → (how ≡ Some End → new ≡ old) → (later : List ℕ) × (left new ≡ Some later) × (ahead ++ bytes ≡ [])
+end_left left old new how J ahead bytes more told (inl h) before now same = let n = now h in (n.0, n.1, n.2.0)
+end_left left old new how J ahead bytes more told (inr h) before now same = (bytes, ap left (same h.0) ∙ told, before h.0)
+
+pub end_found : {R : Type 0} (ends : R → R → Type 0) (old new : R) (how : Option Over) → GoesOnOr how (HasJust ends old) → (how ≡ None → HasJust ends new) → (how ≡ Some End → new ≡ old) → HasJust ends new
+end_found {R} ends old new how (inl h) now same = now h
+end_found {R} ends old new how (inr h) now same = subst (λ (r : R). HasJust ends r) (sym (same h.0)) h.1
+
+pub heard_end : (bytes later : List ℕ) (failed : Bool) → bytes ≡ [] → failed ≡ false → IsHeard bytes later failed (nothing_more End) []
+heard_end bytes later failed e sound = rw sound (sym (ap heard e ∙ are_lines.none))
+
+pub heard_failed : (bytes ahead later : List ℕ) (failed old : Bool) (Failing : Type 0) → old ≡ false → (Failing → (failed ≡ true) × (ahead ≡ [])) → (Failing × BreaksOff bytes (ahead ++ later)) ⊎ ((failed ≡ old) × (heard bytes ≡ nothing_more Failed))
+    → IsHeard bytes later failed (nothing_more Failed) []
+heard_failed bytes ahead later failed old Failing works facts (inl (f, b)) =
+    let is = facts f in
+    let whole : bytes ≡ b.part ++ later = b.whole ∙ ap (λ (l : List ℕ). b.part ++ (l ++ later)) is.1 in
+    rw is.0 (b.part, (whole, ap (λ (ls : List (List ℕ)). let x : Heard = record { lines = ls; over = Failed } in x) (sym (are_lines.cut_off b.part b.plain)), refl))
+heard_failed bytes ahead later failed old Failing works facts (inr (sound, e)) = let is = sound ∙ works in rw is (sym e)
+
+pub failed_found : {R : Type 0} (ends fails : R → R → Type 0) (failed : R → Bool) (old new : R) (Failing : Type 0) → failed old ≡ false → (Failing → HasJust fails new × (failed new ≡ true)) → Failing ⊎ (failed new ≡ failed old) → FoundNoLine ends fails failed new Failed
+failed_found ends fails failed old new Failing works facts (inl f) = inl (facts f)
+failed_found ends fails failed old new Failing works facts (inr e) = inr (e ∙ works)
+
+pub true_or : (x : Bool) (A : Type 0) → x ≡ false → x ≡ true → A
+true_or x A h k = absurd cc
 
 -- ---- how many turns there can still be
 

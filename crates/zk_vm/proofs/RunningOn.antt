@@ -46,7 +46,12 @@ Sees P Q a b t = P × Q × Written a b t.screen t.script
 
 run_text : (P Q : Type 0) (old new : Session) (answer : Result Event Stop) (a b : Targets) → IsRun old new answer (Sees P Q a b) → (text : Texts) × ShowsOfRun old text × Written a b text.screen text.script
 run_text P Q old new answer a b (inl h) = ((segment_of old).text, inl refl, h.2.2)
-run_text P Q old new answer a b (inr h) = (h.3.0, inr h.3.1, h.3.2.2)
+run_text P Q old new answer a b (inr h) = (h.3.0, inr (new.state, h.3.1), h.3.2.2)
+
+-- the references stay the same
+pub run_same : (P Q : Type 0) (old new : Session) (answer : Result Event Stop) (a b : Targets) → IsRun old new answer (Sees P Q a b) → P × Q
+run_same P Q old new answer a b (inl h) = (h.2.0, h.2.1)
+run_same P Q old new answer a b (inr h) = (h.3.2.0, h.3.2.1)
 
 run_both : (P Q : Type 0) (old new : Session) (answer : Result Event Stop) (a b c : Targets) → IsFresh a → IsFinished c → Written b c [] [] → IsRun old new answer (Sees P Q a b) → IsRun old new answer (BothShow a c c.failed)
 run_both P Q old new answer a b c fresh done rest (inl h) = inl (h.0, h.1, both_show a b c (segment_of old).text fresh done h.2.2 rest)

@@ -22,7 +22,7 @@ use Rattle.zk_vm.specs.declared.stop.Stop.{Stop}
 use Rattle.zk_vm.specs.declared.stop.Stop.TheVariants as stop
 use Rattle.zk_vm.specs.declared.waiting.Halt.{Halt}
 use Rattle.zk_vm.specs.declared.waiting.Halt.TheVariants as halt
-use Rattle.zk_vm.specs.Halts.{ComesToKeep, IsLeftBy, halt_by, halt_of}
+use Rattle.zk_vm.specs.Halts.{ComesToKeepAt, IsLeftBy, halt_by, halt_of}
 use Rattle.zk_vm.specs.Outcome.{Segment, Session, segment}
 use Rattle.zk_vm.specs.Step.{State, Step, Verdict, verdict_of, state_after}
 use Rattle.zk_vm.specs.Step.Verdict.{GoesOn, WaitsFor, StopsBy}
@@ -64,9 +64,10 @@ pub record Settles (old new : Session) (answer : Result (Unit {0}) Halt) (x : St
   pub tells : answer ≡ halt_by (verdict_of old.state x)
   pub put : IsPut old new (verdict_of old.state x) (state_after old.state x)
 
--- there is no memory for a state that is to be kept
+-- there is no memory for a state that is to be kept: the states that are kept stand, and nothing is stored
 pub record LacksMemory (old new : Session) (answer : Result (Unit {0}) Halt) : Type 0 where
   pub tells : answer ≡ Err (halt.Stops stop.Memory)
+  pub same : new.state ≡ old.state
   pub waiting : new.waiting ≡ None
   pub some : 0 < old.state.workspace.memory.undo_states
 
@@ -94,7 +95,7 @@ steps_left s = segment (s.limits.steps - s.state.steps) s.state
 abbrev pub IsHalted : Session → Session → Halt → (Texts → Type 0) → Type 0
 IsHalted old new answer Shown =
     ((answer ≡ halt_of (steps_left old).end) × IsLeftBy old new (steps_left old).end (steps_left old).state × Shown (steps_left old).text)
-    ⊎ ((answer ≡ halt.Stops stop.Memory) × (new.waiting ≡ None) × ((text : Texts) × ComesToKeep old text × Shown text))
+    ⊎ ((answer ≡ halt.Stops stop.Memory) × (new.waiting ≡ None) × ((text : Texts) × ComesToKeepAt old text new.state × Shown text))
 
 -- ---- steps that are made in silence
 

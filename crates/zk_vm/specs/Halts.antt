@@ -1,5 +1,5 @@
 -- What a machine tells of a run, and how it is left.
-use Rattle.std.specs.Prelude.{◌≡◌, ◌⊎◌, ◌≤◌, ◌<◌, ◌^◌, ◌-◌, Bool, true, false, ℕ, [], Option, Some, None, Result, Ok, Err}
+use Rattle.std.specs.Prelude.{◌≡◌, ◌⊎◌, ◌≤◌, ◌<◌, ◌^◌, ◌-◌, Bool, true, false, ℕ, List, [], Option, Some, None, Result, Ok, Err}
 use Rattle.zk_step.specs.declared.ending.Next.{Next}
 use Rattle.zk_code.specs.declared.instr.Instr.{Instr}
 use Rattle.zk_code.specs.declared.opcode.Opcode.TheVariants.{Saving}
@@ -8,7 +8,9 @@ use Rattle.zk_code.specs.Reading.{instr_at}
 use Rattle.zk_step.specs.declared.ending.Next.TheVariants.{Waits, Keeps, Resumes}
 use Rattle.zk_step.specs.declared.ending.Wait.{Wait}
 use Rattle.zk_step.specs.declared.ending.Wait.TheVariants as wait
+use Rattle.zk_step.specs.declared.workspace.Workspace.{Workspace}
 use Rattle.zk_step.specs.Routing.{Texts, no_text, on_script, text_joined}
+use Rattle.zk_step.specs.Variables.{operands_read}
 use Rattle.zk_vm.specs.declared.limits.Limits.{Limits}
 use Rattle.zk_vm.specs.declared.stop.Event.{Event}
 use Rattle.zk_vm.specs.declared.stop.Event.TheVariants as event
@@ -95,12 +97,17 @@ IsQuiet _ text = Unit {0}
 
 -- ---- want of memory
 
--- the instruction at a state's place keeps a state, where there may be one
-pub record IsKeeping (s : State) : Type 0 where
+-- the instruction at a state's place would be carried out, and keep a state, where there may be one; its operands were
+-- taken, and nothing else has changed
+pub record IsKeeping (s taken : State) : Type 0 where
   pub instruction : Instr
   pub fetched : instr_at s.workspace.memory s.place ≡ Ok instruction
   pub keeps : instruction.opcode ≡ Saving SaveUndo
   pub some : 0 < s.workspace.memory.undo_states
+  pub workspace : Workspace
+  pub values : List ℕ
+  pub operands : operands_read s.workspace instruction.operands ≡ Ok (workspace, values)
+  pub beside : taken ≡ record s { workspace = workspace }
 
 -- a step was made as the Standard's machine makes it, and its text was shown; or it came to keep a state, for which there
 -- was no memory
@@ -109,25 +116,30 @@ IsStep old new answer Shown =
     ((answer ≡ halt_by (verdict_of old.state (step old.state)))
     × IsLeftAt old new (verdict_of old.state (step old.state)) (state_after old.state (step old.state))
     × Shown (text_of old.state (step old.state)))
-    ⊎ ((answer ≡ Err (halt.Stops stop.Memory)) × (new.waiting ≡ None) × (IsKeeping old.state × Shown no_text))
+    ⊎ ((answer ≡ Err (halt.Stops stop.Memory)) × (new.waiting ≡ None) × (IsKeeping old.state new.state × Shown no_text))
 
--- some steps of a machine lead to an instruction that keeps a state; this is what they show
-pub record ComesToKeep (s : Session) (text : Texts) : Type 0 where
+-- some steps of a machine lead to an instruction that keeps a state; this is what they show, and the state in which it is
+-- left there, with the instruction's operands taken
+pub record ComesToKeepAt (s : Session) (text : Texts) (taken : State) : Type 0 where
   pub runs : s.stopped ≡ None
   pub steps : ℕ
   pub few : steps < s.limits.steps - s.state.steps
   pub end : State
   pub behind : Texts
   pub leads : Leads steps (record s.state { due = [] }) end behind
-  pub keeping : IsKeeping end
+  pub keeping : IsKeeping end taken
   pub shown : text ≡ text_joined (on_script s.state.due) behind
 
+-- the same, whatever the state in which it is left
+abbrev pub ComesToKeep : Session → Texts → Type 0
+ComesToKeep s text = (taken : State) × ComesToKeepAt s text taken
+
 -- a machine has run as the Standard's machine does, and shown its text; or it came to keep a state, for which there was
--- no memory, and has shown its text up to there
+-- no memory, and has shown its text up to there: the earlier states stand, and nothing was stored
 abbrev pub IsRun : Session → Session → Result Event Stop → (Texts → Type 0) → Type 0
 IsRun old new answer Shown =
     ((answer ≡ event_of (segment_of old).end) × IsLeftAs new (ran old) (ran old).stopped × Shown (segment_of old).text)
-    ⊎ ((answer ≡ Err stop.Memory) × (new.stopped ≡ Some stop.Memory) × (new.waiting ≡ None) × ((text : Texts) × ComesToKeep old text × Shown text))
+    ⊎ ((answer ≡ Err stop.Memory) × (new.stopped ≡ Some stop.Memory) × (new.waiting ≡ None) × ((text : Texts) × ComesToKeepAt old text new.state × Shown text))
 
 -- while a machine has no stop
 abbrev pub WhileRunning : Option Stop → Type 0 → Type 0

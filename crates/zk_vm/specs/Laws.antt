@@ -1,21 +1,21 @@
 -- What the limits of a run hold, and that they change nothing else.
-use Rattle.std.specs.Prelude.{◌≡◌, ℕ, suc, ◌+◌, ◌≤◌, List, length, Result, Err, None, Ok}
+use Rattle.std.specs.Prelude.{◌≡◌, ℕ, suc, ◌+◌, ◌-◌, ◌≤◌, ◌<◌, true, List, [], ◌∷◌, ◌++◌, length, Result, Err, None, Some, Ok}
 use Rattle.zk_state.specs.declared.refusal.Limit.{Limit}
-use Rattle.zk_state.specs.declared.refusal.Limit.TheVariants.{Frames, Words, Steps}
+use Rattle.zk_state.specs.declared.refusal.Limit.TheVariants.{Frames, Words, Steps, Reads}
 use Rattle.zk_state.specs.declared.refusal.Refusal.TheVariants as refusal
 use Rattle.zk_state.specs.Frames.{frames_of, total_of, within_bounds}
 use Rattle.zk_step.specs.declared.workspace.View.{View}
 use Rattle.zk_step.specs.Laws.{rebounded}
-use Rattle.zk_step.specs.Routing.{Texts}
+use Rattle.zk_step.specs.Routing.{Texts, on_script, text_joined}
 use Rattle.zk_vm.specs.declared.limits.Limits.{Limits}
 use Rattle.zk_vm.specs.declared.stop.Stop.{Stop}
 use Rattle.zk_vm.specs.declared.stop.Stop.TheVariants.{Limit as LimitAt}
 use Rattle.zk_vm.specs.Bounds.{AreInRange}
 use Rattle.zk_vm.specs.declared.waiting.Waiting.{Waiting}
-use Rattle.zk_vm.specs.Answers.{Answer}
-use Rattle.zk_vm.specs.Step.{State, step, most_reads}
-use Rattle.zk_vm.specs.Step.Step.{Goes}
-use Rattle.zk_vm.specs.Outcome.{Segment, Session, segment, outcome, begun, Leads}
+use Rattle.zk_vm.specs.Answers.{Answer, answered}
+use Rattle.zk_vm.specs.Step.{State, Step, step, most_reads, is_past_reads}
+use Rattle.zk_vm.specs.Step.Step.{Goes, Waits, Exceeds}
+use Rattle.zk_vm.specs.Outcome.{Segment, Session, segment, segment_of, ran, outcome, begun, given_all, shown_up_to, Leads}
 
 -- no more frames and words than the limits say, no more steps since the last answered read, no more reads, and no more
 -- states to go back to
@@ -26,10 +26,17 @@ pub record IsWithin (l : Limits) (s : State) : Type 0 where
   pub reads : s.reads ≤ most_reads
   pub undo : length s.undo ≤ l.undo
 
--- every state that a run passes, from the start of a story on, is within its limits
+-- where a machine that runs has come to, by the answers that it got, it is within its limits, and so it is in each state
+-- that it passes from there
+pub record StaysWithin (l : Limits) (s : Session) : Type 0 where
+  pub here : IsWithin l s.state
+  pub passes : (n : ℕ) (end : State) (text : Texts) → s.state.steps + n ≤ l.steps → Leads n (record s.state { due = [] }) end text → IsWithin l end
+  pub waits : (w : Waiting) → (segment_of s).end ≡ Ok w → IsWithin l (ran s).state
+
+-- so it is in every run, whatever answers it gets: lines, characters, bytes to restore
 abbrev pub RunsStayWithin : Type 0
-RunsStayWithin = (story : List ℕ) (seed : ℕ) (l : Limits) (view : View) (n : ℕ) (end : State) (text : Texts) → AreInRange l → n ≤ l.steps
-    → Leads n (begun story seed l view).state end text → IsWithin l end
+RunsStayWithin = (story : List ℕ) (seed : ℕ) (l : Limits) (view : View) (answers : List Answer) → AreInRange l → (given_all answers (begun story seed l view)).stopped ≡ None
+    → StaysWithin l (given_all answers (begun story seed l view))
 
 -- a stop that is not the limit on steps
 abbrev pub IsNoStepStop : Stop → Type 0
@@ -73,11 +80,19 @@ abbrev pub FrameLimitsOnlyCut : Type 0
 FrameLimitsOnlyCut = (n f w : ℕ) (s : State) → s.workspace.frames.most_frames ≤ f → s.workspace.frames.most_words ≤ w
     → IsNoFrameLimit (segment n s).end → segment n (state_in f w s) ≡ segment_in f w (segment n s)
 
--- where some steps lead on and the next one leads to too many frames or words, the run stops there, by that
--- limit, and shows nothing of that step
-abbrev pub FrameLimitsCutThere : Type 0
-FrameLimitsCutThere = (n k : ℕ) (s end over : State) (text more : Texts) (l : Limit) → Leads n s end text → step end ≡ Goes over more
-    → within_bounds over.workspace.frames ≡ Err (refusal.Limit l) → ((segment (n + suc k) s).end ≡ Err (LimitAt end.place l)) × ((segment (n + suc k) s).text ≡ text)
+-- what a step or an answer leads to passes a limit: too many frames or words, too many in a file that it restores, or one
+-- read too many
+abbrev pub Passes : Limit → State → Step → Type 0
+Passes l old (Goes s text) = within_bounds s.workspace.frames ≡ Err (refusal.Limit l)
+Passes l old (Waits s waiting text) = (l ≡ Reads) × (is_past_reads old.reads waiting.wait ≡ true)
+Passes l old (Exceeds limit) = l ≡ limit
+Passes l old _ = ⊥
+
+-- where some steps lead on and the next one passes a limit, the run stops there, by that limit, and shows nothing of that
+-- step
+abbrev pub LimitsCutThere : Type 0
+LimitsCutThere = (n k : ℕ) (s end : State) (text : Texts) (l : Limit) → Leads n s end text → Passes l end (step end)
+    → ((segment (n + suc k) s).end ≡ Err (LimitAt end.place l)) × ((segment (n + suc k) s).text ≡ text)
 
 -- ---- over all answers
 
@@ -98,3 +113,20 @@ session_in f w s = record s { state = state_in f w s.state; limits = record s.li
 abbrev pub FrameLimitsOnlyCutRuns : Type 0
 FrameLimitsOnlyCutRuns = (answers : List Answer) (end : Stop) (f w : ℕ) (s : Session) → s.state.workspace.frames.most_frames ≤ f → s.state.workspace.frames.most_words ≤ w
     → IsNoFrameStop (outcome answers end s).stop → outcome answers end (session_in f w s) ≡ outcome answers end s
+
+-- how a machine's run stops by a limit, behind the answers that it got: at the step that is one too many, at the first step
+-- that passes a limit, or at the instruction whose answer does; it has shown all up to there
+pub record LimitsCut (answers : List Answer) (s : Session) : Type 0 where
+  pub steps : (more : List Answer) (stop : Stop) (end : State) (text : Texts)
+      → Leads ((given_all answers s).limits.steps - (given_all answers s).state.steps) (record (given_all answers s).state { due = [] }) end text
+      → outcome (answers ++ more) stop s ≡ record { stop = LimitAt end.place Steps; text = text_joined (shown_up_to answers s) (text_joined (on_script (given_all answers s).state.due) text) }
+  pub step : (more : List Answer) (stop : Stop) (n : ℕ) (end : State) (text : Texts) (l : Limit) → n < (given_all answers s).limits.steps - (given_all answers s).state.steps
+      → Leads n (record (given_all answers s).state { due = [] }) end text → Passes l end (step end)
+      → outcome (answers ++ more) stop s ≡ record { stop = LimitAt end.place l; text = text_joined (shown_up_to answers s) (text_joined (on_script (given_all answers s).state.due) text) }
+  pub answer : (a : Answer) (more : List Answer) (stop : Stop) (w : Waiting) (l : Limit) → (ran (given_all answers s)).waiting ≡ Some w
+      → Passes l (ran (given_all answers s)).state (answered (ran (given_all answers s)).state w a)
+      → outcome (answers ++ a ∷ more) stop s ≡ record { stop = LimitAt (ran (given_all answers s)).state.place l; text = text_joined (shown_up_to answers s) (segment_of (given_all answers s)).text }
+
+-- of each machine that has not stopped before
+abbrev pub LimitsCutRuns : Type 0
+LimitsCutRuns = (answers : List Answer) (s : Session) → (given_all answers s).stopped ≡ None → LimitsCut answers s

@@ -1,13 +1,13 @@
 -- A story is played: its reads are answered by the lines of an input, and its saved games by a slot.
-use Rattle.std.specs.Prelude.{◌≡◌, ◌⊎◌, ℕ, Bool, true, false, List, [], ◌∷◌, take, Option, Some, None, IfSome, Result, Ok, Err, if◌then◌else◌}
+use Rattle.std.specs.Prelude.{◌≡◌, ◌⊎◌, ℕ, Bool, true, false, List, [], ◌∷◌, ◌++◌, Option, Some, None, IfSome, Result, Ok, Err, if◌then◌else◌}
 use Rattle.std.specs.List.{AllByRecursion}
 use Rattle.zk_text.specs.Extra.{is_input_code, own_characters}
 use Rattle.zk_save.specs.Quetzal.{saved}
 use Rattle.zk_term.specs.declared.lines.Over.{Over}
 use Rattle.zk_term.specs.declared.lines.Over.TheVariants.{End, Failed}
 use Rattle.zk_term.specs.Characters.{line_codes}
-use Rattle.zk_term.specs.Devices.{Shows}
-use Rattle.zk_term.specs.Lines.{Heard}
+use Rattle.zk_term.specs.Devices.{HasJust, Shows}
+use Rattle.zk_term.specs.Lines.{Heard, heard, ended_lines}
 use Rattle.zk_step.specs.Routing.{Texts, text_joined}
 use Rattle.zk_vm.specs.declared.stop.Event.{Event}
 use Rattle.zk_vm.specs.declared.stop.Event.TheVariants as event
@@ -54,15 +54,16 @@ IsSlotAnswer {K} held keeps before after s (Kept false) =
 IsSlotAnswer {K} held keeps before after s (File file) =
     (event_waited s.waiting ≡ Some event.Restore) × IfSome (held before) (λ f. file ≡ f) × (held after ≡ held before)
 
--- a slot behind its last answer: as it was, or with the saved game that it had, where there was no memory for one
-abbrev pub IsLastSlot : {K : Type 0} → (K → Option (Option (List ℕ))) → K → K → Session → Type 0
-IsLastSlot {K} held before after s = (after ≡ before) ⊎ (AsksForFile (ran s) × (held after ≡ held before))
+-- a slot behind its last answer: as it was, or with the saved game that it had, where there was no memory for one; it is not
+-- asked where a write has failed
+abbrev pub IsLastSlot : {K : Type 0} → (K → Option (Option (List ℕ))) → Bool → K → K → Session → Type 0
+IsLastSlot {K} held unwritten before after s = (after ≡ before) ⊎ ((unwritten ≡ false) × AsksForFile (ran s) × (held after ≡ held before))
 
 -- the answers of a slot, one after the other, to a machine that waits for nothing else meanwhile
-unfoldable pub AreSlotAnswers : {K : Type 0} → (K → Option (Option (List ℕ))) → (K → List ℕ → Option Bool) → K → K → Session → List Answer → Type 0
-AreSlotAnswers {K} held keeps before after s [] = IsLastSlot held before after s
-AreSlotAnswers {K} held keeps before after s (a ∷ answers) =
-    (mid : K) × (IsSlotAnswer held keeps before mid (ran s) a × AreSlotAnswers held keeps mid after (given (ran s) a) answers)
+unfoldable pub AreSlotAnswers : {K : Type 0} → (K → Option (Option (List ℕ))) → (K → List ℕ → Option Bool) → Bool → K → K → Session → List Answer → Type 0
+AreSlotAnswers {K} held keeps unwritten before after s [] = IsLastSlot held unwritten before after s
+AreSlotAnswers {K} held keeps unwritten before after s (a ∷ answers) =
+    (mid : K) × (IsSlotAnswer held keeps before mid (ran s) a × AreSlotAnswers held keeps unwritten mid after (given (ran s) a) answers)
 
 -- a machine that waits got an answer of a slot
 pub record IsServed {K : Type 0} (held : K → Option (Option (List ℕ))) (keeps : K → List ℕ → Option Bool) (before after : K) (old new : Session) : Type 0 where
@@ -150,31 +151,53 @@ CanBeGiven (Typed codes) = AllByRecursion (λ c. is_input_code c ≡ true) codes
 CanBeGiven (Kept kept) = Unit {0}
 CanBeGiven (File file) = Unit {0}
 
--- an outcome of a machine's run on some answers
-abbrev pub IsAnswered : Session → Outcome → Type 0
-IsAnswered s o = (answers : List Answer) × ((over : Over) × (AllByRecursion CanBeGiven answers × IsOutcomeOn answers over (Unit {0}) s o))
+-- the last read of a source found no line: it found the end, or it failed, or too many bytes had come without a new line
+abbrev pub FoundNoLine : {R : Type 0} → (R → R → Type 0) → (R → R → Type 0) → (R → Bool) → R → Over → Type 0
+FoundNoLine {R} ends fails failed after End = HasJust ends after × (failed after ≡ false)
+FoundNoLine {R} ends fails failed after Failed = (HasJust fails after × (failed after ≡ true)) ⊎ (failed after ≡ false)
+
+-- an answer of a slot
+abbrev pub IsNoLine : Answer → Type 0
+IsNoLine (Typed codes) = ⊥
+IsNoLine _ = Unit {0}
+
+-- where a machine waits for a line behind its last answer, and all was written, the last read found none
+abbrev pub IsLastRead : {R : Type 0} → (R → R → Type 0) → (R → R → Type 0) → (R → Bool) → R → Bool → Over → Session → Type 0
+IsLastRead {R} ends fails failed after unwritten over s = unwritten ≡ false → AsksForLine (ran s) → FoundNoLine ends fails failed after over
+
+-- a source that no line was wanted of was left alone
+abbrev pub IsLeftAlone : {R : Type 0} → R → R → List Answer → Session → Type 0
+IsLeftAlone {R} before after answers s = AllByRecursion IsNoLine answers → (AsksForLine (ran (given_all answers s)) → ⊥) → after ≡ before
+
+-- an outcome of a machine's run on some answers, for which a source was read
+abbrev pub IsAnswered : {R : Type 0} → (R → R → Type 0) → (R → R → Type 0) → (R → Bool) → R → R → Bool → Session → Outcome → Type 0
+IsAnswered {R} ends fails failed before after unwritten s o =
+    (answers : List Answer) × ((over : Over) × (AllByRecursion CanBeGiven answers × (IsLeftAlone before after answers s
+    × IsOutcomeOn answers over (IsLastRead ends fails failed after unwritten over (given_all answers s)) s o)))
 
 -- the answers of lines and of a slot, in the order in which a machine waits for them, and the lines left behind them
-unfoldable pub ArePlayed : {K : Type 0} → (K → Option (Option (List ℕ))) → (K → List ℕ → Option Bool) → K → K → List (List ℕ) → List (List ℕ) → Session → List Answer → Type 0
-ArePlayed {K} held keeps before after lines left s [] = IsLastSlot held before after s × (left ≡ lines)
-ArePlayed {K} held keeps before after lines left s (Typed codes ∷ answers) =
+unfoldable pub ArePlayed : {K : Type 0} → (K → Option (Option (List ℕ))) → (K → List ℕ → Option Bool) → Bool → K → K → List (List ℕ) → List (List ℕ) → Session → List Answer → Type 0
+ArePlayed {K} held keeps unwritten before after lines left s [] = IsLastSlot held unwritten before after s × (left ≡ lines)
+ArePlayed {K} held keeps unwritten before after lines left s (Typed codes ∷ answers) =
     (line : List ℕ) × ((others : List (List ℕ)) × ((lines ≡ line ∷ others) × AsksForLine (ran s) × (codes ≡ codes_read (ran s) line)
-    × ArePlayed held keeps before after others left (given (ran s) (Typed codes)) answers))
-ArePlayed {K} held keeps before after lines left s (a ∷ answers) =
-    (mid : K) × (IsSlotAnswer held keeps before mid (ran s) a × ArePlayed held keeps mid after lines left (given (ran s) a) answers)
+    × ArePlayed held keeps unwritten before after others left (given (ran s) (Typed codes)) answers))
+ArePlayed {K} held keeps unwritten before after lines left s (a ∷ answers) =
+    (mid : K) × (IsSlotAnswer held keeps before mid (ran s) a × ArePlayed held keeps unwritten mid after lines left (given (ran s) a) answers)
 
 -- behind its last answer a machine waits for no line that there is, unless a write has failed
 abbrev pub IsLastAnswered : Bool → List (List ℕ) → Session → Type 0
 IsLastAnswered unwritten left s = unwritten ≡ false → AsksForLine (ran s) → left ≡ []
 
--- what is heard of an input; where a read of the source has failed, perhaps its first lines alone
-abbrev pub IsHeard : Heard → Bool → Heard → Type 0
-IsHeard whole failed h = (h ≡ whole) ⊎ ((failed ≡ true) × ((n : ℕ) × (h ≡ record { lines = take n whole.lines; over = Failed })))
+-- what is heard of an input, where these bytes are left of it in the end, and the lines that are left: the lines of all of its
+-- bytes; where a read of the source has failed, those that are complete in the bytes that had left it, and none is left
+abbrev pub IsHeard : List ℕ → List ℕ → Bool → Heard → List (List ℕ) → Type 0
+IsHeard bytes later false h left = h ≡ heard bytes
+IsHeard bytes later true h left = (gone : List ℕ) × ((bytes ≡ gone ++ later) × (h ≡ record { lines = ended_lines gone; over = Failed }) × (left ≡ []))
 
 -- an outcome of a machine's run on what is heard of an input, and on the answers of a slot
-abbrev pub IsPlayed : {K : Type 0} → (K → Option (Option (List ℕ))) → (K → List ℕ → Option Bool) → K → K → Heard → Bool → Bool → Session → Outcome → Type 0
-IsPlayed {K} held keeps before after whole failed unwritten s o =
-    (h : Heard) × (IsHeard whole failed h × ((answers : List Answer) × ((left : List (List ℕ)) × (ArePlayed held keeps before after h.lines left s answers
+abbrev pub IsPlayed : {K : Type 0} → (K → Option (Option (List ℕ))) → (K → List ℕ → Option Bool) → K → K → List ℕ → List ℕ → Bool → Bool → Session → Outcome → Type 0
+IsPlayed {K} held keeps before after bytes later failed unwritten s o =
+    (h : Heard) × ((answers : List Answer) × ((left : List (List ℕ)) × (IsHeard bytes later failed h left × (ArePlayed held keeps unwritten before after h.lines left s answers
     × IsOutcomeOn answers h.over (IsLastAnswered unwritten left (given_all answers s)) s o))))
 
 -- A machine was played: there is an outcome, of a kind, that it has. Where a write has failed the stop is that, and each

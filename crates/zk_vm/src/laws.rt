@@ -1,8 +1,9 @@
 // Laws of runs.
 
-ghost use Rattle.zk_vm.specs.Laws.{RunsStayWithin, StepLimitOnlyCuts, StepLimitCutsThere, FrameLimitsOnlyCut, FrameLimitsCutThere, StepLimitOnlyCutsRuns, FrameLimitsOnlyCutRuns};
+ghost use Rattle.zk_vm.specs.Laws.{RunsStayWithin, StepLimitOnlyCuts, StepLimitCutsThere, FrameLimitsOnlyCut, LimitsCutThere, StepLimitOnlyCutsRuns, FrameLimitsOnlyCutRuns, LimitsCutRuns};
 
-/// Every state that a run passes has at most so many frames, words and steps as its limits say.
+/// Every state that a run passes, whatever answers it gets, has no more frames, words, steps, reads and states to go back
+/// to than its limits say.
 pub fn runs_stay_within()
     ensures { RunsStayWithin }
 {}
@@ -22,9 +23,9 @@ pub fn frame_limits_only_cut()
     ensures { FrameLimitsOnlyCut }
 {}
 
-/// The first step whose next state has too many frames or words is where the run stops, by that limit.
-pub fn frame_limits_cut_there()
-    ensures { FrameLimitsCutThere }
+/// The first step that passes a limit on frames, words or reads is where the run stops, by that limit.
+pub fn limits_cut_there()
+    ensures { LimitsCutThere }
 {}
 
 /// A run that stops for another reason is the same under any greater limit on steps, whatever answers it gets.
@@ -35,4 +36,9 @@ pub fn step_limit_only_cuts_runs()
 /// So it is under any greater limits on frames and words.
 pub fn frame_limits_only_cut_runs()
     ensures { FrameLimitsOnlyCutRuns }
+{}
+
+/// A run stops at the first step or answer that passes a limit, by that limit, also behind other answers.
+pub fn limits_cut_runs()
+    ensures { LimitsCutRuns }
 {}

@@ -387,7 +387,7 @@ impl Machine {
     /// Runs the story up to the next event, a read or a saved game, or its stop, and answers the same stop
     /// from then on until `close` sets another. Nothing of an instruction that faults is shown. Where there is
     /// no memory for a state that `save_undo` keeps, the stop is `Memory`, before that instruction stores its
-    /// answer. It is not waiting.
+    /// answer, and the states that were kept stand. It is not waiting.
     pub fn run<S: Screen>(&mut self, screen: &mut S) -> Result<Event, Stop>
         requires { self.old.waiting ≡ None }
         ensures run { IsRun self.old self.new result (λ t. S.shows screen.old screen.new t.screen t.script) }
@@ -441,6 +441,7 @@ impl Machine {
         ensures free { self.new.waiting ≡ None }
         ensures counted { self.new.stopped ≡ None → self.new.state.reads ≡ self.old.state.reads + 1 }
         ensures limits { self.new.limits ≡ self.old.limits }
+        ensures within { IsWithin self.new.limits self.new.state }
     {
         let Some(waiting) = self.waiting.take() else {
             return;
@@ -452,6 +453,7 @@ impl Machine {
             let answered = answer_line(&mut self.workspace, &words, i, text, parse, codes);
             count_read(&mut self.reads, &mut self.steps);
             follow(&mut self.place, &mut self.stopped, answered);
+            self.is_within();
         }
     }
 
@@ -464,6 +466,7 @@ impl Machine {
         ensures free { self.new.waiting ≡ None }
         ensures counted { self.new.stopped ≡ None → self.new.state.reads ≡ self.old.state.reads + 1 }
         ensures limits { self.new.limits ≡ self.old.limits }
+        ensures within { IsWithin self.new.limits self.new.state }
     {
         let Some(waiting) = self.waiting.take() else {
             return;
@@ -472,6 +475,7 @@ impl Machine {
         let answered = answer_character(&mut self.workspace, &waiting.instruction, code);
         count_read(&mut self.reads, &mut self.steps);
         follow(&mut self.place, &mut self.stopped, answered);
+        self.is_within();
     }
 
     /// The file of the saved game that waits to be kept: the state before its instruction stores or branches
@@ -499,6 +503,7 @@ impl Machine {
         ensures counted { self.new.stopped ≡ None → self.new.state.steps ≡ self.old.state.steps + 1 }
         ensures reads { self.new.stopped ≡ None → self.new.state.reads ≡ self.old.state.reads }
         ensures limits { self.new.limits ≡ self.old.limits }
+        ensures within { IsWithin self.new.limits self.new.state }
     {
         let Some(waiting) = self.waiting.take() else {
             return;
@@ -511,6 +516,7 @@ impl Machine {
             &mut self.stopped,
             answered,
         );
+        self.is_within();
     }
 
     /// Answers by a saved game, or by none (Z-Machine Standards Document 1.1, section 15, `restore`). A file
@@ -523,6 +529,7 @@ impl Machine {
         ensures counted { self.new.stopped ≡ None → self.new.state.steps ≡ self.old.state.steps + 1 }
         ensures reads { self.new.stopped ≡ None → self.new.state.reads ≡ self.old.state.reads }
         ensures limits { self.new.limits ≡ self.old.limits }
+        ensures within { IsWithin self.new.limits self.new.state }
     {
         let Some(waiting) = self.waiting.take() else {
             return;
@@ -536,6 +543,7 @@ impl Machine {
                     &mut self.stopped,
                     answered,
                 );
+                self.is_within();
             }
             None => {
                 let answered = answer_result(&mut self.workspace, &waiting.instruction, 0, false);
@@ -545,6 +553,7 @@ impl Machine {
                     &mut self.stopped,
                     answered,
                 );
+                self.is_within();
             }
         }
     }

@@ -3,8 +3,9 @@
 ghost use Rattle.std.specs.Prelude.{◌≡◌, ◌≤◌, ◌<◌, ◌+◌, ◌⊎◌, ◌++◌, ◌||◌, List, ℕ, length, true, false, None, Some, IfOk, IfErr, OnOk, OnErr};
 ghost use Rattle.std.specs.List.{AllByRecursion};
 ghost use Rattle.zk_text.specs.Extra.{is_input_code, own_characters};
-ghost use Rattle.zk_term.specs.Devices.{Shows};
-ghost use Rattle.zk_term.specs.Lines.{heard, Hears, HasInputCodes, over_after};
+ghost use Rattle.zk_term.specs.Devices.{HasJust, Shows};
+ghost use Rattle.zk_term.specs.declared.lines.Over.{Over};
+ghost use Rattle.zk_term.specs.Lines.{Hears, FailsAlone, HasInputCodes, IsOverAfter, ReadFailed, over_input};
 ghost use Rattle.zk_vm.specs.Answers.{first_code};
 ghost use Rattle.zk_vm.specs.Answers.Answer.{Typed};
 ghost use Rattle.zk_vm.specs.Halts.{IsLeftAs, event_waited, is_read_event};
@@ -133,7 +134,7 @@ pub fn turn<S: Target, T: Target, K: SaveSlot>(
     requires free { machine.old.waiting ≡ None }
     requires screen_works { S.failed screen.old ≡ false }
     requires script_works { T.failed script.old ≡ false }
-    ensures turn { IsTurn (AreSlotAnswers K.held K.keeps slot.old slot.new machine.old) machine.old machine.new result (S.failed screen.new || T.failed script.new)
+    ensures turn { IsTurn (AreSlotAnswers K.held K.keeps (S.failed screen.new || T.failed script.new) slot.old slot.new machine.old) machine.old machine.new result (S.failed screen.new || T.failed script.new)
         (TookTexts (S.taken screen.old) (S.taken screen.new) (T.taken script.old) (T.taken script.new) (S.failed screen.new || T.failed script.new)) }
     ensures free_again { OnErr result (machine.new.waiting ≡ None) }
     ensures asks { IfOk result (λ event. (event_waited machine.new.waiting ≡ Some event) × (is_read_event event ≡ true)) }
@@ -158,10 +159,12 @@ pub fn turn<S: Target, T: Target, K: SaveSlot>(
 
 /// The next line, by the extra characters in force.
 fn next_line<R: Source>(lines: &mut Lines, reader: &mut R, machine: &Machine) -> Input
-    requires { lines.old.over ≡ None }
-    ensures heard { (bytes : List ℕ) → R.left reader.old ≡ Some bytes → (later : List ℕ) × (R.left reader.new ≡ Some later) × Hears (own_characters machine.now.state.workspace.memory) (lines.old.ahead ++ bytes) (lines.new.ahead ++ later) (R.failed reader.new) result }
-    ensures next { lines.new.over ≡ over_after result }
+    ensures over { (o : Over) → lines.old.over ≡ Some o → (result ≡ over_input o) × (lines.new ≡ lines.old) × (reader.new ≡ reader.old) }
+    ensures heard { (bytes : List ℕ) → lines.old.over ≡ None → R.left reader.old ≡ Some bytes → (later : List ℕ) × (R.left reader.new ≡ Some later) × Hears (own_characters machine.now.state.workspace.memory) (lines.old.ahead ++ bytes) (lines.new.ahead ++ later) lines.new.over (ReadFailed R.fails R.failed reader.new lines.new) (R.failed reader.new ≡ R.failed reader.old) result }
+    ensures next { lines.old.over ≡ None → IsOverAfter result lines.new.over }
     ensures codes { HasInputCodes result }
+    ensures failed { FailsAlone (ReadFailed R.fails R.failed reader.new lines.new) (R.failed reader.new ≡ R.failed reader.old) result }
+    ensures ends { lines.old.over ≡ None → lines.new.over ≡ Some Over.End → HasJust R.ends reader.new }
 {
     lines.line(reader, &Extra::of(machine.memory()))
 }
@@ -208,7 +211,7 @@ fn close(machine: &mut Machine, stop: Stop) -> Stop
 /// Plays a story up to its stop, and ends the machine with it: turn after turn, whose reads the lines of the
 /// reader answer. The reader is asked between turns alone, when all text up to there is written; a read that
 /// finds no line ends the story with `EndOfInput` or, where the reader fails or a line is too long, with
-/// `Read`. Once a write has failed nothing more is written to either target, and the stop is `Write`: what
+/// `Read`, and the reader is not asked again; a story that does not read leaves it alone. Once a write has failed nothing more is written to either target, and the stop is `Write`: what
 /// went out is a first part of the text. The slot keeps and gives saved games; where there is no memory for one, or
 /// for a state that is to be kept, the stop is `Memory`. The machine is not waiting, and no device has failed.
 pub fn play<R: Source, S: Target, T: Target, K: SaveSlot>(
@@ -223,8 +226,9 @@ pub fn play<R: Source, S: Target, T: Target, K: SaveSlot>(
     requires reader_works { R.failed reader.old ≡ false }
     requires screen_works { S.failed screen.old ≡ false }
     requires script_works { T.failed script.old ≡ false }
-    ensures played { (bytes : List ℕ) → R.left reader.old ≡ Some bytes → IsPlay (IsPlayed K.held K.keeps slot.old slot.new (heard bytes) (R.failed reader.new) (S.failed screen.new || T.failed script.new) machine.old) result (S.failed screen.new || T.failed script.new) (S.taken screen.old) (S.taken screen.new) (T.taken script.old) (T.taken script.new) }
-    ensures answered { IsPlay (IsAnswered machine.old) result (S.failed screen.new || T.failed script.new) (S.taken screen.old) (S.taken screen.new) (T.taken script.old) (T.taken script.new) }
+    ensures played { (bytes : List ℕ) → R.left reader.old ≡ Some bytes → (later : List ℕ) × (R.left reader.new ≡ Some later) × IsPlay (IsPlayed K.held K.keeps slot.old slot.new bytes later (R.failed reader.new) (S.failed screen.new || T.failed script.new) machine.old) result (S.failed screen.new || T.failed script.new) (S.taken screen.old) (S.taken screen.new) (T.taken script.old) (T.taken script.new) }
+    ensures answered { IsPlay (IsAnswered R.ends R.fails R.failed reader.old reader.new (S.failed screen.new || T.failed script.new) machine.old) result (S.failed screen.new || T.failed script.new) (S.taken screen.old) (S.taken screen.new) (T.taken script.old) (T.taken script.new) }
+    ensures read_failed { R.failed reader.new ≡ true → result ≡ Stop.Read }
     ensures stopped { machine.new.stopped ≡ Some result }
     ensures limits { machine.new.limits ≡ machine.old.limits }
     ensures within { IsWithin machine.new.limits machine.new.state }

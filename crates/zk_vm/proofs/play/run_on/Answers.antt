@@ -1,7 +1,7 @@
 use Rattle.std.proofs.Common.{rules, ◌≡◌, ◌∙◌, Some, None, true, false, sym, ap}
 use Rattle.zk_vm.specs.declared.stop.Stop.TheVariants as stop
 use Rattle.zk_vm.specs.Outcome.{Session}
-use Rattle.zk_vm.proofs.RunningOn.{ran_into, ran_on}
+use Rattle.zk_vm.proofs.RunningOn.{ran_into, ran_on, run_same}
 use Rattle.zk_vm.proofs.play.run_on.Goals as goal
 
 pub returns-then-has_failed-clause-run : goal.returns-then-has_failed-clause-run
@@ -16,4 +16,11 @@ pub returns-clause-run : goal.returns-clause-run
 returns-clause-run g c =
     let sound : c.finish.new.self.failed ≡ false = sym c.has_failed.ensures ∙ c.if-has_failed.false in
     let goes = ran_on _ _ _ _ _ _ _ _ c.run-answer.ensures.run c.finish.ensures.written (record { screen = search rules; script = search rules; failed = search rules; either = search rules }) (record { screen = c.finish.ensures.no_text; script = c.finish.ensures.no_script }) sound in
-    search (rules, goes)
+    let same = run_same _ _ _ _ _ _ _ c.run-answer.ensures.run in
+    let x : g.S.Target.taken c.screen-1.given.0 ≡ g.S.Target.taken c.finish.new.self.screen.now = search rules in
+    let y : g.T.Target.taken c.script-1.given.0 ≡ g.T.Target.taken c.finish.new.self.script.now = search rules in
+    let z : g.S.Target.failed c.screen-1.given.0 ≡ g.S.Target.failed c.finish.new.self.screen.now = search rules in
+    let w : g.T.Target.failed c.script-1.given.0 ≡ g.T.Target.failed c.finish.new.self.script.now = search rules in
+    let u : g.S.Target.taken c.args.screen.now ≡ g.S.Target.taken c.new-console.result.screen.now = search rules in
+    let v : g.T.Target.taken c.args.script.now ≡ g.T.Target.taken c.new-console.result.script.now = search rules in
+    rw (x, y, z, w, u, v) goes

@@ -62,7 +62,7 @@ returns-in-Err-serve-clause-turn g c =
     let u = c.in-Err-serve.ensures.unserved in
     let a = run_asks _ c.loop-event.machine c.run_on.new.machine _ _ c.in-Ok.ensures.run in
     let r = run_lacks _ c.loop-event.machine c.run_on.new.machine c.serve.new.machine _ c.in-Err-serve.stop _ u.1 u.0 u.2 c.in-Ok.ensures.run in
-    turn_ends _ _ _ c.loop-event.machine c.serve.new.machine _ _ _ _ _ _ _ _ _ _ _ r.text c.loop-event.invariant.so_far (inr (ran_asks c.loop-event.machine c.run_on.new.machine a.2 u.1, u.3)) r.ends r.left r.shown.0 r.shown.1
+    turn_ends _ _ _ c.loop-event.machine c.serve.new.machine _ _ _ _ _ _ _ _ _ _ _ r.text c.loop-event.invariant.so_far (inr (a.0, ran_asks c.loop-event.machine c.run_on.new.machine a.2 u.1, u.3)) r.ends r.left r.shown.0 r.shown.1
 
 pub returns-in-Err-serve-clause-limits : goal.returns-in-Err-serve-clause-limits
 returns-in-Err-serve-clause-limits g c = c.serve.ensures.limits ∙ c.run_on.ensures.limits ∙ c.loop-event.invariant.limits

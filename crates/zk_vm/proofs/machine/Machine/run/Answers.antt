@@ -28,4 +28,4 @@ returns-in-Stops-clause-run g c =
     let first = rw c.as_slice.ensures.value at c.script_all.ensures in
     let rest = rw c.clear.ensures at c.in-Stops.ensures.run in
     rw (← c.self.view_is) (run_stops g.S.Screen.shows g.met.S.Screen.twice _ _ _ (seen c.self.inside) c.steps_to_halt.new.self _ c.in-Stops.stop c.in_default.is first rest refl
-    (ap (λ (m : Session). m.waiting) c.self-2.view_is) (ap (λ (m : Session). m.limits) c.self-2.view_is ∙ c.in-Stops.ensures.limits))
+    (ap (λ (m : Session). m.waiting) c.self-2.view_is) (ap (λ (m : Session). m.limits) c.self-2.view_is ∙ c.in-Stops.ensures.limits) (ap (λ (m : Session). m.state) c.self-2.view_is))

@@ -1,6 +1,6 @@
--- One opcode alone keeps a state.
+-- Instructions that wait, keep a state or go back to one: their operands were taken, and nothing else has changed.
 use Rattle.std.specs.Prelude.{◌==◌, if◌then◌else◌}
-use Rattle.std.proofs.Common.{◌≡◌, ℕ, Bool, true, false, List, [], ◌∷◌, Option, Some, None, Result, Ok, Err, refl, subst}
+use Rattle.std.proofs.Common.{◌≡◌, ℕ, Bool, true, false, List, [], ◌∷◌, Option, Some, None, Result, Ok, Err, refl, ap, sym, ◌∙◌, subst}
 use Rattle.zk_mem.specs.declared.fault.Fault.{Fault}
 use Rattle.zk_mem.specs.Map.{MemoryMap}
 use Rattle.zk_state.specs.Frames.{popped}
@@ -39,9 +39,11 @@ use Rattle.zk_step.specs.declared.ending.Effect.{Effect}
 use Rattle.zk_step.specs.declared.ending.Ending.{Ending}
 use Rattle.zk_step.specs.declared.ending.Ending.TheVariants as ending
 use Rattle.zk_step.specs.declared.ending.Next.{Next}
-use Rattle.zk_step.specs.declared.ending.Next.TheVariants.{Keeps}
+use Rattle.zk_step.specs.declared.ending.Next.TheVariants.{At, Waits, Keeps, Resumes, End}
+use Rattle.zk_step.specs.declared.ending.Output.{Output}
 use Rattle.zk_step.specs.declared.ending.Output.TheVariants.{Nothing}
 use Rattle.zk_step.specs.declared.ending.Wait.{Wait}
+use Rattle.zk_step.specs.declared.ending.Wait.TheVariants as wait
 use Rattle.zk_step.specs.declared.workspace.View.{View}
 use Rattle.zk_step.specs.declared.workspace.View.TheVariants as view
 use Rattle.zk_step.specs.declared.workspace.Workspace.{Workspace}
@@ -50,7 +52,9 @@ use Rattle.zk_step.specs.Arrays.{array_effect}
 use Rattle.zk_step.specs.Assignment.{assignment}
 use Rattle.zk_step.specs.Comparison.{comparison}
 use Rattle.zk_step.specs.Control.{control}
+use Rattle.zk_mem.specs.Results.{◌>>=◌}
 use Rattle.zk_step.specs.Effects.{beside, effect_by, effect_of}
+use Rattle.zk_step.specs.Endings.{ends}
 use Rattle.zk_step.specs.Idle.{idle}
 use Rattle.zk_step.specs.Inputs.{reading}
 use Rattle.zk_step.specs.Instructions.{carried_out}
@@ -58,7 +62,7 @@ use Rattle.zk_step.specs.Finish.{finished}
 use Rattle.zk_step.specs.Objects.{object_answer, object_changed}
 use Rattle.zk_step.specs.Printing.{printing, prints_inline, prints_line}
 use Rattle.zk_step.specs.Routines.{call_effect, calls, routine_effect}
-use Rattle.zk_step.specs.Routing.{Texts, routed}
+use Rattle.zk_step.specs.Routing.{Texts, no_text, routed}
 use Rattle.zk_step.specs.Saving.{saving, waits_whole}
 use Rattle.zk_step.specs.Screens.{status_by, window_effect}
 use Rattle.zk_step.specs.Selecting.{stream_changed}
@@ -69,9 +73,17 @@ use Rattle.zk_step.specs.Words.{words_changed}
 use Rattle.zk_step.proofs.FixedParts.{Leaves, gives, fails, leaves_then, leaves_after, leaves_if, value_left}
 use Rattle.zk_vm.proofs.Ends.{EndsAs, ends_as}
 
--- an ending that keeps no state
+-- an ending at which the machine does not go on by itself, or one at which it does
+abbrev IsPause : Ending → Type 0
+IsPause ending.Keep = Unit {0}
+IsPause ending.Resume = Unit {0}
+IsPause (ending.Wait x) = Unit {0}
+IsPause _ = ⊥
+
 abbrev IsOther : Ending → Type 0
 IsOther ending.Keep = ⊥
+IsOther ending.Resume = ⊥
+IsOther (ending.Wait x) = ⊥
 IsOther _ = Unit {0}
 
 abbrev Others : Effect → Type 0
@@ -196,12 +208,6 @@ idle_others SetFont m vs = tt
 idle_others Piracy m vs = tt
 idle_others CheckUnicode m vs = tt
 
-reading_others : (o : Reading) (vs : List ℕ) → Others (reading o vs)
-unfolding reading
-reading_others Sread vs = tt
-reading_others Aread vs = tt
-reading_others ReadChar vs = tt
-
 status_others : (v : View) (w : Workspace) → Leaves OthersBeside (status_by v w)
 status_others view.Plain w = gives tt
 status_others view.Upper w = leaves_if (w.memory.version == 3) (leaves_after _ _ (λ u. gives tt)) (gives tt)
@@ -229,66 +235,160 @@ table_others PrintTable w vs = leaves_after _ _ (λ u. gives tt)
 beside_others : (w : Workspace) (r : Result Effect Fault) → Leaves Others r → Leaves OthersBeside (beside w r)
 beside_others w r h = leaves_then r _ h (λ e k. gives k)
 
--- what keeps a state is `save_undo`
-abbrev KeepsBy : Opcode → Workspace × Effect → Type 0
-KeepsBy o e = e.1.ending ≡ ending.Keep → o ≡ opcode.Saving SaveUndo
+-- an effect that pauses leaves the workspace and prints nothing, and only `save_undo` keeps a state
+pub record PausesSo (o : Opcode) (w : Workspace) (e : Workspace × Effect) : Type 0 where
+  pub same : e.0 ≡ w
+  pub silent : e.1.output ≡ Nothing
+  pub keeps : e.1.ending ≡ ending.Keep → o ≡ opcode.Saving SaveUndo
 
-other_keep : (x : Ending) → IsOther x → x ≡ ending.Keep → ⊥
-other_keep x other keep = subst IsOther keep other
+abbrev Pauses : Opcode → Workspace → Workspace × Effect → Type 0
+Pauses o w e = IsPause e.1.ending → PausesSo o w e
+
+other_pause : (x : Ending) → IsOther x → IsPause x → ⊥
+other_pause ending.Keep other pause = other
+other_pause ending.Resume other pause = other
+other_pause (ending.Wait x) other pause = other
+other_pause (ending.GoOn x truth) other pause = pause
+other_pause (ending.Jump offset) other pause = pause
+other_pause (ending.Call p most) other pause = pause
+other_pause (ending.Return x) other pause = pause
+other_pause (ending.Throw x n) other pause = pause
+other_pause ending.Restart other pause = pause
+other_pause ending.Quit other pause = pause
 
 leaves_by : {A : Type 0} {P : A → Type 0} (r : Result A Fault) → ((x : A) → r ≡ Ok x → P x) → Leaves P r
 leaves_by {A} {P} (Ok x) h = gives (h x refl)
 leaves_by {A} {P} (Err e) h = fails
 
-no_keep : (o : Opcode) (r : Result (Workspace × Effect) Fault) → Leaves OthersBeside r → Leaves (KeepsBy o) r
-no_keep o r h = leaves_by r (λ e is keep. absurd (other_keep e.1.ending (value_left r e h is) keep))
+leaves_with : {A B : Type 0} {Q : B → Type 0} (r : Result A Fault) (k : A → Result B Fault) → ((x : A) → r ≡ Ok x → Leaves Q (k x)) → Leaves Q (r >>= k)
+leaves_with {A} {B} {Q} (Ok x) k c = c x refl
+leaves_with {A} {B} {Q} (Err e) k c = fails
 
-whole_others : (x : Wait) (vs : List ℕ) → Others (waits_whole x vs)
-whole_others x [] = tt
-whole_others x (v ∷ vs) = tt
+no_pause : (o : Opcode) (w : Workspace) (r : Result (Workspace × Effect) Fault) → Leaves OthersBeside r → Leaves (Pauses o w) r
+no_pause o w r h = leaves_by r (λ e is pause. absurd (other_pause e.1.ending (value_left r e h is) pause))
 
-saving_keeps : (o : Saving) (w : Workspace) (vs : List ℕ) → Leaves (KeepsBy (opcode.Saving o)) (Ok (w, saving o w.memory vs))
+waits_so : (o : Opcode) (w : Workspace) (x : Wait) → PausesSo o w (w, ends (ending.Wait x))
+waits_so o w x = record { same = refl; silent = refl; keeps = λ h. absurd cc }
+
+whole_pauses : (o : Opcode) (w : Workspace) (x : Wait) (vs : List ℕ) → Leaves (Pauses o w) (Ok (w, waits_whole x vs))
+whole_pauses o w x [] = gives (λ p. waits_so o w x)
+whole_pauses o w x (v ∷ vs) = no_pause o w _ (gives tt)
+
+saving_pauses : (o : Saving) (w : Workspace) (vs : List ℕ) → Leaves (Pauses (opcode.Saving o) w) (Ok (w, saving o w.memory vs))
 unfolding saving
-saving_keeps SaveBranch w vs = no_keep (opcode.Saving SaveBranch) _ (gives tt)
-saving_keeps SaveStore w vs = no_keep (opcode.Saving SaveStore) _ (gives tt)
-saving_keeps RestoreBranch w vs = no_keep (opcode.Saving RestoreBranch) _ (gives tt)
-saving_keeps RestoreStore w vs = no_keep (opcode.Saving RestoreStore) _ (gives tt)
-saving_keeps Save w vs = no_keep (opcode.Saving Save) _ (gives (whole_others _ vs))
-saving_keeps Restore w vs = no_keep (opcode.Saving Restore) _ (gives (whole_others _ vs))
-saving_keeps Restart w vs = no_keep (opcode.Saving Restart) _ (gives tt)
-saving_keeps Verify w vs = no_keep (opcode.Saving Verify) _ (gives tt)
-saving_keeps SaveUndo w vs = gives (λ keep. refl)
-saving_keeps RestoreUndo w vs = no_keep (opcode.Saving RestoreUndo) _ (gives tt)
+saving_pauses SaveBranch w vs = gives (λ p. waits_so (opcode.Saving SaveBranch) w wait.Save)
+saving_pauses SaveStore w vs = gives (λ p. waits_so (opcode.Saving SaveStore) w wait.Save)
+saving_pauses RestoreBranch w vs = gives (λ p. waits_so (opcode.Saving RestoreBranch) w wait.Restore)
+saving_pauses RestoreStore w vs = gives (λ p. waits_so (opcode.Saving RestoreStore) w wait.Restore)
+saving_pauses Save w vs = whole_pauses (opcode.Saving Save) w wait.Save vs
+saving_pauses Restore w vs = whole_pauses (opcode.Saving Restore) w wait.Restore vs
+saving_pauses Restart w vs = no_pause (opcode.Saving Restart) w _ (gives tt)
+saving_pauses Verify w vs = no_pause (opcode.Saving Verify) w _ (gives tt)
+saving_pauses SaveUndo w vs = gives (λ p. record { same = refl; silent = refl; keeps = λ h. refl })
+saving_pauses RestoreUndo w vs = gives (λ p. record { same = refl; silent = refl; keeps = λ h. absurd cc })
 
-effect_keeps : (o : Opcode) (w : Workspace) (text : Option ℕ) (vs : List ℕ) → Leaves (KeepsBy o) (effect_by o w text vs)
-effect_keeps (opcode.Arithmetic o) w text vs = no_keep _ _ (beside_others w (arithmetic o vs) (arithmetic_others o vs))
-effect_keeps (opcode.Comparison o) w text vs = no_keep _ _ (gives (comparison_others o vs))
-effect_keeps (opcode.Assignment o) w text vs = no_keep _ _ (assignment_others o w vs)
-effect_keeps opcode.Push w text vs = no_keep _ _ (gives tt)
-effect_keeps (opcode.Array o) w text vs = no_keep _ _ (array_others o w vs)
-effect_keeps (opcode.ObjectChange o) w text vs = no_keep _ _ (leaves_after (object_changed o w.memory vs) _ (λ m. gives tt))
-effect_keeps (opcode.ObjectQuestion o) w text vs = no_keep _ _ (beside_others w (object_answer o w.memory vs) (object_others o w.memory vs))
-effect_keeps (opcode.Call o) w text vs = no_keep _ _ (gives (call_others o vs))
-effect_keeps (opcode.Routine o) w text vs = no_keep _ _ (routine_others o w vs)
-effect_keeps (opcode.Control o) w text vs = no_keep _ _ (gives (control_others o vs))
-effect_keeps (opcode.Printing o) w text vs = no_keep _ _ (beside_others w (printing o w.memory text vs) (printing_others o w.memory text vs))
-effect_keeps (opcode.Idle o) w text vs = no_keep _ _ (gives (idle_others o w.memory vs))
-effect_keeps (opcode.Reading o) w text vs = no_keep _ _ (gives (reading_others o vs))
-effect_keeps (opcode.Words o) w text vs = no_keep _ _ (leaves_after (words_changed o w.memory vs) _ (λ m. gives tt))
-effect_keeps (opcode.Stream o) w text vs = no_keep _ _ (leaves_after (stream_changed o w vs) _ (λ v. gives tt))
-effect_keeps (opcode.Window o) w text vs = no_keep _ _ (window_others o w vs)
-effect_keeps (opcode.Table o) w text vs = no_keep _ _ (table_others o w vs)
-effect_keeps opcode.Random w text vs = no_keep _ _ (gives tt)
-effect_keeps (opcode.Saving o) w text vs = saving_keeps o w vs
+reading_pauses : (o : Reading) (w : Workspace) (vs : List ℕ) → Leaves (Pauses (opcode.Reading o) w) (Ok (w, reading o vs))
+unfolding reading
+reading_pauses Sread w vs = gives (λ p. waits_so (opcode.Reading Sread) w _)
+reading_pauses Aread w vs = gives (λ p. waits_so (opcode.Reading Aread) w _)
+reading_pauses ReadChar w vs = gives (λ p. waits_so (opcode.Reading ReadChar) w _)
 
-finish_keeps : (w : Workspace) (i : Instr) (vs : List ℕ) (e : Ending) → Leaves (λ (n : Workspace × Next). n.1 ≡ Keeps → e ≡ ending.Keep) (finished w i vs e)
-finish_keeps w i vs e = leaves_by (finished w i vs e) (λ n is keeps. subst (λ (x : Next). EndsAs e x) keeps (ends_as w i vs e n.0 n.1 is))
+effect_pauses : (o : Opcode) (w : Workspace) (text : Option ℕ) (vs : List ℕ) → Leaves (Pauses o w) (effect_by o w text vs)
+effect_pauses (opcode.Arithmetic o) w text vs = no_pause _ w _ (beside_others w (arithmetic o vs) (arithmetic_others o vs))
+effect_pauses (opcode.Comparison o) w text vs = no_pause _ w _ (gives (comparison_others o vs))
+effect_pauses (opcode.Assignment o) w text vs = no_pause _ w _ (assignment_others o w vs)
+effect_pauses opcode.Push w text vs = no_pause _ w _ (gives tt)
+effect_pauses (opcode.Array o) w text vs = no_pause _ w _ (array_others o w vs)
+effect_pauses (opcode.ObjectChange o) w text vs = no_pause _ w _ (leaves_after (object_changed o w.memory vs) _ (λ m. gives tt))
+effect_pauses (opcode.ObjectQuestion o) w text vs = no_pause _ w _ (beside_others w (object_answer o w.memory vs) (object_others o w.memory vs))
+effect_pauses (opcode.Call o) w text vs = no_pause _ w _ (gives (call_others o vs))
+effect_pauses (opcode.Routine o) w text vs = no_pause _ w _ (routine_others o w vs)
+effect_pauses (opcode.Control o) w text vs = no_pause _ w _ (gives (control_others o vs))
+effect_pauses (opcode.Printing o) w text vs = no_pause _ w _ (beside_others w (printing o w.memory text vs) (printing_others o w.memory text vs))
+effect_pauses (opcode.Idle o) w text vs = no_pause _ w _ (gives (idle_others o w.memory vs))
+effect_pauses (opcode.Reading o) w text vs = reading_pauses o w vs
+effect_pauses (opcode.Words o) w text vs = no_pause _ w _ (leaves_after (words_changed o w.memory vs) _ (λ m. gives tt))
+effect_pauses (opcode.Stream o) w text vs = no_pause _ w _ (leaves_after (stream_changed o w vs) _ (λ v. gives tt))
+effect_pauses (opcode.Window o) w text vs = no_pause _ w _ (window_others o w vs)
+effect_pauses (opcode.Table o) w text vs = no_pause _ w _ (table_others o w vs)
+effect_pauses opcode.Random w text vs = no_pause _ w _ (gives tt)
+effect_pauses (opcode.Saving o) w text vs = saving_pauses o w vs
 
-carried_keeps : (w : Workspace) (i : Instr) → Leaves (λ (r : Workspace × (Next × Texts)). r.1.0 ≡ Keeps → i.opcode ≡ opcode.Saving SaveUndo) (carried_out w i)
+-- ---- what is led to
+
+-- the machine does not go on by itself
+abbrev pub IsPaused : Next → Type 0
+IsPaused (Waits x) = Unit {0}
+IsPaused Keeps = Unit {0}
+IsPaused Resumes = Unit {0}
+IsPaused _ = ⊥
+
+pause_of : (e : Ending) (n : Next) → EndsAs e n → IsPaused n → IsPause e
+pause_of e (At p) how paused = absurd paused
+pause_of e (Waits x) how paused = subst IsPause (sym how) tt
+pause_of e Keeps how paused = subst IsPause (sym how) tt
+pause_of e Resumes how paused = subst IsPause (sym how) tt
+pause_of e End how paused = absurd paused
+
+keep_of : (e : Ending) (n : Next) → EndsAs e n → n ≡ Keeps → e ≡ ending.Keep
+keep_of e (At p) how h = absurd cc
+keep_of e (Waits x) how h = absurd cc
+keep_of e Keeps how h = how
+keep_of e Resumes how h = absurd cc
+keep_of e End how h = absurd cc
+
+pair_is : {A B : Type 0} (a c : A) (b d : B) → ◌≡◌ {A = Result (A × B) Fault} (Ok (a, b)) (Ok (c, d)) → (a ≡ c) × (b ≡ d)
+pair_is {A} {B} a c b d h =
+    let pair : ◌≡◌ {A = A × B} (a, b) (c, d) = cc in
+    (ap (λ (q : A × B). q.0) pair, ap (λ (q : A × B). q.1) pair)
+
+paused_same : (w v : Workspace) (i : Instr) (vs : List ℕ) (e : Ending) (n : Next) → IsPause e → finished w i vs e ≡ Ok (v, n) → v ≡ w
+unfolding finished
+paused_same w v i vs ending.Keep n p h = sym (pair_is w v Keeps n h).0
+paused_same w v i vs ending.Resume n p h = sym (pair_is w v Resumes n h).0
+paused_same w v i vs (ending.Wait x) n p h = sym (pair_is w v (Waits x) n h).0
+paused_same w v i vs (ending.GoOn x truth) n p h = absurd p
+paused_same w v i vs (ending.Jump offset) n p h = absurd p
+paused_same w v i vs (ending.Call q most) n p h = absurd p
+paused_same w v i vs (ending.Return x) n p h = absurd p
+paused_same w v i vs (ending.Throw x y) n p h = absurd p
+paused_same w v i vs ending.Restart n p h = absurd p
+paused_same w v i vs ending.Quit n p h = absurd p
+
+silent_route : (m : MemoryMap) (w : Workspace) (o : Output) (r : Workspace × Texts) → o ≡ Nothing → routed m w o ≡ Ok r → (r.0 ≡ w) × (r.1 ≡ no_text)
+unfolding routed
+silent_route m w o r silent h =
+    let same = pair_is w r.0 no_text r.1 (sym (ap (routed m w) silent) ∙ h) in
+    (sym same.0, sym same.1)
+
+-- an instruction has paused: these values were taken, which is all that has changed, and only `save_undo` keeps a state
+pub record HasPaused (w v : Workspace) (i : Instr) (n : Next) (t : Texts) : Type 0 where
+  pub values : List ℕ
+  pub operands : operands_read w i.operands ≡ Ok (v, values)
+  pub quiet : t ≡ no_text
+  pub keeps : n ≡ Keeps → i.opcode ≡ opcode.Saving SaveUndo
+
+-- by its effect, its route and its end
+paused_by : (w u : Workspace) (i : Instr) (vs : List ℕ) (e : Workspace × Effect) (r : Workspace × Texts) (v : Workspace) (n : Next) → operands_read w i.operands ≡ Ok (u, vs) → Pauses i.opcode u e
+    → routed w.memory e.0 e.1.output ≡ Ok r → finished r.0 i vs e.1.ending ≡ Ok (v, n) → IsPaused n → HasPaused w v i n r.1
+paused_by w u i vs e r v n taken so route finish paused =
+    let how = ends_as r.0 i vs e.1.ending v n finish in
+    let pause = pause_of e.1.ending n how paused in
+    let is = so pause in
+    let silent = silent_route w.memory e.0 e.1.output r is.silent route in
+    let same : v ≡ u = paused_same r.0 v i vs e.1.ending n pause finish ∙ silent.0 ∙ is.same in
+    record {
+      values = vs;
+      operands = subst (λ (x : Workspace). operands_read w i.operands ≡ Ok (x, vs)) (sym same) taken;
+      quiet = silent.1;
+      keeps = λ h. is.keeps (keep_of e.1.ending n how h);
+    }
+
+carried_pauses : (w : Workspace) (i : Instr) → Leaves (λ (r : Workspace × (Next × Texts)). IsPaused r.1.0 → HasPaused w r.0 i r.1.0 r.1.1) (carried_out w i)
 unfolding carried_out effect_of
-carried_keeps w i =
-    leaves_after (operands_read w i.operands) _ (λ vs. leaves_then (effect_by i.opcode vs.0 i.text vs.1) _ (effect_keeps i.opcode vs.0 i.text vs.1)
-    (λ e k. leaves_after (routed w.memory e.0 e.1.output) _ (λ r. leaves_then (finished r.0 i vs.1 e.1.ending) _ (finish_keeps r.0 i vs.1 e.1.ending) (λ n l. gives (λ is. k (l is))))))
+carried_pauses w i =
+    leaves_with (operands_read w i.operands) _ (λ vs taken. leaves_then (effect_by i.opcode vs.0 i.text vs.1) _ (effect_pauses i.opcode vs.0 i.text vs.1)
+    (λ e so. leaves_with (routed w.memory e.0 e.1.output) _ (λ r route. leaves_with (finished r.0 i vs.1 e.1.ending) _ (λ n finish. gives (λ paused. paused_by w vs.0 i vs.1 e r n.0 n.1 taken so route finish paused)))))
 
-pub only_save_undo_keeps : (w : Workspace) (i : Instr) (v : Workspace) (t : Texts) → carried_out w i ≡ Ok (v, (Keeps, t)) → i.opcode ≡ opcode.Saving SaveUndo
-only_save_undo_keeps w i v t h = value_left (carried_out w i) (v, (Keeps, t)) (carried_keeps w i) h refl
+pub pauses : (w : Workspace) (i : Instr) (v : Workspace) (n : Next) (t : Texts) → carried_out w i ≡ Ok (v, (n, t)) → IsPaused n → HasPaused w v i n t
+pauses w i v n t h = value_left (carried_out w i) (v, (n, t)) (carried_pauses w i) h

@@ -1,0 +1,5 @@
+use Rattle.zk_vm.proofs.Cuts.{limits_cut_runs}
+use Rattle.zk_vm.proofs.laws.limits_cut_runs.Goals as goal
+
+pub returns : goal.returns
+returns c = limits_cut_runs
