@@ -25,3 +25,4 @@ pub mod FindingLines
 pub mod FindingLaws
 pub mod Examples
 pub mod ListExamples
+pub mod CheckExamples

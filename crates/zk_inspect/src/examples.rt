@@ -2,6 +2,7 @@
 
 ghost use Rattle.zk_inspect.specs.Examples.{AddressesHaveFiveDigits, WordsHaveFourDigits, FindingsOfTables, FindingsOfTextsAndCode, VariablesByNumber, OperandsByType, StoresBehindAnArrow, BranchesBehindAMark, LinesOfOperands, LinesOfBranches, LinesOfVariables, LinesOfJumps, LinesOfTexts, CharactersBetweenQuotes, LinesOfRoutines, RoutinesBehindCode, HeadersAreLines, MapsAreInOrder, AbbreviationsAreLines, NoTableNoLines, DictionariesAreLines, KeysAreWords, ObjectsAreLines, ListsPastTheEnd, UndecodableAddresses, LeadingOut, KindsOfFaults, TextsThatFail, RowsAreIndented, RowsAgain};
 ghost use Rattle.zk_inspect.specs.ListExamples.{FindingsAreLines, AllAbbreviationsAreLines, KeysAreInOrder, KeysBeginEntries, LinksPastTheLast, QuestionsOnObjects, LateObjectsAreLines};
+ghost use Rattle.zk_inspect.specs.CheckExamples.{EntriesAtTables, EntriesBelowTables, LinksLeadPast, NoTableNoObjects, TextsByConstants, WordsAreAddresses, WordsPastTheEnd};
 
 /// Addresses, words and bytes by their digits.
 #[tactic(auto, unfolding(crate::specs::Numbers::hex_digits, crate::specs::Numbers::address_digits, crate::specs::Numbers::word_digits, crate::specs::Numbers::byte_digits))]
@@ -99,4 +100,19 @@ pub fn failing_texts_by_example()
 pub fn trees_by_example()
     ensures rows_are_indented { RowsAreIndented }
     ensures rows_again { RowsAgain }
+{}
+
+/// The objects that are listed (Standard, section 12.3).
+pub fn listed_by_example()
+    ensures entries_below_tables { EntriesBelowTables }
+    ensures entries_at_tables { EntriesAtTables }
+    ensures no_table_no_objects { NoTableNoObjects }
+    ensures links_lead_past { LinksLeadPast }
+{}
+
+/// The texts that are known to be texts (Standard, sections 3.3 and 15).
+pub fn texts_by_example()
+    ensures texts_by_constants { TextsByConstants }
+    ensures words_past_the_end { WordsPastTheEnd }
+    ensures words_are_addresses { WordsAreAddresses }
 {}

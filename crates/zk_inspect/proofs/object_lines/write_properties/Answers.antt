@@ -7,17 +7,17 @@ use Rattle.zk_inspect.proofs.object_lines.write_properties.Goals as goal
 pub write_property_list-requires : goal.write_property_list-requires
 write_property_list-requires g c =
     let there : list_of c.args.memory.now c.args.object ≡ Ok c.in-Ok.address = search rules in
-    rw (with_list c.args.memory.now c.args.object c.in-Ok.address there) at c.in-Ok-check_properties.ensures
+    rw (with_list c.args.memory.now c.args.object c.in-Ok.address there) at c.in-Ok-check_properties.ensures.value
 
 pub returns-in-Ok-check_properties : goal.returns-in-Ok-check_properties
 returns-in-Ok-check_properties g c =
     let there : list_of c.args.memory.now c.args.object ≡ Ok c.in-Ok.address = search rules in
     let same = with_list c.args.memory.now c.args.object c.in-Ok.address there in
-    gave_as g.T.Target.taken g.T.Target.failed _ c.args.target.now _ _ _ (text_of_list c.args.before.now _ _ same (rw same at c.in-Ok-check_properties.ensures)) c.write_property_list.ensures
+    gave_as g.T.Target.taken g.T.Target.failed _ c.args.target.now _ _ _ (text_of_list c.args.before.now _ _ same (rw same at c.in-Ok-check_properties.ensures.value)) c.write_property_list.ensures
 
 pub returns-in-Err-check_properties : goal.returns-in-Err-check_properties
 returns-in-Err-check_properties g c =
-    gave_as g.T.Target.taken g.T.Target.failed _ c.args.target.now _ _ _ (text_of_fault c.args.before.now _ c.in-Err-check_properties.fault c.in-Err-check_properties.ensures) (rw c.number.ensures at c.write_decimal.ensures)
+    gave_as g.T.Target.taken g.T.Target.failed _ c.args.target.now _ _ _ (text_of_fault c.args.before.now _ c.in-Err-check_properties.fault c.in-Err-check_properties.ensures.value) (rw c.number.ensures at c.write_decimal.ensures)
 
 pub returns-in-Err : goal.returns-in-Err
 returns-in-Err g c =
