@@ -7,10 +7,12 @@ use Rattle.zk_term.specs.Devices.{Shows}
 use Rattle.zk_term.proofs.Shown.{shows_twice}
 use Rattle.zk_vm.specs.declared.stop.Stop.{Stop}
 use Rattle.zk_vm.specs.declared.stop.Stop.TheVariants.{Write}
-use Rattle.zk_term.specs.Lines.{Heard}
+use Rattle.zk_term.specs.declared.lines.Over.TheVariants.{End}
+use Rattle.zk_term.specs.Lines.{heard}
 use Rattle.zk_vm.specs.Halts.{event_waited}
 use Rattle.zk_vm.specs.Outcome.{Outcome, Session, given_all, outcome, ran}
-use Rattle.zk_vm.specs.Plays.{ArePlayed, IsPlay, IsPlayed, stop_waiting}
+use Rattle.zk_vm.specs.Plays.{ArePlayed, IsAnswered, IsPlay, IsPlayed, stop_waiting}
+use Rattle.zk_vm.proofs.Playing.{heard_whole}
 
 -- what a write took of no bytes
 pub took_none : (n : ℕ) (old new : Option (List ℕ)) → Appends old new (take n []) → Appends old new []
@@ -82,7 +84,15 @@ failed_or true b e = refl
 failed_or false b e = e
 
 -- a play without an answer, where a write has failed
-pub none_played : {K : Type 0} (held : K → Option (Option (List ℕ))) (keeps : K → List ℕ → Option Bool) (slot : K) (h : Heard) (failed unwritten : Bool) (m : Session) → unwritten ≡ true
-    → IsPlayed held keeps slot slot h failed unwritten m (outcome [] (stop_waiting (event_waited (ran (given_all [] m)).waiting) h.over) m)
+pub none_played : {K : Type 0} (held : K → Option (Option (List ℕ))) (keeps : K → List ℕ → Option Bool) (slot : K) (bytes later : List ℕ) (failed unwritten : Bool) (m : Session) → failed ≡ false → unwritten ≡ true
+    → IsPlayed held keeps slot slot bytes later failed unwritten m (outcome [] (stop_waiting (event_waited (ran (given_all [] m)).waiting) (heard bytes).over) m)
 unfolding ArePlayed
-none_played {K} held keeps slot h failed unwritten m e = (h, (inl refl, ([], (h.lines, ((inl refl, refl), inl (refl, λ f. absurd cc))))))
+none_played {K} held keeps slot bytes later failed unwritten m sound e =
+    (heard bytes, ([], ((heard bytes).lines, (heard_whole bytes later failed (heard bytes).lines sound, ((inl refl, refl), inl (refl, λ f. absurd cc))))))
+
+pub none_answered : {R : Type 0} (ends fails : R → R → Type 0) (failed : R → Bool) (reader : R) (unwritten : Bool) (m : Session) → unwritten ≡ true
+    → IsAnswered ends fails failed reader reader unwritten m (outcome [] (stop_waiting (event_waited (ran (given_all [] m)).waiting) End) m)
+none_answered ends fails failed reader unwritten m e = ([], (End, (tt, ((λ none asks. refl), inl (refl, λ f. absurd cc)))))
+
+pub not_true : (x : Bool) (A : Type 0) → x ≡ false → x ≡ true → A
+not_true x A h k = absurd cc

@@ -51,11 +51,13 @@ impl<'a, T: Target> Gathered<'a, T> {
 }
 
 impl<T: Target> Target for Gathered<'_, T> {
-    ghost use Rattle.std.specs.Prelude.{None};
+    ghost use Rattle.std.specs.Prelude.{◌≡◌, None, true};
 
     ghost taken = { λ _. None };
 
     ghost failed = { λ g. g.failed };
+
+    ghost fails = { λ _ g. g.failed ≡ true };
 
     fn write(&mut self, bytes: &[u8]) -> Result<usize, Failed> {
         if self.waiting.is_full() {

@@ -77,6 +77,8 @@ impl Target for MissingScript<'_> {
 
     ghost failed = { λ _. false };
 
+    ghost fails = { λ _ _. ⊥ };
+
     fn write(&mut self, bytes: &[u8]) -> Result<usize, Failed> {
         if !self.told && !bytes.is_empty() {
             self.told = true;

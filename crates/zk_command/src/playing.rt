@@ -2,7 +2,7 @@
 
 ghost use Rattle.std.specs.Prelude.{◌≡◌, ◌++◌, false, IfOk, OnOk, IfSome, None};
 ghost use Rattle.zk_vm.specs.Bounds.{AreInRange};
-ghost use Rattle.zk_vm.specs.Plays.{IsPlayed};
+ghost use Rattle.zk_vm.specs.Plays.{IsAnswered, IsPlayed};
 ghost use Rattle.zk_command.specs.Playing.{EndsBy, EndsFrom, IsPlayedBy, IsPlayedFrom, IsRun, bytes_read};
 
 use crate::about::{About, Looks};
@@ -71,7 +71,7 @@ fn play_machine<I: Source, S: Target, T: Target, K: SaveSlot>(
     requires input_works { I.failed input.old ≡ false }
     requires works { S.failed screen.old ≡ false }
     requires script_works { T.failed script.old ≡ false }
-    ensures { IsPlayedBy (IsPlayed K.held K.keeps slot.old slot.new) (record { typed = I.left input.old; unread = I.failed input.new }) machine.old (record { screen = record { taken = S.taken screen.old; failed = S.failed screen.old }; script = record { taken = T.taken script.old; failed = T.failed script.old } }) (record { screen = record { taken = S.taken screen.new; failed = S.failed screen.new }; script = record { taken = T.taken script.new; failed = T.failed script.new } }) result }
+    ensures { IsPlayedBy (IsAnswered I.ends I.fails I.failed input.old input.new) (IsPlayed K.held K.keeps slot.old slot.new) (record { typed = I.left input.old; left = I.left input.new; unread = I.failed input.new }) machine.old (record { screen = record { taken = S.taken screen.old; failed = S.failed screen.old }; script = record { taken = T.taken script.old; failed = T.failed script.old } }) (record { screen = record { taken = S.taken screen.new; failed = S.failed screen.new }; script = record { taken = T.taken script.new; failed = T.failed script.new } }) result }
 {
     match script.write(&[]) {
         Err(Failed) => Stop::Write,
@@ -101,7 +101,7 @@ fn play_story<I: Source, S: Target, T: Target, K: SaveSlot>(
     requires input_works { I.failed input.old ≡ false }
     requires works { S.failed screen.old ≡ false }
     requires script_works { T.failed script.old ≡ false }
-    ensures { IsRun (IsPlayed K.held K.keeps slot.old slot.new) (record { typed = I.left input.old; unread = I.failed input.new }) story manner (record { screen = record { taken = S.taken screen.old; failed = S.failed screen.old }; script = record { taken = T.taken script.old; failed = T.failed script.old } }) (record { screen = record { taken = S.taken screen.new; failed = S.failed screen.new }; script = record { taken = T.taken script.new; failed = T.failed script.new } }) result }
+    ensures { IsRun (IsAnswered I.ends I.fails I.failed input.old input.new) (IsPlayed K.held K.keeps slot.old slot.new) (record { typed = I.left input.old; left = I.left input.new; unread = I.failed input.new }) story manner (record { screen = record { taken = S.taken screen.old; failed = S.failed screen.old }; script = record { taken = T.taken script.old; failed = T.failed script.old } }) (record { screen = record { taken = S.taken screen.new; failed = S.failed screen.new }; script = record { taken = T.taken script.new; failed = T.failed script.new } }) result }
 {
     match Machine::start(alloc, story, manner.seed, manner.limits, manner.view) {
         Err(_) => Stop::Memory,
@@ -128,7 +128,7 @@ pub fn play_bytes<I: Source, S: Target, T: Target, K: SaveSlot>(
     requires input_works { I.failed input.old ≡ false }
     requires works { S.failed screen.old ≡ false }
     requires script_works { T.failed script.old ≡ false }
-    ensures { EndsBy (IsPlayed K.held K.keeps slot.old slot.new) (record { typed = I.left input.old; unread = I.failed input.new }) bytes.items manner (record { screen = record { taken = S.taken screen.old; failed = S.failed screen.old }; script = record { taken = T.taken script.old; failed = T.failed script.old } }) (record { screen = record { taken = S.taken screen.new; failed = S.failed screen.new }; script = record { taken = T.taken script.new; failed = T.failed script.new } }) result }
+    ensures { EndsBy (IsAnswered I.ends I.fails I.failed input.old input.new) (IsPlayed K.held K.keeps slot.old slot.new) (record { typed = I.left input.old; left = I.left input.new; unread = I.failed input.new }) bytes.items manner (record { screen = record { taken = S.taken screen.old; failed = S.failed screen.old }; script = record { taken = T.taken script.old; failed = T.failed script.old } }) (record { screen = record { taken = S.taken screen.new; failed = S.failed screen.new }; script = record { taken = T.taken script.new; failed = T.failed script.new } }) result }
 {
     match Story::of(bytes) {
         Err(error) => Ending::Refused(error),
@@ -153,7 +153,7 @@ pub fn play_from<R: Read + Drop, I: Source, S: Target, T: Target, K: SaveSlot>(
     requires input_works { I.failed input.old ≡ false }
     requires works { S.failed screen.old ≡ false }
     requires script_works { T.failed script.old ≡ false }
-    ensures { EndsFrom (IsPlayed K.held K.keeps slot.old slot.new) (record { typed = I.left input.old; unread = I.failed input.new }) (R.remaining reader) manner (record { screen = record { taken = S.taken screen.old; failed = S.failed screen.old }; script = record { taken = T.taken script.old; failed = T.failed script.old } }) (record { screen = record { taken = S.taken screen.new; failed = S.failed screen.new }; script = record { taken = T.taken script.new; failed = T.failed script.new } }) result }
+    ensures { EndsFrom (IsAnswered I.ends I.fails I.failed input.old input.new) (IsPlayed K.held K.keeps slot.old slot.new) (record { typed = I.left input.old; left = I.left input.new; unread = I.failed input.new }) (R.remaining reader) manner (record { screen = record { taken = S.taken screen.old; failed = S.failed screen.old }; script = record { taken = T.taken script.old; failed = T.failed script.old } }) (record { screen = record { taken = S.taken screen.new; failed = S.failed screen.new }; script = record { taken = T.taken script.new; failed = T.failed script.new } }) result }
 {
     match read_story(alloc, reader) {
         Err(error) => Ending::Unread(error),
@@ -182,7 +182,7 @@ pub fn play_and_report<R: Read + Drop, I: Source, S: Target, T: Target, K: SaveS
     requires works { S.failed screen.old ≡ false }
     requires script_works { T.failed script.old ≡ false }
     requires errors_work { E.failed errors.old ≡ false }
-    ensures { IsPlayedFrom (IsPlayed K.held K.keeps slot.old slot.new) (record { typed = I.left input.old; unread = I.failed input.new }) (R.remaining reader) manner (record { screen = record { taken = S.taken screen.old; failed = S.failed screen.old }; script = record { taken = T.taken script.old; failed = T.failed script.old } }) (record { screen = record { taken = S.taken screen.new; failed = S.failed screen.new }; script = record { taken = T.taken script.new; failed = T.failed script.new } })
+    ensures { IsPlayedFrom (IsAnswered I.ends I.fails I.failed input.old input.new) (IsPlayed K.held K.keeps slot.old slot.new) (record { typed = I.left input.old; left = I.left input.new; unread = I.failed input.new }) (R.remaining reader) manner (record { screen = record { taken = S.taken screen.old; failed = S.failed screen.old }; script = record { taken = T.taken script.old; failed = T.failed script.old } }) (record { screen = record { taken = S.taken screen.new; failed = S.failed screen.new }; script = record { taken = T.taken script.new; failed = T.failed script.new } })
         (record { taken = E.taken errors.old; failed = E.failed errors.old }) (record { taken = E.taken errors.new; failed = E.failed errors.new }) result }
 {
     let ending = play_from(alloc, reader, about, manner, input, screen, script, slot);

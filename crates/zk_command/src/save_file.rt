@@ -91,13 +91,14 @@ fn name_beside(alloc: Global, path: &str, tried: u32) -> Result<String, AllocErr
     }
 }
 
-/// Makes a file beside another, under a name that nothing has, which its owner alone may read.
-fn make_beside(rt: &HostRuntime, path: &str) -> io::Result<(String, File)> {
+/// Makes a file of a mode beside another, under a name that nothing has.
+fn make_beside(rt: &HostRuntime, path: &str, mode: u32) -> io::Result<(String, File)> {
     for tried in 0..MOST_NAMES {
         let name = name_beside(rt.alloc(), path, tried)?;
         let made = OpenOptions::new()
             .write(true)
             .create_new(true)
+            .mode(mode)
             .open(rt, name.as_str());
         match made {
             Ok(file) => return Ok((name, file)),
@@ -120,7 +121,9 @@ fn write_whole(mut file: File, permissions: Option<Permissions>, bytes: &[u8]) -
 /// Writes a file beside a path, and then gives it that path. Where that fails nothing is left beside it.
 fn replace(rt: &HostRuntime, place: Place, bytes: &[u8]) -> io::Result<()> {
     let Place { path, permissions } = place;
-    let (beside, file) = make_beside(rt, path.as_str())?;
+    // it is the owner's alone until it has the old file's permissions
+    let mode = if permissions.is_some() { 0o600 } else { 0o666 };
+    let (beside, file) = make_beside(rt, path.as_str(), mode)?;
     let beside = beside.as_str();
     let replaced = match write_whole(file, permissions, bytes) {
         Ok(()) => fs::rename(rt, beside, path.as_str()),

@@ -59,11 +59,13 @@ fn write_to<'a>(
 }
 
 impl Target for ScriptFile<'_> {
-    ghost use Rattle.std.specs.Prelude.{None};
+    ghost use Rattle.std.specs.Prelude.{◌≡◌, None, true};
 
     ghost taken = { λ _. None };
 
     ghost failed = { λ s. s.failed };
+
+    ghost fails = { λ _ s. s.failed ≡ true };
 
     fn write(&mut self, bytes: &[u8]) -> Result<usize, Failed> {
         match write_to(self.rt, self.path, self.notes, &mut self.file, bytes) {
