@@ -7,6 +7,7 @@ use std::test::Fail;
 use zk_mem::fault::Fault;
 use zk_mem::memory::{Memory, Setup};
 use zk_mem::story::Story;
+use zk_tables::links::Links;
 use zk_tables::tree::{child, insert, parent, sibling};
 
 /// A story whose object table stands at 0x40, with these bytes.
@@ -44,7 +45,7 @@ fn moves_an_object(rt: HostRuntime) -> Result<(), Fail> {
         0xff,
         &[(0x84, 3), (0x8b, 3), (0x94, 1), (0x96, 2)],
     )?;
-    same(&rt, insert(&mut memory, 2, 3), Ok(()));
+    same(&rt, insert(&mut memory, 2, 3, &mut Links::new()), Ok(()));
     demand(&rt, is_same(&memory, &moved));
     same(
         &rt,

@@ -19,11 +19,13 @@ pub(crate) struct Short {
 }
 
 impl Target for Short {
-    ghost use Rattle.std.specs.Prelude.{None};
+    ghost use Rattle.std.specs.Prelude.{◌≡◌, None, true};
 
     ghost taken = { λ _. None };
 
     ghost failed = { λ s. s.failed };
+
+    ghost fails = { λ _ s. s.failed ≡ true };
 
     fn write(&mut self, bytes: &[u8]) -> Result<usize, Failed> {
         let count = bytes.len().min(self.room).min(1);
