@@ -511,7 +511,7 @@ answered_left_by ends fails failed start last unwritten m s None e left o p = su
 answered_left_by ends fails failed start last unwritten m s (Some stop) e left o p =
     let in_m = no_line (given_all p.0 m) stop (stopped_all p.0 m stop left.0) in
     let in_s = no_line (given_all p.0 s) stop (stopped_all p.0 s stop e) in
-    (p.0, (p.1.0, (p.1.1.0, ((λ none asks. p.1.1.1.0 none in_m), outcome_of_stopped p.0 p.1.0 _ _ m s stop o left.0 e (λ f asks. absurd (in_s asks)) p.1.1.1.1))))
+    (p.0, (p.1.0, (p.1.1.0, ((λ none asks. p.1.1.1.0 none (λ f. in_m)), outcome_of_stopped p.0 p.1.0 _ _ m s stop o left.0 e (λ f asks. absurd (in_s asks)) p.1.1.1.1))))
 
 last_of_stopped : (unwritten : Bool) (left : List (List ℕ)) (s : Session) (stop : Stop) → s.stopped ≡ Some stop → IsLastAnswered unwritten left s
 last_of_stopped unwritten left s stop e = λ f asks. absurd (no_line s stop e asks)
@@ -774,7 +774,7 @@ pub answers_end : {K : Type 0} (held : K → Option (Option (List ℕ))) (keeps 
 answers_end held keeps ends fails failed start last before after Whole over now mid a b screen0 screen1 screen2 script0 script1 script2 t found s =
     let e = read_ends held keeps before after t.answers over (IsLastRead ends fails failed last false over (given_all t.answers now)) now (λ f asks. found) t.gives t.asks in
     play_ends Whole (IsAnswered ends fails failed start last false now) screen0 screen1 screen2 script0 script1 script2 false (stop_behind over) e.o (shown_up_to t.answers now) (segment_of (given_all t.answers now)).text s
-    (t.answers, (over, (slots_can held keeps false t.answers before after now t.gives, ((λ none asks. absurd (asks t.asks)), e.is)))) e.ends t.took
+    (t.answers, (over, (slots_can held keeps false t.answers before after now t.gives, ((λ none asks. absurd (asks refl t.asks)), e.is)))) e.ends t.took
 
 -- ---- a reader of lines, whose input goes on or is over
 

@@ -165,14 +165,15 @@ IsNoLine _ = Unit {0}
 abbrev pub IsLastRead : {R : Type 0} → (R → R → Type 0) → (R → R → Type 0) → (R → Bool) → R → Bool → Over → Session → Type 0
 IsLastRead {R} ends fails failed after unwritten over s = unwritten ≡ false → AsksForLine (ran s) → FoundNoLine ends fails failed after over
 
--- a source that no line was wanted of was left alone
-abbrev pub IsLeftAlone : {R : Type 0} → R → R → List Answer → Session → Type 0
-IsLeftAlone {R} before after answers s = AllByRecursion IsNoLine answers → (AsksForLine (ran (given_all answers s)) → ⊥) → after ≡ before
+-- a source that no line was wanted of was left alone; none is wanted where a write has failed
+abbrev pub IsLeftAlone : {R : Type 0} → R → R → Bool → List Answer → Session → Type 0
+IsLeftAlone {R} before after unwritten answers s =
+    AllByRecursion IsNoLine answers → (unwritten ≡ false → AsksForLine (ran (given_all answers s)) → ⊥) → after ≡ before
 
 -- an outcome of a machine's run on some answers, for which a source was read
 abbrev pub IsAnswered : {R : Type 0} → (R → R → Type 0) → (R → R → Type 0) → (R → Bool) → R → R → Bool → Session → Outcome → Type 0
 IsAnswered {R} ends fails failed before after unwritten s o =
-    (answers : List Answer) × ((over : Over) × (AllByRecursion CanBeGiven answers × (IsLeftAlone before after answers s
+    (answers : List Answer) × ((over : Over) × (AllByRecursion CanBeGiven answers × (IsLeftAlone before after unwritten answers s
     × IsOutcomeOn answers over (IsLastRead ends fails failed after unwritten over (given_all answers s)) s o)))
 
 -- the answers of lines and of a slot, in the order in which a machine waits for them, and the lines left behind them
