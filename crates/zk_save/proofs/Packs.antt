@@ -1,10 +1,12 @@
 -- The loops that pack.
-use Rattle.std.specs.Prelude.{replicate, bit_xor}
+use Rattle.std.specs.Prelude.{replicate, bit_xor, bit_or}
 use Rattle.std.specs.List.{flat_map}
-use Rattle.std.proofs.Common.{◌≡◌, ◌∙◌, ℕ, suc, zero, ◌+◌, ◌-◌, ◌/◌, ◌%◌, ◌<◌, ◌≤◌, List, [], ◌∷◌, ◌++◌, length, drop, get_or, refl, sym, ap, arith, append_assoc, add-one, drop-cons}
+use Rattle.std.proofs.Common.{◌≡◌, ◌∙◌, ℕ, Bool, true, false, nat_eq, suc, zero, ◌+◌, ◌-◌, ◌/◌, ◌%◌, ◌<◌, ◌≤◌, List, [], ◌∷◌, ◌++◌, length, drop, get_or, refl, sym, ap, arith, append_assoc, add-one, drop-cons}
 use Rattle.std.proofs.lemmas.List.{append-nil, drop_all, replicate_more}
+use Rattle.std.proofs.lemmas.Nat.{le_or_l, le_or_r}
+use Rattle.std.proofs.lemmas.Bool.Decides.{nat_tests}
 use Rattle.zk_save.specs.Packing.{Zeros, pair, pairs, spelled, runs_of, without_last_zeros, packed}
-use Rattle.zk_save.specs.Unpacking.{xored}
+use Rattle.zk_save.specs.Unpacking.{xored, AreAlike}
 use Rattle.zk_save.specs.Counted.{packed_after}
 use Rattle.zk_save.proofs.Runs.{none_left, kept_before, run_before}
 
@@ -91,3 +93,34 @@ get_or-xored [] ds i lt le = absurd (omega arith)
 get_or-xored (x ∷ xs) [] i lt le = absurd (omega arith)
 get_or-xored (x ∷ xs) (d ∷ ds) zero lt le = refl
 get_or-xored (x ∷ xs) (d ∷ ds) (suc i) lt le = get_or-xored xs ds i (omega arith) (omega arith)
+
+zeros_first : (z : ℕ) (rest : List ℕ) → packed_after z (0 ∷ rest) ≡ packed_after (z + 1) rest
+unfolding packed_after
+zeros_first z rest = refl
+
+-- zeros in front of the rest wait too
+zeros_wait : (xs : List ℕ) (n start z : ℕ) → start + n ≤ length xs → ((k : ℕ) → start ≤ k → k < start + n → get_or xs k 0 ≡ 0) → packed_after (z + n) (drop (start + n) xs) ≡ packed_after z (drop start xs)
+zeros_wait xs zero start z le zeros = let e : start + 0 ≡ start = omega arith in let f : z + 0 ≡ z = omega arith in rw (e, f) refl
+zeros_wait xs (suc n) start z le zeros =
+    let here : drop start xs ≡ 0 ∷ drop (start + 1) xs = drop-cons xs start 0 (omega arith) ∙ ap (λ (x : ℕ). x ∷ drop (suc start) xs) (zeros start (omega arith) (omega arith)) ∙ ap (λ (k : ℕ). 0 ∷ drop k xs) (sym (add-one start)) in
+    let e : start + suc n ≡ start + 1 + n = omega arith in
+    let f : z + suc n ≡ z + 1 + n = omega arith in
+    rw (e, f) (zeros_wait xs n (start + 1) (z + 1) (omega (arith, le)) (λ k from below. zeros k (omega (arith, from)) (omega (arith, below)))) ∙ sym (ap (packed_after z) here ∙ zeros_first z (drop (start + 1) xs))
+
+-- bytes that are as a file has them are zeros that wait
+pub alike_wait : (xs ds out : List ℕ) (n start z : ℕ) → start + n ≤ length xs → length xs ≤ length ds → AreAlike xs ds start (start + n) → out ++ packed_after (z + n) (drop (start + n) (xored xs ds)) ≡ out ++ packed_after z (drop start (xored xs ds))
+alike_wait xs ds out n start z le long alike =
+    let wide : length (xored xs ds) ≡ length xs = length-xored xs ds long in
+    ap (λ (l : List ℕ). out ++ l) (zeros_wait (xored xs ds) n start z (omega (arith, wide)) (λ k from below. get_or-xored xs ds k (omega (arith, below)) long ∙ alike k from below))
+
+-- a byte more is as a file has it, where nothing was turned so far
+pub alike_more : (xs ds : List ℕ) (first k turned : ℕ) → (turned ≡ 0 → AreAlike xs ds first k) → bit_or turned (bit_xor (get_or xs k 0) (get_or ds k 0)) ≡ 0 → AreAlike xs ds first (k + 1)
+alike_more xs ds first k turned before none j from below = go (nat_eq j k) refl
+  where
+    go : (b : Bool) → nat_eq j k ≡ b → bit_xor (get_or xs j 0) (get_or ds j 0) ≡ 0
+    go true eq =
+        let same : j ≡ k = grind (arith, nat_tests) in
+        rw same (omega (arith, none, le_or_r turned (bit_xor (get_or xs k 0) (get_or ds k 0))))
+    go false eq =
+        let other : j ≡ k → ⊥ = (λ same. grind (arith, nat_tests)) in
+        before (omega (arith, none, le_or_l turned (bit_xor (get_or xs k 0) (get_or ds k 0)))) j from (omega (arith, other))

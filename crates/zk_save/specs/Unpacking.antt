@@ -1,5 +1,5 @@
 -- What packed bytes give (Quetzal 1.4, section 3).
-use Rattle.std.specs.Prelude.{◌≡◌, ℕ, zero, suc, ◌+◌, ◌-◌, List, [], ◌∷◌, ◌++◌, length, replicate, nat_le, if◌then◌else◌, bit_xor, Option, Some, None}
+use Rattle.std.specs.Prelude.{◌≡◌, ℕ, zero, suc, ◌+◌, ◌-◌, ◌<◌, ◌≤◌, List, [], ◌∷◌, ◌++◌, length, replicate, slice_index, nat_le, if◌then◌else◌, bit_xor, Option, Some, None}
 use Rattle.zk_save.specs.Packing.{packed}
 
 -- bytes before others, where there are others
@@ -28,6 +28,10 @@ unfoldable pub xored : List ℕ → List ℕ → List ℕ
 xored bytes [] = bytes
 xored [] (d ∷ ds) = []
 xored (b ∷ bytes) (d ∷ ds) = bit_xor b d ∷ xored bytes ds
+
+-- bytes from one index up to another are as a file has them
+abbrev pub AreAlike : List ℕ → List ℕ → ℕ → ℕ → Type 0
+AreAlike bytes file first last = (k : ℕ) → first ≤ k → k < last → bit_xor (slice_index bytes k) (slice_index file k) ≡ 0
 
 -- ---- laws
 

@@ -1,13 +1,16 @@
 // Bytes with their runs of zeros written short.
 
-ghost use Rattle.std.specs.Prelude.{◌≡◌, ℕ, ◌+◌, ◌*◌, ◌^◌, ◌<◌, ◌≤◌, List, ◌∷◌, ◌++◌, length, Some, IfOk, OnOk};
+ghost use Rattle.std.specs.Prelude.{◌≡◌, ℕ, ◌+◌, ◌*◌, ◌^◌, ◌<◌, ◌≤◌, List, ◌∷◌, ◌++◌, length, drop, Some, IfOk, IsTrue, OnOk};
 ghost use Rattle.zk_mem.specs.Again.{with_bytes};
 ghost use Rattle.zk_save.specs.Packing.{Zeros, pairs, spelled, packed};
-ghost use Rattle.zk_save.specs.Unpacking.{unpacked, xored};
+ghost use Rattle.zk_save.specs.Unpacking.{unpacked, xored, AreAlike};
 ghost use Rattle.zk_save.specs.Counted.{packed_after};
 
 use std::alloc::{AllocError, Global};
 use zk_mem::memory::Memory;
+
+/// So many bytes are looked at together, since most of memory is as the file has it.
+const BLOCK: usize = 64;
 
 /// Writes so many zeros: pairs of a zero and how many come behind it, of 256 zeros as long as these fit.
 #[tactic(auto, using(crate::proofs::Packs::pairs_start, crate::proofs::Packs::pairs_step, crate::proofs::Packs::zeros_rest, crate::proofs::Packs::zeros_even))]
@@ -55,6 +58,40 @@ pub fn pack(alloc: Global, bytes: &[u8]) -> Result<Vec<u8>, AllocError>
     Ok(out)
 }
 
+/// Whether a block of bytes is as a file has it. All of it is looked at, which takes words of the processor at a time.
+fn is_alike(bytes: &[u8], file: &[u8], start: usize) -> bool
+    requires { (start + 64 ≤ length bytes.now) × (length bytes.now ≤ length file.now) }
+    ensures { IsTrue result → AreAlike bytes.now file.now start (start + 64) }
+{
+    let mut turned: u8 = 0;
+    for k in start..start + BLOCK {
+        turned |= bytes[k] ^ file[k];
+    }
+    turned == 0
+}
+
+/// Takes what bytes from one index up to another differ in from those of a file, behind so many zeros that wait, and
+/// tells how many wait then.
+fn put_part(
+    out: &mut Vec<u8>,
+    zeros: usize,
+    bytes: &[u8],
+    file: &[u8],
+    start: usize,
+    end: usize,
+) -> Result<usize, AllocError>
+    requires inside { (start ≤ end) × (end ≤ length bytes.now) × (length bytes.now ≤ length file.now) }
+    requires few { zeros ≤ start }
+    ensures value { IfOk result (λ z. out.new.items ++ packed_after z (drop end (xored bytes.now file.now)) ≡ out.old.items ++ packed_after zeros (drop start (xored bytes.now file.now))) }
+    ensures few { IfOk result (λ z. z ≤ end) }
+{
+    let mut zeros = zeros;
+    for i in start..end {
+        zeros = put_byte(out, zeros, bytes[i] ^ file[i])?;
+    }
+    Ok(zeros)
+}
+
 /// What bytes differ in from those of a file, packed.
 pub(crate) fn pack_difference(
     alloc: Global,
@@ -67,9 +104,16 @@ pub(crate) fn pack_difference(
 {
     let mut out = Vec::new(alloc);
     let mut zeros: usize = 0;
-    for i in 0..bytes.len() {
-        zeros = put_byte(&mut out, zeros, bytes[i] ^ file[i])?;
+    let blocks = bytes.len() / BLOCK;
+    for block in 0..blocks {
+        let start = block * BLOCK;
+        if is_alike(bytes, file, start) {
+            zeros += BLOCK;
+        } else {
+            zeros = put_part(&mut out, zeros, bytes, file, start, start + BLOCK)?;
+        }
     }
+    put_part(&mut out, zeros, bytes, file, blocks * BLOCK, bytes.len())?;
     Ok(out)
 }
 
