@@ -1,9 +1,7 @@
 // One instruction.
 
-ghost use Rattle.std.specs.Prelude.{◌≡◌};
-
 use crate::branch::Branch;
-use crate::opcode::{Idle, Opcode};
+use crate::opcode::Opcode;
 use crate::operands::Operands;
 
 /// An instruction (Standard, section 4.1).
@@ -18,32 +16,4 @@ pub struct Instr {
     pub text: Option<u32>,
     /// The byte address after the instruction.
     pub next: u32,
-}
-
-impl Instr {
-    /// The same instruction once more.
-    pub fn copy(&self) -> Instr
-        ensures { result ≡ self.now }
-    {
-        Instr {
-            opcode: self.opcode,
-            operands: self.operands.copy(),
-            store: self.store,
-            branch: self.branch,
-            text: self.text,
-            next: self.next,
-        }
-    }
-
-    /// An instruction that does nothing, for a place that holds none.
-    pub fn blank() -> Instr {
-        Instr {
-            opcode: Opcode::Idle(Idle::Nop),
-            operands: Operands::new(),
-            store: None,
-            branch: None,
-            text: None,
-            next: 0,
-        }
-    }
 }

@@ -96,17 +96,6 @@ impl Operands {
         self.list.push(operand);
     }
 
-    /// The same operands once more.
-    pub fn copy(&self) -> Operands
-        ensures { result ≡ self.now }
-    {
-        let mut list = ArrayVec::new();
-        for operand in self.list.as_slice() {
-            list.push(*operand);
-        }
-        Operands { list }
-    }
-
     pub fn len(&self) -> usize
         ensures value { result ≡ length self.now }
         ensures bound { length self.now ≤ 8 }

@@ -3,15 +3,15 @@ pub mod Buffers
 pub mod FixedParts
 pub mod Keys
 pub mod Lines
+pub mod Manners
 pub mod OpenTables
 pub mod Operands
 pub mod Plain
 pub mod Pushes
-pub mod Rebounded
 pub mod Returns
 pub mod SameStory
 pub mod Steps
-pub mod Stories
+pub mod Sweep
 pub mod Waits
 pub mod Ways
 pub mod WithinBounds

@@ -18,10 +18,10 @@ use Rattle.zk_step.specs.declared.workspace.View.TheVariants.{Plain}
 use Rattle.zk_step.specs.Streams.{first_streams}
 use Rattle.zk_term.specs.Windows.{first_windows}
 use Rattle.zk_step.specs.Arithmetic.{arithmetic}
-use Rattle.zk_step.specs.Arrays.{array_effect}
+use Rattle.zk_step.specs.Arrays.{array_accessed}
 use Rattle.zk_step.specs.Assignment.{assignment, pushing}
 use Rattle.zk_step.specs.Comparison.{comparison}
-use Rattle.zk_step.specs.Endings.{goes_on, gives, tests}
+use Rattle.zk_step.specs.Endings.{goes_on, yields, yields_truth, yields_nothing}
 use Rattle.zk_step.specs.Variables.{global_address, named_read, named_written, variable_read, variable_written, indirect_read, indirect_written, operands_read}
 
 -- ---- what the examples work on
@@ -77,74 +77,74 @@ instruction code operands store branch =
 
 -- a sum has 16 bits: -1 + 2 is 1 (section 15, `add`)
 abbrev pub AddsModulo : Type 0
-AddsModulo = arithmetic Add (65535 ∷ 2 ∷ []) ≡ Ok (gives 1)
+AddsModulo = arithmetic Add 65535 2 ≡ Ok 1
 
 -- 5 - 3 is 2, and 3 - 5 is -2 (section 15, `sub`)
 abbrev pub SubtractsTheSecond : Type 0
-SubtractsTheSecond = (arithmetic Sub (5 ∷ 3 ∷ []) ≡ Ok (gives 2)) × (arithmetic Sub (3 ∷ 5 ∷ []) ≡ Ok (gives 65534))
+SubtractsTheSecond = (arithmetic Sub 5 3 ≡ Ok 2) × (arithmetic Sub 3 5 ≡ Ok 65534)
 
 -- 300 * 300 is 90000, which is 24464 in 16 bits (section 15, `mul`)
 abbrev pub MultipliesModulo : Type 0
-MultipliesModulo = arithmetic Mul (300 ∷ 300 ∷ []) ≡ Ok (gives 24464)
+MultipliesModulo = arithmetic Mul 300 300 ≡ Ok 24464
 
 -- -11 / 2 is -5, 11 / -2 is -5, and -11 / -2 is 5 (section 15, `div`)
 abbrev pub DividesTowardZero : Type 0
 DividesTowardZero =
-    (arithmetic Div (65525 ∷ 2 ∷ []) ≡ Ok (gives 65531))
-    × (arithmetic Div (11 ∷ 65534 ∷ []) ≡ Ok (gives 65531))
-    × (arithmetic Div (65525 ∷ 65534 ∷ []) ≡ Ok (gives 5))
+    (arithmetic Div 65525 2 ≡ Ok 65531)
+    × (arithmetic Div 11 65534 ≡ Ok 65531)
+    × (arithmetic Div 65525 65534 ≡ Ok 5)
 
 -- the remainder of -13 by 5 is -3, of 13 by -5 it is 3, and of -13 by -5 it is -3 (section 15, `mod`)
 abbrev pub RemainderHasTheSignOfTheDividend : Type 0
 RemainderHasTheSignOfTheDividend =
-    (arithmetic Mod (65523 ∷ 5 ∷ []) ≡ Ok (gives 65533))
-    × (arithmetic Mod (13 ∷ 65531 ∷ []) ≡ Ok (gives 3))
-    × (arithmetic Mod (65523 ∷ 65531 ∷ []) ≡ Ok (gives 65533))
+    (arithmetic Mod 65523 5 ≡ Ok 65533)
+    × (arithmetic Mod 13 65531 ≡ Ok 3)
+    × (arithmetic Mod 65523 65531 ≡ Ok 65533)
 
 -- -32768 / -1 is -32768, a choice of zkit (section 15, `div`)
 abbrev pub LeastByMinusOneStays : Type 0
-LeastByMinusOneStays = arithmetic Div (32768 ∷ 65535 ∷ []) ≡ Ok (gives 32768)
+LeastByMinusOneStays = arithmetic Div 32768 65535 ≡ Ok 32768
 
 -- a division by 0 is a fault (section 2.3.1)
 abbrev pub DivisionByZeroIsFault : Type 0
 DivisionByZeroIsFault =
-    (arithmetic Div (5 ∷ 0 ∷ []) ≡ Err DivisionByZero) × (arithmetic Mod (5 ∷ 0 ∷ []) ≡ Err DivisionByZero)
+    (arithmetic Div 5 0 ≡ Err DivisionByZero) × (arithmetic Mod 5 0 ≡ Err DivisionByZero)
 
 -- bit by bit: 12 or 10 is 14, 12 and 10 is 8, and not 255 is 65280 (section 15, `or`, `and`, `not`)
 abbrev pub LogicIsBitByBit : Type 0
 LogicIsBitByBit =
-    (arithmetic Or (12 ∷ 10 ∷ []) ≡ Ok (gives 14))
-    × (arithmetic And (12 ∷ 10 ∷ []) ≡ Ok (gives 8))
-    × (arithmetic Not (255 ∷ []) ≡ Ok (gives 65280))
+    (arithmetic Or 12 10 ≡ Ok 14)
+    × (arithmetic And 12 10 ≡ Ok 8)
+    × (arithmetic Not 255 0 ≡ Ok 65280)
 
 -- positive places are to the left: 0x1234 by 4 is 0x2340 (section 15, `log_shift`)
 abbrev pub ShiftsLeft : Type 0
 ShiftsLeft =
-    (arithmetic LogShift (0x1234 ∷ 4 ∷ []) ≡ Ok (gives 0x2340)) × (arithmetic ArtShift (0x1234 ∷ 4 ∷ []) ≡ Ok (gives 0x2340))
+    (arithmetic LogShift 0x1234 4 ≡ Ok 0x2340) × (arithmetic ArtShift 0x1234 4 ≡ Ok 0x2340)
 
 -- -4 places are 4 to the right: 0xfe00 becomes 0x0fe0 by log_shift, and 0xffe0 by art_shift; 0x1234 becomes 0x0123
 -- (section 15, `art_shift`)
 abbrev pub ShiftsRight : Type 0
 ShiftsRight =
-    (arithmetic LogShift (0xfe00 ∷ 65532 ∷ []) ≡ Ok (gives 0x0fe0))
-    × (arithmetic ArtShift (0xfe00 ∷ 65532 ∷ []) ≡ Ok (gives 0xffe0))
-    × (arithmetic ArtShift (0x1234 ∷ 65532 ∷ []) ≡ Ok (gives 0x0123))
+    (arithmetic LogShift 0xfe00 65532 ≡ Ok 0x0fe0)
+    × (arithmetic ArtShift 0xfe00 65532 ≡ Ok 0xffe0)
+    × (arithmetic ArtShift 0x1234 65532 ≡ Ok 0x0123)
 
 -- for all words: what was added is taken away by `sub` (section 15, `sub`)
 abbrev pub SubUndoesAdd : Type 0
-SubUndoesAdd = (x y : ℕ) → x < 65536 → y < 65536 → arithmetic Sub ((x + y) % 65536 ∷ y ∷ []) ≡ Ok (gives x)
+SubUndoesAdd = (x y : ℕ) → x < 65536 → y < 65536 → arithmetic Sub ((x + y) % 65536) y ≡ Ok x
 
 -- for all words: a place to the right halves, and one to the left doubles in 16 bits (section 15, `log_shift`)
 abbrev pub ShiftsHalveAndDouble : Type 0
-ShiftsHalveAndDouble = (x : ℕ) → (arithmetic LogShift (x ∷ 65535 ∷ []) ≡ Ok (gives (x / 2))) × (arithmetic LogShift (x ∷ 1 ∷ []) ≡ Ok (gives ((x * 2) % 65536)))
+ShiftsHalveAndDouble = (x : ℕ) → (arithmetic LogShift x 65535 ≡ Ok (x / 2)) × (arithmetic LogShift x 1 ≡ Ok ((x * 2) % 65536))
 
 -- of words below 32768 the quotient and the remainder are those of natural numbers (section 15, `div`, `mod`)
 abbrev pub DividesNaturals : Type 0
-DividesNaturals = (x y : ℕ) → x < 32768 → 0 < y → y < 32768 → (arithmetic Div (x ∷ y ∷ []) ≡ Ok (gives (x / y))) × (arithmetic Mod (x ∷ y ∷ []) ≡ Ok (gives (x % y)))
+DividesNaturals = (x y : ℕ) → x < 32768 → 0 < y → y < 32768 → (arithmetic Div x y ≡ Ok (x / y)) × (arithmetic Mod x y ≡ Ok (x % y))
 
 -- for all words: what is not, twice, is the word (section 15, `not`)
 abbrev pub NotTwiceStays : Type 0
-NotTwiceStays = (x : ℕ) → x < 65536 → arithmetic Not ((65535 - x) ∷ []) ≡ Ok (gives x)
+NotTwiceStays = (x : ℕ) → x < 65536 → arithmetic Not (65535 - x) 0 ≡ Ok x
 
 -- ---- comparisons (sections 2.2 and 15)
 
@@ -152,26 +152,26 @@ NotTwiceStays = (x : ℕ) → x < 65536 → arithmetic Not ((65535 - x) ∷ []) 
 -- (section 15, `je`)
 abbrev pub EqualsAnother : Type 0
 EqualsAnother =
-    (comparison Je (7 ∷ 1 ∷ 2 ∷ 7 ∷ []) ≡ tests true)
-    × (comparison Je (7 ∷ 7 ∷ []) ≡ tests true)
-    × (comparison Je (7 ∷ 1 ∷ 2 ∷ 3 ∷ []) ≡ tests false)
-    × (comparison Je (7 ∷ 1 ∷ 1 ∷ []) ≡ tests false)
+    (comparison Je (7 ∷ 1 ∷ 2 ∷ 7 ∷ []) ≡ true)
+    × (comparison Je (7 ∷ 7 ∷ []) ≡ true)
+    × (comparison Je (7 ∷ 1 ∷ 2 ∷ 3 ∷ []) ≡ false)
+    × (comparison Je (7 ∷ 1 ∷ 1 ∷ []) ≡ false)
 
 -- -1 is less than 1, 1 is not less than -1, 5 is not less than 5, and -32768 is less than 32767 (sections 2.2 and 15,
 -- `jl`)
 abbrev pub LessIsSigned : Type 0
 LessIsSigned =
-    (comparison Jl (65535 ∷ 1 ∷ []) ≡ tests true)
-    × (comparison Jl (1 ∷ 65535 ∷ []) ≡ tests false)
-    × (comparison Jl (5 ∷ 5 ∷ []) ≡ tests false)
-    × (comparison Jl (32768 ∷ 32767 ∷ []) ≡ tests true)
+    (comparison Jl (65535 ∷ 1 ∷ []) ≡ true)
+    × (comparison Jl (1 ∷ 65535 ∷ []) ≡ false)
+    × (comparison Jl (5 ∷ 5 ∷ []) ≡ false)
+    × (comparison Jl (32768 ∷ 32767 ∷ []) ≡ true)
 
 -- 32767 is greater than -32768, which is not greater than 32767; 5 is not greater than 5 (sections 2.2 and 15, `jg`)
 abbrev pub GreaterIsSigned : Type 0
 GreaterIsSigned =
-    (comparison Jg (32767 ∷ 32768 ∷ []) ≡ tests true)
-    × (comparison Jg (32768 ∷ 32767 ∷ []) ≡ tests false)
-    × (comparison Jg (5 ∷ 5 ∷ []) ≡ tests false)
+    (comparison Jg (32767 ∷ 32768 ∷ []) ≡ true)
+    × (comparison Jg (32768 ∷ 32767 ∷ []) ≡ false)
+    × (comparison Jg (5 ∷ 5 ∷ []) ≡ false)
 
 -- for all words: x is greater than y where y is less than x (section 15, `jg`)
 abbrev pub GreaterIsLessExchanged : Type 0
@@ -179,28 +179,28 @@ GreaterIsLessExchanged = (x y : ℕ) → comparison Jg (x ∷ y ∷ []) ≡ comp
 
 -- 0 alone is zero: 256, whose low byte is 0, is not (section 15, `jz`)
 abbrev pub ZeroIsZeroAlone : Type 0
-ZeroIsZeroAlone = (comparison Jz (0 ∷ []) ≡ tests true) × (comparison Jz (256 ∷ []) ≡ tests false)
+ZeroIsZeroAlone = (comparison Jz (0 ∷ []) ≡ true) × (comparison Jz (256 ∷ []) ≡ false)
 
 -- all bits of the second are in the first: those of 6 are in 14, those of 14 not in 6 (section 15, `test`)
 abbrev pub TestsAllBits : Type 0
-TestsAllBits = (comparison Test (14 ∷ 6 ∷ []) ≡ tests true) × (comparison Test (6 ∷ 14 ∷ []) ≡ tests false)
+TestsAllBits = (comparison Test (14 ∷ 6 ∷ []) ≡ true) × (comparison Test (6 ∷ 14 ∷ []) ≡ false)
 
 -- ---- arrays (section 15): memory has 0xa0 at address 0 up to 0xaf at address 15
 
 -- word 3 of the array at 4 stands at 10 and 11, high byte first (section 15, `loadw`)
 abbrev pub WordsAreLoaded : Type 0
-WordsAreLoaded = array_effect Loadw (in_routine [] []) (4 ∷ 3 ∷ []) ≡ Ok (in_routine [] [], gives 0xaaab)
+WordsAreLoaded = array_accessed Loadw (in_routine [] []) 4 3 0 ≡ Ok (in_routine [] [], yields 0xaaab)
 
 -- byte 3 of the array at 4 stands at 7 (section 15, `loadb`)
 abbrev pub BytesAreLoaded : Type 0
-BytesAreLoaded = array_effect Loadb (in_routine [] []) (4 ∷ 3 ∷ []) ≡ Ok (in_routine [] [], gives 0xa7)
+BytesAreLoaded = array_accessed Loadb (in_routine [] []) 4 3 0 ≡ Ok (in_routine [] [], yields 0xa7)
 
 -- an address is a sum of 16 bits, a choice of zkit: word 3 of the array at 65534 stands at 4, and byte 3 at 1
 -- (section 15, `loadw`)
 abbrev pub AddressesWrap : Type 0
 AddressesWrap =
-    (array_effect Loadw (in_routine [] []) (65534 ∷ 3 ∷ []) ≡ Ok (in_routine [] [], gives 0xa4a5))
-    × (array_effect Loadb (in_routine [] []) (65534 ∷ 3 ∷ []) ≡ Ok (in_routine [] [], gives 0xa1))
+    (array_accessed Loadw (in_routine [] []) 65534 3 0 ≡ Ok (in_routine [] [], yields 0xa4a5))
+    × (array_accessed Loadb (in_routine [] []) 65534 3 0 ≡ Ok (in_routine [] [], yields 0xa1))
 
 -- the workspace of the examples of stores: version 5, with these bytes
 abbrev pub with_bytes : List ℕ → Workspace
@@ -209,14 +209,14 @@ with_bytes bytes = working (memory_of 5 bytes) (routine_with [] [] None) []
 -- word 1 of the array at 2 stands at 4 and 5, high byte first (section 15, `storew`)
 abbrev pub WordsAreStored : Type 0
 WordsAreStored =
-    array_effect Storew (with_bytes (0 ∷ 1 ∷ 2 ∷ 3 ∷ 4 ∷ 5 ∷ 6 ∷ [])) (2 ∷ 1 ∷ 0x1234 ∷ [])
-    ≡ Ok (with_bytes (0 ∷ 1 ∷ 2 ∷ 3 ∷ 0x12 ∷ 0x34 ∷ 6 ∷ []), goes_on)
+    array_accessed Storew (with_bytes (0 ∷ 1 ∷ 2 ∷ 3 ∷ 4 ∷ 5 ∷ 6 ∷ [])) 2 1 0x1234
+    ≡ Ok (with_bytes (0 ∷ 1 ∷ 2 ∷ 3 ∷ 0x12 ∷ 0x34 ∷ 6 ∷ []), yields_nothing)
 
 -- byte 1 of the array at 2 stands at 3, and gets the low byte (section 15, `storeb`)
 abbrev pub LowBytesAreStored : Type 0
 LowBytesAreStored =
-    array_effect Storeb (with_bytes (0 ∷ 1 ∷ 2 ∷ 3 ∷ 4 ∷ 5 ∷ 6 ∷ [])) (2 ∷ 1 ∷ 0x1234 ∷ [])
-    ≡ Ok (with_bytes (0 ∷ 1 ∷ 2 ∷ 0x34 ∷ 4 ∷ 5 ∷ 6 ∷ []), goes_on)
+    array_accessed Storeb (with_bytes (0 ∷ 1 ∷ 2 ∷ 3 ∷ 4 ∷ 5 ∷ 6 ∷ [])) 2 1 0x1234
+    ≡ Ok (with_bytes (0 ∷ 1 ∷ 2 ∷ 0x34 ∷ 4 ∷ 5 ∷ 6 ∷ []), yields_nothing)
 
 -- ---- variables (sections 4.2 and 6)
 
@@ -268,47 +268,47 @@ OperandsAreTakenInOrder =
 -- `store` of local variable 2, and of the newest word in place (section 15, `store`)
 abbrev pub Stores : Type 0
 Stores =
-    (assignment Store (in_routine (11 ∷ 22 ∷ []) []) (2 ∷ 9 ∷ []) ≡ Ok (in_routine (11 ∷ 9 ∷ []) [], goes_on))
-    × (assignment Store (in_routine [] (44 ∷ 55 ∷ [])) (0 ∷ 9 ∷ []) ≡ Ok (in_routine [] (44 ∷ 9 ∷ []), goes_on))
+    (assignment Store (in_routine (11 ∷ 22 ∷ []) []) 2 9 ≡ Ok (in_routine (11 ∷ 9 ∷ []) [], yields_nothing))
+    × (assignment Store (in_routine [] (44 ∷ 55 ∷ [])) 0 9 ≡ Ok (in_routine [] (44 ∷ 9 ∷ []), yields_nothing))
 
 -- `load` gives the value of a variable, and leaves the newest word on the stack (section 15, `load`)
 abbrev pub Loads : Type 0
 Loads =
-    (assignment Load (in_routine (11 ∷ 22 ∷ []) []) (2 ∷ []) ≡ Ok (in_routine (11 ∷ 22 ∷ []) [], gives 22))
-    × (assignment Load (in_routine [] (44 ∷ 55 ∷ [])) (0 ∷ []) ≡ Ok (in_routine [] (44 ∷ 55 ∷ []), gives 55))
+    (assignment Load (in_routine (11 ∷ 22 ∷ []) []) 2 0 ≡ Ok (in_routine (11 ∷ 22 ∷ []) [], yields 22))
+    × (assignment Load (in_routine [] (44 ∷ 55 ∷ [])) 0 0 ≡ Ok (in_routine [] (44 ∷ 55 ∷ []), yields 55))
 
 -- `inc` of 65535 is 0, `dec` of 0 is 65535, and both change the newest word in place (section 15, `inc`, `dec`)
 abbrev pub CountsUpAndDown : Type 0
 CountsUpAndDown =
-    (assignment Inc (in_routine (11 ∷ 65535 ∷ []) []) (2 ∷ []) ≡ Ok (in_routine (11 ∷ 0 ∷ []) [], goes_on))
-    × (assignment Dec (in_routine (0 ∷ 11 ∷ []) []) (1 ∷ []) ≡ Ok (in_routine (65535 ∷ 11 ∷ []) [], goes_on))
-    × (assignment Inc (in_routine [] (44 ∷ 55 ∷ [])) (0 ∷ []) ≡ Ok (in_routine [] (44 ∷ 56 ∷ []), goes_on))
+    (assignment Inc (in_routine (11 ∷ 65535 ∷ []) []) 2 0 ≡ Ok (in_routine (11 ∷ 0 ∷ []) [], yields_nothing))
+    × (assignment Dec (in_routine (0 ∷ 11 ∷ []) []) 1 0 ≡ Ok (in_routine (65535 ∷ 11 ∷ []) [], yields_nothing))
+    × (assignment Inc (in_routine [] (44 ∷ 55 ∷ [])) 0 0 ≡ Ok (in_routine [] (44 ∷ 56 ∷ []), yields_nothing))
 
 -- `inc_chk` asks whether the new value is greater, with signs: 6 than 5, not 5 than 5, not -1 than 0 (section 15,
 -- `inc_chk`)
 abbrev pub ChecksTheIncreased : Type 0
 ChecksTheIncreased =
-    (assignment IncChk (in_routine (5 ∷ []) []) (1 ∷ 5 ∷ []) ≡ Ok (in_routine (6 ∷ []) [], tests true))
-    × (assignment IncChk (in_routine (4 ∷ []) []) (1 ∷ 5 ∷ []) ≡ Ok (in_routine (5 ∷ []) [], tests false))
-    × (assignment IncChk (in_routine (65534 ∷ []) []) (1 ∷ 0 ∷ []) ≡ Ok (in_routine (65535 ∷ []) [], tests false))
+    (assignment IncChk (in_routine (5 ∷ []) []) 1 5 ≡ Ok (in_routine (6 ∷ []) [], yields_truth true))
+    × (assignment IncChk (in_routine (4 ∷ []) []) 1 5 ≡ Ok (in_routine (5 ∷ []) [], yields_truth false))
+    × (assignment IncChk (in_routine (65534 ∷ []) []) 1 0 ≡ Ok (in_routine (65535 ∷ []) [], yields_truth false))
 
 -- `dec_chk` asks whether the new value is less, with signs: -1 than 0, not 5 than 5 (section 15, `dec_chk`)
 abbrev pub ChecksTheDecreased : Type 0
 ChecksTheDecreased =
-    (assignment DecChk (in_routine (0 ∷ []) []) (1 ∷ 0 ∷ []) ≡ Ok (in_routine (65535 ∷ []) [], tests true))
-    × (assignment DecChk (in_routine (6 ∷ []) []) (1 ∷ 5 ∷ []) ≡ Ok (in_routine (5 ∷ []) [], tests false))
+    (assignment DecChk (in_routine (0 ∷ []) []) 1 0 ≡ Ok (in_routine (65535 ∷ []) [], yields_truth true))
+    × (assignment DecChk (in_routine (6 ∷ []) []) 1 5 ≡ Ok (in_routine (5 ∷ []) [], yields_truth false))
 
 -- `pull` takes the newest word, and then looks at its variable, a choice of zkit: pulled into the stack, it takes the
 -- place of the word below (section 15, `pull`)
 abbrev pub PullsBeforeItsVariable : Type 0
 PullsBeforeItsVariable =
-    (assignment Pull (in_routine (11 ∷ 22 ∷ []) (44 ∷ 55 ∷ [])) (2 ∷ []) ≡ Ok (in_routine (11 ∷ 55 ∷ []) (44 ∷ []), goes_on))
-    × (assignment Pull (in_routine [] (44 ∷ 55 ∷ [])) (0 ∷ []) ≡ Ok (in_routine [] (55 ∷ []), goes_on))
-    × (assignment Pull (in_routine [] (55 ∷ [])) (0 ∷ []) ≡ Err StackEmpty)
-    × (assignment Pull (in_routine [] []) (300 ∷ []) ≡ Err StackEmpty)
+    (assignment Pull (in_routine (11 ∷ 22 ∷ []) (44 ∷ 55 ∷ [])) 2 0 ≡ Ok (in_routine (11 ∷ 55 ∷ []) (44 ∷ []), yields_nothing))
+    × (assignment Pull (in_routine [] (44 ∷ 55 ∷ [])) 0 0 ≡ Ok (in_routine [] (55 ∷ []), yields_nothing))
+    × (assignment Pull (in_routine [] (55 ∷ [])) 0 0 ≡ Err StackEmpty)
+    × (assignment Pull (in_routine [] []) 300 0 ≡ Err StackEmpty)
 
 -- `pop` drops the newest word, and `push` adds one (section 15, `pop`, `push`)
 abbrev pub PopsAndPushes : Type 0
 PopsAndPushes =
-    (assignment Pop (in_routine [] (44 ∷ 55 ∷ [])) [] ≡ Ok (in_routine [] (44 ∷ []), goes_on))
+    (assignment Pop (in_routine [] (44 ∷ 55 ∷ [])) 0 0 ≡ Ok (in_routine [] (44 ∷ []), yields_nothing))
     × (pushing (in_routine [] (44 ∷ [])) (9 ∷ 8 ∷ []) ≡ Ok (in_routine [] (44 ∷ 9 ∷ []), goes_on))

@@ -33,6 +33,7 @@ pub mod Random
 pub mod StoryWords
 pub mod Streams
 pub mod Selecting
+pub mod Silence
 pub mod Status
 pub mod Tables
 pub mod Screens

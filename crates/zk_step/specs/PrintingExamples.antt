@@ -1,5 +1,5 @@
 -- Worked examples of what is printed, by hand from the Standard.
-use Rattle.std.specs.Prelude.{◌≡◌, [], ◌∷◌, ◌++◌, Some, None, Ok, true, codes, ◌+◌, ◌-◌}
+use Rattle.std.specs.Prelude.{◌≡◌, [], ◌∷◌, ◌++◌, Some, None, Ok, true, codes}
 use Rattle.zk_mem.specs.Map.{MemoryMap}
 use Rattle.zk_code.specs.declared.opcode.Idle.TheVariants.{Nop, SetColour, SetTrueColour, SetTextStyle, BufferMode, SoundEffect, SetFont, Piracy, CheckUnicode}
 use Rattle.zk_code.specs.declared.opcode.Printing.TheVariants.{Print, PrintRet, NewLine, PrintNum, PrintChar, PrintUnicode, PrintAddr, PrintPaddr}

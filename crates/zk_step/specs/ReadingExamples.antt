@@ -1,5 +1,5 @@
 -- Worked examples of reads and of the words of a text, by hand from the Standard.
-use Rattle.std.specs.Prelude.{◌≡◌, ℕ, List, [], ◌∷◌, ◌++◌, Some, None, Ok, Err, codes, replicate, ◌+◌, ◌==◌, if◌then◌else◌}
+use Rattle.std.specs.Prelude.{◌≡◌, ℕ, List, [], ◌∷◌, ◌++◌, Some, None, Ok, Err, codes, replicate, ◌==◌, if◌then◌else◌}
 use Rattle.zk_mem.specs.declared.fault.Fault.TheVariants.{BadAddress, ReadOnly, BadDictionary, NoSuchLocal}
 use Rattle.zk_mem.specs.Map.{MemoryMap}
 use Rattle.zk_code.specs.declared.instr.Instr.{Instr}
@@ -11,7 +11,6 @@ use Rattle.zk_step.specs.declared.ending.Next.TheVariants.{At}
 use Rattle.zk_step.specs.declared.ending.Wait.TheVariants.{Line, Char}
 use Rattle.zk_step.specs.declared.workspace.Workspace.{Workspace}
 use Rattle.zk_step.specs.Endings.{ends}
-use Rattle.zk_step.specs.Finish.{gone}
 use Rattle.zk_step.specs.Inputs.{reading, line_answered, character_answered}
 use Rattle.zk_step.specs.TextBuffers.{early_line_put, later_line_put, line_put}
 use Rattle.zk_step.specs.Words.{words_changed}

@@ -1,35 +1,33 @@
 // Arithmetic and logic.
 
-ghost use Rattle.std.specs.Prelude.{◌≡◌, ◌≤◌, IfOk};
+ghost use Rattle.std.specs.Prelude.{◌≡◌, ◌≤◌};
 ghost use Rattle.std.specs.Int.{int_wrapping_div, w16};
 ghost use Rattle.zk_step.specs.Arithmetic.{arithmetic, divided, signed, shifted_left, shifted_right, sign_shifted, shifted};
 ghost use Rattle.std.specs.Prelude.{int_rem};
 
-use crate::ending::{Effect, Output};
-use crate::values::Values;
 use zk_code::opcode::Arithmetic;
 use zk_mem::fault::Fault;
 
 /// The quotient of signed words, cut toward zero.
-fn quotient(x: u16, y: u16) -> Result<Effect, Fault>
+fn quotient(x: u16, y: u16) -> Result<u16, Fault>
     ensures { result ≡ divided y (int_wrapping_div w16 (signed x) (signed y)) }
 {
     if y == 0 {
         return Err(Fault::DivisionByZero);
     }
     let quotient = x.cast_signed().wrapping_div(y.cast_signed());
-    Ok(Effect::gives(quotient.cast_unsigned()))
+    Ok(quotient.cast_unsigned())
 }
 
 /// The remainder of signed words, with the sign of the dividend.
-fn remainder(x: u16, y: u16) -> Result<Effect, Fault>
+fn remainder(x: u16, y: u16) -> Result<u16, Fault>
     ensures { result ≡ divided y (int_rem (signed x) (signed y)) }
 {
     if y == 0 {
         return Err(Fault::DivisionByZero);
     }
     let remainder = x.cast_signed().wrapping_rem(y.cast_signed());
-    Ok(Effect::gives(remainder.cast_unsigned()))
+    Ok(remainder.cast_unsigned())
 }
 
 #[tactic(auto, unfolding(crate::specs::Arithmetic::shifted_left))]
@@ -82,23 +80,22 @@ fn art_shift(x: u16, places: u16) -> u16
     }
 }
 
-/// The effect of an opcode that gives a word made of words. A zero divisor is `DivisionByZero`.
+/// A word made of two; `not` takes the first alone. A zero divisor is `DivisionByZero`.
+#[inline(always)]
 #[tactic(auto, unfolding(crate::specs::Arithmetic::arithmetic))]
-pub fn arithmetic_effect(operation: Arithmetic, values: &Values) -> Result<Effect, Fault>
-    ensures value { result ≡ arithmetic operation values.now }
-    ensures silent { IfOk result (λ e. e.output ≡ Output.Nothing) }
+pub fn arithmetic(operation: Arithmetic, x: u16, y: u16) -> Result<u16, Fault>
+    ensures { result ≡ arithmetic operation x y }
 {
-    let (x, y) = (values.first(), values.second());
     match operation {
-        Arithmetic::Or => Ok(Effect::gives(x | y)),
-        Arithmetic::And => Ok(Effect::gives(x & y)),
-        Arithmetic::Not => Ok(Effect::gives(!x)),
-        Arithmetic::Add => Ok(Effect::gives(x.wrapping_add(y))),
-        Arithmetic::Sub => Ok(Effect::gives(x.wrapping_sub(y))),
-        Arithmetic::Mul => Ok(Effect::gives(x.wrapping_mul(y))),
+        Arithmetic::Or => Ok(x | y),
+        Arithmetic::And => Ok(x & y),
+        Arithmetic::Not => Ok(!x),
+        Arithmetic::Add => Ok(x.wrapping_add(y)),
+        Arithmetic::Sub => Ok(x.wrapping_sub(y)),
+        Arithmetic::Mul => Ok(x.wrapping_mul(y)),
         Arithmetic::Div => quotient(x, y),
         Arithmetic::Mod => remainder(x, y),
-        Arithmetic::LogShift => Ok(Effect::gives(log_shift(x, y))),
-        Arithmetic::ArtShift => Ok(Effect::gives(art_shift(x, y))),
+        Arithmetic::LogShift => Ok(log_shift(x, y)),
+        Arithmetic::ArtShift => Ok(art_shift(x, y)),
     }
 }

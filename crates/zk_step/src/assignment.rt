@@ -5,7 +5,7 @@ ghost use Rattle.std.specs.Prelude.{◌≡◌, Ok, Err, IfOk, IfErr, MatchResult
 ghost use Rattle.zk_step.specs.Assignment.{assignment, moved, pushing};
 ghost use Rattle.zk_step.specs.Effects.{Refuses};
 
-use crate::ending::{Effect, Output};
+use crate::ending::{Effect, Output, Yield};
 use crate::values::Values;
 use crate::variables::{read_indirect, write_indirect};
 use crate::workspace::Workspace;
@@ -14,6 +14,7 @@ use zk_mem::fault::Fault;
 use zk_state::refusal::Refusal;
 
 /// Adds to the variable that an operand names, and answers its new value.
+#[inline(always)]
 #[tactic(auto, unfolding(crate::specs::Assignment::moved))]
 fn count(workspace: &mut Workspace, variable: u16, step: u16) -> Result<u16, Fault>
     ensures value { MatchResult result
@@ -27,54 +28,54 @@ fn count(workspace: &mut Workspace, variable: u16, step: u16) -> Result<u16, Fau
     Ok(value)
 }
 
-/// The effect of an opcode on variables and the stack.
+/// What an opcode does to the variable of a number, or to the stack, by a word.
+#[inline(always)]
 #[tactic(auto, unfolding(crate::specs::Assignment::assignment), using(zk_state::proofs::Kept::popped_bounds))]
-pub fn assignment_effect(
+pub fn assign(
     operation: Assignment,
     workspace: &mut Workspace,
-    values: &Values,
-) -> Result<Effect, Fault>
+    variable: u16,
+    word: u16,
+) -> Result<Yield, Fault>
     ensures value { MatchResult result
-        (λ e. assignment operation workspace.old values.now ≡ Ok (workspace.new, e))
-        (λ f. assignment operation workspace.old values.now ≡ Err f) }
-    ensures silent { IfOk result (λ e. e.output ≡ Output.Nothing) }
+        (λ y. assignment operation workspace.old variable word ≡ Ok (workspace.new, y))
+        (λ f. assignment operation workspace.old variable word ≡ Err f) }
     ensures bounds { bounds_of workspace.new.frames ≡ bounds_of workspace.old.frames }
 {
-    let (variable, operand) = (values.first(), values.second());
     match operation {
         Assignment::Store => {
-            write_indirect(workspace, variable, operand)?;
-            Ok(Effect::goes_on())
+            write_indirect(workspace, variable, word)?;
+            Ok(Yield::nothing())
         }
         Assignment::Load => {
             let value = read_indirect(workspace, variable)?;
-            Ok(Effect::gives(value))
+            Ok(Yield::word(value))
         }
         Assignment::Inc => {
             count(workspace, variable, 1)?;
-            Ok(Effect::goes_on())
+            Ok(Yield::nothing())
         }
         Assignment::Dec => {
             count(workspace, variable, 0xffff)?;
-            Ok(Effect::goes_on())
+            Ok(Yield::nothing())
         }
         Assignment::IncChk => {
             let value = count(workspace, variable, 1)?;
-            Ok(Effect::tests(operand.cast_signed() < value.cast_signed()))
+            Ok(Yield::truth(word.cast_signed() < value.cast_signed()))
         }
         Assignment::DecChk => {
             let value = count(workspace, variable, 0xffff)?;
-            Ok(Effect::tests(value.cast_signed() < operand.cast_signed()))
+            Ok(Yield::truth(value.cast_signed() < word.cast_signed()))
         }
         Assignment::Pull => {
             // the value goes off the stack first: `pull sp` writes over the word below it
             let value = workspace.frames.pop()?;
             write_indirect(workspace, variable, value)?;
-            Ok(Effect::goes_on())
+            Ok(Yield::nothing())
         }
         Assignment::Pop => {
             workspace.frames.pop()?;
-            Ok(Effect::goes_on())
+            Ok(Yield::nothing())
         }
     }
 }

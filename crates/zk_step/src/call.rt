@@ -2,10 +2,10 @@
 
 ghost use Rattle.zk_state.specs.Frames.{bounds_of};
 ghost use Rattle.std.specs.Prelude.{◌≡◌, ◌≤◌, ◌<◌, ◌^◌, Ok, Err, IfSome, MatchResult, length, slice_index_or};
+ghost use Rattle.zk_step.specs.declared.ending.Next.TheVariants.{At};
 ghost use Rattle.zk_step.specs.Limited.{limited_next};
 ghost use Rattle.zk_step.specs.Routines.{called, initial_value, initial_values, with_arguments};
 
-use crate::ending::Next;
 use crate::workspace::Workspace;
 use arrayvec::ArrayVec;
 use zk_code::instr::Instr;
@@ -50,7 +50,7 @@ fn locals_of(memory: &Memory, values: u32, count: u8, arguments: &[u16]) -> Arra
     locals
 }
 
-/// Calls the routine at a packed address with arguments. A routine outside the story, or with more than 15
+/// Calls the routine at a packed address with arguments: the byte address of its first instruction. A routine outside the story, or with more than 15
 /// local variables, is `BadTarget`.
 #[tactic(auto, unfolding(crate::specs::Routines::called, crate::specs::Routines::routine_at, zk_state::specs::Frames::called), using(zk_state::proofs::Kept::called_bounds, crate::proofs::WithinBounds::kept_with, crate::proofs::WithinBounds::kept_refused))]
 pub fn call_routine(
@@ -58,11 +58,11 @@ pub fn call_routine(
     i: &Instr,
     routine: u16,
     arguments: &[u16],
-) -> Result<Next, Refusal>
+) -> Result<u32, Refusal>
     requires near { i.now.next ≤ 2 ^ 20 }
     requires few { length arguments.now ≤ 7 }
     ensures value { MatchResult result
-        (λ n. limited_next (called workspace.old i.now routine arguments.now) ≡ Ok (workspace.new, n))
+        (λ start. limited_next (called workspace.old i.now routine arguments.now) ≡ Ok (workspace.new, At start))
         (λ e. limited_next (called workspace.old i.now routine arguments.now) ≡ Err e) }
     ensures bounds { bounds_of workspace.new.frames ≡ bounds_of workspace.old.frames }
 {
@@ -76,5 +76,5 @@ pub fn call_routine(
     workspace
         .frames
         .call(locals.as_slice(), i.next, i.store, supplied)?;
-    Ok(Next::At(start))
+    Ok(start)
 }

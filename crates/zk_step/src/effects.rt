@@ -5,16 +5,13 @@ ghost use Rattle.std.specs.Prelude.{◌≡◌, ◌≢◌, Ok, Err, IfOk, IfErr, 
 ghost use Rattle.zk_step.specs.Effects.{effect_by, effect_of, Refuses};
 ghost use Rattle.zk_step.specs.Printing.{IsPrintable};
 
-use crate::arithmetic::arithmetic_effect;
-use crate::arrays::array_effect;
-use crate::assignment::{assignment_effect, push_effect};
-use crate::comparison::comparison_effect;
+use crate::assignment::push_effect;
 use crate::control::control_effect;
 use crate::ending::Effect;
 use crate::idle::idle_effect;
 use crate::inputs::reading_effect;
-use crate::objects::{answer_of_object, change_object};
 use crate::printing::printing_effect;
+use crate::quiet::yield_of;
 use crate::routines::{call_effect, routine_effect};
 use crate::saving::saving_effect;
 use crate::screens::windows_effect;
@@ -43,16 +40,14 @@ fn effect_by(
     ensures bounds { bounds_of workspace.new.frames ≡ bounds_of workspace.old.frames }
 {
     match opcode {
-        Opcode::Arithmetic(operation) => arithmetic_effect(operation, values),
-        Opcode::Comparison(operation) => Ok(comparison_effect(operation, values)),
-        Opcode::Assignment(operation) => assignment_effect(operation, workspace, values),
-        Opcode::Array(operation) => array_effect(operation, workspace, values),
-        Opcode::ObjectChange(operation) => {
-            change_object(operation, &mut workspace.memory, values)?;
-            Ok(Effect::goes_on())
-        }
-        Opcode::ObjectQuestion(operation) => {
-            answer_of_object(operation, &workspace.memory, values)
+        Opcode::Arithmetic(_)
+        | Opcode::Comparison(_)
+        | Opcode::Assignment(_)
+        | Opcode::Array(_)
+        | Opcode::ObjectChange(_)
+        | Opcode::ObjectQuestion(_) => {
+            let yielded = yield_of(opcode, workspace, values.as_slice())?;
+            Ok(Effect::ends_with(yielded))
         }
         Opcode::Call(operation) => Ok(call_effect(operation, values)),
         Opcode::Routine(operation) => routine_effect(operation, workspace, values),

@@ -27,6 +27,13 @@ pub enum Ending {
     Quit,
 }
 
+/// What an instruction yields: a result to store, a truth to branch on, both or neither.
+#[derive(Clone, Copy, PartialEq, Eq, Drop)]
+pub struct Yield {
+    pub result: Option<u16>,
+    pub truth: Option<bool>,
+}
+
 /// What an instruction waits for.
 #[derive(Clone, Copy, PartialEq, Eq, Drop)]
 pub enum Wait {
@@ -82,9 +89,58 @@ pub enum Next {
     End,
 }
 
+impl Yield {
+    ghost use Rattle.std.specs.Prelude.{◌≡◌};
+    ghost use Rattle.zk_step.specs.Endings.{yields, yields_truth, yields_found, yields_nothing};
+
+    /// A result.
+    #[inline(always)]
+    pub fn word(word: u16) -> Yield
+        ensures { result ≡ yields word }
+    {
+        Yield {
+            result: Some(word),
+            truth: None,
+        }
+    }
+
+    /// A truth.
+    #[inline(always)]
+    pub fn truth(truth: bool) -> Yield
+        ensures { result ≡ yields_truth truth }
+    {
+        Yield {
+            result: None,
+            truth: Some(truth),
+        }
+    }
+
+    /// An object that is found, or 0, and whether it is one.
+    #[inline(always)]
+    pub fn found(object: u16) -> Yield
+        ensures { result ≡ yields_found object }
+    {
+        Yield {
+            result: Some(object),
+            truth: Some(object != 0),
+        }
+    }
+
+    /// Neither.
+    #[inline(always)]
+    pub fn nothing() -> Yield
+        ensures { result ≡ yields_nothing }
+    {
+        Yield {
+            result: None,
+            truth: None,
+        }
+    }
+}
+
 impl Effect {
     ghost use Rattle.std.specs.Prelude.{◌≡◌};
-    ghost use Rattle.zk_step.specs.Endings.{ends, goes_on, gives, tests, prints};
+    ghost use Rattle.zk_step.specs.Endings.{ends, ends_with, goes_on, gives, tests, prints};
 
     /// Nothing is printed.
     pub fn ends(ending: Ending) -> Effect
@@ -94,6 +150,13 @@ impl Effect {
             output: Output::Nothing,
             ending,
         }
+    }
+
+    /// The instruction goes on with what it yields.
+    pub fn ends_with(yielded: Yield) -> Effect
+        ensures { result ≡ ends_with yielded }
+    {
+        Effect::ends(Ending::GoOn(yielded.result, yielded.truth))
     }
 
     /// The next instruction follows.

@@ -1,13 +1,15 @@
 // Where an instruction leads.
 
 ghost use Rattle.zk_state.specs.Frames.{bounds_of, within_bounds};
-ghost use Rattle.std.specs.Prelude.{◌≡◌, ◌≤◌, ◌^◌, Bool, Ok, Err, IfErr, IsOk, OnOk, MatchResult, true};
+ghost use Rattle.std.specs.Prelude.{◌≡◌, ◌≤◌, ◌^◌, Bool, Ok, Err, IfErr, IsOk, OnOk, MatchResult, true, length};
+ghost use Rattle.zk_step.specs.declared.ending.Next.TheVariants.{At};
 ghost use Rattle.zk_step.specs.Finish.{way_of, way_on, led, gone, gone_on, finished, beside_stack, leads_away};
 ghost use Rattle.zk_step.specs.Limited.{limited_next};
 ghost use Rattle.zk_step.specs.Printing.{IsPlainEnd};
 ghost use Rattle.zk_step.specs.Routing.{with_line_start};
 ghost use Rattle.zk_step.specs.Restarts.{begun_again};
 ghost use Rattle.zk_step.specs.Routines.{stored};
+ghost use Rattle.zk_code.specs.Targets.{jump_target};
 ghost use Rattle.zk_mem.specs.Header.{header_of};
 
 use crate::call::call_routine;
@@ -55,16 +57,16 @@ pub(crate) fn way_after(branch: Option<Branch>, next: u32, truth: Option<bool>) 
 }
 
 #[tactic(auto, unfolding(crate::specs::Finish::led))]
-pub(crate) fn lead(workspace: &mut Workspace, way: Way) -> Result<Next, Refusal>
+pub(crate) fn lead(workspace: &mut Workspace, way: Way) -> Result<u32, Refusal>
     ensures value { MatchResult result
-        (λ n. limited_next (led workspace.old way) ≡ Ok (workspace.new, n))
+        (λ place. limited_next (led workspace.old way) ≡ Ok (workspace.new, At place))
         (λ e. limited_next (led workspace.old way) ≡ Err e) }
     ensures bounds { bounds_of workspace.new.frames ≡ bounds_of workspace.old.frames }
 {
     match way {
         Way::To(place) => {
             workspace.is_bounded();
-            Ok(Next::At(place))
+            Ok(place)
         }
         Way::Back(value) => return_value(workspace, value),
         Way::Out => Err(Refusal::Fault(Fault::BadTarget)),
@@ -91,35 +93,35 @@ fn store_beside(
     }
 }
 
-/// Stores a result, and goes on to a place in the story.
+/// Stores a result, and goes on to a place in the story, which it tells.
 #[tactic(auto, unfolding(crate::specs::Finish::gone, crate::specs::Finish::led), using(crate::proofs::Ways::to_refused, crate::proofs::Ways::to_kept))]
 pub(crate) fn go_to(
     workspace: &mut Workspace,
     variable: Option<u8>,
     value: Option<u16>,
     place: u32,
-) -> Result<Next, Refusal>
+) -> Result<u32, Refusal>
     ensures value { MatchResult result
-        (λ n. limited_next (gone workspace.old variable value (Way.To place)) ≡ Ok (workspace.new, n))
+        (λ at. limited_next (gone workspace.old variable value (Way.To place)) ≡ Ok (workspace.new, At at))
         (λ e. limited_next (gone workspace.old variable value (Way.To place)) ≡ Err e) }
     ensures bounds { bounds_of workspace.new.frames ≡ bounds_of workspace.old.frames }
 {
     store(workspace, variable, value)?;
     workspace.is_bounded();
-    Ok(Next::At(place))
+    Ok(place)
 }
 
-/// Stores a result, and leaves the routine or the story.
+/// Stores a result, and leaves the routine or the story: the place where its caller goes on.
 #[tactic(auto, using(crate::proofs::Ways::away_stored, crate::proofs::Ways::away_faults))]
-fn go_away(
+pub fn go_away(
     workspace: &mut Workspace,
     variable: Option<u8>,
     value: Option<u16>,
     way: Way,
-) -> Result<Next, Refusal>
+) -> Result<u32, Refusal>
     requires { leads_away way ≡ true }
     ensures value { MatchResult result
-        (λ n. limited_next (gone workspace.old variable value way) ≡ Ok (workspace.new, n))
+        (λ at. limited_next (gone workspace.old variable value way) ≡ Ok (workspace.new, At at))
         (λ e. limited_next (gone workspace.old variable value way) ≡ Err e) }
     ensures bounds { bounds_of workspace.new.frames ≡ bounds_of workspace.old.frames }
 {
@@ -129,16 +131,16 @@ fn go_away(
     }
 }
 
-/// Stores a result and takes a branch.
+/// Stores a result and takes a branch: where it leads.
 #[tactic(auto, unfolding(crate::specs::Finish::gone_on))]
 fn go_on(
     workspace: &mut Workspace,
     i: &Instr,
     value: Option<u16>,
     truth: Option<bool>,
-) -> Result<Next, Refusal>
+) -> Result<u32, Refusal>
     ensures value { MatchResult result
-        (λ n. limited_next (gone_on workspace.old i.now value truth) ≡ Ok (workspace.new, n))
+        (λ at. limited_next (gone_on workspace.old i.now value truth) ≡ Ok (workspace.new, At at))
         (λ e. limited_next (gone_on workspace.old i.now value truth) ≡ Err e) }
     ensures bounds { bounds_of workspace.new.frames ≡ bounds_of workspace.old.frames }
 {
@@ -147,6 +149,18 @@ fn go_on(
         Way::Back(back) => go_away(workspace, i.store, value, Way::Back(back)),
         Way::Out => go_away(workspace, i.store, value, Way::Out),
     }
+}
+
+/// Jumps by an offset from an instruction: where to.
+fn jump(workspace: &mut Workspace, i: &Instr, offset: u16) -> Result<u32, Refusal>
+    requires { i.now.next ≤ 2 ^ 20 }
+    ensures value { MatchResult result
+        (λ at. limited_next (led workspace.old (way_of (jump_target (length workspace.old.memory.bytes) i.now.next offset))) ≡ Ok (workspace.new, At at))
+        (λ e. limited_next (led workspace.old (way_of (jump_target (length workspace.old.memory.bytes) i.now.next offset))) ≡ Err e) }
+    ensures bounds { bounds_of workspace.new.frames ≡ bounds_of workspace.old.frames }
+{
+    let way = way_to(jump_target(workspace.memory.len(), i.next, offset));
+    lead(workspace, way)
 }
 
 /// Begins the story again at its first instruction.
@@ -178,16 +192,14 @@ pub fn finish(
     ensures bounds { bounds_of workspace.new.frames ≡ bounds_of workspace.old.frames }
 {
     match ending {
-        Ending::GoOn(value, truth) => go_on(workspace, i, value, truth),
-        Ending::Jump(offset) => {
-            let way = way_to(jump_target(workspace.memory.len(), i.next, offset));
-            lead(workspace, way)
-        }
+        Ending::GoOn(value, truth) => Ok(Next::At(go_on(workspace, i, value, truth)?)),
+        Ending::Jump(offset) => Ok(Next::At(jump(workspace, i, offset)?)),
         Ending::Call(routine, most) => {
-            call_routine(workspace, i, routine, values.arguments(most))
+            let arguments = values.arguments(most);
+            Ok(Next::At(call_routine(workspace, i, routine, arguments)?))
         }
-        Ending::Return(value) => return_value(workspace, value),
-        Ending::Throw(value, frame) => throw_value(workspace, value, frame),
+        Ending::Return(value) => Ok(Next::At(return_value(workspace, value)?)),
+        Ending::Throw(value, frame) => Ok(Next::At(throw_value(workspace, value, frame)?)),
         Ending::Restart => Ok(begin_again(workspace)),
         Ending::Keep => Ok(Next::Keeps),
         Ending::Resume => Ok(Next::Resumes),

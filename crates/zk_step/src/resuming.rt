@@ -2,6 +2,7 @@
 
 ghost use Rattle.zk_state.specs.Frames.{bounds_of};
 ghost use Rattle.std.specs.Prelude.{◌≡◌, Ok, Err, MatchResult};
+ghost use Rattle.zk_step.specs.declared.ending.Next.TheVariants.{At};
 ghost use Rattle.zk_step.specs.Limited.{limited_next};
 ghost use Rattle.zk_step.specs.Resuming.{resumed};
 
@@ -12,13 +13,13 @@ use zk_code::decode::decode_branch;
 use zk_mem::fault::Fault;
 use zk_state::refusal::Refusal;
 
-/// Goes on at the place where a state was saved that is back now (Z-Machine Standards Document 1.1, section 15,
+/// The place where a state was saved that is back now (Z-Machine Standards Document 1.1, section 15,
 /// `save` and `restore_undo`): in version 3 the branch at that byte address is taken, from version 4 on 2 is
 /// stored by the store byte there. Where one of these bytes lies outside the story, this is `BadTarget`.
 #[tactic(auto, unfolding(crate::specs::Resuming::resumed))]
-pub fn resume(workspace: &mut Workspace, place: u32) -> Result<Next, Refusal>
+fn place_back(workspace: &mut Workspace, place: u32) -> Result<u32, Refusal>
     ensures value { MatchResult result
-        (λ n. limited_next (resumed workspace.old place) ≡ Ok (workspace.new, n))
+        (λ at. limited_next (resumed workspace.old place) ≡ Ok (workspace.new, At at))
         (λ e. limited_next (resumed workspace.old place) ≡ Err e) }
     ensures bounds { bounds_of workspace.new.frames ≡ bounds_of workspace.old.frames }
 {
@@ -31,5 +32,18 @@ pub fn resume(workspace: &mut Workspace, place: u32) -> Result<Next, Refusal>
     match workspace.memory.cell(place) {
         Some(variable) => go_to(workspace, Some(variable), Some(2), place + 1),
         None => Err(Refusal::Fault(Fault::BadTarget)),
+    }
+}
+
+/// Goes on where a state was saved that is back now.
+pub fn resume(workspace: &mut Workspace, place: u32) -> Result<Next, Refusal>
+    ensures value { MatchResult result
+        (λ n. limited_next (resumed workspace.old place) ≡ Ok (workspace.new, n))
+        (λ e. limited_next (resumed workspace.old place) ≡ Err e) }
+    ensures bounds { bounds_of workspace.new.frames ≡ bounds_of workspace.old.frames }
+{
+    match place_back(workspace, place) {
+        Ok(at) => Ok(Next::At(at)),
+        Err(refusal) => Err(refusal),
     }
 }

@@ -2,11 +2,11 @@
 
 ghost use Rattle.zk_state.specs.Frames.{bounds_of};
 ghost use Rattle.std.specs.Prelude.{◌≡◌, ◌<◌, ℕ, Bool, Ok, Err, IfErr, IfSome, IsOk, OnOk, MatchResult};
+ghost use Rattle.zk_step.specs.declared.ending.Next.TheVariants.{At};
 ghost use Rattle.zk_step.specs.Limited.{limited, limited_next};
 ghost use Rattle.zk_step.specs.Routines.{returned, thrown, stored};
 ghost use Rattle.zk_step.specs.Routing.{with_line_start};
 
-use crate::ending::Next;
 use crate::variables::{global, write_variable};
 use crate::workspace::Workspace;
 use zk_state::refusal::Refusal;
@@ -32,11 +32,12 @@ pub fn store(
     }
 }
 
-/// Returns a value from the current routine to its caller.
+/// Returns a value from the current routine to its caller, and tells the place where that goes on.
 #[tactic(auto, unfolding(crate::specs::Routines::returned), using(zk_state::proofs::Kept::left_bounds))]
-pub fn return_value(workspace: &mut Workspace, value: u16) -> Result<Next, Refusal>
+#[inline(always)]
+pub fn return_value(workspace: &mut Workspace, value: u16) -> Result<u32, Refusal>
     ensures value { MatchResult result
-        (λ n. limited_next (returned workspace.old value) ≡ Ok (workspace.new, n))
+        (λ place. limited_next (returned workspace.old value) ≡ Ok (workspace.new, At place))
         (λ e. limited_next (returned workspace.old value) ≡ Err e) }
     ensures bounds { bounds_of workspace.new.frames ≡ bounds_of workspace.old.frames }
 {
@@ -44,17 +45,17 @@ pub fn return_value(workspace: &mut Workspace, value: u16) -> Result<Next, Refus
     match store(workspace, back.result, Some(value)) {
         Ok(()) => {
             workspace.is_bounded();
-            Ok(Next::At(back.place))
+            Ok(back.place)
         }
         Err(refusal) => Err(refusal),
     }
 }
 
-/// Returns a value from the frame of a number to its caller.
+/// Returns a value from the frame of a number to its caller, and tells the place where that goes on.
 #[tactic(auto, unfolding(crate::specs::Routines::thrown), using(zk_state::proofs::Kept::unwound_bounds))]
-pub fn throw_value(workspace: &mut Workspace, value: u16, frame: u16) -> Result<Next, Refusal>
+pub fn throw_value(workspace: &mut Workspace, value: u16, frame: u16) -> Result<u32, Refusal>
     ensures value { MatchResult result
-        (λ n. limited_next (thrown workspace.old value frame) ≡ Ok (workspace.new, n))
+        (λ place. limited_next (thrown workspace.old value frame) ≡ Ok (workspace.new, At place))
         (λ e. limited_next (thrown workspace.old value frame) ≡ Err e) }
     ensures bounds { bounds_of workspace.new.frames ≡ bounds_of workspace.old.frames }
 {

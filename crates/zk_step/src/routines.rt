@@ -39,7 +39,8 @@ pub fn call_effect(operation: Call, values: &Values) -> Effect
 }
 
 /// Whether the current routine was given the argument of a number.
-fn is_supplied(workspace: &Workspace, number: u16) -> bool
+#[inline(always)]
+pub fn is_supplied(workspace: &Workspace, number: u16) -> bool
     ensures { result ≡ was_supplied workspace.now number }
 {
     number > 0 && number <= workspace.frames.supplied() as u16

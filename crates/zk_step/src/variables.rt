@@ -11,17 +11,17 @@ use zk_mem::memory::Memory;
 use zk_state::refusal::Refusal;
 
 /// The byte address of a global variable.
+#[inline(always)]
 pub fn global_of(memory: &Memory, variable: u8) -> u32
-    requires { 16 ≤ variable }
-    ensures { result ≡ global_address memory.now variable }
+    ensures { 16 ≤ variable → result ≡ global_address memory.now variable }
 {
-    memory.header().globals as u32 + 2 * (variable as u32 - 16)
+    (memory.header().globals as u32 + 2 * variable as u32).wrapping_sub(32)
 }
 
 /// The byte address of a global variable.
+#[inline(always)]
 pub fn global(workspace: &Workspace, variable: u8) -> u32
-    requires { 16 ≤ variable }
-    ensures { result ≡ global_address workspace.now.memory variable }
+    ensures { 16 ≤ variable → result ≡ global_address workspace.now.memory variable }
 {
     global_of(&workspace.memory, variable)
 }

@@ -20,7 +20,7 @@ use Rattle.zk_step.specs.Restarts.{renewed}
 use Rattle.zk_step.specs.Resuming.{resumed}
 use Rattle.zk_step.specs.Laws.{fixed_parts}
 use Rattle.zk_step.specs.Limited.{limited_next}
-use Rattle.zk_step.proofs.Stories.{answers_leave_stories}
+use Rattle.zk_step.proofs.Sweep.{answers_leave_stories}
 use Rattle.zk_vm.specs.declared.limits.Limits.{Limits}
 use Rattle.zk_fast.specs.declared.cache.Cache.{Cache}
 use Rattle.zk_fast.specs.Caches.{IsCacheOf}

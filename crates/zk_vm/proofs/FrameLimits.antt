@@ -27,8 +27,8 @@ use Rattle.zk_step.specs.Inputs.{result_answered}
 use Rattle.zk_step.specs.Laws.{fixed_parts, rebounded, led_in, moved_in}
 use Rattle.zk_step.specs.Resuming.{resumed}
 use Rattle.zk_step.specs.Routing.{Texts, no_text}
-use Rattle.zk_step.proofs.Rebounded.{bounds_are_not_seen, answers_see_no_bounds}
-use Rattle.zk_step.proofs.Stories.{stories_stay, answers_leave_stories}
+use Rattle.zk_step.proofs.Sweep.{bounds_are_not_seen, answers_see_no_bounds}
+use Rattle.zk_step.proofs.Sweep.{stories_stay, answers_leave_stories}
 use Rattle.zk_vm.specs.declared.limits.Limits.{Limits}
 use Rattle.zk_vm.specs.declared.waiting.Waiting.{Waiting}
 use Rattle.zk_vm.specs.declared.stop.Stop.TheVariants.{Limit as LimitAt}

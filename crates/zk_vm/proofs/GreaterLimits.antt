@@ -22,7 +22,7 @@ use Rattle.zk_state.specs.declared.refusal.Limit.TheVariants.{Reads}
 use Rattle.zk_vm.specs.declared.stop.Stop.TheVariants.{Limit}
 use Rattle.zk_step.specs.Laws.{fixed_parts}
 use Rattle.zk_step.specs.Routing.{Texts, no_text, text_joined}
-use Rattle.zk_step.proofs.Stories.{answers_leave_stories}
+use Rattle.zk_step.proofs.Sweep.{answers_leave_stories}
 use Rattle.zk_vm.specs.declared.stop.Stop.{Stop}
 use Rattle.zk_vm.specs.declared.waiting.Waiting.{Waiting}
 use Rattle.zk_vm.specs.Answers.{Answer, answered, answered_by, answer_settled, codes_of, file_of, first_code, is_kept, restored_from, restored_to, transcribed, truth_word}

@@ -9,7 +9,7 @@ use Rattle.zk_step.specs.declared.ending.Wait.TheVariants.{Line, Char, Save, Res
 use Rattle.zk_step.specs.declared.workspace.Workspace.{Workspace}
 use Rattle.zk_step.specs.Laws.{rebounded, led_in}
 use Rattle.zk_step.specs.Routing.{Texts, no_text}
-use Rattle.zk_step.proofs.Rebounded.{answers_see_no_bounds}
+use Rattle.zk_step.proofs.Sweep.{answers_see_no_bounds}
 use Rattle.zk_code.specs.declared.instr.Instr.{Instr}
 use Rattle.zk_vm.specs.declared.stop.Stop.{Stop}
 use Rattle.zk_vm.specs.declared.waiting.Waiting.{Waiting}

@@ -329,10 +329,6 @@ impl Machine {
         ensures more { self.old.state.steps ≤ self.new.state.steps }
         ensures limits { self.new.limits ≡ self.old.limits }
     {
-        if let Some(i) = self.cache.find(&self.workspace.memory, self.place) {
-            let i = i.copy();
-            return self.advance(i, screen);
-        }
         match decode(&self.workspace.memory, self.place) {
             Ok(i) => self.advance(i, screen),
             Err(fault) => halt(&mut self.stopped, Stop::Fault(self.place, fault)),

@@ -1,4 +1,4 @@
-use Rattle.zk_step.proofs.Rebounded.{answers_see_no_bounds}
+use Rattle.zk_step.proofs.Sweep.{answers_see_no_bounds}
 use Rattle.zk_step.proofs.laws.answers_see_no_bounds.Goals as goal
 
 pub returns : goal.returns

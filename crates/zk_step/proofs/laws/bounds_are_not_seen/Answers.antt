@@ -1,4 +1,4 @@
-use Rattle.zk_step.proofs.Rebounded.{bounds_are_not_seen}
+use Rattle.zk_step.proofs.Sweep.{bounds_are_not_seen}
 use Rattle.zk_step.proofs.laws.bounds_are_not_seen.Goals as goal
 
 pub returns : goal.returns

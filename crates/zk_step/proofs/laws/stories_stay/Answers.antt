@@ -1,4 +1,4 @@
-use Rattle.zk_step.proofs.Stories.{stories_stay}
+use Rattle.zk_step.proofs.Sweep.{stories_stay}
 use Rattle.zk_step.proofs.laws.stories_stay.Goals as goal
 
 pub returns : goal.returns

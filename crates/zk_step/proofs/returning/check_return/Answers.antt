@@ -15,9 +15,9 @@ returns-then-number-lt16-clause-ok c = λ x b. own_returns (with_line_start b c.
 pub returns-in-Ok-check_word-clause-ok : goal.returns-in-Ok-check_word-clause-ok
 returns-in-Ok-check_word-clause-ok c = λ x b.
     let given = rw c.in-Some.is at c.in-Ok.ensures x in
-    global_returns (with_line_start b c.args.workspace.now) x c.in-Some.number given c.if-number-lt16.false (rw c.global.ensures at c.in-Ok-check_word.ensures.ok x)
+    global_returns (with_line_start b c.args.workspace.now) x c.in-Some.number given c.if-number-lt16.false (rw (c.global.ensures c.if-number-lt16.false) at c.in-Ok-check_word.ensures.ok x)
 
 pub returns-in-Err-check_word-clause-err : goal.returns-in-Err-check_word-clause-err
 returns-in-Err-check_word-clause-err c = λ x b.
     let given = rw c.in-Some.is at c.in-Ok.ensures x in
-    global_refused (with_line_start b c.args.workspace.now) x c.in-Some.number c.in-Err-check_word.fault given c.if-number-lt16.false (rw c.global.ensures at c.in-Err-check_word.ensures.err x)
+    global_refused (with_line_start b c.args.workspace.now) x c.in-Some.number c.in-Err-check_word.fault given c.if-number-lt16.false (rw (c.global.ensures c.if-number-lt16.false) at c.in-Err-check_word.ensures.err x)

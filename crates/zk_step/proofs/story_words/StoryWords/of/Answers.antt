@@ -1,4 +1,4 @@
-use Rattle.std.proofs.Common.{◌≡◌, ◌∙◌, sym, ap}
+use Rattle.std.proofs.Common.{◌∙◌, sym, ap}
 use Rattle.zk_mem.specs.declared.header.Header.{Header}
 use Rattle.zk_step.specs.StoryWords.{AreWordsOf}
 use Rattle.zk_step.proofs.SameStory.{always_there}

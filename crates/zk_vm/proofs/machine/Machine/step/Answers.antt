@@ -3,8 +3,8 @@ use Rattle.zk_code.proofs.Longer.{ends_inside}
 use Rattle.zk_vm.proofs.Advancing.{stepped_fault}
 use Rattle.zk_vm.proofs.machine.Machine.step.Goals as goal
 
-pub advance-requires-in-Ok-clause-inside : goal.advance-requires-in-Ok-clause-inside
-advance-requires-in-Ok-clause-inside g c =
+pub advance-requires-clause-inside : goal.advance-requires-clause-inside
+advance-requires-clause-inside g c =
     let ends = ends_inside c.self.inside.workspace.memory c.self.inside.place c.in-Ok.i c.in-Ok.i.next c.in-Ok.ensures.found in
     rw (← c.self.view_is) ends.0
 

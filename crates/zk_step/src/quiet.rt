@@ -1,0 +1,48 @@
+// Instructions that print nothing and go on with what they yield.
+
+ghost use Rattle.zk_state.specs.Frames.{bounds_of};
+ghost use Rattle.std.specs.Prelude.{◌≡◌, ℕ, Option, Ok, Err, MatchResult};
+ghost use Rattle.zk_step.specs.Effects.{effect_by, IsQuiet};
+ghost use Rattle.zk_step.specs.Endings.{ends_with};
+
+use crate::arithmetic::arithmetic;
+use crate::arrays::access_array;
+use crate::assignment::assign;
+use crate::comparison::{compare, value_at};
+use crate::ending::Yield;
+use crate::objects::{change_object, object_answer};
+use crate::routines::is_supplied;
+use crate::workspace::Workspace;
+use zk_code::opcode::{Opcode, Routine};
+use zk_mem::fault::Fault;
+
+/// What a quiet instruction does by the values of its operands, and what it yields. All but its call goes away where the
+/// opcode is known.
+#[inline(always)]
+#[tactic(auto, unfolding(crate::specs::Routines::routine_effect))]
+pub fn yield_of(opcode: Opcode, workspace: &mut Workspace, values: &[u16]) -> Result<Yield, Fault>
+    requires { IsQuiet opcode }
+    ensures value { MatchResult result
+        (λ y. (text : Option ℕ) → effect_by opcode workspace.old text values.now ≡ Ok (workspace.new, ends_with y))
+        (λ f. (text : Option ℕ) → effect_by opcode workspace.old text values.now ≡ Err f) }
+    ensures bounds { bounds_of workspace.new.frames ≡ bounds_of workspace.old.frames }
+{
+    let (x, y, z) = (
+        value_at(values, 0),
+        value_at(values, 1),
+        value_at(values, 2),
+    );
+    match opcode {
+        Opcode::Arithmetic(operation) => Ok(Yield::word(arithmetic(operation, x, y)?)),
+        Opcode::Comparison(operation) => Ok(Yield::truth(compare(operation, values))),
+        Opcode::Assignment(operation) => assign(operation, workspace, x, y),
+        Opcode::Array(operation) => access_array(operation, workspace, x, y, z),
+        Opcode::ObjectChange(operation) => {
+            change_object(operation, &mut workspace.memory, x, y, z)?;
+            Ok(Yield::nothing())
+        }
+        Opcode::ObjectQuestion(operation) => object_answer(operation, &workspace.memory, x, y),
+        Opcode::Routine(Routine::CheckArgCount) => Ok(Yield::truth(is_supplied(workspace, x))),
+        _ => unreachable!(),
+    }
+}
