@@ -12,3 +12,5 @@ pub mod Cut
 pub mod Same
 pub mod Reached
 pub mod ReachedByExample
+pub mod CleanByExample
+pub mod Saved

@@ -7,5 +7,7 @@ pub mod Grammar
 pub mod Laws
 pub mod Routines
 pub mod Reach
+pub mod Clean
 pub mod Examples
 pub mod ReachExamples
+pub mod CleanExamples

@@ -44,8 +44,6 @@ fn read_operand(
     }
 }
 
-// out of line, so that the operands are moved as one and not each by its parts
-#[inline(never)]
 #[tactic(auto, using(crate::proofs::OperandSteps::loop_step, crate::proofs::OperandSteps::loop_stop, crate::proofs::OperandSteps::loop_fault, crate::proofs::OperandSteps::loop_end))]
 fn read_operands(
     memory: &Memory,

@@ -2,6 +2,7 @@
 #![tactic(auto, unfolding(crate::specs::Reading::code_byte, crate::specs::Reading::code_word, crate::specs::Reading::types_at, crate::specs::Reading::with_types, crate::specs::Reading::with_type_bytes, crate::specs::Reading::extended_at, crate::specs::Reading::head_by, crate::specs::Reading::head_at, crate::specs::Reading::operand_at, crate::specs::Reading::operands_at, crate::specs::Reading::store_at, crate::specs::Reading::branch_by, crate::specs::Reading::branch_here, crate::specs::Reading::branch_at, crate::specs::Reading::text_at, crate::specs::Reading::instr_at, crate::specs::Table::two_operand, crate::specs::Table::one_operand, crate::specs::Table::zero_operand, crate::specs::Table::variable_operand, crate::specs::Table::extended, crate::specs::Targets::offset_target, crate::specs::Targets::branch_target, crate::specs::Targets::jump_target, zk_mem::specs::Map::cell_at, zk_mem::specs::Map::code_word_at, zk_mem::specs::Words::words_in, zk_mem::specs::Words::words_at, zk_mem::specs::Words::text_end_at, crate::specs::Table::name_of))]
 
 ghost use Rattle.zk_code.specs.Examples.{LongForms, ShortForms, VariableForms, OperandsEndAtOmitted, TwoTypeBytes, ExtendedForms, TextsFollow, StoresBeforeBranches, ShortBranches, LongBranches, RefusalsInOrder, BranchesLead, BranchesLeaveTheStory, JumpsLead, TwoOperandRows, OneOperandRows, ZeroOperandRows, VariableOperandRows, ExtendedRows, NamesByVersion};
+ghost use Rattle.zk_code.specs.CleanExamples.{CleanAndNot, LowCode, TargetsOutside, WaysByVariable, WaysOut};
 ghost use Rattle.zk_code.specs.ReachExamples.{BranchesToAddresses, CallsByConstants, EndsGoNowhere, JumpsToAddresses, OthersGoOn, RestIsNotReached, RoutineIsCalled, WaysAreReached};
 
 /// Forms of instructions and their operands (Standard, sections 4.2 to 4.5).
@@ -61,4 +62,14 @@ pub fn reach_by_example()
     ensures ways_are_reached { WaysAreReached }
     ensures rest_is_not_reached { RestIsNotReached }
     ensures routine_is_called { RoutineIsCalled }
+{}
+
+/// Code that a run may leave or rewrite, and clean code (Standard, sections 1.1.1, 4.7, 5.2 and 6.4).
+#[tactic(auto, unfolding(crate::specs::Clean::leads_by_variable), using(crate::proofs::CleanByExample::targets_outside, crate::proofs::CleanByExample::ways_out, crate::proofs::CleanByExample::low_code, crate::proofs::ReachedByExample::clean_and_not))]
+pub fn clean_code_by_example()
+    ensures targets_outside { TargetsOutside }
+    ensures ways_out { WaysOut }
+    ensures low_code { LowCode }
+    ensures ways_by_variable { WaysByVariable }
+    ensures clean_and_not { CleanAndNot }
 {}
