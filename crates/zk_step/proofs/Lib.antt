@@ -1,6 +1,7 @@
 pub mod Arguments
 pub mod Buffers
 pub mod FixedParts
+pub mod Inside
 pub mod Keys
 pub mod Lines
 pub mod Manners

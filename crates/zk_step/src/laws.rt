@@ -1,6 +1,6 @@
 // Laws of instructions.
 
-ghost use Rattle.zk_step.specs.Laws.{BoundsAreNotSeen, AnswersSeeNoBounds, StoriesStay, AnswersLeaveStories, LinesChangeTextBuffers};
+ghost use Rattle.zk_step.specs.Laws.{BoundsAreNotSeen, AnswersSeeNoBounds, StoriesStay, AnswersLeaveStories, EffectsEnd, EffectsStay, LinesChangeTextBuffers};
 
 /// Bounds on frames and words change nothing of what an instruction does: in a workspace with other bounds
 /// it leads to the same workspace, with those bounds, to the same place, and shows the same.
@@ -21,6 +21,16 @@ pub fn stories_stay()
 /// Nor does what finishes an instruction that has waited.
 pub fn answers_leave_stories()
     ensures { AnswersLeaveStories }
+{}
+
+/// An effect ends as its opcode says, and jumps or calls by the first value of its operands alone.
+pub fn effects_end()
+    ensures { EffectsEnd }
+{}
+
+/// An effect writes nothing at or above the static base, and leaves the places that routines return to.
+pub fn effects_stay()
+    ensures { EffectsStay }
 {}
 
 /// A line that is stored changes no byte beside those of its text buffer behind the first, which says how many

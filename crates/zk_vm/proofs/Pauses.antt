@@ -22,7 +22,8 @@ use Rattle.zk_step.specs.Variables.{operands_read}
 use Rattle.zk_step.proofs.FixedParts.{Leaves, gives, fails, value_left}
 use Rattle.zk_vm.proofs.Ends.{EndsAs, ends_as}
 use Rattle.zk_step.proofs.Manners.{IsPause, PausesSo, pauses_by}
-use Rattle.zk_step.proofs.Sweep.{effect_manner}
+use Rattle.zk_step.proofs.Sweep.{effect_manner, effects_end}
+use Rattle.zk_step.specs.Laws.{EndsBy}
 
 leaves_with : {A B : Type 0} {Q : B → Type 0} (r : Result A Fault) (k : A → Result B Fault) → ((x : A) → r ≡ Ok x → Leaves Q (k x)) → Leaves Q (r >>= k)
 leaves_with {A} {B} {Q} (Ok x) k c = c x refl
@@ -83,9 +84,9 @@ pub record HasPaused (w v : Workspace) (i : Instr) (n : Next) (t : Texts) : Type
   pub keeps : n ≡ Keeps → i.opcode ≡ opcode.Saving SaveUndo
 
 -- by its effect, its route and its end
-paused_by : (w u : Workspace) (i : Instr) (vs : List ℕ) (e : Workspace × Effect) (r : Workspace × Texts) (v : Workspace) (n : Next) → operands_read w i.operands ≡ Ok (u, vs) → (IsPause e.1.ending → PausesSo i.opcode u e)
+paused_by : (w u : Workspace) (i : Instr) (vs : List ℕ) (e : Workspace × Effect) (r : Workspace × Texts) (v : Workspace) (n : Next) → operands_read w i.operands ≡ Ok (u, vs) → (IsPause e.1.ending → PausesSo u e) → EndsBy i.opcode vs e.1.ending
     → routed w.memory e.0 e.1.output ≡ Ok r → finished r.0 i vs e.1.ending ≡ Ok (v, n) → IsPaused n → HasPaused w v i n r.1
-paused_by w u i vs e r v n taken so route finish paused =
+paused_by w u i vs e r v n taken so by route finish paused =
     let how = ends_as r.0 i vs e.1.ending v n finish in
     let pause = pause_of e.1.ending n how paused in
     let is = so pause in
@@ -95,14 +96,14 @@ paused_by w u i vs e r v n taken so route finish paused =
       values = vs;
       operands = subst (λ (x : Workspace). operands_read w i.operands ≡ Ok (x, vs)) (sym same) taken;
       quiet = silent.1;
-      keeps = λ h. is.keeps (keep_of e.1.ending n how h);
+      keeps = λ h. subst (EndsBy i.opcode vs) (keep_of e.1.ending n how h) by;
     }
 
 carried_pauses : (w : Workspace) (i : Instr) → Leaves (λ (r : Workspace × (Next × Texts)). IsPaused r.1.0 → HasPaused w r.0 i r.1.0 r.1.1) (carried_out w i)
 unfolding carried_out effect_of
 carried_pauses w i =
     leaves_with (operands_read w i.operands) _ (λ vs taken. leaves_with (effect_by i.opcode vs.0 i.text vs.1) _
-    (λ e made. leaves_with (routed w.memory e.0 e.1.output) _ (λ r route. leaves_with (finished r.0 i vs.1 e.1.ending) _ (λ n finish. gives (λ paused. paused_by w vs.0 i vs.1 e r n.0 n.1 taken (pauses_by (effect_manner i.opcode vs.0 i.text vs.1 e made)) route finish paused)))))
+    (λ e made. leaves_with (routed w.memory e.0 e.1.output) _ (λ r route. leaves_with (finished r.0 i vs.1 e.1.ending) _ (λ n finish. gives (λ paused. paused_by w vs.0 i vs.1 e r n.0 n.1 taken (pauses_by (effect_manner i.opcode vs.0 i.text vs.1 e made)) (effects_end vs.0 i vs.1 e made) route finish paused)))))
 
 pub pauses : (w : Workspace) (i : Instr) (v : Workspace) (n : Next) (t : Texts) → carried_out w i ≡ Ok (v, (n, t)) → IsPaused n → HasPaused w v i n t
 pauses w i v n t h = value_left (carried_out w i) (v, (n, t)) (carried_pauses w i) h
