@@ -30,12 +30,11 @@ use Rattle.zk_step.specs.declared.finish.Way.{Way}
 use Rattle.zk_step.specs.declared.finish.Way.TheVariants.{To}
 use Rattle.zk_step.specs.declared.workspace.Workspace.{Workspace}
 use Rattle.zk_step.specs.Finish.{agrees, way_of, way_on}
-use Rattle.zk_step.specs.Laws.{EndsBy, KeepsStory, fixed_parts}
+use Rattle.zk_step.specs.Laws.{EndsBy, IsOneStory, KeepsStory}
 use Rattle.zk_step.specs.Routines.{RoutineHeader, routine_at, routine_of}
 use Rattle.zk_step.specs.Values.{first}
 use Rattle.zk_step.specs.Variables.{operand_read, operands_read}
 use Rattle.zk_step.proofs.FixedParts.{Leaves, gives, leaves_after, value_left}
-use Rattle.zk_step.proofs.SameStory.{same_version, same_base, same_file}
 use Rattle.zk_step.proofs.Sweep.{EndsInto, GoesOnInto, LeadsInto}
 
 same_ok : {A : Type 0} (x y : A) → ◌≡◌ {A = Result A Fault} (Ok x) (Ok y) → x ≡ y
@@ -73,13 +72,13 @@ drop_from : (xs : List ℕ) (s a : ℕ) → s ≤ a → drop a xs ≡ drop (a - 
 drop_from xs s a le = let e : s + (a - s) ≡ a = omega arith in rw (drop-drop (a - s) s xs, e) refl
 
 -- memories of one story are the same from the static base on
-pub same_from : (m n : MemoryMap) (a : ℕ) → KeepsStory m → KeepsStory n → fixed_parts n ≡ fixed_parts m → m.static_base ≤ a → IsSameFrom a m n
+pub same_from : (m n : MemoryMap) (a : ℕ) → KeepsStory m → KeepsStory n → IsOneStory m n → m.static_base ≤ a → IsSameFrom a m n
 same_from m n a hm hn e le =
-    let base = same_base m n e in
-    let tail : drop m.static_base n.bytes ≡ drop m.static_base m.bytes = (rw base at hn.keeps) ∙ ap (drop m.static_base) (same_file m n e) ∙ sym hm.keeps in
+    let base = e.base in
+    let tail : drop m.static_base n.bytes ≡ drop m.static_base m.bytes = (rw base at hn.keeps) ∙ ap (drop m.static_base) e.file ∙ sym hm.keeps in
     record {
-      version = sym (same_version m n e);
-      size = hm.size ∙ ap length (sym (same_file m n e)) ∙ sym hn.size;
+      version = sym (e.version);
+      size = hm.size ∙ ap length (sym e.file) ∙ sym hn.size;
       bytes = drop_from m.bytes m.static_base a le ∙ ap (drop (a - m.static_base)) (sym tail) ∙ sym (drop_from n.bytes m.static_base a le);
     }
 
@@ -153,19 +152,19 @@ module _ (m : MemoryMap) (P : ℕ → Type 0) (clean : IsClean m P) (keeps : Kee
   unfolding constant_call
   called p call constant some = rw (call, constant, some) refl
 
-  module _ (n : MemoryMap) (same : KeepsStory n) (parts : fixed_parts n ≡ fixed_parts m) where
+  module _ (n : MemoryMap) (same : KeepsStory n) (story : IsOneStory m n) where
     call_inside : (p : ℕ) (r : RoutineHeader) → constant_call m i ≡ Some (unpacked m.version p) → routine_at n (unpacked n.version p) ≡ Ok r → P r.start
     call_inside p r call found =
         let q = unpacked m.version p in
-        let there : routine_at n q ≡ Ok r = ap (λ (v : ℕ). routine_at n (unpacked v p)) (sym (same_version m n parts)) ∙ found in
+        let there : routine_at n q ≡ Ok r = ap (λ (v : ℕ). routine_at n (unpacked v p)) (sym story.version) ∙ found in
         elim (cases_lt q m.static_base) [
           | inl low ↦ absurd (clean.above a i.next i inside stands (inr (q, call, low)))
-          | inr high ↦ clean.closed.calls a i.next q r.start i inside stands call (start_alike m n q r (same_from m n q keeps same parts high) there)
+          | inr high ↦ clean.closed.calls a i.next q r.start i inside stands call (start_alike m n q r (same_from m n q keeps same story high) there)
         ]
 
     jump_there : (c : ℕ) → is_jump i.opcode ≡ true → first_constant i.operands ≡ Some c → LeadsInto P (way_of (jump_target (length n.bytes) i.next c))
     jump_there c jump constant =
-        let size : length m.bytes ≡ length n.bytes = keeps.size ∙ ap length (sym (same_file m n parts)) ∙ sym same.size in
+        let size : length m.bytes ≡ length n.bytes = keeps.size ∙ ap length (sym story.file) ∙ sym same.size in
         subst (λ (l : ℕ). LeadsInto P (way_of (jump_target l i.next c))) size (jump_inside c jump constant)
 
     module _ (known : leads_by_variable i ≡ false) (w u : Workspace) (vs : List ℕ) (taken : operands_read w i.operands ≡ Ok (u, vs)) where
@@ -183,16 +182,16 @@ module _ (m : MemoryMap) (P : ℕ → Type 0) (clean : IsClean m P) (keeps : Kee
           (next_inside (call_goes_on i.opcode by.0), λ r found. call_inside p r (called p by.0 (constant (inl by.0) ∙ ap Some (sym by.1)) by.2) found)
       ends_inside (ending.Return x) by = tt
       ends_inside (ending.Throw x n) by = tt
-      ends_inside ending.Restart by = subst (λ (file : List ℕ). P (header_of file).first_instruction) (sym (same_file m n parts)) clean.closed.first
+      ends_inside ending.Restart by = subst (λ (file : List ℕ). P (header_of file).first_instruction) (sym story.file) clean.closed.first
       ends_inside ending.Keep by = tt
       ends_inside ending.Resume by = tt
       ends_inside (ending.Wait for) by = tt
       ends_inside ending.Quit by = tt
 
   -- the instruction is read there in each memory of the story
-  pub read_inside : (n : MemoryMap) → KeepsStory n → fixed_parts n ≡ fixed_parts m → instr_at n a ≡ Ok i
-  read_inside n same parts =
+  pub read_inside : (n : MemoryMap) → KeepsStory n → IsOneStory m n → instr_at n a ≡ Ok i
+  read_inside n same story =
       elim (cases_lt a m.static_base) [
         | inl low ↦ absurd (clean.above a i.next i inside stands (inl low))
-        | inr high ↦ (only_at n a i i.next (instruction_alike m n a i i.next (same_from m n a keeps same parts high) stands))
+        | inr high ↦ (only_at n a i i.next (instruction_alike m n a i i.next (same_from m n a keeps same story high) stands))
       ]
