@@ -2,6 +2,7 @@
 use Rattle.std.proofs.Common.{◌≡◌, ◌∙◌, ℕ, ◌<◌, ◌⊎◌, inl, inr, Bool, true, false, ◌||◌, List, [], ◌∷◌, length, Option, Some, None, Result, Ok, Err, refl, sym, ap, subst, arith, nat_lt, if◌then◌else◌}
 use Rattle.std.specs.Prelude.{not, is_err, is_none}
 use Rattle.std.specs.List.{filter}
+use Rattle.std.proofs.lemmas.Bool.Decides.{nat_tests}
 use Rattle.zk_mem.specs.declared.fault.Fault.{Fault}
 use Rattle.zk_mem.specs.Checksum.{has_right_sum, stated_length}
 use Rattle.zk_mem.specs.Map.{MemoryMap, HasBytes}
@@ -9,17 +10,18 @@ use Rattle.zk_code.specs.declared.branch.Branch.{Branch}
 use Rattle.zk_code.specs.declared.branch.Target.{Target}
 use Rattle.zk_code.specs.declared.branch.Target.TheVariants.{ReturnFalse, ReturnTrue, At, Below, Past}
 use Rattle.zk_code.specs.declared.instr.Instr.{Instr}
+use Rattle.zk_code.specs.Clean.{IsOutside, LeadsOut, IsLow}
 use Rattle.zk_code.specs.Grammar.{IsInstruction}
 use Rattle.zk_code.specs.Reach.{IsReached, constant_call, constant_jump}
 use Rattle.zk_code.specs.Reading.{instr_at}
 use Rattle.zk_code.specs.Routines.{count_at}
 use Rattle.zk_code.proofs.Whole.{found_at, only_at}
 use Rattle.zk_inspect.specs.declared.code.Code.{Code}
-use Rattle.zk_inspect.specs.declared.finding.Number.TheVariants.{Checksum, Length, UndecodableCode, TargetOutOfTheStory}
+use Rattle.zk_inspect.specs.declared.finding.Number.TheVariants.{Checksum, Length, UndecodableCode, TargetOutOfTheStory, CodeBelowTheStaticBase}
 use Rattle.zk_inspect.specs.Codes.{IsCodeOf}
-use Rattle.zk_inspect.specs.Findings.{Finds, IsOutside, LeadsOut, IsLeadingOut}
+use Rattle.zk_inspect.specs.Findings.{Finds, IsLeadingOut, IsLowCode}
 use Rattle.zk_inspect.specs.Lists.{IsListOf}
-use Rattle.zk_inspect.specs.Tests.{is_undecodable, is_outside, branches_out, jumps_out, calls_out, instr_leads_out, found_leads_out, leads_out}
+use Rattle.zk_inspect.specs.Tests.{is_undecodable, is_outside, branches_out, jumps_out, calls_out, instr_leads_out, found_leads_out, leads_out, calls_low, instr_is_low, found_is_low, is_low}
 use Rattle.zk_inspect.proofs.Listed.{list_if, list_filter}
 
 pub wrong_checksum : (m : MemoryMap) (xs : List ℕ) (ok : Bool) → ok ≡ has_right_sum m.file → xs ≡ (if not ok then 0x1c ∷ [] else []) → IsListOf (Finds m Checksum) xs
@@ -116,3 +118,53 @@ unfolding Finds
 leading_out m code xs bytes h k = subst (IsListOf (Finds m TargetOutOfTheStory)) (sym k) (list_filter (IsReached m) (Finds m TargetOutOfTheStory) (leads_out m) code.addresses h.addresses
     (λ a r t. leading_by m a (instr_at m a) bytes r refl t)
     (λ a p. (p.reached, leading_test m a p)))
+
+-- ---- what a run may rewrite
+
+below_is : (a b : ℕ) → nat_lt a b ≡ true → a < b
+below_is a b h = grind (arith, nat_tests)
+
+is_below : (a b : ℕ) → a < b → nat_lt a b ≡ true
+is_below a b lt = grind (arith, nat_tests)
+
+call_low : (m : MemoryMap) (o : Option ℕ) → calls_low m o ≡ true → (r : ℕ) × (o ≡ Some r) × (r < m.static_base)
+call_low m None h = absurd cc
+call_low m (Some r) h = (r, refl, below_is r m.static_base h)
+
+low_call : (m : MemoryMap) (r : ℕ) → r < m.static_base → calls_low m (Some r) ≡ true
+low_call m r lt = is_below r m.static_base lt
+
+one_of_two : (x y : Bool) → (x || y) ≡ true → (x ≡ true) ⊎ (y ≡ true)
+one_of_two true y h = inl refl
+one_of_two false y h = inr h
+
+first_of_two : (x y : Bool) → x ≡ true → (x || y) ≡ true
+first_of_two true y h = refl
+first_of_two false y h = absurd cc
+
+second_of_two : (x y : Bool) → y ≡ true → (x || y) ≡ true
+second_of_two true y h = refl
+second_of_two false y h = h
+
+test_low : (m : MemoryMap) (a : ℕ) (i : Instr) → instr_is_low m a i ≡ true → IsLow m a i
+test_low m a i h = elim (one_of_two (nat_lt a m.static_base) (calls_low m (constant_call m i)) h) [
+  | inl lt ↦ inl (below_is a m.static_base lt)
+  | inr c ↦ inr (call_low m (constant_call m i) c)
+]
+
+low_test : (m : MemoryMap) (a : ℕ) (i : Instr) → IsLow m a i → instr_is_low m a i ≡ true
+low_test m a i (inl lt) = first_of_two (nat_lt a m.static_base) (calls_low m (constant_call m i)) (is_below a m.static_base lt)
+low_test m a i (inr c) = second_of_two (nat_lt a m.static_base) (calls_low m (constant_call m i)) (ap (calls_low m) c.1 ∙ low_call m c.0 c.2)
+
+low_by : (m : MemoryMap) (a : ℕ) (r : Result Instr Fault) → HasBytes m → IsReached m a → instr_at m a ≡ r → found_is_low m a r ≡ true → IsLowCode m a
+low_by m a (Ok i) bytes reached e h = record { next = i.next; instr = i; reached = reached; stands = found_at m a i bytes e; low = test_low m a i h }
+low_by m a (Err f) bytes reached e h = absurd cc
+
+pub low_code_test : (m : MemoryMap) (a : ℕ) → IsLowCode m a → is_low m a ≡ true
+low_code_test m a p = ap (found_is_low m a) (only_at m a p.instr p.next p.stands) ∙ low_test m a p.instr p.low
+
+pub low_code : (m : MemoryMap) (code : Code) (xs : List ℕ) → HasBytes m → IsCodeOf m code → xs ≡ filter (is_low m) code.addresses → IsListOf (Finds m CodeBelowTheStaticBase) xs
+unfolding Finds
+low_code m code xs bytes h k = subst (IsListOf (Finds m CodeBelowTheStaticBase)) (sym k) (list_filter (IsReached m) (Finds m CodeBelowTheStaticBase) (is_low m) code.addresses h.addresses
+    (λ a r t. low_by m a (instr_at m a) bytes r refl t)
+    (λ a p. (p.reached, low_code_test m a p)))

@@ -7,7 +7,7 @@ use Rattle.std.proofs.lemmas.List.Elements.{Contains-append_left, Contains-appen
 use Rattle.zk_mem.specs.Map.{MemoryMap}
 use Rattle.zk_inspect.specs.declared.finding.Finding.{Finding}
 use Rattle.zk_inspect.specs.declared.finding.Number.{Number}
-use Rattle.zk_inspect.specs.declared.finding.Number.TheVariants.{Checksum, Length, DictionaryOrder, DictionaryExtent, ObjectLinks, ChainWithARepeat, PropertyList, TextPastTheEnd, NestedAbbreviation, UndecodableCode, TargetOutOfTheStory}
+use Rattle.zk_inspect.specs.declared.finding.Number.TheVariants.{Checksum, Length, DictionaryOrder, DictionaryExtent, ObjectLinks, ChainWithARepeat, PropertyList, TextPastTheEnd, NestedAbbreviation, UndecodableCode, TargetOutOfTheStory, CodeBelowTheStaticBase}
 use Rattle.zk_inspect.specs.Findings.{AreFindings, Finds, at_address, numbers}
 use Rattle.zk_inspect.specs.FindingLaws.{FindingsAreAll, OneListOfFindings, Precedes, rank_of}
 use Rattle.zk_inspect.proofs.OneList.{behind, behind_above, first_or, one_list}
@@ -20,14 +20,14 @@ in_first x xs = (0, omega arith, refl)
 in_rest : {X : Type 0} (x y : X) (xs : List X) → Contains xs y → Contains (x ∷ xs) y
 in_rest x y xs (k, lt, e) = (suc k, omega arith, e)
 
-none_in : {X : Type 0} (x : X) → Contains [] x → ⊥
+pub none_in : {X : Type 0} (x : X) → Contains [] x → ⊥
 none_in x (k, lt, e) = omega arith
 
 only : {X : Type 0} (x y : X) → Contains (x ∷ []) y → x ≡ y
 only x y (zero, lt, e) = e
 only x y (suc k, lt, e) = absurd (omega arith)
 
-first_rest : {X : Type 0} (x y : X) (xs : List X) → Contains (x ∷ xs) y → (x ≡ y) ⊎ Contains xs y
+pub first_rest : {X : Type 0} (x y : X) (xs : List X) → Contains (x ∷ xs) y → (x ≡ y) ⊎ Contains xs y
 first_rest x y xs (zero, lt, e) = inl e
 first_rest x y xs (suc k, lt, e) = inr (k, omega arith, e)
 
@@ -75,7 +75,7 @@ of_it addresses (x ∷ ns) n a k h = elim (first_rest x n ns k) [
   | inr r ↦ Contains-append_right (map (at_address x) (addresses x)) (behind_another addresses ns) (at_address n a) (of_it addresses ns n a r h)
 ]
 
-each : (n : Number) → Contains numbers n
+pub each : (n : Number) → Contains numbers n
 each Checksum = (0, omega arith, refl)
 each Length = (1, omega arith, refl)
 each DictionaryOrder = (2, omega arith, refl)
@@ -87,6 +87,7 @@ each TextPastTheEnd = (7, omega arith, refl)
 each NestedAbbreviation = (8, omega arith, refl)
 each UndecodableCode = (9, omega arith, refl)
 each TargetOutOfTheStory = (10, omega arith, refl)
+each CodeBelowTheStaticBase = (11, omega arith, refl)
 
 -- ---- the order
 
@@ -132,7 +133,7 @@ order_numbers addresses up b (n ∷ ns) h = order_append (map (at_address n) (ad
     inl (omega arith)))
 
 rises : RisesFrom 1 numbers
-rises = (omega arith, (omega arith, (omega arith, (omega arith, (omega arith, (omega arith, (omega arith, (omega arith, (omega arith, (omega arith, (omega arith, tt)))))))))))
+rises = (omega arith, (omega arith, (omega arith, (omega arith, (omega arith, (omega arith, (omega arith, (omega arith, (omega arith, (omega arith, (omega arith, (omega arith, tt))))))))))))
 
 order_behind : (before fs : List Finding) → InOrder (before ++ fs) → InOrder fs
 order_behind [] fs h = h

@@ -5,7 +5,7 @@ use Rattle.zk_mem.specs.Map.{MemoryMap}
 use Rattle.zk_mem.specs.declared.fault.Fault.TheVariants.{CodePastEnd, TextPastEnd, NestedAbbreviation as NestedFault}
 use Rattle.zk_code.specs.declared.branch.Target.TheVariants.{ReturnFalse, ReturnTrue, At, Below, Past}
 use Rattle.zk_code.specs.declared.operands.Operand.TheVariants.{Large, Small, Variable}
-use Rattle.zk_inspect.specs.declared.finding.Number.TheVariants.{Checksum, Length, DictionaryOrder, DictionaryExtent, ObjectLinks, ChainWithARepeat, PropertyList, TextPastTheEnd, NestedAbbreviation, UndecodableCode, TargetOutOfTheStory}
+use Rattle.zk_inspect.specs.declared.finding.Number.TheVariants.{Checksum, Length, DictionaryOrder, DictionaryExtent, ObjectLinks, ChainWithARepeat, PropertyList, TextPastTheEnd, NestedAbbreviation, UndecodableCode, TargetOutOfTheStory, CodeBelowTheStaticBase}
 use Rattle.zk_inspect.specs.FindingLines.{finding_line}
 use Rattle.zk_inspect.specs.Listing.{variable_text, operand_text, store_text, branch_text, quoted_bytes, address_line, routine_line, disassembly}
 use Rattle.zk_inspect.specs.AbbreviationLines.{abbreviation_line, abbreviation_lines}
@@ -62,6 +62,7 @@ FindingsOfTextsAndCode =
     × (finding_line (record { number = NestedAbbreviation; address = 0x40 }) ≡ codes "C9 00040 nested abbreviation\n")
     × (finding_line (record { number = UndecodableCode; address = 0x41 }) ≡ codes "C10 00041 undecodable code\n")
     × (finding_line (record { number = TargetOutOfTheStory; address = 0x42 }) ≡ codes "C11 00042 target out of the story\n")
+    × (finding_line (record { number = CodeBelowTheStaticBase; address = 0x12345 }) ≡ codes "C12 12345 code below the static base\n")
 
 -- ---- disassembly (sections 4 and 14)
 

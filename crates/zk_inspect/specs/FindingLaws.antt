@@ -4,7 +4,7 @@ use Rattle.std.specs.List.{Contains}
 use Rattle.zk_mem.specs.Map.{MemoryMap}
 use Rattle.zk_inspect.specs.declared.finding.Finding.{Finding}
 use Rattle.zk_inspect.specs.declared.finding.Number.{Number}
-use Rattle.zk_inspect.specs.declared.finding.Number.TheVariants.{Checksum, Length, DictionaryOrder, DictionaryExtent, ObjectLinks, ChainWithARepeat, PropertyList, TextPastTheEnd, NestedAbbreviation, UndecodableCode, TargetOutOfTheStory}
+use Rattle.zk_inspect.specs.declared.finding.Number.TheVariants.{Checksum, Length, DictionaryOrder, DictionaryExtent, ObjectLinks, ChainWithARepeat, PropertyList, TextPastTheEnd, NestedAbbreviation, UndecodableCode, TargetOutOfTheStory, CodeBelowTheStaticBase}
 use Rattle.zk_inspect.specs.Findings.{AreFindings, Finds, at_address}
 
 -- the numbers that reports show
@@ -20,6 +20,7 @@ rank_of TextPastTheEnd = 8
 rank_of NestedAbbreviation = 9
 rank_of UndecodableCode = 10
 rank_of TargetOutOfTheStory = 11
+rank_of CodeBelowTheStaticBase = 12
 
 -- a finding comes before another: by its number, then by its address
 abbrev pub Precedes : Finding → Finding → Type 0

@@ -2,7 +2,7 @@
 use Rattle.std.specs.Prelude.{ℕ, List, ◌++◌, codes, decimal}
 use Rattle.zk_inspect.specs.declared.finding.Finding.{Finding}
 use Rattle.zk_inspect.specs.declared.finding.Number.{Number}
-use Rattle.zk_inspect.specs.declared.finding.Number.TheVariants.{Checksum, Length, DictionaryOrder, DictionaryExtent, ObjectLinks, ChainWithARepeat, PropertyList, TextPastTheEnd, NestedAbbreviation, UndecodableCode, TargetOutOfTheStory}
+use Rattle.zk_inspect.specs.declared.finding.Number.TheVariants.{Checksum, Length, DictionaryOrder, DictionaryExtent, ObjectLinks, ChainWithARepeat, PropertyList, TextPastTheEnd, NestedAbbreviation, UndecodableCode, TargetOutOfTheStory, CodeBelowTheStaticBase}
 use Rattle.zk_inspect.specs.Numbers.{address_digits}
 
 -- the number that a report shows
@@ -18,6 +18,7 @@ finding_number TextPastTheEnd = 8
 finding_number NestedAbbreviation = 9
 finding_number UndecodableCode = 10
 finding_number TargetOutOfTheStory = 11
+finding_number CodeBelowTheStaticBase = 12
 
 -- what is wrong, in words
 abbrev pub finding_words : Number → List ℕ
@@ -32,6 +33,7 @@ finding_words TextPastTheEnd = codes "text past the end"
 finding_words NestedAbbreviation = codes "nested abbreviation"
 finding_words UndecodableCode = codes "undecodable code"
 finding_words TargetOutOfTheStory = codes "target out of the story"
+finding_words CodeBelowTheStaticBase = codes "code below the static base"
 
 -- the line of a finding: its number, its address, and what is wrong
 unfoldable pub finding_line : Finding → List ℕ

@@ -26,3 +26,4 @@ pub mod FindingLaws
 pub mod Examples
 pub mod ListExamples
 pub mod CheckExamples
+pub mod LowExamples

@@ -1,5 +1,5 @@
 -- Tests on the code of a story.
-use Rattle.std.specs.Prelude.{ℕ, Bool, true, false, ◌||◌, Option, Some, None, is_none, Result, Ok, Err, is_err}
+use Rattle.std.specs.Prelude.{ℕ, Bool, true, false, ◌||◌, Option, Some, None, is_none, Result, Ok, Err, is_err, nat_lt}
 use Rattle.zk_mem.specs.declared.fault.Fault.{Fault}
 use Rattle.zk_mem.specs.Map.{MemoryMap}
 use Rattle.zk_code.specs.declared.branch.Branch.{Branch}
@@ -10,7 +10,7 @@ use Rattle.zk_code.specs.Reach.{constant_call, constant_jump}
 use Rattle.zk_code.specs.Reading.{instr_at}
 use Rattle.zk_code.specs.Routines.{count_at}
 use Rattle.zk_inspect.specs.declared.checking.CodeQuestion.{CodeQuestion}
-use Rattle.zk_inspect.specs.declared.checking.CodeQuestion.TheVariants.{Undecodable, LeadsOut}
+use Rattle.zk_inspect.specs.declared.checking.CodeQuestion.TheVariants.{Undecodable, LeadsOut, Low}
 
 -- there is no instruction at an address
 abbrev pub is_undecodable : MemoryMap → ℕ → Bool
@@ -49,7 +49,25 @@ found_leads_out m (Err f) = false
 abbrev pub leads_out : MemoryMap → ℕ → Bool
 leads_out m a = found_leads_out m (instr_at m a)
 
+-- a routine that is called lies below the static base
+abbrev pub calls_low : MemoryMap → Option ℕ → Bool
+calls_low m None = false
+calls_low m (Some r) = nat_lt r m.static_base
+
+-- what an instruction at an address does may be rewritten
+abbrev pub instr_is_low : MemoryMap → ℕ → Instr → Bool
+instr_is_low m a i = nat_lt a m.static_base || calls_low m (constant_call m i)
+
+-- what the instruction at an address does may be
+abbrev pub found_is_low : MemoryMap → ℕ → Result Instr Fault → Bool
+found_is_low m a (Ok i) = instr_is_low m a i
+found_is_low m a (Err f) = false
+
+abbrev pub is_low : MemoryMap → ℕ → Bool
+is_low m a = found_is_low m a (instr_at m a)
+
 -- the answer to a question on an address
 abbrev pub code_answer : MemoryMap → CodeQuestion → ℕ → Bool
 code_answer m Undecodable a = is_undecodable m a
 code_answer m LeadsOut a = leads_out m a
+code_answer m Low a = is_low m a

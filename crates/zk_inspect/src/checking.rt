@@ -1,6 +1,6 @@
 // What is wrong with a story.
 
-ghost use Rattle.std.specs.Prelude.{◌≡◌, ◌≤◌, ◌++◌, ◌^◌, IfOk, OnOk, map};
+ghost use Rattle.std.specs.Prelude.{◌≡◌, ◌≤◌, ◌++◌, ◌^◌, IfOk, OnOk, map, nat_lt};
 ghost use Rattle.std.specs.List.{filter};
 ghost use Rattle.zk_code.specs.Ends.{KnowsEnds};
 ghost use Rattle.zk_inspect.specs.Codes.{IsCodeOf};
@@ -8,7 +8,7 @@ ghost use Rattle.zk_inspect.specs.Findings.{AreFindings, Finds, at_address};
 ghost use Rattle.zk_inspect.specs.Lists.{IsListOf};
 ghost use Rattle.zk_inspect.specs.ObjectTests.{AreObjects};
 ghost use Rattle.zk_inspect.specs.Parts.{Adds, AddsAll, AreParts};
-ghost use Rattle.zk_inspect.specs.Tests.{branches_out, calls_out, code_answer, instr_leads_out, is_outside, is_undecodable, jumps_out, leads_out};
+ghost use Rattle.zk_inspect.specs.Tests.{branches_out, calls_low, calls_out, code_answer, instr_is_low, instr_leads_out, is_low, is_outside, is_undecodable, jumps_out, leads_out};
 
 use crate::code::{Addresses, Code};
 use crate::finding::{Finding, Number};
@@ -109,6 +109,42 @@ fn leads_out(memory: &Memory, ends: &TextEnds, address: u32) -> bool
     }
 }
 
+/// Whether an address lies below the static base.
+fn is_below_base(memory: &Memory, address: u32) -> bool
+    ensures { result ≡ nat_lt address memory.now.static_base }
+{
+    memory.is_of_file();
+    address < memory.header().static_base as u32
+}
+
+/// Whether a routine that is called lies below the static base.
+fn calls_low(memory: &Memory, routine: Option<u32>) -> bool
+    ensures { result ≡ calls_low memory.now routine }
+{
+    match routine {
+        Some(routine) => is_below_base(memory, routine),
+        None => false,
+    }
+}
+
+/// Whether a run may rewrite what an instruction at an address does.
+fn instr_is_low(memory: &Memory, address: u32, instr: &Instr) -> bool
+    ensures { result ≡ instr_is_low memory.now address instr.now }
+{
+    is_below_base(memory, address) || calls_low(memory, instr.constant_call(memory))
+}
+
+/// Whether a run may rewrite what the instruction at an address does.
+fn is_low(memory: &Memory, ends: &TextEnds, address: u32) -> bool
+    requires { KnowsEnds memory.now ends.now }
+    ensures { result ≡ is_low memory.now address }
+{
+    match decode_by(memory, ends, address) {
+        Ok(instr) => instr_is_low(memory, address, &instr),
+        Err(_) => false,
+    }
+}
+
 /// What is asked of an address that is reached.
 #[derive(Clone, Copy)]
 enum CodeQuestion {
@@ -116,6 +152,8 @@ enum CodeQuestion {
     Undecodable,
     /// Whether the instruction leads out of the story.
     LeadsOut,
+    /// Whether a run may rewrite what the instruction does.
+    Low,
 }
 
 /// The answer to a question.
@@ -126,6 +164,7 @@ fn code_answer(memory: &Memory, ends: &TextEnds, question: CodeQuestion, address
     match question {
         CodeQuestion::Undecodable => is_undecodable(memory, ends, address),
         CodeQuestion::LeadsOut => leads_out(memory, ends, address),
+        CodeQuestion::Low => is_low(memory, ends, address),
     }
 }
 
@@ -179,6 +218,23 @@ fn find_leading_out(
 {
     memory.has_bytes();
     let question = CodeQuestion::LeadsOut;
+    let list = list_code(alloc, memory, ends, question, code.addresses.as_slice())?;
+    Ok(list)
+}
+
+/// The addresses of reached instructions that a run may rewrite.
+fn find_low(
+    alloc: Global,
+    memory: &Memory,
+    ends: &TextEnds,
+    code: &Code,
+) -> Result<Addresses, AllocError>
+    requires ends { KnowsEnds memory.now ends.now }
+    requires code { IsCodeOf memory.now code.now }
+    ensures { IfOk result (IsListOf (Finds memory.now Number.CodeBelowTheStaticBase)) }
+{
+    memory.has_bytes();
+    let question = CodeQuestion::Low;
     let list = list_code(alloc, memory, ends, question, code.addresses.as_slice())?;
     Ok(list)
 }
@@ -270,6 +326,7 @@ fn find(
         Number::NestedAbbreviation => find_nested(alloc, memory, &parts.texts),
         Number::UndecodableCode => find_undecodable(alloc, memory, &parts.ends, &parts.code),
         Number::TargetOutOfTheStory => find_leading_out(alloc, memory, &parts.ends, &parts.code),
+        Number::CodeBelowTheStaticBase => find_low(alloc, memory, &parts.ends, &parts.code),
     }
 }
 
@@ -320,7 +377,7 @@ fn add_all(
 }
 
 /// All kinds of findings, in the order of their numbers.
-const NUMBERS: [Number; 11] = [
+const NUMBERS: [Number; 12] = [
     Number::Checksum,
     Number::Length,
     Number::DictionaryOrder,
@@ -332,6 +389,7 @@ const NUMBERS: [Number; 11] = [
     Number::NestedAbbreviation,
     Number::UndecodableCode,
     Number::TargetOutOfTheStory,
+    Number::CodeBelowTheStaticBase,
 ];
 
 /// All findings, from the parts of the story.

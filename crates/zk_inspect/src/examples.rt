@@ -3,6 +3,7 @@
 ghost use Rattle.zk_inspect.specs.Examples.{AddressesHaveFiveDigits, WordsHaveFourDigits, FindingsOfTables, FindingsOfTextsAndCode, VariablesByNumber, OperandsByType, StoresBehindAnArrow, BranchesBehindAMark, LinesOfOperands, LinesOfBranches, LinesOfVariables, LinesOfJumps, LinesOfTexts, CharactersBetweenQuotes, LinesOfRoutines, RoutinesBehindCode, HeadersAreLines, MapsAreInOrder, AbbreviationsAreLines, NoTableNoLines, DictionariesAreLines, KeysAreWords, ObjectsAreLines, ListsPastTheEnd, UndecodableAddresses, LeadingOut, KindsOfFaults, TextsThatFail, RowsAreIndented, RowsAgain};
 ghost use Rattle.zk_inspect.specs.ListExamples.{FindingsAreLines, AllAbbreviationsAreLines, KeysAreInOrder, KeysBeginEntries, LinksPastTheLast, QuestionsOnObjects, LateObjectsAreLines};
 ghost use Rattle.zk_inspect.specs.CheckExamples.{EntriesAtTables, EntriesBelowTables, LinksLeadPast, NoTableNoObjects, TextsByConstants, WordsAreAddresses, WordsPastTheEnd};
+ghost use Rattle.zk_inspect.specs.LowExamples.{LowInstructions, LowRoutines};
 
 /// Addresses, words and bytes by their digits.
 #[tactic(auto, unfolding(crate::specs::Numbers::hex_digits, crate::specs::Numbers::address_digits, crate::specs::Numbers::word_digits, crate::specs::Numbers::byte_digits))]
@@ -88,6 +89,12 @@ pub fn questions_by_example()
 pub fn checks_by_example()
     ensures undecodable_addresses { UndecodableAddresses }
     ensures leading_out { LeadingOut }
+{}
+
+/// Code that a run may rewrite (Standard, sections 1.1.1, 5.2 and 6.4).
+pub fn low_code_by_example()
+    ensures low_instructions { LowInstructions }
+    ensures low_routines { LowRoutines }
 {}
 
 /// What is wrong with texts (Standard, sections 3.2 and 3.3).

@@ -28,6 +28,8 @@ pub enum Number {
     UndecodableCode,
     /// An instruction leads out of the story.
     TargetOutOfTheStory,
+    /// A run may rewrite what an instruction does.
+    CodeBelowTheStaticBase,
 }
 
 impl Number {
@@ -47,6 +49,7 @@ impl Number {
             Number::NestedAbbreviation => 9,
             Number::UndecodableCode => 10,
             Number::TargetOutOfTheStory => 11,
+            Number::CodeBelowTheStaticBase => 12,
         }
     }
 
@@ -66,6 +69,7 @@ impl Number {
             Number::NestedAbbreviation => b"nested abbreviation",
             Number::UndecodableCode => b"undecodable code",
             Number::TargetOutOfTheStory => b"target out of the story",
+            Number::CodeBelowTheStaticBase => b"code below the static base",
         }
     }
 }

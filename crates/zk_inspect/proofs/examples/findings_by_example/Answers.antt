@@ -11,7 +11,7 @@ returns-clause-findings_of_tables c = (refl, refl, refl, refl, refl, refl, refl)
 
 pub returns-clause-findings_of_texts_and_code : goal.returns-clause-findings_of_texts_and_code
 unfolding digits finding_line hex_digits address_digits
-returns-clause-findings_of_texts_and_code c = (refl, refl, refl, refl)
+returns-clause-findings_of_texts_and_code c = (refl, refl, refl, refl, refl)
 
 pub returns-clause-findings_are_lines : goal.returns-clause-findings_are_lines
 unfolding digits finding_line hex_digits address_digits

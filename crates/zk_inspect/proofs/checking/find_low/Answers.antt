@@ -1,0 +1,8 @@
+use Rattle.std.proofs.Common.{◌∙◌, ap}
+use Rattle.std.specs.List.{filter}
+use Rattle.zk_inspect.specs.Tests.{is_low}
+use Rattle.zk_inspect.proofs.Checks.{low_code}
+use Rattle.zk_inspect.proofs.checking.find_low.Goals as goal
+
+pub returns : goal.returns
+returns c = low_code c.args.memory.now c.args.code.now c.in_ok-list.list c.has_bytes.ensures c.requires.code (c.in_ok-list.ensures ∙ ap (filter (is_low c.args.memory.now)) c.as_slice.ensures)
