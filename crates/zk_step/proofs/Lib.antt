@@ -3,6 +3,8 @@ pub mod Buffers
 pub mod FixedParts
 pub mod Inside
 pub mod Keys
+pub mod Later
+pub mod LaterSteps
 pub mod Lines
 pub mod Manners
 pub mod OpenTables

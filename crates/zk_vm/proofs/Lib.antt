@@ -27,3 +27,8 @@ pub mod Viewing
 pub mod Popping
 pub mod Within
 pub mod Cuts
+pub mod Staying
+pub mod CleanRuns
+pub mod Loaded
+pub mod EachSaid
+pub mod StepFaults

@@ -1,10 +1,12 @@
 -- Instructions that wait, keep a state or go back to one: their operands were taken, and nothing else has changed.
-use Rattle.std.proofs.Common.{◌≡◌, ℕ, List, Result, Ok, Err, refl, ap, sym, ◌∙◌, subst}
+use Rattle.std.proofs.Common.{◌≡◌, ℕ, true, List, Result, Ok, Err, refl, ap, sym, ◌∙◌, subst}
 use Rattle.zk_mem.specs.declared.fault.Fault.{Fault}
 use Rattle.zk_mem.specs.Map.{MemoryMap}
 use Rattle.zk_code.specs.declared.instr.Instr.{Instr}
+use Rattle.zk_code.specs.declared.opcode.Opcode.{Opcode}
 use Rattle.zk_code.specs.declared.opcode.Opcode.TheVariants as opcode
-use Rattle.zk_code.specs.declared.opcode.Saving.TheVariants.{SaveUndo}
+use Rattle.zk_code.specs.declared.opcode.Saving.TheVariants.{SaveUndo, RestoreUndo}
+use Rattle.zk_code.specs.Reach.{goes_on}
 use Rattle.zk_step.specs.declared.ending.Effect.{Effect}
 use Rattle.zk_step.specs.declared.ending.Ending.{Ending}
 use Rattle.zk_step.specs.declared.ending.Ending.TheVariants as ending
@@ -14,7 +16,7 @@ use Rattle.zk_step.specs.declared.ending.Output.{Output}
 use Rattle.zk_step.specs.declared.ending.Output.TheVariants.{Nothing}
 use Rattle.zk_step.specs.declared.workspace.Workspace.{Workspace}
 use Rattle.zk_mem.specs.Results.{◌>>=◌}
-use Rattle.zk_step.specs.Effects.{quiet, effect_by, effect_of}
+use Rattle.zk_step.specs.Effects.{effect_by, effect_of}
 use Rattle.zk_step.specs.Instructions.{carried_out}
 use Rattle.zk_step.specs.Finish.{finished}
 use Rattle.zk_step.specs.Routing.{Texts, no_text, routed}
@@ -45,12 +47,19 @@ pause_of e Keeps how paused = subst IsPause (sym how) tt
 pause_of e Resumes how paused = subst IsPause (sym how) tt
 pause_of e End how paused = absurd paused
 
-keep_of : (e : Ending) (n : Next) → EndsAs e n → n ≡ Keeps → e ≡ ending.Keep
-keep_of e (At p) how h = absurd cc
-keep_of e (Waits x) how h = absurd cc
-keep_of e Keeps how h = how
-keep_of e Resumes how h = absurd cc
-keep_of e End how h = absurd cc
+-- an opcode after which the machine does not go on by itself
+abbrev pub PausesBy : Opcode → Next → Type 0
+PausesBy o (Waits x) = goes_on o ≡ true
+PausesBy o Keeps = o ≡ opcode.Saving SaveUndo
+PausesBy o Resumes = o ≡ opcode.Saving RestoreUndo
+PausesBy o _ = Unit {0}
+
+by_opcode : (o : Opcode) (vs : List ℕ) (e : Ending) (n : Next) → EndsAs e n → EndsBy o vs e → PausesBy o n
+by_opcode o vs e (At p) how by = tt
+by_opcode o vs e (Waits x) how by = subst (EndsBy o vs) how by
+by_opcode o vs e Keeps how by = subst (EndsBy o vs) how by
+by_opcode o vs e Resumes how by = subst (EndsBy o vs) how by
+by_opcode o vs e End how by = tt
 
 pair_is : {A B : Type 0} (a c : A) (b d : B) → ◌≡◌ {A = Result (A × B) Fault} (Ok (a, b)) (Ok (c, d)) → (a ≡ c) × (b ≡ d)
 pair_is {A} {B} a c b d h =
@@ -76,12 +85,12 @@ silent_route m w o r silent h =
     let same = pair_is w r.0 no_text r.1 (sym (ap (routed m w) silent) ∙ h) in
     (sym same.0, sym same.1)
 
--- an instruction has paused: these values were taken, which is all that has changed, and only `save_undo` keeps a state
+-- an instruction has paused: these values were taken, which is all that has changed, and it is of its opcode
 pub record HasPaused (w v : Workspace) (i : Instr) (n : Next) (t : Texts) : Type 0 where
   pub values : List ℕ
   pub operands : operands_read w i.operands ≡ Ok (v, values)
   pub quiet : t ≡ no_text
-  pub keeps : n ≡ Keeps → i.opcode ≡ opcode.Saving SaveUndo
+  pub by : PausesBy i.opcode n
 
 -- by its effect, its route and its end
 paused_by : (w u : Workspace) (i : Instr) (vs : List ℕ) (e : Workspace × Effect) (r : Workspace × Texts) (v : Workspace) (n : Next) → operands_read w i.operands ≡ Ok (u, vs) → (IsPause e.1.ending → PausesSo u e) → EndsBy i.opcode vs e.1.ending
@@ -96,7 +105,7 @@ paused_by w u i vs e r v n taken so by route finish paused =
       values = vs;
       operands = subst (λ (x : Workspace). operands_read w i.operands ≡ Ok (x, vs)) (sym same) taken;
       quiet = silent.1;
-      keeps = λ h. subst (EndsBy i.opcode vs) (keep_of e.1.ending n how h) by;
+      by = by_opcode i.opcode vs e.1.ending n how by;
     }
 
 carried_pauses : (w : Workspace) (i : Instr) → Leaves (λ (r : Workspace × (Next × Texts)). IsPaused r.1.0 → HasPaused w r.0 i r.1.0 r.1.1) (carried_out w i)

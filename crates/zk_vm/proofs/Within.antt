@@ -198,7 +198,7 @@ ended_limits : (s : Session) (g : Segment) (r : Result Waiting Stop) → (ended 
 ended_limits s g (Ok w) = refl
 ended_limits s g (Err stop) = refl
 
-ran_limits : (s : Session) → (ran s).limits ≡ s.limits
+pub ran_limits : (s : Session) → (ran s).limits ≡ s.limits
 unfolding ran
 ran_limits s = ended_limits s (segment_of s) (segment_of s).end
 
@@ -211,11 +211,11 @@ pub given_stopped : (s : Session) (a : Answer) (stop : Stop) → (segment_of s).
 unfolding given ran
 given_stopped s a stop h = rw h refl
 
-given_waiting : (s : Session) (a : Answer) (w : Waiting) → (segment_of s).end ≡ Ok w → given (ran s) a ≡ given_to (Some w) (ran s) a
+pub given_waiting : (s : Session) (a : Answer) (w : Waiting) → (segment_of s).end ≡ Ok w → given (ran s) a ≡ given_to (Some w) (ran s) a
 unfolding given ran
 given_waiting s a w h = rw h refl
 
-all_limits : (t : Session) (a : Answer) → (given t a).limits ≡ t.limits
+pub all_limits : (t : Session) (a : Answer) → (given t a).limits ≡ t.limits
 unfolding given
 all_limits t a = given_limits t.waiting t a
 

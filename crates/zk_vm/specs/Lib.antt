@@ -13,3 +13,4 @@ pub mod Step
 pub mod Examples
 pub mod Routes
 pub mod SavingExamples
+pub mod Inside

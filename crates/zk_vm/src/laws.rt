@@ -1,5 +1,6 @@
 // Laws of runs.
 
+ghost use Rattle.zk_vm.specs.Inside.{CleanStays, EachIsSaid};
 ghost use Rattle.zk_vm.specs.Laws.{RunsStayWithin, StepLimitOnlyCuts, StepLimitCutsThere, FrameLimitsOnlyCut, LimitsCutThere, StepLimitOnlyCutsRuns, FrameLimitsOnlyCutRuns, LimitsCutRuns};
 
 /// Every state that a run passes, whatever answers it gets, has no more frames, words, steps, reads and states to go back
@@ -41,4 +42,16 @@ pub fn frame_limits_only_cut_runs()
 /// A run stops at the first step or answer that passes a limit, by that limit, also behind other answers.
 pub fn limits_cut_runs()
     ensures { LimitsCutRuns }
+{}
+
+/// Where a set of addresses is clean for a story, each state of its runs is inside the set, up to a call or a jump by a
+/// variable and up to a saved game that is restored; no step at an address of the set is ever a fault of reading an
+/// instruction; and from the static base on memory always has the bytes of the story file.
+pub fn clean_stays()
+    ensures { CleanStays }
+{}
+
+/// What is said of each step of a run is said of each state from which a step is made, whatever answers the run gets.
+pub fn each_is_said()
+    ensures { EachIsSaid }
 {}
