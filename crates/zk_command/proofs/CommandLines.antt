@@ -1,6 +1,6 @@
 -- What clap finds in the words of the command line.
 use Rattle.std.proofs.Common.{◌≡◌, ◌∙◌, ℕ, List, Option, Some, None, IfNone, IfSome, codes, refl, sym, ap, ap₂, subst, Bool, true, false}
-use Rattle.std.specs.Prelude.{SomeIff, IsSomeAnd, if◌then◌else◌, option_map, unwrap_or}
+use Rattle.std.specs.Prelude.{SomeIff, IsSomeAnd, option_map, unwrap_or}
 use Rattle.std.specs.Str.{bytes_eq}
 use Rattle.std.proofs.lemmas.Slice.Eq.{bytes_eq-Decides}
 use Rattle.clap.specs.Words.{App, HasMatchesOf, Row, Text, first_of, is_simple, is_simple_and_free, subcommand_name_of, subcommand_of, subcommand_rows_of}

@@ -2,3 +2,4 @@ pub mod Plays
 pub mod CommandLines
 pub mod Readings
 pub mod Reports
+pub mod Verdicts

@@ -3,3 +3,4 @@ pub mod LastLine
 pub mod Playing
 pub mod Status
 pub mod Listing
+pub mod Verdict

@@ -6,14 +6,13 @@ use Rattle.zk_mem.specs.Story.{refusal}
 use Rattle.zk_term.specs.Devices.{Device}
 use Rattle.zk_inspect.specs.declared.finding.Finding.{Finding}
 use Rattle.zk_inspect.specs.Findings.{AreFindings}
-use Rattle.zk_vm.specs.declared.stop.Stop.{Stop}
 use Rattle.zk_vm.specs.declared.stop.Stop.TheVariants.{Quit, Write, Memory}
 use Rattle.zk_command.specs.LastLine.{TookExplained, last_line}
 use Rattle.zk_command.specs.Playing.{bytes_read}
 use Rattle.zk_command.specs.Status.{ending_status}
 use Rattle.zk_command.specs.declared.ending.Ending.{Ending}
 use Rattle.zk_command.specs.declared.listing.Listing.{Listing}
-use Rattle.zk_command.specs.declared.listing.Listing.TheVariants.{Info, Code, Findings}
+use Rattle.zk_command.specs.declared.listing.Listing.TheVariants.{Findings}
 use Rattle.zk_command.specs.declared.ending.Ending.TheVariants.{Unread, Refused, Stopped, Found}
 
 -- whether a listing tells that something is wrong: a check does where a story has findings, and no other does

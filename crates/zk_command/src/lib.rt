@@ -15,4 +15,5 @@ pub mod report;
 pub mod same_file;
 pub mod save_file;
 pub mod script;
+pub mod verdict;
 pub mod watched;

@@ -1,9 +1,11 @@
 // Listings of a story, from the bytes of its file to the screen.
 
-ghost use Rattle.std.specs.Prelude.{◌≡◌, false, IfOk};
+ghost use Rattle.std.specs.Prelude.{◌≡◌, false, IfOk, None};
 ghost use Rattle.zk_mem.specs.Fresh.{fresh};
 ghost use Rattle.zk_mem.specs.Map.{MemoryMap};
+ghost use Rattle.zk_mem.specs.Story.{refusal};
 ghost use Rattle.zk_command.specs.Listing.{EndsListing, EndsListingFrom, IsListed, IsListedFrom, Tells};
+ghost use Rattle.zk_command.specs.Verdict.{IsStart};
 ghost use Rattle.zk_command.specs.declared.listing.Listing.{Listing};
 ghost use Rattle.zk_command.specs.declared.listing.Listing.TheVariants as listing;
 
@@ -12,9 +14,9 @@ use crate::ending::Ending;
 use crate::gathered::Gathered;
 use crate::playing::read_story;
 use crate::report::report_listing;
+use crate::verdict::verdict;
 use std::alloc::Global;
 use std::io::Read;
-use zk_inspect::checking::check;
 use zk_inspect::disassembly::disassemble;
 use zk_inspect::error::ListError;
 use zk_inspect::finding_lines::write_findings;
@@ -146,9 +148,10 @@ fn list_findings<T: Target>(
     memory: &Memory,
     target: &mut T,
 ) -> Result<bool, ListError>
+    requires { IsStart memory.now }
     ensures { IfOk result (λ found. Tells listing.Findings memory.now found) }
 {
-    let Ok(findings) = check(alloc, memory) else {
+    let Ok(findings) = verdict(alloc, memory) else {
         return Err(ListError::Memory);
     };
     match write_findings(findings.as_slice(), target) {
@@ -164,6 +167,7 @@ fn list<T: Target>(
     listing: Listing,
     target: &mut T,
 ) -> Result<bool, ListError>
+    requires { IsStart memory.now }
     ensures { IfOk result (λ found. Tells listing memory.now found) }
 {
     match listing {
@@ -199,6 +203,7 @@ fn list_memory<S: Target>(
     listing: Listing,
     screen: &mut S,
 ) -> Ending
+    requires { IsStart memory.now }
     ensures { IsListed listing memory.now result }
 {
     let mut gathered = Gathered::new(screen);
@@ -211,6 +216,7 @@ fn list_memory<S: Target>(
 
 /// Lists a story.
 fn list_story<S: Target>(alloc: Global, story: Story, listing: Listing, screen: &mut S) -> Ending
+    requires { refusal story ≡ None }
     ensures { IsListed listing (fresh story 16) result }
 {
     let setup = Setup {

@@ -1,4 +1,4 @@
-use Rattle.std.proofs.Common.{rules, ◌≡◌, ◌∙◌, sym, ap, subst, codes, map, None, Some, Err, IfErr, inl, inr, true, false}
+use Rattle.std.proofs.Common.{rules, ◌≡◌, ◌∙◌, sym, ap, subst, map, None, Some, Err, IfErr, inl, inr}
 use Rattle.std.specs.Prelude.{option_map}
 use Rattle.clap.specs.Words.{App, HasKind, fault_of, found_of, is_simple_and_free, rows_of, subcommand_name_of, subcommand_rows_of}
 use Rattle.zk_command.specs.CommandLine.{IsRefusedWith}

@@ -1,4 +1,4 @@
-use Rattle.std.proofs.Common.{rules, ◌≡◌, ◌∙◌, codes, refl}
+use Rattle.std.proofs.Common.{◌∙◌, codes, refl}
 use Rattle.clap.specs.Words.{found_of}
 use Rattle.clap.proofs.WalkLemmas.{first_value-rows}
 use Rattle.zk_command.proofs.choice.choose_play.Goals as goal

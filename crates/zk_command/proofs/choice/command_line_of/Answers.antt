@@ -2,7 +2,6 @@ use Rattle.std.proofs.Common.{rules, ◌≡◌, ◌∙◌, ap, ap₂, codes, tru
 use Rattle.std.proofs.lemmas.Result.{IfOk-weaker}
 use Rattle.clap.specs.Words.{App, app_of, new_app, with_subcommand}
 use Rattle.clap.specs.Simple.{on_top}
-use Rattle.zk_command.specs.CommandLine.{command_line, play_command, info_command, disasm_command, check_command}
 use Rattle.zk_command.proofs.choice.command_line_of.Goals as goal
 
 pub returns : goal.returns

@@ -1,5 +1,5 @@
-use Rattle.std.proofs.Common.{rules, ◌≡◌, ◌∙◌, sym, codes, None, Some, List, ℕ}
-use Rattle.clap.specs.Words.{first_of, first_value, found_of, rows_of}
+use Rattle.std.proofs.Common.{rules, ◌≡◌, ◌∙◌, sym, codes, None, Some}
+use Rattle.clap.specs.Words.{first_value, found_of, rows_of}
 use Rattle.clap.proofs.WalkLemmas.{first_value-rows}
 use Rattle.zk_command.proofs.CommandLines.{no_path}
 use Rattle.zk_command.proofs.choice.story_of.Goals as goal
