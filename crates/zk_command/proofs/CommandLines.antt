@@ -6,7 +6,7 @@ use Rattle.std.proofs.lemmas.Slice.Eq.{bytes_eq-Decides}
 use Rattle.clap.specs.Words.{App, HasMatchesOf, Row, Text, first_of, is_simple, is_simple_and_free, subcommand_name_of, subcommand_of, subcommand_rows_of}
 use Rattle.clap.proofs.OnLiterals.{clap_on_literals}
 use Rattle.clap.specs.declared.ArgMatches.{ArgMatches}
-use Rattle.zk_command.specs.declared.manner.Manner.{Manner}
+use Rattle.zk_command.specs.declared.settings.Settings.{Settings}
 use Rattle.zk_command.specs.CommandLine.{Asks, IsNumberIn, Says, SaysManner, SaysNumber, SaysStory, command_line, flag_said, number_in}
 use Rattle.zk_command.specs.declared.choice.Choice.{Choice}
 use Rattle.zk_command.specs.declared.choice.Choice.TheVariants.{Play, Show}
@@ -88,12 +88,12 @@ same_name name known test = let d = bytes_eq-Decides name known in d.0 test
 other_name : (name known : Text) → bytes_eq name known ≡ false → name ≡ known → ⊥
 other_name name known test e = let d = bytes_eq-Decides name known in let both : false ≡ true = sym test ∙ d.1 e in absurd cc
 
--- without a path, a manner or a command of this name nothing is said
+-- without a path, a settings or a command of this name nothing is said
 pub no_story_said : (name : Text) (rows : List Row) → ((path : List ℕ) → SaysStory rows path → ⊥) → (c : Choice) → Says name rows c → ⊥
 no_story_said name rows none (Play story save script m) h = none story.now h.1
 no_story_said name rows none (Show story listing) h = none story.now h.0
 
-pub no_manner_said : (rows : List Row) → ((m : Manner) → SaysManner rows m → ⊥) → (c : Choice) → Says (codes "play") rows c → ⊥
+pub no_manner_said : (rows : List Row) → ((m : Settings) → SaysManner rows m → ⊥) → (c : Choice) → Says (codes "play") rows c → ⊥
 no_manner_said rows none (Play story save script m) h = none m h.4
 no_manner_said rows none (Show story (Info sections)) h = other_name (codes "play") (codes "info") refl h.1.0
 no_manner_said rows none (Show story Code) h = other_name (codes "play") (codes "disasm") refl h.1

@@ -3,7 +3,7 @@ use Rattle.std.proofs.Common.{◌≡◌, inl, inr, ℕ, Bool, List, [], ◌++◌
 use Rattle.std.proofs.KnownBytes.{Appends-nil}
 use Rattle.zk_term.specs.Devices.{Device, Took}
 use Rattle.zk_term.proofs.Shown.{took_twice}
-use Rattle.zk_command.specs.declared.ending.Ending.{Ending}
+use Rattle.zk_command.specs.declared.exit.Exit.{Exit}
 use Rattle.zk_command.specs.LastLine.{IsExplained, TookExplained, words_line, last_line}
 
 -- a device with a failed write was given any text, and took nothing of it
@@ -18,15 +18,15 @@ took_past a text e = record {
 }
 
 -- a report: the words, and then the last line
-pub reported : (ending : Ending) (a b c : Device) → TookExplained ending [] a b → Took b c (last_line ending) → TookExplained ending (last_line ending) a c
-reported ending a b c (inl h) k = inl (took_twice a b c [] (last_line ending) h k)
-reported ending a b c (inr h) k =
-    inr (h.0, (h.1.0, (h.1.1.0, subst (λ (t : List ℕ). Took a c t) (append_assoc (words_line h.1.0 h.1.1.0) [] (last_line ending)) (took_twice a b c (words_line h.1.0 h.1.1.0 ++ []) (last_line ending) h.1.1.1 k))))
+pub reported : (exit : Exit) (a b c : Device) → TookExplained exit [] a b → Took b c (last_line exit) → TookExplained exit (last_line exit) a c
+reported exit a b c (inl h) k = inl (took_twice a b c [] (last_line exit) h k)
+reported exit a b c (inr h) k =
+    inr (h.0, (h.1.0, (h.1.1.0, subst (λ (t : List ℕ). Took a c t) (append_assoc (words_line h.1.0 h.1.1.0) [] (last_line exit)) (took_twice a b c (words_line h.1.0 h.1.1.0 ++ []) (last_line exit) h.1.1.1 k))))
 
 -- the words alone, where a write has failed
-pub cut_off : (ending : Ending) (a b : Device) → b.failed ≡ true → TookExplained ending [] a b → TookExplained ending (last_line ending) a b
-cut_off ending a b e h = reported ending a b b h (took_past b (last_line ending) e)
+pub cut_off : (exit : Exit) (a b : Device) → b.failed ≡ true → TookExplained exit [] a b → TookExplained exit (last_line exit) a b
+cut_off exit a b e h = reported exit a b b h (took_past b (last_line exit) e)
 
 -- words on an ending that can be explained
-pub explained : (ending : Ending) (a b : Device) (apart : Bool) (words : List ℕ) → IsExplained ending → Took a b (words_line apart words) → TookExplained ending [] a b
-explained ending a b apart words h k = inr (h, (apart, (words, subst (λ (t : List ℕ). Took a b t) (sym (append-nil (words_line apart words))) k)))
+pub explained : (exit : Exit) (a b : Device) (apart : Bool) (words : List ℕ) → IsExplained exit → Took a b (words_line apart words) → TookExplained exit [] a b
+explained exit a b apart words h k = inr (h, (apart, (words, subst (λ (t : List ℕ). Took a b t) (sym (append-nil (words_line apart words))) k)))

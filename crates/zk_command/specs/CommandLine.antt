@@ -10,9 +10,9 @@ use Rattle.clap.specs.declared.error.ErrorKind.{ErrorKind}
 use Rattle.clap.specs.declared.error.ErrorKind.TheVariants as kind
 use Rattle.zk_vm.specs.declared.limits.Limits.{Limits}
 use Rattle.zk_vm.specs.Bounds.{AreInRange}
-use Rattle.zk_step.specs.declared.workspace.View.{View}
-use Rattle.zk_step.specs.declared.workspace.View.TheVariants.{Plain, Upper}
-use Rattle.zk_command.specs.declared.manner.Manner.{Manner}
+use Rattle.zk_step.specs.declared.game_state.View.{View}
+use Rattle.zk_step.specs.declared.game_state.View.TheVariants.{Plain, Upper}
+use Rattle.zk_command.specs.declared.settings.Settings.{Settings}
 use Rattle.zk_command.specs.declared.choice.Choice.{Choice}
 use Rattle.zk_command.specs.declared.choice.Choice.TheVariants.{Play, Show}
 use Rattle.zk_command.specs.declared.listing.Listing.{Listing}
@@ -90,8 +90,8 @@ flag_said (Some word) = bytes_eq word (codes "true")
 abbrev pub view_said : List Row → View
 view_said rows = if flag_said (first_of (codes "upper") rows) then Upper else Plain
 
--- what clap found says the manner of a run: its limits, its seed, which is any number of 64 bits, and its view
-pub record SaysManner (rows : List Row) (m : Manner) : Type 0 where
+-- what clap found says the settings of a run: its limits, its seed, which is any number of 64 bits, and its view
+pub record SaysManner (rows : List Row) (m : Settings) : Type 0 where
   pub limits : SaysLimits rows m.limits
   pub seed : SaysNumber rows (codes "seed") 0 18446744073709551615 m.seed
   pub view : m.view ≡ view_said rows

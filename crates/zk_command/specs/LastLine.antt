@@ -11,8 +11,8 @@ use Rattle.zk_state.specs.Limits.{limit_number}
 use Rattle.zk_term.specs.Devices.{Device, Took}
 use Rattle.zk_vm.specs.declared.stop.Stop.{Stop}
 use Rattle.zk_vm.specs.declared.stop.Stop.TheVariants.{Quit, Fault, Limit, EndOfInput, Read, Write, Memory}
-use Rattle.zk_command.specs.declared.ending.Ending.{Ending}
-use Rattle.zk_command.specs.declared.ending.Ending.TheVariants.{Unread, Refused, Stopped, Found}
+use Rattle.zk_command.specs.declared.exit.Exit.{Exit}
+use Rattle.zk_command.specs.declared.exit.Exit.TheVariants.{Unread, Refused, Stopped, Found}
 
 -- the hexadecimal digit of a number below 16: 0 to 9 (48 on) and a to f (97 on)
 abbrev pub hex_digit : ℕ → ℕ
@@ -59,14 +59,14 @@ unread_line kind.OutOfMemory = line (codes "out of memory")
 unread_line _ = line (codes "read failed")
 
 -- after a play, a listing or a check; what was found stands on the screen
-abbrev pub last_line : Ending → List ℕ
+abbrev pub last_line : Exit → List ℕ
 last_line (Unread e) = unread_line (error_kind e)
 last_line (Refused e) = refused_line e
 last_line (Stopped stop) = stop_line stop
 last_line Found = []
 
 -- more can be said of an ending than its last line says
-abbrev pub IsExplained : Ending → Type 0
+abbrev pub IsExplained : Exit → Type 0
 IsExplained (Unread e) = Unit {0}
 IsExplained (Refused e) = Unit {0}
 IsExplained (Stopped (Fault a f)) = Unit {0}
@@ -80,5 +80,5 @@ abbrev pub words_line : Bool → List ℕ → List ℕ
 words_line apart words = if apart then 10 ∷ line words else line words
 
 -- a device was given a line in words on an ending and then some text, or that text alone
-abbrev pub TookExplained : Ending → List ℕ → Device → Device → Type 0
-TookExplained ending text old new = Took old new text ⊎ (IsExplained ending × ((apart : Bool) × ((words : List ℕ) × Took old new (words_line apart words ++ text))))
+abbrev pub TookExplained : Exit → List ℕ → Device → Device → Type 0
+TookExplained exit text old new = Took old new text ⊎ (IsExplained exit × ((apart : Bool) × ((words : List ℕ) × Took old new (words_line apart words ++ text))))

@@ -7,10 +7,10 @@ use Rattle.zk_vm.specs.declared.stop.Stop.TheVariants.{Memory, Read}
 use Rattle.zk_vm.specs.Outcome.{Outcome, Session, begun}
 use Rattle.zk_vm.specs.Plays.{IsPlay}
 use Rattle.zk_command.specs.LastLine.{TookExplained, last_line}
-use Rattle.zk_command.specs.Status.{ending_status}
-use Rattle.zk_command.specs.declared.ending.Ending.{Ending}
-use Rattle.zk_command.specs.declared.ending.Ending.TheVariants.{Unread, Refused, Stopped, Found}
-use Rattle.zk_command.specs.declared.manner.Manner.{Manner}
+use Rattle.zk_command.specs.Status.{exit_status}
+use Rattle.zk_command.specs.declared.exit.Exit.{Exit}
+use Rattle.zk_command.specs.declared.exit.Exit.TheVariants.{Unread, Refused, Stopped, Found}
+use Rattle.zk_command.specs.declared.settings.Settings.{Settings}
 
 -- what is read of a file: all of its bytes, or one byte more than the longest story has
 abbrev pub bytes_read : List ℕ → List ℕ
@@ -51,24 +51,24 @@ pub record LacksMemory (old new : Outputs) (stop : Stop) : Type 0 where
   pub same : new ≡ old
 
 -- a story was played with its seed, limits and view, or there was no memory to start it
-abbrev pub IsRun : Answers → Outcomes → Player → List ℕ → Manner → Outputs → Outputs → Stop → Type 0
-IsRun Answered Played player story manner old new stop = IsPlayedBy Answered Played player (begun story manner.seed manner.limits manner.view) old new stop ⊎ LacksMemory old new stop
+abbrev pub IsRun : Answers → Outcomes → Player → List ℕ → Settings → Outputs → Outputs → Stop → Type 0
+IsRun Answered Played player story settings old new stop = IsPlayedBy Answered Played player (begun story settings.seed settings.limits settings.view) old new stop ⊎ LacksMemory old new stop
 
 -- bytes end a play: they are refused and the screen and the script get nothing, or they are a story that is run
-abbrev pub EndsBy : Answers → Outcomes → Player → List ℕ → Manner → Outputs → Outputs → Ending → Type 0
-EndsBy Answered Played player bytes manner old new (Unread e) = ⊥
-EndsBy Answered Played player bytes manner old new (Refused e) = (refusal bytes ≡ Some e) × (new ≡ old)
-EndsBy Answered Played player bytes manner old new (Stopped stop) = (refusal bytes ≡ None) × IsRun Answered Played player bytes manner old new stop
-EndsBy Answered Played player bytes manner old new Found = ⊥
+abbrev pub EndsBy : Answers → Outcomes → Player → List ℕ → Settings → Outputs → Outputs → Exit → Type 0
+EndsBy Answered Played player bytes settings old new (Unread e) = ⊥
+EndsBy Answered Played player bytes settings old new (Refused e) = (refusal bytes ≡ Some e) × (new ≡ old)
+EndsBy Answered Played player bytes settings old new (Stopped stop) = (refusal bytes ≡ None) × IsRun Answered Played player bytes settings old new stop
+EndsBy Answered Played player bytes settings old new Found = ⊥
 
 -- a reader's bytes, where it tells them, end a play; or it can't be read, and the screen and the script get nothing
-abbrev pub EndsFrom : Answers → Outcomes → Player → Option (List ℕ) → Manner → Outputs → Outputs → Ending → Type 0
-EndsFrom Answered Played player file manner old new (Unread e) = new ≡ old
-EndsFrom Answered Played player file manner old new ending = (bytes : List ℕ) × IfSome file (λ all. bytes ≡ bytes_read all) × EndsBy Answered Played player bytes manner old new ending
+abbrev pub EndsFrom : Answers → Outcomes → Player → Option (List ℕ) → Settings → Outputs → Outputs → Exit → Type 0
+EndsFrom Answered Played player file settings old new (Unread e) = new ≡ old
+EndsFrom Answered Played player file settings old new exit = (bytes : List ℕ) × IfSome file (λ all. bytes ≡ bytes_read all) × EndsBy Answered Played player bytes settings old new exit
 
 -- a reader's story was played by a player, with a screen, a script and a device for errors before and after it, and with the program's status
-pub record IsPlayedFrom (Answered : Answers) (Played : Outcomes) (player : Player) (file : Option (List ℕ)) (manner : Manner) (old new : Outputs) (errors_old errors_new : Device) (status : ℕ) : Type 0 where
-  pub ending : Ending
-  pub ends : EndsFrom Answered Played player file manner old new ending
-  pub status_is : status ≡ ending_status ending
-  pub lines : TookExplained ending (last_line ending) errors_old errors_new
+pub record IsPlayedFrom (Answered : Answers) (Played : Outcomes) (player : Player) (file : Option (List ℕ)) (settings : Settings) (old new : Outputs) (errors_old errors_new : Device) (status : ℕ) : Type 0 where
+  pub exit : Exit
+  pub ends : EndsFrom Answered Played player file settings old new exit
+  pub status_is : status ≡ exit_status exit
+  pub lines : TookExplained exit (last_line exit) errors_old errors_new

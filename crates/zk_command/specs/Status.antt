@@ -7,8 +7,8 @@ use Rattle.zk_mem.specs.declared.story.OpenError.{OpenError}
 use Rattle.zk_mem.specs.declared.story.OpenError.TheVariants.{OutOfMemory}
 use Rattle.zk_vm.specs.declared.stop.Stop.{Stop}
 use Rattle.zk_vm.specs.declared.stop.Stop.TheVariants.{Quit, Fault, Limit, EndOfInput, Read, Write, Memory}
-use Rattle.zk_command.specs.declared.ending.Ending.{Ending}
-use Rattle.zk_command.specs.declared.ending.Ending.TheVariants.{Unread, Refused, Stopped, Found}
+use Rattle.zk_command.specs.declared.exit.Exit.{Exit}
+use Rattle.zk_command.specs.declared.exit.Exit.TheVariants.{Unread, Refused, Stopped, Found}
 
 -- after a run
 abbrev pub status_of : Stop → ℕ
@@ -31,8 +31,8 @@ unread_status kind.OutOfMemory = 5
 unread_status _ = 4
 
 -- after a play, a listing or a check
-abbrev pub ending_status : Ending → ℕ
-ending_status (Unread e) = unread_status (error_kind e)
-ending_status (Refused e) = refused_status e
-ending_status (Stopped stop) = status_of stop
-ending_status Found = 6
+abbrev pub exit_status : Exit → ℕ
+exit_status (Unread e) = unread_status (error_kind e)
+exit_status (Refused e) = refused_status e
+exit_status (Stopped stop) = status_of stop
+exit_status Found = 6

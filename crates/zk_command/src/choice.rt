@@ -6,15 +6,15 @@ ghost use Rattle.clap.specs.declared.Command.TheViews.{out-Command as fields_of}
 ghost use Rattle.zk_vm.specs.Bounds.{AreInRange};
 ghost use Rattle.zk_vm.specs.declared.limits.Limits.{Limits};
 ghost use Rattle.zk_command.specs.declared.choice.Choice.{Choice};
-ghost use Rattle.zk_command.specs.declared.manner.Manner.{Manner};
+ghost use Rattle.zk_command.specs.declared.settings.Settings.{Settings};
 ghost use Rattle.zk_command.specs.CommandLine.{Asks, HasLimits, IsNumberIn, IsRefusedWith, Says, SaysLimits, SaysManner, SaysNumber, SaysStory, check_command, command_line, disasm_command, file_option, flag, flag_said, info_command, number_in, number_option, play_command, sections_said, story_word, usage_status, view_said};
 
 use crate::listing::{Listing, Sections};
-use crate::manner::Manner;
+use crate::settings::Settings;
 use clap::error::ErrorKind;
 use clap::{Arg, ArgAction, ArgMatches, Command, Error};
 use std::alloc::{AllocError, Global};
-use zk_step::workspace::View;
+use zk_step::game_state::View;
 use zk_vm::limits::Limits;
 
 /// What `check` says of its findings.
@@ -28,13 +28,13 @@ Example: zkit check story.z5";
 /// What the program is asked to do.
 #[derive(Drop)]
 pub enum Choice<'a> {
-    /// To play the story in a file, in a manner, with its saved game and its transcript in the files of `save` and
+    /// To play the story in a file, in a settings, with its saved game and its transcript in the files of `save` and
     /// `script`, if there are any.
     Play {
         story: &'a str,
         save: Option<&'a str>,
         script: Option<&'a str>,
-        manner: Manner,
+        settings: Settings,
     },
     /// To list the story in a file.
     Show {
@@ -315,12 +315,12 @@ fn view_of(play: &ArgMatches<'_>) -> View
     }
 }
 
-/// The manner of a run that the options of `play` say.
-fn manner_of(alloc: Global, play: &ArgMatches<'_>) -> Result<Manner, Error>
+/// The settings of a run that the options of `play` say.
+fn manner_of(alloc: Global, play: &ArgMatches<'_>) -> Result<Settings, Error>
     ensures says { IfOk result (λ m. SaysManner (rows_of (found_of play.now)) m) }
     ensures in_range { IfOk result (λ m. AreInRange m.limits) }
     ensures mistake { IfErr result (λ e. 1 ≤ usage_status (kind_of e)) }
-    ensures says_none { OnErr result ((m : Manner) → SaysManner (rows_of (found_of play.now)) m → ⊥) }
+    ensures says_none { OnErr result ((m : Settings) → SaysManner (rows_of (found_of play.now)) m → ⊥) }
 {
     let limits = match limits_of(alloc, play) {
         Ok(limits) => limits,
@@ -330,7 +330,7 @@ fn manner_of(alloc: Global, play: &ArgMatches<'_>) -> Result<Manner, Error>
         return Err(out_of_range(alloc, "seed", 0, 18_446_744_073_709_551_615));
     };
     let view = view_of(play);
-    Ok(Manner { limits, seed, view })
+    Ok(Settings { limits, seed, view })
 }
 
 /// The path of the story.
@@ -361,8 +361,8 @@ fn choose_play<'a>(
         Ok(story) => story,
         Err(error) => return Err(error),
     };
-    let manner = match manner_of(alloc, play) {
-        Ok(manner) => manner,
+    let settings = match manner_of(alloc, play) {
+        Ok(settings) => settings,
         Err(error) => return Err(error),
     };
     let save = play.get_str("save");
@@ -371,7 +371,7 @@ fn choose_play<'a>(
         story,
         save,
         script,
-        manner,
+        settings,
     })
 }
 

@@ -4,10 +4,9 @@
 pub mod about;
 mod astray;
 pub mod choice;
-pub mod ending;
+pub mod exit;
 mod gathered;
 pub mod listing;
-pub mod manner;
 pub mod missing;
 pub mod playing;
 mod reason;
@@ -15,5 +14,6 @@ pub mod report;
 pub mod same_file;
 pub mod save_file;
 pub mod script;
+pub mod settings;
 pub mod verdict;
 pub mod watched;

@@ -10,7 +10,7 @@ ghost use Rattle.zk_command.specs.declared.listing.Listing.{Listing};
 ghost use Rattle.zk_command.specs.declared.listing.Listing.TheVariants as listing;
 
 use crate::about::{About, Looks};
-use crate::ending::Ending;
+use crate::exit::Exit;
 use crate::gathered::Gathered;
 use crate::playing::read_story;
 use crate::report::report_listing;
@@ -184,38 +184,33 @@ fn list<T: Target>(
 }
 
 /// How a listing ends.
-fn ending_after(listed: Result<bool, ListError>) -> Ending
+fn exit_after(listed: Result<bool, ListError>) -> Exit
     ensures { (listing : Listing) (m : MemoryMap) → IfOk listed (λ found. Tells listing m found) → IsListed listing m result }
 {
     match listed {
-        Ok(true) => Ending::Found,
-        Ok(false) => Ending::Stopped(Stop::Quit),
-        Err(ListError::Memory) => Ending::Stopped(Stop::Memory),
-        Err(ListError::Write) => Ending::Stopped(Stop::Write),
+        Ok(true) => Exit::Found,
+        Ok(false) => Exit::Stopped(Stop::Quit),
+        Err(ListError::Memory) => Exit::Stopped(Stop::Memory),
+        Err(ListError::Write) => Exit::Stopped(Stop::Write),
     }
 }
 
 /// Writes a listing to the screen, some of it at a time, and tells how that ends. Once a write has failed nothing more is
 /// written.
-fn list_memory<S: Target>(
-    alloc: Global,
-    memory: &Memory,
-    listing: Listing,
-    screen: &mut S,
-) -> Ending
+fn list_memory<S: Target>(alloc: Global, memory: &Memory, listing: Listing, screen: &mut S) -> Exit
     requires { IsStart memory.now }
     ensures { IsListed listing memory.now result }
 {
     let mut gathered = Gathered::new(screen);
     let listed = list(alloc, memory, listing, &mut gathered);
     match gathered.finish() {
-        Ok(()) => ending_after(listed),
-        Err(Failed) => Ending::Stopped(Stop::Write),
+        Ok(()) => exit_after(listed),
+        Err(Failed) => Exit::Stopped(Stop::Write),
     }
 }
 
 /// Lists a story.
-fn list_story<S: Target>(alloc: Global, story: Story, listing: Listing, screen: &mut S) -> Ending
+fn list_story<S: Target>(alloc: Global, story: Story, listing: Listing, screen: &mut S) -> Exit
     requires { refusal story ≡ None }
     ensures { IsListed listing (fresh story 16) result }
 {
@@ -224,7 +219,7 @@ fn list_story<S: Target>(alloc: Global, story: Story, listing: Listing, screen: 
     };
     match Memory::start(alloc, story, setup) {
         Ok(memory) => list_memory(alloc, &memory, listing, screen),
-        Err(_) => Ending::Stopped(Stop::Memory),
+        Err(_) => Exit::Stopped(Stop::Memory),
     }
 }
 
@@ -234,11 +229,11 @@ pub fn list_bytes<S: Target>(
     bytes: Vec<u8>,
     listing: Listing,
     screen: &mut S,
-) -> Ending
+) -> Exit
     ensures { EndsListing listing bytes.items result }
 {
     match Story::of(bytes) {
-        Err(error) => Ending::Refused(error),
+        Err(error) => Exit::Refused(error),
         Ok(story) => list_story(alloc, story, listing, screen),
     }
 }
@@ -250,11 +245,11 @@ pub fn list_from<R: Read + Drop, S: Target>(
     about: &About,
     listing: Listing,
     screen: &mut S,
-) -> Ending
+) -> Exit
     ensures { EndsListingFrom listing (R.remaining reader) result }
 {
     match read_story(alloc, reader) {
-        Err(error) => Ending::Unread(error),
+        Err(error) => Exit::Unread(error),
         Ok(bytes) => {
             about.looks.set(Looks::of(bytes.as_slice()));
             list_bytes(alloc, bytes, listing, screen)
@@ -274,6 +269,6 @@ pub fn list_and_report<R: Read + Drop, S: Target, E: Target>(
     requires { E.failed errors.old ≡ false }
     ensures { IsListedFrom listing (R.remaining reader) (record { taken = E.taken errors.old; failed = E.failed errors.old }) (record { taken = E.taken errors.new; failed = E.failed errors.new }) result }
 {
-    let ending = list_from(alloc, reader, about, listing, screen);
-    report_listing(alloc, &ending, about, errors)
+    let exit = list_from(alloc, reader, about, listing, screen);
+    report_listing(alloc, &exit, about, errors)
 }

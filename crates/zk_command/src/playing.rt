@@ -7,9 +7,9 @@ ghost use Rattle.zk_command.specs.Playing.{EndsBy, EndsFrom, IsPlayedBy, IsPlaye
 
 use crate::about::{About, Looks};
 use crate::astray::Astray;
-use crate::ending::Ending;
-use crate::manner::Manner;
+use crate::exit::Exit;
 use crate::report::report;
+use crate::settings::Settings;
 use std::alloc::Global;
 use std::io::{self, ErrorKind, Read};
 use zk_mem::fault::Fault;
@@ -91,19 +91,19 @@ fn play_story<I: Source, S: Target, T: Target, K: SaveSlot>(
     alloc: Global,
     story: Story,
     about: &About,
-    manner: Manner,
+    settings: Settings,
     input: &mut I,
     screen: &mut S,
     script: &mut T,
     slot: &mut K,
 ) -> Stop
-    requires in_range { AreInRange manner.limits }
+    requires in_range { AreInRange settings.limits }
     requires input_works { I.failed input.old ≡ false }
     requires works { S.failed screen.old ≡ false }
     requires script_works { T.failed script.old ≡ false }
-    ensures { IsRun (IsAnswered I.ends I.fails I.failed input.old input.new) (IsPlayed K.held K.keeps slot.old slot.new) (record { typed = I.left input.old; left = I.left input.new; unread = I.failed input.new }) story manner (record { screen = record { taken = S.taken screen.old; failed = S.failed screen.old }; script = record { taken = T.taken script.old; failed = T.failed script.old } }) (record { screen = record { taken = S.taken screen.new; failed = S.failed screen.new }; script = record { taken = T.taken script.new; failed = T.failed script.new } }) result }
+    ensures { IsRun (IsAnswered I.ends I.fails I.failed input.old input.new) (IsPlayed K.held K.keeps slot.old slot.new) (record { typed = I.left input.old; left = I.left input.new; unread = I.failed input.new }) story settings (record { screen = record { taken = S.taken screen.old; failed = S.failed screen.old }; script = record { taken = T.taken script.old; failed = T.failed script.old } }) (record { screen = record { taken = S.taken screen.new; failed = S.failed screen.new }; script = record { taken = T.taken script.new; failed = T.failed script.new } }) result }
 {
-    match Machine::start(alloc, story, manner.seed, manner.limits, manner.view) {
+    match Machine::start(alloc, story, settings.seed, settings.limits, settings.view) {
         Err(_) => Stop::Memory,
         Ok(mut machine) => {
             let stop = play_machine(alloc, &mut machine, input, screen, script, slot);
@@ -118,22 +118,22 @@ pub fn play_bytes<I: Source, S: Target, T: Target, K: SaveSlot>(
     alloc: Global,
     bytes: Vec<u8>,
     about: &About,
-    manner: Manner,
+    settings: Settings,
     input: &mut I,
     screen: &mut S,
     script: &mut T,
     slot: &mut K,
-) -> Ending
-    requires in_range { AreInRange manner.limits }
+) -> Exit
+    requires in_range { AreInRange settings.limits }
     requires input_works { I.failed input.old ≡ false }
     requires works { S.failed screen.old ≡ false }
     requires script_works { T.failed script.old ≡ false }
-    ensures { EndsBy (IsAnswered I.ends I.fails I.failed input.old input.new) (IsPlayed K.held K.keeps slot.old slot.new) (record { typed = I.left input.old; left = I.left input.new; unread = I.failed input.new }) bytes.items manner (record { screen = record { taken = S.taken screen.old; failed = S.failed screen.old }; script = record { taken = T.taken script.old; failed = T.failed script.old } }) (record { screen = record { taken = S.taken screen.new; failed = S.failed screen.new }; script = record { taken = T.taken script.new; failed = T.failed script.new } }) result }
+    ensures { EndsBy (IsAnswered I.ends I.fails I.failed input.old input.new) (IsPlayed K.held K.keeps slot.old slot.new) (record { typed = I.left input.old; left = I.left input.new; unread = I.failed input.new }) bytes.items settings (record { screen = record { taken = S.taken screen.old; failed = S.failed screen.old }; script = record { taken = T.taken script.old; failed = T.failed script.old } }) (record { screen = record { taken = S.taken screen.new; failed = S.failed screen.new }; script = record { taken = T.taken script.new; failed = T.failed script.new } }) result }
 {
     match Story::of(bytes) {
-        Err(error) => Ending::Refused(error),
-        Ok(story) => Ending::Stopped(play_story(
-            alloc, story, about, manner, input, screen, script, slot,
+        Err(error) => Exit::Refused(error),
+        Ok(story) => Exit::Stopped(play_story(
+            alloc, story, about, settings, input, screen, script, slot,
         )),
     }
 }
@@ -143,23 +143,23 @@ pub fn play_from<R: Read + Drop, I: Source, S: Target, T: Target, K: SaveSlot>(
     alloc: Global,
     reader: R,
     about: &About,
-    manner: Manner,
+    settings: Settings,
     input: &mut I,
     screen: &mut S,
     script: &mut T,
     slot: &mut K,
-) -> Ending
-    requires in_range { AreInRange manner.limits }
+) -> Exit
+    requires in_range { AreInRange settings.limits }
     requires input_works { I.failed input.old ≡ false }
     requires works { S.failed screen.old ≡ false }
     requires script_works { T.failed script.old ≡ false }
-    ensures { EndsFrom (IsAnswered I.ends I.fails I.failed input.old input.new) (IsPlayed K.held K.keeps slot.old slot.new) (record { typed = I.left input.old; left = I.left input.new; unread = I.failed input.new }) (R.remaining reader) manner (record { screen = record { taken = S.taken screen.old; failed = S.failed screen.old }; script = record { taken = T.taken script.old; failed = T.failed script.old } }) (record { screen = record { taken = S.taken screen.new; failed = S.failed screen.new }; script = record { taken = T.taken script.new; failed = T.failed script.new } }) result }
+    ensures { EndsFrom (IsAnswered I.ends I.fails I.failed input.old input.new) (IsPlayed K.held K.keeps slot.old slot.new) (record { typed = I.left input.old; left = I.left input.new; unread = I.failed input.new }) (R.remaining reader) settings (record { screen = record { taken = S.taken screen.old; failed = S.failed screen.old }; script = record { taken = T.taken script.old; failed = T.failed script.old } }) (record { screen = record { taken = S.taken screen.new; failed = S.failed screen.new }; script = record { taken = T.taken script.new; failed = T.failed script.new } }) result }
 {
     match read_story(alloc, reader) {
-        Err(error) => Ending::Unread(error),
+        Err(error) => Exit::Unread(error),
         Ok(bytes) => {
             about.looks.set(Looks::of(bytes.as_slice()));
-            play_bytes(alloc, bytes, about, manner, input, screen, script, slot)
+            play_bytes(alloc, bytes, about, settings, input, screen, script, slot)
         }
     }
 }
@@ -170,21 +170,21 @@ pub fn play_and_report<R: Read + Drop, I: Source, S: Target, T: Target, K: SaveS
     alloc: Global,
     reader: R,
     about: &About,
-    manner: Manner,
+    settings: Settings,
     input: &mut I,
     screen: &mut S,
     script: &mut T,
     slot: &mut K,
     errors: &mut E,
 ) -> u8
-    requires in_range { AreInRange manner.limits }
+    requires in_range { AreInRange settings.limits }
     requires input_works { I.failed input.old ≡ false }
     requires works { S.failed screen.old ≡ false }
     requires script_works { T.failed script.old ≡ false }
     requires errors_work { E.failed errors.old ≡ false }
-    ensures { IsPlayedFrom (IsAnswered I.ends I.fails I.failed input.old input.new) (IsPlayed K.held K.keeps slot.old slot.new) (record { typed = I.left input.old; left = I.left input.new; unread = I.failed input.new }) (R.remaining reader) manner (record { screen = record { taken = S.taken screen.old; failed = S.failed screen.old }; script = record { taken = T.taken script.old; failed = T.failed script.old } }) (record { screen = record { taken = S.taken screen.new; failed = S.failed screen.new }; script = record { taken = T.taken script.new; failed = T.failed script.new } })
+    ensures { IsPlayedFrom (IsAnswered I.ends I.fails I.failed input.old input.new) (IsPlayed K.held K.keeps slot.old slot.new) (record { typed = I.left input.old; left = I.left input.new; unread = I.failed input.new }) (R.remaining reader) settings (record { screen = record { taken = S.taken screen.old; failed = S.failed screen.old }; script = record { taken = T.taken script.old; failed = T.failed script.old } }) (record { screen = record { taken = S.taken screen.new; failed = S.failed screen.new }; script = record { taken = T.taken script.new; failed = T.failed script.new } })
         (record { taken = E.taken errors.old; failed = E.failed errors.old }) (record { taken = E.taken errors.new; failed = E.failed errors.new }) result }
 {
-    let ending = play_from(alloc, reader, about, manner, input, screen, script, slot);
-    report(alloc, &ending, &manner.limits, about, errors)
+    let exit = play_from(alloc, reader, about, settings, input, screen, script, slot);
+    report(alloc, &exit, &settings.limits, about, errors)
 }

@@ -4,10 +4,10 @@ ghost use Rattle.std.specs.Prelude.{◌≡◌, ◌<◌, false, is_err, map, [], 
 ghost use Rattle.std.specs.List.{concat};
 ghost use Rattle.zk_term.specs.Devices.{Took};
 ghost use Rattle.zk_command.specs.LastLine.{IsExplained, TookExplained, cause_at, hex_digit, hex_digits, last_line, line, refused_line, stop_line, unread_line, words_line, zeros_left_out};
-ghost use Rattle.zk_command.specs.Status.{ending_status};
+ghost use Rattle.zk_command.specs.Status.{exit_status};
 
 use crate::about::About;
-use crate::ending::Ending;
+use crate::exit::Exit;
 use crate::reason::Reason;
 use crate::watched::Notes;
 use itoa::Buffer;
@@ -150,15 +150,15 @@ fn write_unread<E: Target>(errors: &mut E, kind: ErrorKind) -> Result<(), Failed
 }
 
 /// Writes the last line.
-fn write_last<E: Target>(errors: &mut E, ending: &Ending) -> Result<(), Failed>
+fn write_last<E: Target>(errors: &mut E, exit: &Exit) -> Result<(), Failed>
     requires { E.failed errors.old ≡ false }
-    ensures { Took (record { taken = E.taken errors.old; failed = E.failed errors.old }) (record { taken = E.taken errors.new; failed = E.failed errors.new }) (last_line ending.now) }
+    ensures { Took (record { taken = E.taken errors.old; failed = E.failed errors.old }) (record { taken = E.taken errors.new; failed = E.failed errors.new }) (last_line exit.now) }
 {
-    match ending {
-        Ending::Unread(error) => write_unread(errors, error.kind()),
-        Ending::Refused(error) => write_refusal(errors, error),
-        Ending::Stopped(stop) => write_stop(errors, stop),
-        Ending::Found => Ok(()),
+    match exit {
+        Exit::Unread(error) => write_unread(errors, error.kind()),
+        Exit::Refused(error) => write_refusal(errors, error),
+        Exit::Stopped(stop) => write_stop(errors, stop),
+        Exit::Found => Ok(()),
     }
 }
 
@@ -233,24 +233,24 @@ fn words_on_fault(alloc: Global, fault: Fault, about: &About) -> Result<String, 
 /// What has happened, in words, where the last line does not say it in words.
 fn words_on(
     alloc: Global,
-    ending: &Ending,
+    exit: &Exit,
     limits: &Limits,
     about: &About,
 ) -> Result<Option<String>, AllocError>
-    ensures { IfOk result (λ o. OnSome o (IsExplained ending.now)) }
+    ensures { IfOk result (λ o. OnSome o (IsExplained exit.now)) }
 {
-    match ending {
-        Ending::Unread(error) if error.kind() == ErrorKind::OutOfMemory => Ok(None),
-        Ending::Refused(OpenError::OutOfMemory) => Ok(None),
-        Ending::Unread(error) => Ok(Some(words_on_read(alloc, error, about)?)),
-        Ending::Refused(error) => Ok(Some(words_on_refusal(alloc, error, about)?)),
-        Ending::Stopped(Stop::Fault(_, fault)) => Ok(Some(words_on_fault(alloc, *fault, about)?)),
-        Ending::Stopped(Stop::Read) => {
+    match exit {
+        Exit::Unread(error) if error.kind() == ErrorKind::OutOfMemory => Ok(None),
+        Exit::Refused(OpenError::OutOfMemory) => Ok(None),
+        Exit::Unread(error) => Ok(Some(words_on_read(alloc, error, about)?)),
+        Exit::Refused(error) => Ok(Some(words_on_refusal(alloc, error, about)?)),
+        Exit::Stopped(Stop::Fault(_, fault)) => Ok(Some(words_on_fault(alloc, *fault, about)?)),
+        Exit::Stopped(Stop::Read) => {
             let text = "a line of it has more than 65535 bytes";
             Ok(Some(words_on_device(alloc, "standard input", &about.input, text)?))
         }
-        Ending::Stopped(Stop::Write) => Ok(Some(words_on_write(alloc, about)?)),
-        Ending::Stopped(Stop::Limit(_, limit)) => Ok(Some(words_on_limit(alloc, *limit, limits)?)),
+        Exit::Stopped(Stop::Write) => Ok(Some(words_on_write(alloc, about)?)),
+        Exit::Stopped(Stop::Limit(_, limit)) => Ok(Some(words_on_limit(alloc, *limit, limits)?)),
         _ => Ok(None),
     }
 }
@@ -258,49 +258,49 @@ fn words_on(
 /// Writes what has happened, in words, where there is memory for them.
 fn write_words<E: Target>(
     alloc: Global,
-    ending: &Ending,
+    exit: &Exit,
     limits: &Limits,
     about: &About,
     errors: &mut E,
 ) -> Result<(), Failed>
     requires { E.failed errors.old ≡ false }
-    ensures text { TookExplained ending.now [] (record { taken = E.taken errors.old; failed = E.failed errors.old }) (record { taken = E.taken errors.new; failed = E.failed errors.new }) }
+    ensures text { TookExplained exit.now [] (record { taken = E.taken errors.old; failed = E.failed errors.old }) (record { taken = E.taken errors.new; failed = E.failed errors.new }) }
     ensures failed { E.failed errors.new ≡ is_err result }
 {
-    match words_on(alloc, ending, limits, about) {
+    match words_on(alloc, exit, limits, about) {
         Ok(Some(words)) => write_words_line(errors, !about.screen.begins_line(), words.as_bytes()),
         _ => Ok(()),
     }
 }
 
 /// The status of the program.
-fn status(ending: &Ending) -> u8
-    ensures { result ≡ ending_status ending.now }
+fn status(exit: &Exit) -> u8
+    ensures { result ≡ exit_status exit.now }
 {
-    match ending {
-        Ending::Unread(error) => match error.kind() {
+    match exit {
+        Exit::Unread(error) => match error.kind() {
             ErrorKind::OutOfMemory => 5,
             _ => 4,
         },
-        Ending::Refused(OpenError::OutOfMemory) => 5,
-        Ending::Refused(_) => 1,
-        Ending::Stopped(Stop::Quit | Stop::EndOfInput) => 0,
-        Ending::Stopped(Stop::Fault(_, _)) => 2,
-        Ending::Stopped(Stop::Limit(_, _)) => 3,
-        Ending::Stopped(Stop::Read | Stop::Write) => 4,
-        Ending::Stopped(Stop::Memory) => 5,
-        Ending::Found => 6,
+        Exit::Refused(OpenError::OutOfMemory) => 5,
+        Exit::Refused(_) => 1,
+        Exit::Stopped(Stop::Quit | Stop::EndOfInput) => 0,
+        Exit::Stopped(Stop::Fault(_, _)) => 2,
+        Exit::Stopped(Stop::Limit(_, _)) => 3,
+        Exit::Stopped(Stop::Read | Stop::Write) => 4,
+        Exit::Stopped(Stop::Memory) => 5,
+        Exit::Found => 6,
     }
 }
 
 /// Writes the last line alone, and answers the program's status.
-pub fn report_briefly<E: Target>(ending: &Ending, errors: &mut E) -> u8
+pub fn report_briefly<E: Target>(exit: &Exit, errors: &mut E) -> u8
     requires { E.failed errors.old ≡ false }
-    ensures status { result ≡ ending_status ending.now }
-    ensures line { Took (record { taken = E.taken errors.old; failed = E.failed errors.old }) (record { taken = E.taken errors.new; failed = E.failed errors.new }) (last_line ending.now) }
+    ensures status { result ≡ exit_status exit.now }
+    ensures line { Took (record { taken = E.taken errors.old; failed = E.failed errors.old }) (record { taken = E.taken errors.new; failed = E.failed errors.new }) (last_line exit.now) }
 {
-    let _ = write_last(errors, ending);
-    status(ending)
+    let _ = write_last(errors, exit);
+    status(exit)
 }
 
 /// Writes why a play has ended, unless the story or its input has, and answers the program's status: 0 for an end,
@@ -308,31 +308,26 @@ pub fn report_briefly<E: Target>(ending: &Ending, errors: &mut E) -> u8
 /// memory, 6 for something that a check has found. Before the last line it writes what has happened in words.
 pub fn report<E: Target>(
     alloc: Global,
-    ending: &Ending,
+    exit: &Exit,
     limits: &Limits,
     about: &About,
     errors: &mut E,
 ) -> u8
     requires { E.failed errors.old ≡ false }
-    ensures status { result ≡ ending_status ending.now }
-    ensures lines { TookExplained ending.now (last_line ending.now) (record { taken = E.taken errors.old; failed = E.failed errors.old }) (record { taken = E.taken errors.new; failed = E.failed errors.new }) }
+    ensures status { result ≡ exit_status exit.now }
+    ensures lines { TookExplained exit.now (last_line exit.now) (record { taken = E.taken errors.old; failed = E.failed errors.old }) (record { taken = E.taken errors.new; failed = E.failed errors.new }) }
 {
-    match write_words(alloc, ending, limits, about, errors) {
-        Ok(()) => report_briefly(ending, errors),
-        Err(Failed) => status(ending),
+    match write_words(alloc, exit, limits, about, errors) {
+        Ok(()) => report_briefly(exit, errors),
+        Err(Failed) => status(exit),
     }
 }
 
 /// Writes why a listing has ended, unless it was written to its end, and answers the program's status, as `report` does.
-pub fn report_listing<E: Target>(
-    alloc: Global,
-    ending: &Ending,
-    about: &About,
-    errors: &mut E,
-) -> u8
+pub fn report_listing<E: Target>(alloc: Global, exit: &Exit, about: &About, errors: &mut E) -> u8
     requires { E.failed errors.old ≡ false }
-    ensures status { result ≡ ending_status ending.now }
-    ensures lines { TookExplained ending.now (last_line ending.now) (record { taken = E.taken errors.old; failed = E.failed errors.old }) (record { taken = E.taken errors.new; failed = E.failed errors.new }) }
+    ensures status { result ≡ exit_status exit.now }
+    ensures lines { TookExplained exit.now (last_line exit.now) (record { taken = E.taken errors.old; failed = E.failed errors.old }) (record { taken = E.taken errors.new; failed = E.failed errors.new }) }
 {
     // a listing meets no limits
     let none = Limits {
@@ -341,5 +336,5 @@ pub fn report_listing<E: Target>(
         undo: 0,
         steps: 1,
     };
-    report(alloc, ending, &none, about, errors)
+    report(alloc, exit, &none, about, errors)
 }

@@ -66,7 +66,7 @@ fn new_place(rt: &HostRuntime, path: &str) -> io::Result<Place> {
 }
 
 /// Where a saved game goes. Who may not write to the file that is there can't replace it either.
-fn place_of(rt: &HostRuntime, path: &str) -> Result<Place, NoGame> {
+fn save_place(rt: &HostRuntime, path: &str) -> Result<Place, NoGame> {
     let found = match fs::metadata(rt, path) {
         Ok(found) => found,
         Err(error) if error.kind() == ErrorKind::NotFound => return Ok(new_place(rt, path)?),
@@ -137,7 +137,7 @@ fn replace(rt: &HostRuntime, place: Place, bytes: &[u8]) -> io::Result<()> {
 
 /// Keeps a saved game in a file.
 fn keep(rt: &HostRuntime, path: &str, bytes: &[u8]) -> Result<(), NoGame> {
-    let place = place_of(rt, path)?;
+    let place = save_place(rt, path)?;
     replace(rt, place, bytes)?;
     Ok(())
 }

@@ -8,7 +8,7 @@ pub mod Listed
 pub mod Checks
 pub mod Entries
 pub mod Answered
-pub mod TextMarks
+pub mod TextAddresses
 pub mod FarSiblings
 pub mod LastMarks
 pub mod LastLists

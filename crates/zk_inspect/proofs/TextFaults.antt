@@ -7,7 +7,7 @@ use Rattle.zk_text.specs.Meaning.{Units, meaning_at, no_abbreviation, text_units
 use Rattle.zk_inspect.specs.declared.finding.Number.TheVariants.{TextPastTheEnd, NestedAbbreviation as NestedNumber}
 use Rattle.zk_inspect.specs.declared.text_faults.TextFault.{TextFault}
 use Rattle.zk_inspect.specs.declared.text_faults.TextFault.TheVariants.{PastEnd, Nested}
-use Rattle.zk_inspect.specs.declared.texts.TextMarks.{TextMarks}
+use Rattle.zk_inspect.specs.declared.texts.TextAddresses.{TextAddresses}
 use Rattle.zk_inspect.specs.Findings.{Finds}
 use Rattle.zk_inspect.specs.Lists.{IsListOf, IsMarked}
 use Rattle.zk_inspect.specs.Texts.{HasFault, IsUnread}
@@ -91,13 +91,13 @@ any false false false (inr (inl h)) = absurd cc
 any false false false (inr (inr h)) = absurd cc
 
 -- why a text fails
-Fails : MemoryMap → TextMarks → TextFault → ℕ → Type 0
+Fails : MemoryMap → TextAddresses → TextFault → ℕ → Type 0
 Fails m t kind a =
     (IsMarked t.printed a × (text_units m a ≡ Err (fault_of kind)))
     ⊎ ((IsMarked t.abbreviations a × (meaning_at no_abbreviation m a ≡ Err (fault_of kind)))
     ⊎ ((is_of kind TextPastEnd ≡ true) × IsMarked t.unread a))
 
-fails : (m : MemoryMap) (t : TextMarks) (kind : TextFault) (a : ℕ) → text_fails m t kind a ≡ true → Fails m t kind a
+fails : (m : MemoryMap) (t : TextAddresses) (kind : TextFault) (a : ℕ) → text_fails m t kind a ≡ true → Fails m t kind a
 unfolding Fails
 fails m t kind a h = elim (either (get_or t.printed a false && has_kind kind (text_units m a)) (get_or t.abbreviations a false && has_kind kind (meaning_at no_abbreviation m a)) (is_of kind TextPastEnd && get_or t.unread a false) h) [
   | inl p ↦ (let q = both (get_or t.printed a false) (has_kind kind (text_units m a)) p in inl (q.0, has_fault kind (text_units m a) q.1))
@@ -105,7 +105,7 @@ fails m t kind a h = elim (either (get_or t.printed a false && has_kind kind (te
   | inr (inr p) ↦ inr (inr (both (is_of kind TextPastEnd) (get_or t.unread a false) p))
 ]
 
-fails_so : (m : MemoryMap) (t : TextMarks) (kind : TextFault) (a : ℕ) → Fails m t kind a → text_fails m t kind a ≡ true
+fails_so : (m : MemoryMap) (t : TextAddresses) (kind : TextFault) (a : ℕ) → Fails m t kind a → text_fails m t kind a ≡ true
 unfolding Fails
 fails_so m t kind a (inl p) = any (get_or t.printed a false && has_kind kind (text_units m a)) (get_or t.abbreviations a false && has_kind kind (meaning_at no_abbreviation m a)) (is_of kind TextPastEnd && get_or t.unread a false)
     (inl (all (get_or t.printed a false) (has_kind kind (text_units m a)) p.0 (fault_has kind (text_units m a) p.1)))
@@ -115,7 +115,7 @@ fails_so m t kind a (inr (inr p)) = any (get_or t.printed a false && has_kind ki
     (inr (inr (all (is_of kind TextPastEnd) (get_or t.unread a false) p.0 p.1)))
 
 -- no text is looked for further on
-pub fails_near : (m : MemoryMap) (t : TextMarks) (kind : TextFault) (a : ℕ) → AreTextMarks m t → text_fails m t kind a ≡ true → a < 524289
+pub fails_near : (m : MemoryMap) (t : TextAddresses) (kind : TextFault) (a : ℕ) → AreTextMarks m t → text_fails m t kind a ≡ true → a < 524289
 unfolding Fails
 fails_near m t kind a h k = elim (fails m t kind a k) [
   | inl p ↦ (let lt = marked_inside t.printed a p.0 in let size = h.size in omega arith)
@@ -127,13 +127,13 @@ fails_near m t kind a h k = elim (fails m t kind a k) [
 Found : MemoryMap → TextFault → ℕ → Type 0
 Found m kind a = HasFault m (fault_of kind) a ⊎ ((is_of kind TextPastEnd ≡ true) × IsUnread m a)
 
-fails_found : (m : MemoryMap) (t : TextMarks) (kind : TextFault) (a : ℕ) → AreTextMarks m t → Fails m t kind a → Found m kind a
+fails_found : (m : MemoryMap) (t : TextAddresses) (kind : TextFault) (a : ℕ) → AreTextMarks m t → Fails m t kind a → Found m kind a
 unfolding Fails Found
 fails_found m t kind a h (inl p) = inl (inl ((h.printed a).0 p.0, p.1))
 fails_found m t kind a h (inr (inl p)) = inl (inr ((h.table.named a).0 p.0, p.1))
 fails_found m t kind a h (inr (inr p)) = inr (p.0, (h.table.words a).0 p.1)
 
-found_fails : (m : MemoryMap) (t : TextMarks) (kind : TextFault) (a : ℕ) → AreTextMarks m t → Found m kind a → Fails m t kind a
+found_fails : (m : MemoryMap) (t : TextAddresses) (kind : TextFault) (a : ℕ) → AreTextMarks m t → Found m kind a → Fails m t kind a
 unfolding Fails Found
 found_fails m t kind a h (inl (inl p)) = inl ((h.printed a).1 p.0, p.1)
 found_fails m t kind a h (inl (inr p)) = inr (inl ((h.table.named a).1 p.0, p.1))
@@ -158,12 +158,12 @@ nested_found : (m : MemoryMap) (a : ℕ) → Finds m NestedNumber a → Found m 
 unfolding Found Finds
 nested_found m a p = inl p
 
-pub texts_past_end : (m : MemoryMap) (t : TextMarks) (xs : List ℕ) → AreTextMarks m t → IsListOf (λ a. text_fails m t PastEnd a ≡ true) xs → IsListOf (Finds m TextPastTheEnd) xs
+pub texts_past_end : (m : MemoryMap) (t : TextAddresses) (xs : List ℕ) → AreTextMarks m t → IsListOf (λ a. text_fails m t PastEnd a ≡ true) xs → IsListOf (Finds m TextPastTheEnd) xs
 texts_past_end m t xs h k = list_same (λ a. text_fails m t PastEnd a ≡ true) (Finds m TextPastTheEnd) xs k
     (λ a p. found_past m a (fails_found m t PastEnd a h (fails m t PastEnd a p)))
     (λ a p. fails_so m t PastEnd a (found_fails m t PastEnd a h (past_found m a p)))
 
-pub texts_nested : (m : MemoryMap) (t : TextMarks) (xs : List ℕ) → AreTextMarks m t → IsListOf (λ a. text_fails m t Nested a ≡ true) xs → IsListOf (Finds m NestedNumber) xs
+pub texts_nested : (m : MemoryMap) (t : TextAddresses) (xs : List ℕ) → AreTextMarks m t → IsListOf (λ a. text_fails m t Nested a ≡ true) xs → IsListOf (Finds m NestedNumber) xs
 texts_nested m t xs h k = list_same (λ a. text_fails m t Nested a ≡ true) (Finds m NestedNumber) xs k
     (λ a p. found_nested m a (fails_found m t Nested a h (fails m t Nested a p)))
     (λ a p. fails_so m t Nested a (found_fails m t Nested a h (nested_found m a p)))

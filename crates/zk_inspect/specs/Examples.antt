@@ -17,7 +17,7 @@ use Rattle.zk_inspect.specs.Numbers.{address_digits, word_digits, byte_digits}
 use Rattle.zk_inspect.specs.TreeLines.{row_line}
 use Rattle.zk_inspect.specs.Tests.{is_undecodable, leads_out}
 use Rattle.zk_inspect.specs.TextTests.{is_of, text_fails}
-use Rattle.zk_inspect.specs.declared.texts.TextMarks.{TextMarks}
+use Rattle.zk_inspect.specs.declared.texts.TextAddresses.{TextAddresses}
 use Rattle.zk_inspect.specs.declared.text_faults.TextFault.TheVariants.{PastEnd, Nested}
 
 -- ---- numbers
@@ -279,13 +279,13 @@ LeadingOut =
     × (leads_out (memory_of 5 (0 ∷ [])) 0 ≡ false)
 
 -- marks on the text at 0: one that is printed, one of an abbreviation, and a word of the table that can't be read
-abbrev pub printed_mark : TextMarks
+abbrev pub printed_mark : TextAddresses
 printed_mark = record { printed = true ∷ []; abbreviations = false ∷ []; unread = false ∷ [] }
 
-abbrev pub abbreviation_mark : TextMarks
+abbrev pub abbreviation_mark : TextAddresses
 abbreviation_mark = record { printed = false ∷ []; abbreviations = true ∷ []; unread = false ∷ [] }
 
-abbrev pub unread_mark : TextMarks
+abbrev pub unread_mark : TextAddresses
 unread_mark = record { printed = false ∷ []; abbreviations = false ∷ []; unread = true ∷ [] }
 
 -- each kind is of one fault

@@ -7,7 +7,7 @@ use Rattle.zk_text.specs.Meaning.{Units, meaning_at, no_abbreviation, text_units
 use Rattle.zk_tables.specs.Properties.{name_of}
 use Rattle.zk_code.specs.declared.instr.Instr.{Instr}
 use Rattle.zk_code.specs.Grammar.{IsInstruction}
-use Rattle.zk_inspect.specs.declared.texts.TextMarks.{TextMarks}
+use Rattle.zk_inspect.specs.declared.texts.TextAddresses.{TextAddresses}
 use Rattle.zk_inspect.specs.declared.text_faults.TextFault.{TextFault}
 use Rattle.zk_inspect.specs.declared.text_faults.TextFault.TheVariants.{PastEnd, Nested}
 use Rattle.zk_inspect.specs.Lists.{IsMarked}
@@ -28,7 +28,7 @@ has_kind kind (Err f) = is_of kind f
 
 -- a text at an address has one: one that is printed, or one of an abbreviation; or a word of the table of abbreviations
 -- can't be read, for which they have no end
-abbrev pub text_fails : MemoryMap → TextMarks → TextFault → ℕ → Bool
+abbrev pub text_fails : MemoryMap → TextAddresses → TextFault → ℕ → Bool
 text_fails m marks kind a =
     (get_or marks.printed a false && has_kind kind (text_units m a))
     || (get_or marks.abbreviations a false && has_kind kind (meaning_at no_abbreviation m a))
@@ -68,7 +68,7 @@ pub record AreTableMarks (m : MemoryMap) (texts unread : List Bool) : Type 0 whe
   pub words : (a : ℕ) → IsMarked unread a ↔ IsUnread m a
 
 -- marks on all texts
-pub record AreTextMarks (m : MemoryMap) (marks : TextMarks) : Type 0 where
+pub record AreTextMarks (m : MemoryMap) (marks : TextAddresses) : Type 0 where
   pub size : length marks.printed ≡ 524289
   pub printed : (a : ℕ) → IsMarked marks.printed a ↔ IsPrinted m a
   pub table : AreTableMarks m marks.abbreviations marks.unread

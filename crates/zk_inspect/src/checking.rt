@@ -16,7 +16,7 @@ use crate::keys::{find_bad_dictionary, find_unordered};
 use crate::objects::{Objects, Question, find_objects, list_objects};
 use crate::reach::reach;
 use crate::text_faults::{find_nested, find_past_end};
-use crate::texts::{TextMarks, mark_all_texts};
+use crate::texts::{TextAddresses, mark_all_texts};
 use std::alloc::{AllocError, Global};
 use zk_code::branch::{Branch, Target};
 use zk_code::decode::decode_by;
@@ -285,7 +285,7 @@ struct Parts {
     ends: TextEnds,
     code: Code,
     objects: Objects,
-    texts: TextMarks,
+    texts: TextAddresses,
 }
 
 /// The ends of texts, the code, the objects and the texts of a story.

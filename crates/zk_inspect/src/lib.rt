@@ -2,6 +2,7 @@
 #![tactic(auto)]
 
 mod abbreviation_lines;
+mod address_set;
 pub mod checking;
 pub mod code;
 mod dictionary_lines;
@@ -15,7 +16,6 @@ mod keys;
 pub mod laws;
 pub mod listings;
 mod map_lines;
-mod marks;
 mod object_lines;
 mod objects;
 mod operands;

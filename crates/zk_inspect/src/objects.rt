@@ -9,8 +9,8 @@ ghost use Rattle.zk_inspect.specs.Lists.{IsListOf};
 ghost use Rattle.zk_inspect.specs.ObjectTests.{AreObjects, IsAnswered, answer, is_bad_property, is_bad_tree, is_past, leads_past};
 ghost use Rattle.zk_inspect.specs.Objects.{IsListed, lower_of};
 
+use crate::address_set::AddressSet;
 use crate::code::Addresses;
-use crate::marks::Marks;
 use crate::property_lists::mark_lists;
 use crate::siblings::list_far_siblings;
 use std::alloc::{AllocError, Global};
@@ -61,7 +61,7 @@ pub(crate) struct Objects {
     /// At each object's number, the one 65,536 siblings on.
     far_siblings: Vec<u16>,
     /// Where property lists begin that lie in data.
-    lists: Marks,
+    lists: AddressSet,
 }
 
 /// The objects of a story.

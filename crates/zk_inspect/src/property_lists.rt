@@ -4,7 +4,7 @@ ghost use Rattle.std.specs.Prelude.{◌≡◌, ◌<◌, ◌↔◌, ℕ, IfOk, Is
 ghost use Rattle.zk_inspect.specs.Lists.{IsMarked};
 ghost use Rattle.zk_inspect.specs.ListMarks.{AreListMarks, HasList};
 
-use crate::marks::{Marks, unmarked};
+use crate::address_set::{AddressSet, unmarked};
 use std::alloc::{AllocError, Global};
 use zk_mem::memory::Memory;
 use zk_tables::lists::read_property;
@@ -13,7 +13,7 @@ use zk_tables::lists::read_property;
 const LISTS_END: u32 = 66_100;
 
 /// Whether a property list begins at an address and lies in data, by those that begin behind it.
-fn begins_list(memory: &Memory, address: u32, marks: &Marks) -> bool
+fn begins_list(memory: &Memory, address: u32, marks: &AddressSet) -> bool
     requires size { length marks.now ≡ 66100 }
     requires known { (a : ℕ) → address < a → IsMarked marks.now a ↔ HasList memory.now a }
     ensures { IsTrue result ↔ HasList memory.now address }
@@ -28,7 +28,7 @@ fn begins_list(memory: &Memory, address: u32, marks: &Marks) -> bool
 
 /// Marks where a property list begins that lies in data. Each address is looked at once, from the last one on, so that
 /// objects may share a list.
-pub(crate) fn mark_lists(alloc: Global, memory: &Memory) -> Result<Marks, AllocError>
+pub(crate) fn mark_lists(alloc: Global, memory: &Memory) -> Result<AddressSet, AllocError>
     ensures { IfOk result (λ marks. AreListMarks memory.now marks) }
 {
     memory.has_bytes();

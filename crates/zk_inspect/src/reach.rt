@@ -10,8 +10,8 @@ ghost use Rattle.zk_inspect.specs.Codes.{IsCodeOf};
 ghost use Rattle.zk_inspect.specs.Lists.{IsMarked};
 ghost use Rattle.zk_inspect.specs.Search.{Grows, IsExpanded, IsOnItsWay, IsSearch};
 
+use crate::address_set::AddressSet;
 use crate::code::{Addresses, Code};
-use crate::marks::Marks;
 use std::alloc::{AllocError, Global};
 use zk_code::decode::decode_by;
 use zk_code::ends::TextEnds;
@@ -23,8 +23,8 @@ use zk_mem::memory::Memory;
 /// What was found so far.
 #[derive(Drop)]
 struct Search {
-    marks: Marks,
-    routines: Marks,
+    marks: AddressSet,
+    routines: AddressSet,
     /// The marked addresses, in the order in which they were found.
     found: Addresses,
 }
@@ -37,8 +37,8 @@ impl Search {
         ensures size { IfOk result (λ s. length s.marks ≡ bound) }
         ensures routine_size { IfOk result (λ s. length s.routines ≡ bound) }
     {
-        let marks = Marks::none(alloc, bound)?;
-        let routines = Marks::none(alloc, bound)?;
+        let marks = AddressSet::none(alloc, bound)?;
+        let routines = AddressSet::none(alloc, bound)?;
         Ok(Search {
             marks,
             routines,

@@ -7,10 +7,10 @@ ghost use Rattle.zk_inspect.specs.Findings.{Finds};
 ghost use Rattle.zk_inspect.specs.Lists.{IsListOf, IsMarked};
 ghost use Rattle.zk_inspect.specs.TextTests.{AreTextMarks, has_kind, is_of, text_fails};
 
+use crate::address_set::{AddressSet, unmarked};
 use crate::code::Addresses;
 use crate::finding::Number;
-use crate::marks::{Marks, unmarked};
-use crate::texts::{TEXTS_END, TextMarks};
+use crate::texts::{TEXTS_END, TextAddresses};
 use std::alloc::{AllocError, Global};
 use zk_mem::fault::Fault;
 use zk_mem::memory::Memory;
@@ -60,7 +60,7 @@ fn abbreviation_has(memory: &Memory, kind: TextFault, address: u32) -> bool
 /// abbreviations there can't be read, for which abbreviations have no end.
 fn text_fails(
     memory: &Memory,
-    marks: &TextMarks,
+    marks: &TextAddresses,
     sweep: &Sweep,
     kind: TextFault,
     address: u32,
@@ -79,9 +79,9 @@ fn text_fails(
 fn mark_failing(
     alloc: Global,
     memory: &Memory,
-    marks: &TextMarks,
+    marks: &TextAddresses,
     kind: TextFault,
-) -> Result<Marks, AllocError>
+) -> Result<AddressSet, AllocError>
     requires { AreTextMarks memory.now marks.now }
     ensures size { IfOk result (λ failing. length failing ≤ 2 ^ 20) }
     ensures exact { IfOk result (λ failing. (a : ℕ) → IsMarked failing a ↔ text_fails memory.now marks.now kind a ≡ true) }
@@ -104,7 +104,7 @@ fn mark_failing(
 fn list_failing(
     alloc: Global,
     memory: &Memory,
-    marks: &TextMarks,
+    marks: &TextAddresses,
     kind: TextFault,
 ) -> Result<Addresses, AllocError>
     requires { AreTextMarks memory.now marks.now }
@@ -120,7 +120,7 @@ fn list_failing(
 pub(crate) fn find_past_end(
     alloc: Global,
     memory: &Memory,
-    marks: &TextMarks,
+    marks: &TextAddresses,
 ) -> Result<Addresses, AllocError>
     requires { AreTextMarks memory.now marks.now }
     ensures { IfOk result (IsListOf (Finds memory.now Number.TextPastTheEnd)) }
@@ -133,7 +133,7 @@ pub(crate) fn find_past_end(
 pub(crate) fn find_nested(
     alloc: Global,
     memory: &Memory,
-    marks: &TextMarks,
+    marks: &TextAddresses,
 ) -> Result<Addresses, AllocError>
     requires { AreTextMarks memory.now marks.now }
     ensures { IfOk result (IsListOf (Finds memory.now Number.NestedAbbreviation)) }

@@ -11,8 +11,8 @@ ghost use Rattle.zk_inspect.specs.Texts.{IsPrinted, addressed_by, constant_text,
 ghost use Rattle.zk_inspect.specs.TextTests.{AreTableMarks, AreTextMarks, IsTableMarks, IsTextMarks, Keeps, NamesMarked, TextsMarked};
 ghost use Rattle.zk_inspect.specs.Lists.{IsMarked};
 
+use crate::address_set::{AddressSet, unmarked};
 use crate::code::Code;
-use crate::marks::{Marks, unmarked};
 use std::alloc::{AllocError, Global};
 use zk_code::decode::decode_by;
 use zk_code::ends::TextEnds;
@@ -59,7 +59,7 @@ fn constant_text(memory: &Memory, instr: &Instr) -> Option<u32>
 }
 
 /// There should be a text at an address.
-fn mark_text(memory: &Memory, marks: &mut Marks, address: u32)
+fn mark_text(memory: &Memory, marks: &mut AddressSet, address: u32)
     requires marks { IsTextMarks memory.now marks.old }
     requires printed { IsPrinted memory.now address }
     requires near { address < 524289 }
@@ -71,7 +71,7 @@ fn mark_text(memory: &Memory, marks: &mut Marks, address: u32)
 }
 
 /// Marks the name of an object, where it has one.
-fn mark_name(memory: &Memory, count: u16, before: u16, marks: &mut Marks)
+fn mark_name(memory: &Memory, count: u16, before: u16, marks: &mut AddressSet)
     requires few { before < count }
     requires counted { IsCounted memory.now count }
     requires marks { IsTextMarks memory.now marks.old }
@@ -87,7 +87,7 @@ fn mark_name(memory: &Memory, count: u16, before: u16, marks: &mut Marks)
 }
 
 /// Marks the text of an instruction, where it has one.
-fn mark_inline(memory: &Memory, address: u32, instr: &Instr, marks: &mut Marks)
+fn mark_inline(memory: &Memory, address: u32, instr: &Instr, marks: &mut AddressSet)
     requires reached { IsReached memory.now address }
     requires stands { IsInstruction memory.now address instr.now instr.now.next }
     requires marks { IsTextMarks memory.now marks.old }
@@ -104,7 +104,7 @@ fn mark_inline(memory: &Memory, address: u32, instr: &Instr, marks: &mut Marks)
 }
 
 /// Marks the text that an instruction prints by a constant, where it does.
-fn mark_addressed(memory: &Memory, address: u32, instr: &Instr, marks: &mut Marks)
+fn mark_addressed(memory: &Memory, address: u32, instr: &Instr, marks: &mut AddressSet)
     requires reached { IsReached memory.now address }
     requires stands { IsInstruction memory.now address instr.now instr.now.next }
     requires marks { IsTextMarks memory.now marks.old }
@@ -119,7 +119,7 @@ fn mark_addressed(memory: &Memory, address: u32, instr: &Instr, marks: &mut Mark
 }
 
 /// Marks the texts of the instruction at an address, where there is one.
-fn mark_texts(memory: &Memory, ends: &TextEnds, address: u32, marks: &mut Marks)
+fn mark_texts(memory: &Memory, ends: &TextEnds, address: u32, marks: &mut AddressSet)
     requires ends { KnowsEnds memory.now ends.now }
     requires reached { IsReached memory.now address }
     requires marks { IsTextMarks memory.now marks.old }
@@ -137,7 +137,7 @@ fn mark_texts(memory: &Memory, ends: &TextEnds, address: u32, marks: &mut Marks)
 }
 
 /// Marks the names of the listed objects.
-fn mark_names(memory: &Memory, count: u16, marks: &mut Marks)
+fn mark_names(memory: &Memory, count: u16, marks: &mut AddressSet)
     requires counted { IsCounted memory.now count }
     requires marks { IsTextMarks memory.now marks.old }
     ensures marks { IsTextMarks memory.now marks.new }
@@ -149,7 +149,7 @@ fn mark_names(memory: &Memory, count: u16, marks: &mut Marks)
 }
 
 /// Marks the texts of the instructions that are reached.
-fn mark_code(memory: &Memory, ends: &TextEnds, code: &Code, marks: &mut Marks)
+fn mark_code(memory: &Memory, ends: &TextEnds, code: &Code, marks: &mut AddressSet)
     requires ends { KnowsEnds memory.now ends.now }
     requires code { IsCodeOf memory.now code.now }
     requires marks { IsTextMarks memory.now marks.old }
@@ -170,7 +170,7 @@ fn mark_printed(
     ends: &TextEnds,
     count: u16,
     code: &Code,
-) -> Result<Marks, AllocError>
+) -> Result<AddressSet, AllocError>
     requires ends { KnowsEnds memory.now ends.now }
     requires counted { IsCounted memory.now count }
     requires code { IsCodeOf memory.now code.now }
@@ -184,7 +184,7 @@ fn mark_printed(
 }
 
 /// Marks the text that a word of the table of abbreviations names, or the word where it can't be read.
-fn mark_word(memory: &Memory, number: u8, texts: &mut Marks, unread: &mut Marks)
+fn mark_word(memory: &Memory, number: u8, texts: &mut AddressSet, unread: &mut AddressSet)
     requires few { number < 96 }
     requires tabled { (header_of memory.now.file).abbreviations ≢ 0 }
     requires marks { IsTableMarks memory.now number texts.old unread.old }
@@ -198,7 +198,7 @@ fn mark_word(memory: &Memory, number: u8, texts: &mut Marks, unread: &mut Marks)
 }
 
 /// Marks the texts that the words of the table of abbreviations name, and those of these words that can't be read.
-fn mark_table(memory: &Memory, texts: &mut Marks, unread: &mut Marks)
+fn mark_table(memory: &Memory, texts: &mut AddressSet, unread: &mut AddressSet)
     requires { IsTableMarks memory.now 0 texts.old unread.old }
     ensures { AreTableMarks memory.now texts.new unread.new }
 {
@@ -212,13 +212,13 @@ fn mark_table(memory: &Memory, texts: &mut Marks, unread: &mut Marks)
 
 /// Where the story has texts.
 #[derive(Drop)]
-pub(crate) struct TextMarks {
+pub(crate) struct TextAddresses {
     /// Those that are printed.
-    pub printed: Marks,
+    pub printed: AddressSet,
     /// Those of abbreviations.
-    pub abbreviations: Marks,
+    pub abbreviations: AddressSet,
     /// The words of the table of abbreviations that can't be read.
-    pub unread: Marks,
+    pub unread: AddressSet,
 }
 
 /// Marks on all texts.
@@ -228,7 +228,7 @@ pub(crate) fn mark_all_texts(
     ends: &TextEnds,
     count: u16,
     code: &Code,
-) -> Result<TextMarks, AllocError>
+) -> Result<TextAddresses, AllocError>
     requires ends { KnowsEnds memory.now ends.now }
     requires counted { IsCounted memory.now count }
     requires code { IsCodeOf memory.now code.now }
@@ -238,7 +238,7 @@ pub(crate) fn mark_all_texts(
     let mut abbreviations = unmarked(alloc, ABBREVIATIONS_END)?;
     let mut unread = unmarked(alloc, ABBREVIATIONS_END)?;
     mark_table(memory, &mut abbreviations, &mut unread);
-    Ok(TextMarks {
+    Ok(TextAddresses {
         printed,
         abbreviations,
         unread,

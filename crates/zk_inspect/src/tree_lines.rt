@@ -4,8 +4,8 @@ ghost use Rattle.std.specs.Prelude.{◌≡◌, ◌<◌, is_err, length, OnOk};
 ghost use Rattle.zk_inspect.specs.TreeLines.{AreRows, again_text, has_failed, indent, row_line, row_text};
 ghost use Rattle.zk_inspect.specs.Written.{Gave, GaveSome};
 
+use crate::address_set::AddressSet;
 use crate::error::ListError;
-use crate::marks::Marks;
 use crate::object_lines::{number_or_none, write_label};
 use crate::writing::write_texts;
 use itoa::Buffer;
@@ -80,7 +80,7 @@ struct Walk {
     /// How many objects there are.
     count: u16,
     /// Which of them were listed.
-    listed: Marks,
+    listed: AddressSet,
     /// The objects above the next one, from a root on.
     above: Vec<u16>,
 }
@@ -228,7 +228,7 @@ pub(crate) fn write_tree<T: Target>(
 ) -> Result<(), ListError>
     ensures { GaveSome (AreRows memory.now) T.taken T.failed (has_failed result) target.old target.new }
 {
-    let Ok(listed) = Marks::none(alloc, count as usize + 1) else {
+    let Ok(listed) = AddressSet::none(alloc, count as usize + 1) else {
         return Err(ListError::Memory);
     };
     let mut walk = Walk {

@@ -5,7 +5,7 @@ use Rattle.zk_mem.specs.declared.fault.Fault.{Fault}
 use Rattle.zk_mem.specs.Map.{MemoryMap, byte_put}
 use Rattle.zk_mem.proofs.Writes.{byte_is_written}
 use Rattle.zk_state.specs.Frames.{FrameList, with_top, bounds_of}
-use Rattle.zk_state.proofs.Kept.{top_bounds}
+use Rattle.zk_state.proofs.BoundsKept.{top_bounds}
 
 pub put_base : (r : Result (Unit {0}) Fault) (m n : MemoryMap) (a v : ℕ) → MatchResult r (λ _. byte_put m a v ≡ Ok n) (λ e. (byte_put m a v ≡ Err e) × (n ≡ m)) → n.static_base ≡ m.static_base
 put_base (Ok x) m n a v h = let w = byte_is_written m n a v h in w.alone.static_base

@@ -4,7 +4,7 @@ use Rattle.circular_buffer.specs.Buffer.{Buffer}
 use Rattle.zk_save.specs.Packing.{packed}
 use Rattle.zk_save.specs.Unpacking.{unpacked}
 use Rattle.zk_save.specs.States.{KeptState, UndoStates}
-use Rattle.zk_save.specs.declared.kept.Kept.TheInside as Kept
+use Rattle.zk_save.specs.declared.packed_state.PackedState.TheInside as PackedState
 use Rattle.zk_save.specs.declared.undo.Undo.TheInside as Undo
 
 -- the bytes that packed bytes are of
@@ -12,11 +12,11 @@ unfoldable pub bytes_in : List ℕ → ℕ → List ℕ
 bytes_in cs n = unwrap_or (unpacked n cs) []
 
 -- a kept state that contracts speak of
-abbrev pub kept_seen : Kept.Inside → KeptState
+abbrev pub kept_seen : PackedState.Inside → KeptState
 kept_seen k = record { difference = bytes_in k.packed.items k.length; frames = k.frames; place = k.place }
 
 -- the memory of a kept state is packed
-pub record IsPacked (k : Kept.Inside) : Type 0 where
+pub record IsPacked (k : PackedState.Inside) : Type 0 where
   pub packing : packed (bytes_in k.packed.items k.length) ≡ k.packed.items
   pub long : length (bytes_in k.packed.items k.length) ≡ k.length
 

@@ -3,8 +3,8 @@
 
 mod checks;
 pub mod examples;
-mod kept;
 pub mod laws;
+mod packed_state;
 pub mod packing;
 mod parts;
 mod reading;

@@ -5,7 +5,7 @@ ghost use Rattle.zk_mem.specs.Map.{MemoryMap};
 ghost use Rattle.zk_state.specs.Frames.{FrameList};
 ghost use Rattle.zk_save.specs.States.{state_of, states_in, gone_back, AreOf};
 
-use crate::kept::Kept;
+use crate::packed_state::PackedState;
 use circular_buffer::HeapCircularBuffer;
 use std::alloc::{AllocError, Global};
 use std::marker::Model;
@@ -15,7 +15,7 @@ use zk_state::frames::Frames;
 /// The newest states of a run, as many as are wanted, at most 64 (Standard, section 15, `save_undo`).
 #[derive(Drop)]
 pub struct Undo {
-    ring: Option<HeapCircularBuffer<Kept>>,
+    ring: Option<HeapCircularBuffer<PackedState>>,
     most: usize,
     alloc: Global,
 }
@@ -35,7 +35,7 @@ impl Model for Undo {
 }
 
 /// Lets a state go.
-fn forget(_oldest: Option<Kept>) {}
+fn forget(_oldest: Option<PackedState>) {}
 
 impl Undo {
     /// No state so far, and room for the newest `most`. For none at all no memory is asked for.
@@ -89,13 +89,13 @@ impl Undo {
             Some(ring) => ring,
             None => return Ok(()),
         };
-        let kept = Kept::new(alloc, memory, frames, place)?;
+        let kept = PackedState::new(alloc, memory, frames, place)?;
         forget(ring.push_back(kept));
         Ok(())
     }
 
     /// The newest state, which is no longer kept.
-    fn pop(&mut self) -> Option<Kept>
+    fn pop(&mut self) -> Option<PackedState>
         ensures { MatchOption result ((self.old.states ≡ []) × (self.new ≡ self.old)) (λ k. self.old ≡ record { states = k ∷ self.new.states; most = self.new.most }) }
     {
         let ring = match &mut self.ring {

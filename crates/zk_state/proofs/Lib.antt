@@ -1,6 +1,6 @@
 pub mod Calls
 pub mod Unwinding
-pub mod Kept
+pub mod BoundsKept
 pub mod Oldest
 pub mod Returning
 pub mod Views

@@ -34,5 +34,5 @@ module _ (current : FrameRecord) (callers : List FrameRecord) (xs : List ℕ) wh
   pub copy_length : length frames ≡ length callers + 1
   copy_length = omega (arith, depth_is callers (take current.base xs))
 
-  pub copy_size : current.base ≤ current.floor → current.floor ≤ length xs → Chain (reverse callers) current.base → sizes_of frames ≡ length xs
-  copy_size base floor below = total_is current callers xs 0 0 (length xs) refl base floor below
+  pub copy_size : current.base ≤ current.stack_base → current.stack_base ≤ length xs → Chain (reverse callers) current.base → sizes_of frames ≡ length xs
+  copy_size base stack_base below = total_is current callers xs 0 0 (length xs) refl base stack_base below

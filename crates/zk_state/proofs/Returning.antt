@@ -29,11 +29,11 @@ module _ (current caller : FrameRecord) (callers : List FrameRecord) (xs : List 
   unfolding rest
   long = length-take-le current.base xs high
 
-  under : (caller.base ≤ caller.floor) × (caller.floor ≤ current.base) × Chain (reverse callers) caller.base
+  under : (caller.base ≤ caller.stack_base) × (caller.stack_base ≤ current.base) × Chain (reverse callers) caller.base
   under = chain_pop callers caller current.base below
 
-  floor : caller.floor ≤ length rest
-  floor = let h = under.1 in omega (arith, long)
+  stack_base : caller.stack_base ≤ length rest
+  stack_base = let h = under.1 in omega (arith, long)
 
   -- what is left when the routine is
   plain : FrameList
@@ -48,12 +48,12 @@ module _ (current caller : FrameRecord) (callers : List FrameRecord) (xs : List 
   fails x e h = rw (leave_ok current caller callers xs f m, h) refl
 
   -- frames with as many words are within the bounds
-  within : (ys : List ℕ) → length ys ≤ m → caller.floor ≤ length ys → within_bounds (list_of caller callers ys f m) ≡ Ok (list_of caller callers ys f m)
+  within : (ys : List ℕ) → length ys ≤ m → caller.stack_base ≤ length ys → within_bounds (list_of caller callers ys f m) ≡ Ok (list_of caller callers ys f m)
   within ys fits low =
       let h = under in
       within_bounds_ok (list_of caller callers ys f m) (omega (arith, depth_is callers (take caller.base ys))) (omega (arith, total_is caller callers ys f m (length ys) refl h.0 low h.2))
 
-  gives : (x : ℕ) (v : Option ℕ) (ys : List ℕ) → current.result ≡ v → taken plain current.result x ≡ Ok (list_of caller callers ys f m) → length ys ≤ m → caller.floor ≤ length ys → GivesBack (list_of current (callers ++ caller ∷ []) xs f m) x v
+  gives : (x : ℕ) (v : Option ℕ) (ys : List ℕ) → current.result ≡ v → taken plain current.result x ≡ Ok (list_of caller callers ys f m) → length ys ≤ m → caller.stack_base ≤ length ys → GivesBack (list_of current (callers ++ caller ∷ []) xs f m) x v
   gives x v ys e h fits low = record {
     frames = list_of caller callers ys f m;
     back = record { place = current.place; result = current.result };
@@ -64,20 +64,20 @@ module _ (current caller : FrameRecord) (callers : List FrameRecord) (xs : List 
 
   pub back_none : (x : ℕ) → current.result ≡ None → GivesBack (list_of current (callers ++ caller ∷ []) xs f m) x None
   unfolding taken plain rest
-  back_none x e = gives x None rest e (rw e refl) (omega (arith, long)) floor
+  back_none x e = gives x None rest e (rw e refl) (omega (arith, long)) stack_base
 
   pub back_global : (x v : ℕ) → current.result ≡ Some v → 16 ≤ v → GivesBack (list_of current (callers ++ caller ∷ []) xs f m) x (Some v)
   unfolding taken plain rest
   back_global x v e h =
       let none : (v == 0) ≡ false = grind (arith, nat_tests) in
       let past : nat_lt v 16 ≡ false = grind (arith, nat_tests) in
-      gives x (Some v) rest e (rw (e, none, past) refl) (omega (arith, long)) floor
+      gives x (Some v) rest e (rw (e, none, past) refl) (omega (arith, long)) stack_base
 
   pub back_word : (x v : ℕ) → current.result ≡ Some v → v ≡ 0 → current.base < m → GivesBack (list_of current (callers ++ caller ∷ []) xs f m) x (Some v)
   unfolding taken plain rest
   back_word x v e zero lt =
       let more : length (rest ++ x ∷ []) ≡ length rest + 1 = length-append rest (x ∷ []) in
-      gives x (Some v) (rest ++ x ∷ []) e (rw (e, zero) (ap (λ (s : FrameList). Ok s) (push_list caller callers rest f m under.0 floor x))) (omega (arith, more, long)) (omega (arith, more, floor))
+      gives x (Some v) (rest ++ x ∷ []) e (rw (e, zero) (ap (λ (s : FrameList). Ok s) (push_list caller callers rest f m under.0 stack_base x))) (omega (arith, more, long)) (omega (arith, more, stack_base))
 
   pub back_full : (x v : ℕ) → current.result ≡ Some v → v ≡ 0 → m ≤ current.base → RefusesBack (list_of current (callers ++ caller ∷ []) xs f m) x (refusal.Limit Words)
   unfolding taken plain rest pushed
@@ -86,23 +86,23 @@ module _ (current caller : FrameRecord) (callers : List FrameRecord) (xs : List 
     record { place = current.place; result = current.result },
     given x (with_word plain x) (rw (e, zero) refl),
     e ∙ ap (λ (n : ℕ). Some n) zero,
-    push_full caller callers rest f m under.0 floor x under.2 (omega arith) (omega (arith, long)),
+    push_full caller callers rest f m under.0 stack_base x under.2 (omega arith) (omega (arith, long)),
   )
 
-  pub back_local : (x v : ℕ) → current.result ≡ Some v → 0 < v → v < 16 → caller.base + v ≤ caller.floor → GivesBack (list_of current (callers ++ caller ∷ []) xs f m) x (Some v)
+  pub back_local : (x v : ℕ) → current.result ≡ Some v → 0 < v → v < 16 → caller.base + v ≤ caller.stack_base → GivesBack (list_of current (callers ++ caller ∷ []) xs f m) x (Some v)
   unfolding taken plain rest
   back_local x v e some early le =
       let none : (v == 0) ≡ false = grind (arith, nat_tests) in
       let local : nat_lt v 16 ≡ true = grind (arith, nat_tests) in
       let same : length (set rest (caller.base + v - 1) x) ≡ length rest = length-set rest (caller.base + v - 1) x in
-      gives x (Some v) (set rest (caller.base + v - 1) x) e (rw (e, none, local) (set_local_ok caller callers rest f m under.0 floor v x some le)) (omega (arith, same, long)) (omega (arith, same, floor))
+      gives x (Some v) (set rest (caller.base + v - 1) x) e (rw (e, none, local) (set_local_ok caller callers rest f m under.0 stack_base v x some le)) (omega (arith, same, long)) (omega (arith, same, stack_base))
 
-  pub back_past : (x v : ℕ) → current.result ≡ Some v → 0 < v → v < 16 → caller.floor < caller.base + v → given_back (list_of current (callers ++ caller ∷ []) xs f m) x ≡ Err NoSuchLocal
+  pub back_past : (x v : ℕ) → current.result ≡ Some v → 0 < v → v < 16 → caller.stack_base < caller.base + v → given_back (list_of current (callers ++ caller ∷ []) xs f m) x ≡ Err NoSuchLocal
   unfolding taken plain rest
   back_past x v e some early lt =
       let none : (v == 0) ≡ false = grind (arith, nat_tests) in
       let local : nat_lt v 16 ≡ true = grind (arith, nat_tests) in
-      fails x NoSuchLocal (rw (e, none, local) (set_local_past caller callers rest f m under.0 floor v x lt))
+      fails x NoSuchLocal (rw (e, none, local) (set_local_past caller callers rest f m under.0 stack_base v x lt))
 
 -- the same of frames as they are kept, whose last caller is this
 module _ (s : Inside) (i : IsKept s) (caller : FrameRecord) (n : ℕ) (count : n ≡ length s.records.callers) (some : 0 < n) (is : caller ≡ get_or s.records.callers (n - 1) caller) where
@@ -110,7 +110,7 @@ module _ (s : Inside) (i : IsKept s) (caller : FrameRecord) (n : ℕ) (count : n
   cut = last_cut s.records.callers n caller count some is
 
   room : s.records.current.base ≤ length (take s.top s.words.items)
-  room = omega (arith, length-take-le s.top s.words.items (omega (arith, i.size, i.top)), i.base, i.floor)
+  room = omega (arith, length-take-le s.top s.words.items (omega (arith, i.size, i.top)), i.base, i.stack_base)
 
   chain : Chain (reverse (take (n - 1) s.records.callers ++ caller ∷ [])) s.records.current.base
   chain = rw cut at i.below
@@ -119,7 +119,7 @@ module _ (s : Inside) (i : IsKept s) (caller : FrameRecord) (n : ℕ) (count : n
   many = omega (arith, length-take-le (n - 1) s.records.callers (omega arith), i.frames)
 
   bound : s.records.current.base ≤ s.most_words
-  bound = omega (arith, i.base, i.floor, i.top)
+  bound = omega (arith, i.base, i.stack_base, i.top)
 
   pub kept_base : caller.base ≤ 65535
   kept_base = let h = chain_pop (take (n - 1) s.records.callers) caller s.records.current.base chain in omega (arith, h.0, h.1, bound, i.few_words)
@@ -136,10 +136,10 @@ module _ (s : Inside) (i : IsKept s) (caller : FrameRecord) (n : ℕ) (count : n
   pub kept_full : (x : ℕ) (v : ℕ) → s.records.current.result ≡ Some v → v ≡ 0 → s.most_words ≤ s.records.current.base → RefusesBack (seen s) x (refusal.Limit Words)
   kept_full x v e h k = rw cut (back_full s.records.current caller (take (n - 1) s.records.callers) (take s.top s.words.items) s.most_frames s.most_words room chain many bound x v e h k)
 
-  pub kept_local : (x : ℕ) (v : ℕ) → s.records.current.result ≡ Some v → 0 < v → v < 16 → caller.base + v ≤ caller.floor → GivesBack (seen s) x (Some v)
+  pub kept_local : (x : ℕ) (v : ℕ) → s.records.current.result ≡ Some v → 0 < v → v < 16 → caller.base + v ≤ caller.stack_base → GivesBack (seen s) x (Some v)
   kept_local x v e h k l = rw cut (back_local s.records.current caller (take (n - 1) s.records.callers) (take s.top s.words.items) s.most_frames s.most_words room chain many bound x v e h k l)
 
-  pub kept_past : (x : ℕ) (v : ℕ) → s.records.current.result ≡ Some v → 0 < v → v < 16 → caller.floor < caller.base + v → given_back (seen s) x ≡ Err NoSuchLocal
+  pub kept_past : (x : ℕ) (v : ℕ) → s.records.current.result ≡ Some v → 0 < v → v < 16 → caller.stack_base < caller.base + v → given_back (seen s) x ≡ Err NoSuchLocal
   kept_past x v e h k l = rw cut (back_past s.records.current caller (take (n - 1) s.records.callers) (take s.top s.words.items) s.most_frames s.most_words room chain many bound x v e h k l)
 
 -- the first frame has no caller

@@ -19,8 +19,8 @@ end_in qs (suc i) d n = (get_or qs i d).base
 base_low : (qs : List FrameRecord) (n i : ℕ) (d : FrameRecord) → Chain qs n → i < length qs → (get_or qs i d).base ≤ n
 unfolding Chain
 base_low [] n i d h lt = absurd (omega arith)
-base_low (q ∷ qs) n zero d h lt = let base = h.0 in let floor = h.1 in omega arith
-base_low (q ∷ qs) n (suc i) d h lt = let base = h.0 in let floor = h.1 in let rest = base_low qs q.base i d h.2 (omega arith) in omega arith
+base_low (q ∷ qs) n zero d h lt = let base = h.0 in let stack_base = h.1 in omega arith
+base_low (q ∷ qs) n (suc i) d h lt = let base = h.0 in let stack_base = h.1 in let rest = base_low qs q.base i d h.2 (omega arith) in omega arith
 
 end_low : (qs : List FrameRecord) (n i : ℕ) (d : FrameRecord) → Chain qs n → i < length qs → end_in qs i d n ≤ n
 end_low qs n zero d h lt = omega arith
@@ -45,13 +45,13 @@ frame_in (q ∷ qs) xs (suc i) d h lt =
     ∙ ap (λ (n : ℕ). Some (frame_of (get_or qs i d) (take n (take q.base xs)))) ends
     ∙ ap (λ (l : List ℕ). Some (frame_of (get_or qs i d) l)) (take-take end q.base xs low)
 
-in_order : (qs : List FrameRecord) (n i : ℕ) (d : FrameRecord) → Chain qs n → i < length qs → ((get_or qs i d).base ≤ (get_or qs i d).floor) × ((get_or qs i d).floor ≤ end_in qs i d n)
+in_order : (qs : List FrameRecord) (n i : ℕ) (d : FrameRecord) → Chain qs n → i < length qs → ((get_or qs i d).base ≤ (get_or qs i d).stack_base) × ((get_or qs i d).stack_base ≤ end_in qs i d n)
 unfolding Chain
 in_order [] n i d h lt = absurd (omega arith)
 in_order (q ∷ qs) n zero d h lt = (h.0, h.1)
 in_order (q ∷ qs) n (suc i) d h lt =
     let rest = in_order qs q.base i d h.2 (omega arith) in
-    let high : (get_or qs i d).floor ≤ end_in qs i d q.base = rest.1 in
+    let high : (get_or qs i d).stack_base ≤ end_in qs i d q.base = rest.1 in
     (rest.0, rw (← end_step q qs i d) high)
 
 from_end : {X : Type 0} (xs : List X) (n : ℕ) (d : X) → n < length xs → slice_get (reverse xs) n ≡ slice_get xs (length xs - 1 - n)
@@ -60,7 +60,7 @@ from_end {X} xs n d lt =
     ∙ ap (λ (x : X). Some x) (get_or-reverse xs n d lt)
     ∙ sym (slice_get-get_or xs (length xs - 1 - n) d (omega arith))
 
-module _ (callers : List FrameRecord) (current : FrameRecord) (xs : List ℕ) (n : ℕ) (base : current.base ≤ current.floor) (floor : current.floor ≤ length xs) (below : Chain (reverse callers) current.base) (le : n ≤ length callers) where
+module _ (callers : List FrameRecord) (current : FrameRecord) (xs : List ℕ) (n : ℕ) (base : current.base ≤ current.stack_base) (stack_base : current.stack_base ≤ length xs) (below : Chain (reverse callers) current.base) (le : n ≤ length callers) where
   -- the records, oldest first and newest first
   abbrev up : List FrameRecord
   up = callers ++ current ∷ []
@@ -101,24 +101,24 @@ module _ (callers : List FrameRecord) (current : FrameRecord) (xs : List ℕ) (n
       let split : k + n ≡ length callers = omega arith in
       from_end all n (frame_of current xs) (omega (arith, long))
       ∙ ap (slice_get all) at
-      ∙ frame_in down xs k current (base, floor, below) (omega (arith, length_down))
+      ∙ frame_in down xs k current (base, stack_base, below) (omega (arith, length_down))
       ∙ ap (λ (r : FrameRecord). Some (frame_of r (take (end_in down k current (length xs)) xs))) (record_down k n split)
       ∙ ap (λ (e : ℕ). Some (frame_of (get_or up n current) (take e xs))) (end_down k (nat_eq n (length callers)) refl split)
 
   -- the record of a number is in order
 
-  pub record_is : ((get_or up n current).base ≤ (get_or up n current).floor) × ((get_or up n current).floor ≤ end (nat_eq n (length callers))) × (end (nat_eq n (length callers)) ≤ length xs)
+  pub record_is : ((get_or up n current).base ≤ (get_or up n current).stack_base) × ((get_or up n current).stack_base ≤ end (nat_eq n (length callers))) × (end (nat_eq n (length callers)) ≤ length xs)
   unfolding Chain
   record_is =
       let k : ℕ = length callers - n in
       let split : k + n ≡ length callers = omega arith in
       let inside : k < length down = omega (arith, length_down) in
-      let chain : Chain down (length xs) = (base, floor, below) in
+      let chain : Chain down (length xs) = (base, stack_base, below) in
       let r = record_down k n split in
       let e = end_down k (nat_eq n (length callers)) refl split in
       let parts = in_order down (length xs) k current chain inside in
-      let first : (get_or down k current).base ≤ (get_or down k current).floor = parts.0 in
-      let second : (get_or down k current).floor ≤ end_in down k current (length xs) = parts.1 in
+      let first : (get_or down k current).base ≤ (get_or down k current).stack_base = parts.0 in
+      let second : (get_or down k current).stack_base ≤ end_in down k current (length xs) = parts.1 in
       let high = end_low down (length xs) k current chain inside in
       (rw (← r) first, rw (← r, ← e) second, rw (← e) high)
 
@@ -127,16 +127,16 @@ module _ (callers : List FrameRecord) (current : FrameRecord) (xs : List ℕ) (n
 drop_of_take : (n m : ℕ) (xs : List ℕ) → n ≤ m → drop n (take m xs) ≡ take (m - n) (drop n xs)
 drop_of_take n m xs le = let e : m ≡ n + (m - n) = omega arith in ap (λ (k : ℕ). drop n (take k xs)) e ∙ drop-take n (m - n) xs
 
-pub locals_are : (xs : List ℕ) (base floor end : ℕ) → base ≤ floor → floor ≤ end → drop base (take floor (take end xs)) ≡ take (floor - base) (drop base xs)
-locals_are xs base floor end low high = ap (drop base) (take-take floor end xs high) ∙ drop_of_take base floor xs low
+pub locals_are : (xs : List ℕ) (base stack_base end : ℕ) → base ≤ stack_base → stack_base ≤ end → drop base (take stack_base (take end xs)) ≡ take (stack_base - base) (drop base xs)
+locals_are xs base stack_base end low high = ap (drop base) (take-take stack_base end xs high) ∙ drop_of_take base stack_base xs low
 
-pub words_are : (xs : List ℕ) (floor end : ℕ) → floor ≤ end → drop floor (take end xs) ≡ take (end - floor) (drop floor xs)
-words_are xs floor end le = drop_of_take floor end xs le
+pub words_are : (xs : List ℕ) (stack_base end : ℕ) → stack_base ≤ end → drop stack_base (take end xs) ≡ take (end - stack_base) (drop stack_base xs)
+words_are xs stack_base end le = drop_of_take stack_base end xs le
 
 -- what is known of the frame of a number, by its record and the end of its words
 pub record IsViewed (s : Inside) (n : ℕ) (own : FrameRecord) (e : ℕ) : Type 0 where
-  pub base : own.base ≤ own.floor
-  pub floor : own.floor ≤ e
+  pub base : own.base ≤ own.stack_base
+  pub stack_base : own.stack_base ≤ e
   pub end : e ≤ length s.words.items
   pub few : e ≤ 65535
   pub value : (f : Frame) → frame_of own (take e s.words.items) ≡ f → slice_get (reverse (frames_of (seen s))) n ≡ Some f
@@ -149,23 +149,23 @@ viewed s n own e i le oe ee =
     let up : List FrameRecord = s.records.callers ++ s.records.current ∷ [] in
     let fits : s.top ≤ length s.words.items = omega (arith, i.size, i.top) in
     let long : length xs ≡ s.top = length-take-le s.top s.words.items fits in
-    let floor : s.records.current.floor ≤ length xs = omega (arith, i.floor) in
+    let stack_base : s.records.current.stack_base ≤ length xs = omega (arith, i.stack_base) in
     let ends : e ≡ (if nat_eq n (length s.records.callers) then length xs else (get_or up (n + 1) s.records.current).base) = ee ∙ ap (λ (k : ℕ). if nat_eq n (length s.records.callers) then k else (get_or up (n + 1) s.records.current).base) (sym long) in
-    let r = record_is s.records.callers s.records.current xs n i.base floor i.below le in
+    let r = record_is s.records.callers s.records.current xs n i.base stack_base i.below le in
     let high : e ≤ length xs = rw ends r.2 in
-    let low : own.floor ≤ e = rw (oe, ends) r.1 in
+    let low : own.stack_base ≤ e = rw (oe, ends) r.1 in
     let record_of : IsRecord own = rw oe (All-get_or IsRecord up n s.records.current (omega (arith, length-append s.records.callers (s.records.current ∷ []))) (All-push IsRecord s.records.callers s.records.current i.callers i.current)) in
     let same : frame_of (get_or up n s.records.current) (take (if nat_eq n (length s.records.callers) then length xs else (get_or up (n + 1) s.records.current).base) xs) ≡ frame_of own (take e s.words.items) =
     ap (λ (q : FrameRecord). frame_of q (take (if nat_eq n (length s.records.callers) then length xs else (get_or up (n + 1) s.records.current).base) xs)) (sym oe)
     ∙ ap (λ (k : ℕ). frame_of own (take k xs)) (sym ends)
     ∙ ap (frame_of own) (take-take e s.top s.words.items (omega (arith, high))) in
-    let short : own.floor ≤ length (take e s.words.items) = omega (arith, length-take-le e s.words.items (omega (arith, high))) in
+    let short : own.stack_base ≤ length (take e s.words.items) = omega (arith, length-take-le e s.words.items (omega (arith, high))) in
     record {
       base = rw oe r.0;
-      floor = low;
+      stack_base = low;
       end = omega (arith, high);
       few = omega (arith, high, i.top, i.few_words);
-      value = λ f h. frame_at s.records.callers s.records.current xs n i.base floor i.below le ∙ ap (λ (g : Frame). Some g) (same ∙ h);
+      value = λ f h. frame_at s.records.callers s.records.current xs n i.base stack_base i.below le ∙ ap (λ (g : Frame). Some g) (same ∙ h);
       is = λ f h. rw (← h) (record { locals = omega (arith, locals_length own (take e s.words.items) short, record_of.short); supplied = record_of.supplied; place = record_of.place });
     }
 

@@ -5,7 +5,7 @@ use Rattle.zk_state.specs.declared.records.Records.TheInside.{Inside}
 
 -- the record of the first frame
 abbrev pub first_record : FrameRecord
-first_record = record { base = 0; floor = 0; place = 0; result = None; supplied = 0 }
+first_record = record { base = 0; stack_base = 0; place = 0; result = None; supplied = 0 }
 
 -- the current record, those of its callers with the newest last, and how many there may be
 pub record RecordList : Type 0 where
@@ -25,4 +25,4 @@ records_of r = record { callers = take r.depth r.all.items; current = current_of
 pub record AreRecords (r : Inside) : Type 0 where
   pub depth : r.depth < length r.all.items
   pub base : r.base ≡ (current_of r).base
-  pub floor : r.floor ≡ (current_of r).floor
+  pub stack_base : r.stack_base ≡ (current_of r).stack_base

@@ -100,15 +100,15 @@ fn end_of(callers: &[FrameRecord], current: FrameRecord, top: usize, at: usize) 
 /// The frame of a record, whose words end at an index.
 #[tactic(auto, using(crate::proofs::Views::locals_are, crate::proofs::Views::words_are))]
 fn view_of<'a>(words: &'a [u16], own: FrameRecord, end: usize) -> FrameView<'a>
-    requires base { own.base ≤ own.floor }
-    requires floor { own.floor ≤ end }
+    requires base { own.base ≤ own.stack_base }
+    requires stack_base { own.stack_base ≤ end }
     requires end { end ≤ length words.now }
     ensures words { length result.words.now ≤ end }
     ensures value { frame_of own (take end words.now) ≡ record { locals = result.locals.now; words = result.words.now; place = result.place; result = result.result; supplied = result.supplied } }
 {
     FrameView {
-        locals: &words[own.base as usize..own.floor as usize],
-        words: &words[own.floor as usize..end],
+        locals: &words[own.base as usize..own.stack_base as usize],
+        words: &words[own.stack_base as usize..end],
         place: own.place,
         result: own.result,
         supplied: own.supplied,
@@ -290,7 +290,7 @@ impl Frames {
             (λ value. popped self.old ≡ Ok (self.new, value))
             (λ e. (popped self.old ≡ Err e) × (self.new ≡ self.old)) }
     {
-        if self.top <= self.records.floor() {
+        if self.top <= self.records.stack_base() {
             return Err(Fault::StackEmpty);
         }
         self.top -= 1;
@@ -303,7 +303,7 @@ impl Frames {
     pub fn top(&self) -> Result<u16, Fault>
         ensures { result ≡ top_of self.now }
     {
-        if self.top <= self.records.floor() {
+        if self.top <= self.records.stack_base() {
             return Err(Fault::StackEmpty);
         }
         Ok(self.words[self.top - 1])
@@ -317,7 +317,7 @@ impl Frames {
             (λ _. with_top self.old value ≡ Ok self.new)
             (λ e. (with_top self.old value ≡ Err e) × (self.new ≡ self.old)) }
     {
-        if self.top <= self.records.floor() {
+        if self.top <= self.records.stack_base() {
             return Err(Fault::StackEmpty);
         }
         self.words[self.top - 1] = value;
@@ -331,7 +331,7 @@ impl Frames {
         ensures { result ≡ local_of self.now number }
     {
         let end = self.records.base() + number as usize;
-        if number == 0 || end > self.records.floor() {
+        if number == 0 || end > self.records.stack_base() {
             return Err(Fault::NoSuchLocal);
         }
         Ok(self.words[end - 1])
@@ -346,7 +346,7 @@ impl Frames {
             (λ e. (with_local self.old number value ≡ Err e) × (self.new ≡ self.old)) }
     {
         let end = self.records.base() + number as usize;
-        if number == 0 || end > self.records.floor() {
+        if number == 0 || end > self.records.stack_base() {
             return Err(Fault::NoSuchLocal);
         }
         self.words[end - 1] = value;
@@ -356,11 +356,11 @@ impl Frames {
     /// A local variable of the current routine, by its index from 0 on, which is one less than its number.
     #[inline(always)]
     #[tactic(auto, unfolding(crate::specs::Frames::local_of))]
-    pub fn own(&self, index: u8) -> Result<u16, Fault>
+    pub fn local_at(&self, index: u8) -> Result<u16, Fault>
         ensures { result ≡ local_of self.now (index + 1) }
     {
         let at = self.records.base() + index as usize;
-        if at >= self.records.floor() {
+        if at >= self.records.stack_base() {
             return Err(Fault::NoSuchLocal);
         }
         Ok(self.words[at])
@@ -369,13 +369,13 @@ impl Frames {
     /// Writes a local variable of the current routine, by its index from 0 on.
     #[inline(always)]
     #[tactic(auto, unfolding(crate::specs::Frames::with_local))]
-    pub fn set_own(&mut self, index: u8, value: u16) -> Result<(), Fault>
+    pub fn set_local_at(&mut self, index: u8, value: u16) -> Result<(), Fault>
         ensures { MatchResult result
             (λ _. with_local self.old (index + 1) value ≡ Ok self.new)
             (λ e. (with_local self.old (index + 1) value ≡ Err e) × (self.new ≡ self.old)) }
     {
         let at = self.records.base() + index as usize;
-        if at >= self.records.floor() {
+        if at >= self.records.stack_base() {
             return Err(Fault::NoSuchLocal);
         }
         self.words[at] = value;
@@ -432,19 +432,19 @@ impl Frames {
         if self.records.depth() + 1 >= self.most_frames {
             return Err(Refusal::Limit(Limit::Frames));
         }
-        let floor = self.top + count as usize;
-        if floor > self.most_words {
+        let stack_base = self.top + count as usize;
+        if stack_base > self.most_words {
             return Err(Refusal::Limit(Limit::Words));
         }
         fill_words(&mut self.words, self.top, count as usize, arguments);
         self.records.begin(FrameRecord {
             base: self.top as u32,
-            floor: floor as u32,
+            stack_base: stack_base as u32,
             place,
             result: store,
             supplied,
         });
-        self.top = floor;
+        self.top = stack_base;
         Ok(())
     }
 
@@ -494,7 +494,7 @@ impl Frames {
             }
             return Ok(Some(variable));
         }
-        if caller.base + variable as u32 > caller.floor {
+        if caller.base + variable as u32 > caller.stack_base {
             return Err(Refusal::Fault(Fault::NoSuchLocal));
         }
         Ok(Some(variable))

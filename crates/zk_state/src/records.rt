@@ -6,12 +6,12 @@ ghost use Rattle.zk_state.specs.Records.{RecordList, first_record};
 use std::alloc::{AllocError, Global};
 use std::marker::Model;
 
-/// A frame: its local variables are the words from `base` to `floor`, and its evaluation stack is all that
+/// A frame: its local variables are the words from `base` to `base of the stack`, and its evaluation stack is all that
 /// lies between them and the next frame.
 #[derive(Clone, Copy, PartialEq, Eq, Drop)]
 pub(crate) struct FrameRecord {
     pub(crate) base: u32,
-    pub(crate) floor: u32,
+    pub(crate) stack_base: u32,
     pub(crate) place: u32,
     pub(crate) result: Option<u8>,
     pub(crate) supplied: u8,
@@ -20,7 +20,7 @@ pub(crate) struct FrameRecord {
 /// The record of the first frame (Standard, section 5.5).
 pub(crate) const FIRST: FrameRecord = FrameRecord {
     base: 0,
-    floor: 0,
+    stack_base: 0,
     place: 0,
     result: None,
     supplied: 0,
@@ -34,7 +34,7 @@ pub(crate) struct Records {
     depth: usize,
     // what the current record has, where instructions find it at once
     base: usize,
-    floor: usize,
+    stack_base: usize,
 }
 
 impl Model for Records {
@@ -77,7 +77,7 @@ impl Records {
             all,
             depth: 0,
             base: 0,
-            floor: 0,
+            stack_base: 0,
         })
     }
 
@@ -99,10 +99,10 @@ impl Records {
 
     /// Where the current frame's evaluation stack begins.
     #[inline(always)]
-    pub(crate) fn floor(&self) -> usize
-        ensures { result ≡ self.now.current.floor }
+    pub(crate) fn stack_base(&self) -> usize
+        ensures { result ≡ self.now.current.stack_base }
     {
-        self.floor
+        self.stack_base
     }
 
     /// The current one.
@@ -137,7 +137,7 @@ impl Records {
         self.depth += 1;
         self.all[self.depth] = frame;
         self.base = frame.base as usize;
-        self.floor = frame.floor as usize;
+        self.stack_base = frame.stack_base as usize;
     }
 
     /// Takes the current one away, for its caller. There is one.
@@ -150,7 +150,7 @@ impl Records {
         self.depth -= 1;
         let caller = self.all[self.depth];
         self.base = caller.base as usize;
-        self.floor = caller.floor as usize;
+        self.stack_base = caller.stack_base as usize;
     }
 
     /// Puts others in the place of all. There may be as many.
@@ -162,6 +162,6 @@ impl Records {
         self.depth = callers.len();
         self.all[self.depth] = current;
         self.base = current.base as usize;
-        self.floor = current.floor as usize;
+        self.stack_base = current.stack_base as usize;
     }
 }

@@ -26,10 +26,10 @@ use Rattle.zk_code.proofs.Same.{cell_alike, instruction_alike}
 use Rattle.zk_code.proofs.Standing.{some_is}
 use Rattle.zk_step.specs.declared.ending.Ending.{Ending}
 use Rattle.zk_step.specs.declared.ending.Ending.TheVariants as ending
-use Rattle.zk_step.specs.declared.finish.Way.{Way}
-use Rattle.zk_step.specs.declared.finish.Way.TheVariants.{To}
-use Rattle.zk_step.specs.declared.workspace.Workspace.{Workspace}
-use Rattle.zk_step.specs.Finish.{agrees, way_of, way_on}
+use Rattle.zk_step.specs.declared.finish.Continuation.{Continuation}
+use Rattle.zk_step.specs.declared.finish.Continuation.TheVariants.{To}
+use Rattle.zk_step.specs.declared.game_state.GameState.{GameState}
+use Rattle.zk_step.specs.Finish.{agrees, continuation_of, continuation_after}
 use Rattle.zk_step.specs.Laws.{EndsBy, IsOneStory, KeepsStory}
 use Rattle.zk_step.specs.Routines.{RoutineHeader, routine_at, routine_of}
 use Rattle.zk_step.specs.Values.{first}
@@ -43,7 +43,7 @@ same_ok {A} x y e = cc
 -- ---- the first value
 
 -- a constant first operand is the first value
-first_value : (w : Workspace) (os : List Operand) (c : ℕ) → first_constant os ≡ Some c → Leaves (λ (p : Workspace × List ℕ). first p.1 ≡ c) (operands_read w os)
+first_value : (w : GameState) (os : List Operand) (c : ℕ) → first_constant os ≡ Some c → Leaves (λ (p : GameState × List ℕ). first p.1 ≡ c) (operands_read w os)
 unfolding operands_read operand_read
 first_value w [] c e = absurd cc
 first_value w (Large x ∷ os) c e = leaves_after (operands_read w os) _ (λ r. gives (some_is x c e))
@@ -120,7 +120,7 @@ module _ (m : MemoryMap) (P : ℕ → Type 0) (clean : IsClean m P) (keeps : Kee
   pub next_inside : goes_on i.opcode ≡ true → P i.next
   next_inside on = clean.closed.behind a i.next i inside stands on
 
-  way_into : (t : Target) → ((c : ℕ) → t ≡ At c → P c) → LeadsInto P (way_of t)
+  way_into : (t : Target) → ((c : ℕ) → t ≡ At c → P c) → LeadsInto P (continuation_of t)
   way_into ReturnFalse h = tt
   way_into ReturnTrue h = tt
   way_into (At c) h = h c refl
@@ -131,20 +131,20 @@ module _ (m : MemoryMap) (P : ℕ → Type 0) (clean : IsClean m P) (keeps : Kee
   unfolding branch_address
   branch_inside b c e t = clean.closed.branches a i.next c i inside stands (rw (e, t) refl)
 
-  if_into : (x : Bool) (v w : Way) → LeadsInto P v → LeadsInto P w → LeadsInto P (if x then v else w)
+  if_into : (x : Bool) (v w : Continuation) → LeadsInto P v → LeadsInto P w → LeadsInto P (if x then v else w)
   if_into true v w h k = h
   if_into false v w h k = k
 
-  on_by : (o : Option Branch) (truth : Option Bool) → P i.next → ((b : Branch) (c : ℕ) → o ≡ Some b → b.target ≡ At c → P c) → LeadsInto P (way_on o i.next truth)
-  unfolding way_on
+  on_by : (o : Option Branch) (truth : Option Bool) → P i.next → ((b : Branch) (c : ℕ) → o ≡ Some b → b.target ≡ At c → P c) → LeadsInto P (continuation_after o i.next truth)
+  unfolding continuation_after
   on_by None truth next h = next
   on_by (Some b) None next h = next
-  on_by (Some b) (Some truth) next h = if_into (agrees b.on truth) (way_of b.target) (To i.next) (way_into b.target (λ c. h b c refl)) next
+  on_by (Some b) (Some truth) next h = if_into (agrees b.on truth) (continuation_of b.target) (To i.next) (way_into b.target (λ c. h b c refl)) next
 
   pub goes_inside : goes_on i.opcode ≡ true → GoesOnInto P i
   goes_inside on = λ truth. on_by i.branch truth (next_inside on) branch_inside
 
-  jump_inside : (c : ℕ) → is_jump i.opcode ≡ true → first_constant i.operands ≡ Some c → LeadsInto P (way_of (jump_target (length m.bytes) i.next c))
+  jump_inside : (c : ℕ) → is_jump i.opcode ≡ true → first_constant i.operands ≡ Some c → LeadsInto P (continuation_of (jump_target (length m.bytes) i.next c))
   unfolding jump_address constant_jump
   jump_inside c jump constant = way_into (jump_target (length m.bytes) i.next c) (λ t e. clean.closed.jumps a i.next t i inside stands (rw (jump, constant, e) refl))
 
@@ -162,12 +162,12 @@ module _ (m : MemoryMap) (P : ℕ → Type 0) (clean : IsClean m P) (keeps : Kee
           | inr high ↦ clean.closed.calls a i.next q r.start i inside stands call (start_alike m n q r (same_from m n q keeps same story high) there)
         ]
 
-    jump_there : (c : ℕ) → is_jump i.opcode ≡ true → first_constant i.operands ≡ Some c → LeadsInto P (way_of (jump_target (length n.bytes) i.next c))
+    jump_there : (c : ℕ) → is_jump i.opcode ≡ true → first_constant i.operands ≡ Some c → LeadsInto P (continuation_of (jump_target (length n.bytes) i.next c))
     jump_there c jump constant =
         let size : length m.bytes ≡ length n.bytes = keeps.size ∙ ap length (sym story.file) ∙ sym same.size in
-        subst (λ (l : ℕ). LeadsInto P (way_of (jump_target l i.next c))) size (jump_inside c jump constant)
+        subst (λ (l : ℕ). LeadsInto P (continuation_of (jump_target l i.next c))) size (jump_inside c jump constant)
 
-    module _ (known : leads_by_variable i ≡ false) (w u : Workspace) (vs : List ℕ) (taken : operands_read w i.operands ≡ Ok (u, vs)) where
+    module _ (known : leads_by_variable i ≡ false) (w u : GameState) (vs : List ℕ) (taken : operands_read w i.operands ≡ Ok (u, vs)) where
       is_first : (c : ℕ) → first_constant i.operands ≡ Some c → first vs ≡ c
       is_first c constant = value_left (operands_read w i.operands) (u, vs) (first_value w i.operands c constant) taken
 
@@ -177,7 +177,7 @@ module _ (m : MemoryMap) (P : ℕ → Type 0) (clean : IsClean m P) (keeps : Kee
       -- each ending of the instruction leads into the set
       pub ends_inside : (e : Ending) → EndsBy i.opcode vs e → EndsInto P n i e
       ends_inside (ending.GoOn x truth) by = goes_inside by truth
-      ends_inside (ending.Jump offset) by = subst (λ (c : ℕ). LeadsInto P (way_of (jump_target (length n.bytes) i.next c))) (sym by.1) (jump_there (first vs) by.0 (constant (inr by.0)))
+      ends_inside (ending.Jump offset) by = subst (λ (c : ℕ). LeadsInto P (continuation_of (jump_target (length n.bytes) i.next c))) (sym by.1) (jump_there (first vs) by.0 (constant (inr by.0)))
       ends_inside (ending.Call p most) by =
           (next_inside (call_goes_on i.opcode by.0), λ r found. call_inside p r (called p by.0 (constant (inl by.0) ∙ ap Some (sym by.1)) by.2) found)
       ends_inside (ending.Return x) by = tt

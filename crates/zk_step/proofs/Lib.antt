@@ -6,7 +6,7 @@ pub mod Keys
 pub mod Later
 pub mod LaterSteps
 pub mod Lines
-pub mod Manners
+pub mod Behaviours
 pub mod OpenTables
 pub mod Operands
 pub mod Plain

@@ -13,8 +13,8 @@ use Rattle.zk_code.specs.declared.opcode.Assignment.TheVariants.{Store, Load, In
 use Rattle.zk_code.specs.declared.opcode.Comparison.TheVariants.{Je, Jl, Jg, Jz, Test}
 use Rattle.zk_code.specs.declared.operands.Operand.{Operand}
 use Rattle.zk_code.specs.declared.operands.Operand.TheVariants.{Large, Small, Variable}
-use Rattle.zk_step.specs.declared.workspace.Workspace.{Workspace}
-use Rattle.zk_step.specs.declared.workspace.View.TheVariants.{Plain}
+use Rattle.zk_step.specs.declared.game_state.GameState.{GameState}
+use Rattle.zk_step.specs.declared.game_state.View.TheVariants.{Plain}
 use Rattle.zk_step.specs.Streams.{first_streams}
 use Rattle.zk_term.specs.Windows.{first_windows}
 use Rattle.zk_step.specs.Arithmetic.{arithmetic}
@@ -51,7 +51,7 @@ abbrev pub caller_with : List ℕ → List ℕ → Frame
 caller_with locals words = record { locals = locals; words = words; place = 80; result = Some 2; supplied = 0 }
 
 -- a memory, a routine and the routines that wait for it, within 5 frames and 20 words
-abbrev pub working : MemoryMap → Frame → List Frame → Workspace
+abbrev pub working : MemoryMap → Frame → List Frame → GameState
 working memory current callers = record {
   memory = memory;
   frames = record { current = current; callers = callers; most_frames = 5; most_words = 20 };
@@ -64,7 +64,7 @@ working memory current callers = record {
 
 -- a routine with these local variables and these words on its evaluation stack, the newest last; its caller has the
 -- local variables 61 and 62 and the word 63
-abbrev pub in_routine : List ℕ → List ℕ → Workspace
+abbrev pub in_routine : List ℕ → List ℕ → GameState
 in_routine locals words =
     working (memory_of 5 sixteen) (routine_with locals words (Some 1)) (caller_with (61 ∷ 62 ∷ []) (63 ∷ []) ∷ [])
 
@@ -202,8 +202,8 @@ AddressesWrap =
     (array_accessed Loadw (in_routine [] []) 65534 3 0 ≡ Ok (in_routine [] [], yields 0xa4a5))
     × (array_accessed Loadb (in_routine [] []) 65534 3 0 ≡ Ok (in_routine [] [], yields 0xa1))
 
--- the workspace of the examples of stores: version 5, with these bytes
-abbrev pub with_bytes : List ℕ → Workspace
+-- the game state of the examples of stores: version 5, with these bytes
+abbrev pub with_bytes : List ℕ → GameState
 with_bytes bytes = working (memory_of 5 bytes) (routine_with [] [] None) []
 
 -- word 1 of the array at 2 stands at 4 and 5, high byte first (section 15, `storew`)

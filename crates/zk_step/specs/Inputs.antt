@@ -10,7 +10,7 @@ use Rattle.zk_step.specs.declared.ending.Ending.{Ending}
 use Rattle.zk_step.specs.declared.ending.Ending.TheVariants.{GoOn, Wait as WaitFor}
 use Rattle.zk_step.specs.declared.ending.Next.{Next}
 use Rattle.zk_step.specs.declared.ending.Wait.TheVariants.{Line, Char}
-use Rattle.zk_step.specs.declared.workspace.Workspace.{Workspace}
+use Rattle.zk_step.specs.declared.game_state.GameState.{GameState}
 use Rattle.zk_step.specs.Endings.{ends}
 use Rattle.zk_step.specs.Finish.{finished}
 use Rattle.zk_step.specs.TextBuffers.{line_put}
@@ -28,14 +28,14 @@ abbrev pub line_ending : ℕ → Ending
 line_ending version = if nat_lt version 5 then GoOn None None else GoOn (Some 13) None
 
 -- a read is answered by a line's codes: it is stored and divided into words, and the instruction is finished
-unfoldable pub line_answered : Workspace → Instr → ℕ → ℕ → List ℕ → Result (Workspace × Next) Fault
+unfoldable pub line_answered : GameState → Instr → ℕ → ℕ → List ℕ → Result (GameState × Next) Fault
 line_answered w i text parse line = line_put w.memory text parse line >>= λ m. finished (with_memory w m) i [] (line_ending m.version)
 
 -- an instruction is finished by a result and a truth, once these are known: where it stores the one, where it branches by
 -- the other
-unfoldable pub result_answered : Workspace → Instr → ℕ → Bool → Result (Workspace × Next) Fault
+unfoldable pub result_answered : GameState → Instr → ℕ → Bool → Result (GameState × Next) Fault
 result_answered w i x truth = finished w i [] (GoOn (Some x) (Some truth))
 
 -- a read is answered by a character's code
-unfoldable pub character_answered : Workspace → Instr → ℕ → Result (Workspace × Next) Fault
+unfoldable pub character_answered : GameState → Instr → ℕ → Result (GameState × Next) Fault
 character_answered w i code = finished w i [] (GoOn (Some code) None)

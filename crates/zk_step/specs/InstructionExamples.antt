@@ -12,7 +12,7 @@ use Rattle.zk_code.specs.declared.opcode.Words.TheVariants.{EncodeText}
 use Rattle.zk_code.specs.declared.operands.Operand.TheVariants.{Large, Small, Variable}
 use Rattle.zk_step.specs.declared.ending.Next.TheVariants.{At, Waits, End}
 use Rattle.zk_step.specs.declared.ending.Wait.TheVariants.{Line, Char}
-use Rattle.zk_step.specs.declared.workspace.Workspace.{Workspace}
+use Rattle.zk_step.specs.declared.game_state.GameState.{GameState}
 use Rattle.zk_step.specs.Instructions.{carried_out}
 use Rattle.zk_step.specs.Limited.{limited, limited_next}
 use Rattle.zk_step.specs.Routing.{Texts, with_line_start}
@@ -56,8 +56,8 @@ CarriesOutInput =
 
 -- ---- the bounds (5 frames and 20 words here)
 
--- a workspace with so many routines that wait, each with so many words
-abbrev pub waiting : ℕ → ℕ → Workspace
+-- a game state with so many routines that wait, each with so many words
+abbrev pub waiting : ℕ → ℕ → GameState
 waiting frames words = working (memory_of 5 []) (routine_with [] [] None) (replicate frames (routine_with [] (replicate words 0) None))
 
 -- the current routine and four others are 5 frames: five others are too many, and 21 words are; frames go first

@@ -12,8 +12,8 @@ use Rattle.zk_step.specs.declared.ending.Ending.TheVariants.{GoOn}
 use Rattle.zk_step.specs.declared.ending.Output.TheVariants.{Code, Rows}
 use Rattle.zk_step.specs.declared.random.Generators.{Generators}
 use Rattle.zk_step.specs.declared.streams.OpenTable.{OpenTable}
-use Rattle.zk_step.specs.declared.workspace.View.TheVariants as view
-use Rattle.zk_step.specs.declared.workspace.Workspace.{Workspace}
+use Rattle.zk_step.specs.declared.game_state.View.TheVariants as view
+use Rattle.zk_step.specs.declared.game_state.GameState.{GameState}
 use Rattle.zk_step.specs.Endings.{ends, goes_on, prints}
 use Rattle.zk_step.specs.Examples.{memory_of, working, routine_with}
 use Rattle.zk_step.specs.Random.{randomised}
@@ -72,7 +72,7 @@ abbrev pub flags_of : ℕ → MemoryMap
 flags_of flags = memory_of 5 (replicate 17 0 ++ flags ∷ 0 ∷ 0 ∷ [])
 
 -- a routine with this memory and these streams
-abbrev pub streaming : MemoryMap → OutputStreams → Workspace
+abbrev pub streaming : MemoryMap → OutputStreams → GameState
 streaming m s = with_streams (working m (routine_with [] [] None) []) s
 
 -- a number selects its stream and its negative deselects it; others do nothing (section 15, `output_stream`)
@@ -127,7 +127,7 @@ StreamsShowText =
 -- ---- windows
 
 -- a routine with these windows
-abbrev pub with_windows : Windows → Workspace
+abbrev pub with_windows : Windows → GameState
 with_windows w = record (streaming (flags_of 1) first_streams) { windows = w }
 
 -- the upper window is selected, and has three rows

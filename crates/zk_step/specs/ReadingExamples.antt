@@ -9,7 +9,7 @@ use Rattle.zk_code.specs.declared.opcode.Words.TheVariants.{Tokenise, EncodeText
 use Rattle.zk_step.specs.declared.ending.Ending.TheVariants as ending
 use Rattle.zk_step.specs.declared.ending.Next.TheVariants.{At}
 use Rattle.zk_step.specs.declared.ending.Wait.TheVariants.{Line, Char}
-use Rattle.zk_step.specs.declared.workspace.Workspace.{Workspace}
+use Rattle.zk_step.specs.declared.game_state.GameState.{GameState}
 use Rattle.zk_step.specs.Endings.{ends}
 use Rattle.zk_step.specs.Inputs.{reading, line_answered, character_answered}
 use Rattle.zk_step.specs.TextBuffers.{early_line_put, later_line_put, line_put}
@@ -244,7 +244,7 @@ abbrev pub read_into : ℕ → Instr
 read_into v = instruction (opcode.Reading Aread) [] (Some v) None
 
 -- a memory, and a routine with one local variable
-abbrev pub reader : MemoryMap → ℕ → Workspace
+abbrev pub reader : MemoryMap → ℕ → GameState
 reader memory local = working memory (routine_with (local ∷ []) [] None) []
 
 -- from version 5 on the line is stored and then 13, the code that ended it: into local variable 1, or on the stack; no

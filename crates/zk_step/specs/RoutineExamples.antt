@@ -8,10 +8,10 @@ use Rattle.zk_code.specs.declared.opcode.Control.TheVariants.{Jump, Quit}
 use Rattle.zk_code.specs.declared.opcode.Routine.TheVariants.{Rtrue, Rfalse, Ret, RetPopped, Catch, Throw, CheckArgCount}
 use Rattle.zk_step.specs.declared.ending.Ending.TheVariants as ending
 use Rattle.zk_step.specs.declared.ending.Next.TheVariants.{At, End}
-use Rattle.zk_step.specs.declared.finish.Way.TheVariants.{To, Back, Out}
+use Rattle.zk_step.specs.declared.finish.Continuation.TheVariants.{To, Back, Out}
 use Rattle.zk_step.specs.Control.{control}
 use Rattle.zk_step.specs.Endings.{gives, tests, ends}
-use Rattle.zk_step.specs.Finish.{way_on, led, gone, finished}
+use Rattle.zk_step.specs.Finish.{continuation_after, led, gone, finished}
 use Rattle.zk_step.specs.Routines.{routine_at, with_arguments, called, stored, returned, thrown, call_effect, routine_effect}
 use Rattle.zk_step.specs.Examples.{memory_of, sixteen, routine_with, caller_with, working, in_routine, instruction, with_bytes}
 
@@ -141,17 +141,17 @@ ChecksArguments =
 -- a branch is taken where the truth is its sense, in both senses, and else the next instruction follows (section 4.7)
 abbrev pub BranchesBySense : Type 0
 BranchesBySense =
-    (way_on (Some (record { on = true; target = target.At 5 })) 9 (Some true) ≡ To 5)
-    × (way_on (Some (record { on = true; target = target.At 5 })) 9 (Some false) ≡ To 9)
-    × (way_on (Some (record { on = false; target = target.At 5 })) 9 (Some false) ≡ To 5)
-    × (way_on (Some (record { on = false; target = target.At 5 })) 9 (Some true) ≡ To 9)
+    (continuation_after (Some (record { on = true; target = target.At 5 })) 9 (Some true) ≡ To 5)
+    × (continuation_after (Some (record { on = true; target = target.At 5 })) 9 (Some false) ≡ To 9)
+    × (continuation_after (Some (record { on = false; target = target.At 5 })) 9 (Some false) ≡ To 5)
+    × (continuation_after (Some (record { on = false; target = target.At 5 })) 9 (Some true) ≡ To 9)
 
 -- a branch that returns false gives 0, one that returns true 1; one out of the story leads nowhere (section 4.7.1)
 abbrev pub BranchesThatReturn : Type 0
 BranchesThatReturn =
-    (way_on (Some (record { on = true; target = target.ReturnFalse })) 9 (Some true) ≡ Back 0)
-    × (way_on (Some (record { on = true; target = target.ReturnTrue })) 9 (Some true) ≡ Back 1)
-    × (way_on (Some (record { on = true; target = target.Past 99 })) 9 (Some true) ≡ Out)
+    (continuation_after (Some (record { on = true; target = target.ReturnFalse })) 9 (Some true) ≡ Back 0)
+    × (continuation_after (Some (record { on = true; target = target.ReturnTrue })) 9 (Some true) ≡ Back 1)
+    × (continuation_after (Some (record { on = true; target = target.Past 99 })) 9 (Some true) ≡ Out)
     × (led (in_routine [] []) Out ≡ Err BadTarget)
     × (led (in_routine [] []) (Back 1) ≡ Ok (working (memory_of 5 sixteen) (caller_with (1 ∷ 62 ∷ []) (63 ∷ [])) [], At 70))
 

@@ -15,7 +15,7 @@ use Rattle.zk_arrays.specs.Runs.{bytes_put}
 use Rattle.zk_step.specs.declared.ending.Output.{Output}
 use Rattle.zk_step.specs.declared.ending.Output.TheVariants.{Nothing, Status, Rows}
 use Rattle.zk_step.specs.declared.streams.OpenTable.{OpenTable}
-use Rattle.zk_step.specs.declared.workspace.Workspace.{Workspace}
+use Rattle.zk_step.specs.declared.game_state.GameState.{GameState}
 use Rattle.zk_step.specs.Printing.{units_of, characters_of, rows_or_none}
 use Rattle.zk_step.specs.Selecting.{flags_2, with_streams}
 use Rattle.zk_step.specs.Status.{status_units}
@@ -50,12 +50,12 @@ unfoldable pub ends_line : Bool → List ℕ → Bool
 ends_line at_start [] = at_start
 ends_line at_start (c ∷ cs) = ends_line (c == 10) cs
 
--- a workspace whose screen's last character is a new line, or another
-abbrev pub with_line_start : Bool → Workspace → Workspace
+-- a game state whose screen's last character is a new line, or another
+abbrev pub with_line_start : Bool → GameState → GameState
 with_line_start b w = record w { at_line_start = b }
 
--- a workspace whose screen got characters
-abbrev pub with_shown : List ℕ → Workspace → Workspace
+-- a game state whose screen got characters
+abbrev pub with_shown : List ℕ → GameState → GameState
 with_shown cs w = with_line_start (ends_line w.at_line_start cs) w
 
 -- a new line, unless the last character was one
@@ -83,7 +83,7 @@ stored_all t [] = []
 stored_all t (u ∷ us) = stored t u ++ stored_all t us
 
 -- the newest table gets codes behind those that it has, all of them known before the first is stored
-abbrev pub table_filled : Workspace → OpenTable → List ℕ → Result Workspace Fault
+abbrev pub table_filled : GameState → OpenTable → List ℕ → Result GameState Fault
 table_filled w t codes =
     bytes_put w.memory (t.address + 2 + t.count) codes >>= λ m.
     Ok (with_streams (with_memory w m) (record w.streams { tables = counted (length codes) w.streams.tables }))
@@ -125,34 +125,34 @@ unfoldable pub script_is_on : MemoryMap → Bool
 script_is_on m = is_bit_0_set (byte_at m flags_2)
 
 -- the screen and the transcript get characters while they are on
-abbrev pub streamed : MemoryMap → Workspace → List ℕ → Workspace × Texts
+abbrev pub streamed : MemoryMap → GameState → List ℕ → GameState × Texts
 streamed found w cs = (with_shown (shown_if w.streams.screen cs) w, record { screen = shown_if w.streams.screen cs; script = shown_if (script_is_on found) cs })
 
 -- ---- the route of a text
 
 -- text of the lower window goes to the screen and the transcript, text of the upper one to its grid
-abbrev pub routed_to : Window → MemoryMap → Workspace → Output → Result (Workspace × Texts) Fault
+abbrev pub routed_to : Window → MemoryMap → GameState → Output → Result (GameState × Texts) Fault
 routed_to Lower found w output = Ok (streamed found w (characters_of found output))
 routed_to Upper found w output = Ok (record w { windows = upper_printed w.streams.screen found output w.windows }, no_text)
 
 -- while a table is open it alone gets the text
-abbrev pub routed_by : Option OpenTable → MemoryMap → Workspace → Output → Result (Workspace × Texts) Fault
+abbrev pub routed_by : Option OpenTable → MemoryMap → GameState → Output → Result (GameState × Texts) Fault
 routed_by None found w output = routed_to w.windows.selected found w output
 routed_by (Some t) found w output = table_filled w t (stored_all (own_characters found) (units_of found output)) >>= λ w'. Ok (w', no_text)
 
 -- the status line stands on a line of its own
-abbrev pub status_shown : MemoryMap → Workspace → Result (List text.Unit) Fault → Result (Workspace × Texts) Fault
+abbrev pub status_shown : MemoryMap → GameState → Result (List text.Unit) Fault → Result (GameState × Texts) Fault
 status_shown found w (Err f) = Err f
 status_shown found w (Ok units) = Ok (with_line_start true w, on_screen (fresh_line w.at_line_start ++ shown_all (own_characters found) units ++ 10 ∷ []))
 
 -- What is printed is read from memory as the instruction found it. The status line is no printed text: it goes to the
 -- screen whatever the streams and windows are.
-unfoldable pub routed : MemoryMap → Workspace → Output → Result (Workspace × Texts) Fault
+unfoldable pub routed : MemoryMap → GameState → Output → Result (GameState × Texts) Fault
 routed found w Nothing = Ok (w, no_text)
 routed found w Status = status_shown found w (status_units found)
 routed found w output = routed_by (newest_of w.streams.tables) found w output
 
 -- the texts of a route, none of one that is refused
-abbrev pub text_routed : Result (Workspace × Texts) Fault → Texts
+abbrev pub text_routed : Result (GameState × Texts) Fault → Texts
 text_routed (Ok r) = r.1
 text_routed (Err f) = no_text

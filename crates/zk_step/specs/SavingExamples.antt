@@ -13,8 +13,8 @@ use Rattle.zk_term.specs.Windows.{first_windows, printed, split, window_selected
 use Rattle.zk_step.specs.declared.ending.Ending.TheVariants as ending
 use Rattle.zk_step.specs.declared.ending.Next.TheVariants.{At, Waits, Keeps, Resumes}
 use Rattle.zk_step.specs.declared.ending.Wait.TheVariants as wait
-use Rattle.zk_step.specs.declared.workspace.View.TheVariants as view
-use Rattle.zk_step.specs.declared.workspace.Workspace.{Workspace}
+use Rattle.zk_step.specs.declared.game_state.View.TheVariants as view
+use Rattle.zk_step.specs.declared.game_state.GameState.{GameState}
 use Rattle.zk_step.specs.Endings.{ends, gives, tests}
 use Rattle.zk_step.specs.Examples.{memory_of, routine_with, caller_with, working, in_routine, instruction}
 use Rattle.zk_step.specs.InstructionExamples.{silent, waiting}
@@ -23,7 +23,7 @@ use Rattle.zk_step.specs.Inputs.{result_answered}
 use Rattle.zk_step.specs.Instructions.{carried_out}
 use Rattle.zk_step.specs.Limited.{limited_next}
 use Rattle.zk_step.specs.OutputExamples.{states, streams, table}
-use Rattle.zk_step.specs.Restarts.{renewed}
+use Rattle.zk_step.specs.Restarts.{windows_closed}
 use Rattle.zk_step.specs.Resuming.{resumed}
 use Rattle.zk_step.specs.Saving.{saving}
 
@@ -115,9 +115,9 @@ file_of_3 = bytes_of_3 0b11010010 1 0x23 0b10100010 77
 abbrev pub memory_of_3 : List ℕ → MemoryMap
 memory_of_3 bytes = record { version = 3; static_base = 65; bytes = bytes; file = file_of_3; undo_states = 4 }
 
--- a workspace whose story was at work: it has changed its header, called a routine, turned stream 1 off and opened
+-- a game state whose story was at work: it has changed its header, called a routine, turned stream 1 off and opened
 -- tables, and prints in the upper window
-abbrev pub at_work : Workspace
+abbrev pub at_work : GameState
 at_work = record {
   memory = memory_of_3 (bytes_of_3 0 9 9 0b01010101 88);
   frames = record { current = routine_with (1 ∷ []) (2 ∷ 3 ∷ []) (Some 1); callers = caller_with [] (4 ∷ []) ∷ []; most_frames = 5; most_words = 20 };
@@ -149,7 +149,7 @@ RestartsBegin =
 
 -- where a saved game is back, memory and frames are its own, and the upper window and the open tables are gone
 abbrev pub WindowsAreRenewed : Type 0
-WindowsAreRenewed = renewed at_work ≡ record at_work { streams = streams false []; windows = first_windows }
+WindowsAreRenewed = windows_closed at_work ≡ record at_work { streams = streams false []; windows = first_windows }
 
 -- ---- answers
 
@@ -179,11 +179,11 @@ ResultsAreStored =
 -- ---- states that are back
 
 -- a routine with two local variables and a word, in a memory of ten bytes of which two stand at address 2
-abbrev pub back_at : ℕ → ℕ → ℕ → Workspace
+abbrev pub back_at : ℕ → ℕ → ℕ → GameState
 back_at version a b = working (memory_of version (0 ∷ 0 ∷ a ∷ b ∷ replicate 6 0)) (routine_with (5 ∷ 6 ∷ []) (44 ∷ []) (Some 1)) (caller_with (61 ∷ 62 ∷ []) (63 ∷ []) ∷ [])
 
 -- its caller, which got a value into its first local variable
-abbrev pub back_in_caller : ℕ → ℕ → ℕ → Workspace
+abbrev pub back_in_caller : ℕ → ℕ → ℕ → GameState
 back_in_caller a b value = working (memory_of 3 (0 ∷ 0 ∷ a ∷ b ∷ replicate 6 0)) (caller_with (value ∷ 62 ∷ []) (63 ∷ [])) []
 
 -- in version 3 a branch on true is taken: by 5 or 4 from the address behind it, less 2, and by -2; one on false is not,
@@ -220,8 +220,8 @@ TwoIsStored =
     × (resumed (back_at 5 0 1) 2 ≡ Ok (record (back_at 5 0 1) { frames = (in_routine (5 ∷ 6 ∷ []) (44 ∷ 2 ∷ [])).frames }, At 3))
     × (resumed (back_at 5 17 0) 2 ≡ Ok (record (back_at 5 17 0) { memory = memory_of 5 (0 ∷ 0 ∷ 17 ∷ 0 ∷ 0 ∷ 0 ∷ 0 ∷ 2 ∷ 0 ∷ 0 ∷ []) }, At 3))
 
--- a workspace whose dynamic memory ends at an address
-abbrev pub dynamic_below : ℕ → Workspace → Workspace
+-- a game state whose dynamic memory ends at an address
+abbrev pub dynamic_below : ℕ → GameState → GameState
 dynamic_below a w = record w { memory = record w.memory { static_base = a } }
 
 -- not where there is no such variable, where it can't be written, and where the byte lies past the story

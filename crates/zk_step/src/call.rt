@@ -6,7 +6,7 @@ ghost use Rattle.zk_step.specs.declared.ending.Next.TheVariants.{At};
 ghost use Rattle.zk_step.specs.Limited.{limited_next};
 ghost use Rattle.zk_step.specs.Routines.{called, initial_value, initial_values, with_arguments};
 
-use crate::workspace::Workspace;
+use crate::game_state::GameState;
 use arrayvec::ArrayVec;
 use zk_code::instr::Instr;
 use zk_code::routines::{length_of_values, local_count};
@@ -52,9 +52,9 @@ fn locals_of(memory: &Memory, values: u32, count: u8, arguments: &[u16]) -> Arra
 
 /// Calls the routine at a packed address with arguments: the byte address of its first instruction. A routine outside the story, or with more than 15
 /// local variables, is `BadTarget`.
-#[tactic(auto, unfolding(crate::specs::Routines::called, crate::specs::Routines::routine_at, zk_state::specs::Frames::called), using(zk_state::proofs::Kept::called_bounds, crate::proofs::WithinBounds::kept_with, crate::proofs::WithinBounds::kept_refused))]
+#[tactic(auto, unfolding(crate::specs::Routines::called, crate::specs::Routines::routine_at, zk_state::specs::Frames::called), using(zk_state::proofs::BoundsKept::called_bounds, crate::proofs::WithinBounds::kept_with, crate::proofs::WithinBounds::kept_refused))]
 pub fn call_routine(
-    workspace: &mut Workspace,
+    game: &mut GameState,
     i: &Instr,
     routine: u16,
     arguments: &[u16],
@@ -62,19 +62,18 @@ pub fn call_routine(
     requires near { i.now.next ≤ 2 ^ 20 }
     requires few { length arguments.now ≤ 7 }
     ensures value { MatchResult result
-        (λ start. limited_next (called workspace.old i.now routine arguments.now) ≡ Ok (workspace.new, At start))
-        (λ e. limited_next (called workspace.old i.now routine arguments.now) ≡ Err e) }
-    ensures bounds { bounds_of workspace.new.frames ≡ bounds_of workspace.old.frames }
+        (λ start. limited_next (called game.old i.now routine arguments.now) ≡ Ok (game.new, At start))
+        (λ e. limited_next (called game.old i.now routine arguments.now) ≡ Err e) }
+    ensures bounds { bounds_of game.new.frames ≡ bounds_of game.old.frames }
 {
-    let header = unpack(workspace.memory.version(), routine);
-    let Some(count) = local_count(&workspace.memory, header) else {
+    let header = unpack(game.memory.version(), routine);
+    let Some(count) = local_count(&game.memory, header) else {
         return Err(Refusal::Fault(Fault::BadTarget));
     };
-    let locals = locals_of(&workspace.memory, header + 1, count, arguments);
-    let start = header + 1 + length_of_values(&workspace.memory, count);
+    let locals = locals_of(&game.memory, header + 1, count, arguments);
+    let start = header + 1 + length_of_values(&game.memory, count);
     let supplied = arguments.len() as u8;
-    workspace
-        .frames
+    game.frames
         .call(locals.as_slice(), i.next, i.store, supplied)?;
     Ok(start)
 }

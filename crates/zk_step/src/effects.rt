@@ -8,6 +8,7 @@ ghost use Rattle.zk_step.specs.Printing.{IsPrintable};
 use crate::assignment::push_effect;
 use crate::control::control_effect;
 use crate::ending::Effect;
+use crate::game_state::GameState;
 use crate::idle::idle_effect;
 use crate::inputs::reading_effect;
 use crate::printing::printing_effect;
@@ -19,7 +20,6 @@ use crate::selecting::change_stream;
 use crate::tables::tables_effect;
 use crate::values::Values;
 use crate::words::change_words;
-use crate::workspace::Workspace;
 use zk_code::instr::Instr;
 use zk_code::opcode::Opcode;
 use zk_mem::fault::Fault;
@@ -28,16 +28,16 @@ use zk_state::refusal::Refusal;
 /// The effect of an opcode but `push`, from the text in its instruction and the values of its operands.
 fn effect_by(
     opcode: Opcode,
-    workspace: &mut Workspace,
+    game: &mut GameState,
     text: Option<u32>,
     values: &Values,
 ) -> Result<Effect, Fault>
     requires { opcode ≢ Opcode.Push }
     ensures value { MatchResult result
-        (λ e. effect_by opcode workspace.old text values.now ≡ Ok (workspace.new, e))
-        (λ f. effect_by opcode workspace.old text values.now ≡ Err f) }
-    ensures ready { IfOk result (λ e. IsPrintable workspace.old.memory workspace.new.memory e.output e.ending) }
-    ensures bounds { bounds_of workspace.new.frames ≡ bounds_of workspace.old.frames }
+        (λ e. effect_by opcode game.old text values.now ≡ Ok (game.new, e))
+        (λ f. effect_by opcode game.old text values.now ≡ Err f) }
+    ensures ready { IfOk result (λ e. IsPrintable game.old.memory game.new.memory e.output e.ending) }
+    ensures bounds { bounds_of game.new.frames ≡ bounds_of game.old.frames }
 {
     match opcode {
         Opcode::Arithmetic(_)
@@ -46,27 +46,27 @@ fn effect_by(
         | Opcode::Array(_)
         | Opcode::ObjectChange(_)
         | Opcode::ObjectQuestion(_) => {
-            let yielded = yield_of(opcode, workspace, values.as_slice())?;
+            let yielded = yield_of(opcode, game, values.as_slice())?;
             Ok(Effect::ends_with(yielded))
         }
         Opcode::Call(operation) => Ok(call_effect(operation, values)),
-        Opcode::Routine(operation) => routine_effect(operation, workspace, values),
+        Opcode::Routine(operation) => routine_effect(operation, game, values),
         Opcode::Control(operation) => Ok(control_effect(operation, values)),
-        Opcode::Printing(operation) => printing_effect(operation, &workspace.memory, text, values),
-        Opcode::Idle(operation) => Ok(idle_effect(operation, &workspace.memory, values)),
+        Opcode::Printing(operation) => printing_effect(operation, &game.memory, text, values),
+        Opcode::Idle(operation) => Ok(idle_effect(operation, &game.memory, values)),
         Opcode::Reading(operation) => Ok(reading_effect(operation, values)),
         Opcode::Words(operation) => {
-            change_words(operation, &mut workspace.memory, values)?;
+            change_words(operation, &mut game.memory, values)?;
             Ok(Effect::goes_on())
         }
         Opcode::Stream(operation) => {
-            change_stream(operation, workspace, values)?;
+            change_stream(operation, game, values)?;
             Ok(Effect::goes_on())
         }
-        Opcode::Window(operation) => windows_effect(operation, workspace, values),
-        Opcode::Table(operation) => tables_effect(operation, workspace, values),
-        Opcode::Random => Ok(Effect::gives(workspace.generators.random(values.first()))),
-        Opcode::Saving(operation) => Ok(saving_effect(operation, &workspace.memory, values)),
+        Opcode::Window(operation) => windows_effect(operation, game, values),
+        Opcode::Table(operation) => tables_effect(operation, game, values),
+        Opcode::Random => Ok(Effect::gives(game.generators.random(values.first()))),
+        Opcode::Saving(operation) => Ok(saving_effect(operation, &game.memory, values)),
         // the caller takes it
         Opcode::Push => Err(Fault::BadOpcode),
     }
@@ -74,14 +74,14 @@ fn effect_by(
 
 /// What an instruction does, but for its result and the next place.
 #[tactic(auto, unfolding(crate::specs::Effects::effect_of))]
-pub fn effect(workspace: &mut Workspace, i: &Instr, values: &Values) -> Result<Effect, Refusal>
-    ensures ok { IfOk result (λ e. effect_of workspace.old i.now values.now ≡ Ok (workspace.new, e)) }
-    ensures err { IfErr result (λ r. Refuses r (effect_of workspace.old i.now values.now)) }
-    ensures ready { IfOk result (λ e. IsPrintable workspace.old.memory workspace.new.memory e.output e.ending) }
-    ensures bounds { bounds_of workspace.new.frames ≡ bounds_of workspace.old.frames }
+pub fn effect(game: &mut GameState, i: &Instr, values: &Values) -> Result<Effect, Refusal>
+    ensures ok { IfOk result (λ e. effect_of game.old i.now values.now ≡ Ok (game.new, e)) }
+    ensures err { IfErr result (λ r. Refuses r (effect_of game.old i.now values.now)) }
+    ensures ready { IfOk result (λ e. IsPrintable game.old.memory game.new.memory e.output e.ending) }
+    ensures bounds { bounds_of game.new.frames ≡ bounds_of game.old.frames }
 {
     match i.opcode {
-        Opcode::Push => push_effect(workspace, values),
-        opcode => Ok(effect_by(opcode, workspace, i.text, values)?),
+        Opcode::Push => push_effect(game, values),
+        opcode => Ok(effect_by(opcode, game, i.text, values)?),
     }
 }

@@ -67,7 +67,7 @@ pub enum Output {
     Status,
 }
 
-/// What an effect does beside its changes of the workspace.
+/// What an effect does beside its changes of the game state.
 #[derive(Clone, Copy, PartialEq, Eq, Drop)]
 pub struct Effect {
     pub output: Output,

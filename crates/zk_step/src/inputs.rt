@@ -9,10 +9,10 @@ ghost use Rattle.zk_step.specs.Limited.{limited_next};
 
 use crate::ending::{Effect, Ending, Next, Output, Wait};
 use crate::finish::finish;
+use crate::game_state::GameState;
 use crate::story_words::StoryWords;
 use crate::text_buffers::put_line;
 use crate::values::Values;
-use crate::workspace::Workspace;
 use zk_code::instr::Instr;
 use zk_code::opcode::Reading;
 use zk_state::refusal::Refusal;
@@ -46,7 +46,7 @@ fn ending_of_line(version: u8) -> Ending
 /// of the story's dictionary.
 #[tactic(auto, unfolding(crate::specs::Inputs::line_answered))]
 pub fn answer_line(
-    workspace: &mut Workspace,
+    game: &mut GameState,
     words: &StoryWords,
     i: &Instr,
     text: u16,
@@ -54,37 +54,37 @@ pub fn answer_line(
     line: &[u8],
 ) -> Result<Next, Refusal>
     requires near { i.now.next ≤ 2 ^ 20 }
-    requires words { AreWordsOf (fixed_parts workspace.old.memory) words.now }
+    requires words { AreWordsOf (fixed_parts game.old.memory) words.now }
     ensures value { MatchResult result
-        (λ n. limited_next (line_answered workspace.old i.now text parse line.now) ≡ Ok (workspace.new, n))
-        (λ e. limited_next (line_answered workspace.old i.now text parse line.now) ≡ Err e) }
-    ensures bounds { bounds_of workspace.new.frames ≡ bounds_of workspace.old.frames }
+        (λ n. limited_next (line_answered game.old i.now text parse line.now) ≡ Ok (game.new, n))
+        (λ e. limited_next (line_answered game.old i.now text parse line.now) ≡ Err e) }
+    ensures bounds { bounds_of game.new.frames ≡ bounds_of game.old.frames }
 {
-    match put_line(&mut workspace.memory, words, text, parse, line) {
+    match put_line(&mut game.memory, words, text, parse, line) {
         Ok(()) => {}
         Err(fault) => return Err(Refusal::Fault(fault)),
     }
-    let ending = ending_of_line(workspace.memory.version());
-    finish(workspace, i, &Values::new(), ending)
+    let ending = ending_of_line(game.memory.version());
+    finish(game, i, &Values::new(), ending)
 }
 
 /// Finishes an instruction that has waited, by a result and a truth: where it stores the one, where it branches
 /// by the other.
 #[tactic(auto, unfolding(crate::specs::Inputs::result_answered))]
 pub fn answer_result(
-    workspace: &mut Workspace,
+    game: &mut GameState,
     i: &Instr,
     word: u16,
     truth: bool,
 ) -> Result<Next, Refusal>
     requires { i.now.next ≤ 2 ^ 20 }
     ensures value { MatchResult result
-        (λ n. limited_next (result_answered workspace.old i.now word truth) ≡ Ok (workspace.new, n))
-        (λ e. limited_next (result_answered workspace.old i.now word truth) ≡ Err e) }
-    ensures bounds { bounds_of workspace.new.frames ≡ bounds_of workspace.old.frames }
+        (λ n. limited_next (result_answered game.old i.now word truth) ≡ Ok (game.new, n))
+        (λ e. limited_next (result_answered game.old i.now word truth) ≡ Err e) }
+    ensures bounds { bounds_of game.new.frames ≡ bounds_of game.old.frames }
 {
     finish(
-        workspace,
+        game,
         i,
         &Values::new(),
         Ending::GoOn(Some(word), Some(truth)),
@@ -93,15 +93,15 @@ pub fn answer_result(
 
 /// Answers a read by a character.
 #[tactic(auto, unfolding(crate::specs::Inputs::character_answered))]
-pub fn answer_character(workspace: &mut Workspace, i: &Instr, code: u8) -> Result<Next, Refusal>
+pub fn answer_character(game: &mut GameState, i: &Instr, code: u8) -> Result<Next, Refusal>
     requires { i.now.next ≤ 2 ^ 20 }
     ensures value { MatchResult result
-        (λ n. limited_next (character_answered workspace.old i.now code) ≡ Ok (workspace.new, n))
-        (λ e. limited_next (character_answered workspace.old i.now code) ≡ Err e) }
-    ensures bounds { bounds_of workspace.new.frames ≡ bounds_of workspace.old.frames }
+        (λ n. limited_next (character_answered game.old i.now code) ≡ Ok (game.new, n))
+        (λ e. limited_next (character_answered game.old i.now code) ≡ Err e) }
+    ensures bounds { bounds_of game.new.frames ≡ bounds_of game.old.frames }
 {
     finish(
-        workspace,
+        game,
         i,
         &Values::new(),
         Ending::GoOn(Some(code as u16), None),

@@ -11,8 +11,8 @@ ghost use Rattle.zk_step.specs.Routing.{with_line_start};
 use crate::effects::effect;
 use crate::ending::{Effect, Next};
 use crate::finish::{check_finish, finish as finish_ending};
+use crate::game_state::GameState;
 use crate::values::{Values, read_operands};
-use crate::workspace::Workspace;
 use zk_code::instr::Instr;
 use zk_state::refusal::Refusal;
 
@@ -26,17 +26,17 @@ pub struct Begun {
 
 /// Takes an instruction's operands, first to last, and makes its effect. A refusal is that of the whole
 /// instruction.
-pub fn begin(workspace: &mut Workspace, i: &Instr) -> Result<Begun, Refusal>
-    ensures ok { IfOk result (λ b. HasBegun workspace.old i.now workspace.new b.values b.effect) }
-    ensures err { IfErr result (λ e. limited_move (carried_out workspace.old i.now) ≡ Err e) }
-    ensures ready { IfOk result (λ b. IsPrintable workspace.old.memory workspace.new.memory b.effect.output b.effect.ending) }
-    ensures bounds { bounds_of workspace.new.frames ≡ bounds_of workspace.old.frames }
+pub fn begin(game: &mut GameState, i: &Instr) -> Result<Begun, Refusal>
+    ensures ok { IfOk result (λ b. HasBegun game.old i.now game.new b.values b.effect) }
+    ensures err { IfErr result (λ e. limited_move (carried_out game.old i.now) ≡ Err e) }
+    ensures ready { IfOk result (λ b. IsPrintable game.old.memory game.new.memory b.effect.output b.effect.ending) }
+    ensures bounds { bounds_of game.new.frames ≡ bounds_of game.old.frames }
 {
-    let values = match read_operands(workspace, &i.operands) {
+    let values = match read_operands(game, &i.operands) {
         Ok(values) => values,
         Err(fault) => return Err(Refusal::Fault(fault)),
     };
-    match effect(workspace, i, &values) {
+    match effect(game, i, &values) {
         Ok(effect) => Ok(Begun { values, effect }),
         Err(refusal) => Err(refusal),
     }
@@ -44,21 +44,21 @@ pub fn begin(workspace: &mut Workspace, i: &Instr) -> Result<Begun, Refusal>
 
 /// Whether an instruction that has begun, and prints, can be finished: the refusals are those of `finish`,
 /// wherever the screen's last line then ends, and nothing changes.
-pub fn check(workspace: &Workspace, i: &Instr, begun: &Begun) -> Result<(), Refusal>
+pub fn check(game: &GameState, i: &Instr, begun: &Begun) -> Result<(), Refusal>
     requires { IsPlainEnd begun.now.effect.ending }
-    ensures ok { OnOk result ((b : Bool) → IsOk (limited_next (finished (with_line_start b workspace.now) i.now begun.now.values begun.now.effect.ending))) }
-    ensures err { IfErr result (λ e. (b : Bool) → limited_next (finished (with_line_start b workspace.now) i.now begun.now.values begun.now.effect.ending) ≡ Err e) }
+    ensures ok { OnOk result ((b : Bool) → IsOk (limited_next (finished (with_line_start b game.now) i.now begun.now.values begun.now.effect.ending))) }
+    ensures err { IfErr result (λ e. (b : Bool) → limited_next (finished (with_line_start b game.now) i.now begun.now.values begun.now.effect.ending) ≡ Err e) }
 {
-    check_finish(workspace, i, &begun.values, begun.effect.ending)
+    check_finish(game, i, &begun.values, begun.effect.ending)
 }
 
 /// Stores an instruction's result and finds where the machine goes on.
-pub fn finish(workspace: &mut Workspace, i: &Instr, begun: &Begun) -> Result<Next, Refusal>
+pub fn finish(game: &mut GameState, i: &Instr, begun: &Begun) -> Result<Next, Refusal>
     requires { i.now.next ≤ 2 ^ 20 }
     ensures value { MatchResult result
-        (λ n. limited_next (finished workspace.old i.now begun.now.values begun.now.effect.ending) ≡ Ok (workspace.new, n))
-        (λ e. limited_next (finished workspace.old i.now begun.now.values begun.now.effect.ending) ≡ Err e) }
-    ensures bounds { bounds_of workspace.new.frames ≡ bounds_of workspace.old.frames }
+        (λ n. limited_next (finished game.old i.now begun.now.values begun.now.effect.ending) ≡ Ok (game.new, n))
+        (λ e. limited_next (finished game.old i.now begun.now.values begun.now.effect.ending) ≡ Err e) }
+    ensures bounds { bounds_of game.new.frames ≡ bounds_of game.old.frames }
 {
-    finish_ending(workspace, i, &begun.values, begun.effect.ending)
+    finish_ending(game, i, &begun.values, begun.effect.ending)
 }

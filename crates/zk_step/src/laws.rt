@@ -2,8 +2,8 @@
 
 ghost use Rattle.zk_step.specs.Laws.{BoundsAreNotSeen, AnswersSeeNoBounds, StoriesStay, AnswersLeaveStories, EffectsEnd, EffectsStay, LinesChangeTextBuffers};
 
-/// Bounds on frames and words change nothing of what an instruction does: in a workspace with other bounds
-/// it leads to the same workspace, with those bounds, to the same place, and shows the same.
+/// Bounds on frames and words change nothing of what an instruction does: in a game state with other bounds
+/// it leads to the same game state, with those bounds, to the same place, and shows the same.
 pub fn bounds_are_not_seen()
     ensures { BoundsAreNotSeen }
 {}

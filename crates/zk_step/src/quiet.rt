@@ -10,9 +10,9 @@ use crate::arrays::access_array;
 use crate::assignment::assign;
 use crate::comparison::{compare, value_at};
 use crate::ending::Yield;
+use crate::game_state::GameState;
 use crate::objects::{change_object, object_answer};
 use crate::routines::is_supplied;
-use crate::workspace::Workspace;
 use zk_code::opcode::{Opcode, Routine};
 use zk_mem::fault::Fault;
 
@@ -20,12 +20,12 @@ use zk_mem::fault::Fault;
 /// opcode is known.
 #[inline(always)]
 #[tactic(auto, unfolding(crate::specs::Routines::routine_effect))]
-pub fn yield_of(opcode: Opcode, workspace: &mut Workspace, values: &[u16]) -> Result<Yield, Fault>
+pub fn yield_of(opcode: Opcode, game: &mut GameState, values: &[u16]) -> Result<Yield, Fault>
     requires { IsQuiet opcode }
     ensures value { MatchResult result
-        (λ y. (text : Option ℕ) → effect_by opcode workspace.old text values.now ≡ Ok (workspace.new, ends_with y))
-        (λ f. (text : Option ℕ) → effect_by opcode workspace.old text values.now ≡ Err f) }
-    ensures bounds { bounds_of workspace.new.frames ≡ bounds_of workspace.old.frames }
+        (λ y. (text : Option ℕ) → effect_by opcode game.old text values.now ≡ Ok (game.new, ends_with y))
+        (λ f. (text : Option ℕ) → effect_by opcode game.old text values.now ≡ Err f) }
+    ensures bounds { bounds_of game.new.frames ≡ bounds_of game.old.frames }
 {
     let (x, y, z) = (
         value_at(values, 0),
@@ -35,14 +35,14 @@ pub fn yield_of(opcode: Opcode, workspace: &mut Workspace, values: &[u16]) -> Re
     match opcode {
         Opcode::Arithmetic(operation) => Ok(Yield::word(arithmetic(operation, x, y)?)),
         Opcode::Comparison(operation) => Ok(Yield::truth(compare(operation, values))),
-        Opcode::Assignment(operation) => assign(operation, workspace, x, y),
-        Opcode::Array(operation) => access_array(operation, workspace, x, y, z),
+        Opcode::Assignment(operation) => assign(operation, game, x, y),
+        Opcode::Array(operation) => access_array(operation, game, x, y, z),
         Opcode::ObjectChange(operation) => {
-            change_object(operation, &mut workspace.memory, x, y, z)?;
+            change_object(operation, &mut game.memory, x, y, z)?;
             Ok(Yield::nothing())
         }
-        Opcode::ObjectQuestion(operation) => object_answer(operation, &workspace.memory, x, y),
-        Opcode::Routine(Routine::CheckArgCount) => Ok(Yield::truth(is_supplied(workspace, x))),
+        Opcode::ObjectQuestion(operation) => object_answer(operation, &game.memory, x, y),
+        Opcode::Routine(Routine::CheckArgCount) => Ok(Yield::truth(is_supplied(game, x))),
         _ => unreachable!(),
     }
 }

@@ -7,8 +7,8 @@ ghost use Rattle.zk_step.specs.Limited.{limited_next};
 ghost use Rattle.zk_step.specs.Resuming.{resumed};
 
 use crate::ending::Next;
-use crate::finish::{go_to, lead, way_after};
-use crate::workspace::Workspace;
+use crate::finish::{continuation_after, go_to, lead};
+use crate::game_state::GameState;
 use zk_code::decode::decode_branch;
 use zk_mem::fault::Fault;
 use zk_state::refusal::Refusal;
@@ -17,32 +17,32 @@ use zk_state::refusal::Refusal;
 /// `save` and `restore_undo`): in version 3 the branch at that byte address is taken, from version 4 on 2 is
 /// stored by the store byte there. Where one of these bytes lies outside the story, this is `BadTarget`.
 #[tactic(auto, unfolding(crate::specs::Resuming::resumed))]
-fn place_back(workspace: &mut Workspace, place: u32) -> Result<u32, Refusal>
+fn place_back(game: &mut GameState, place: u32) -> Result<u32, Refusal>
     ensures value { MatchResult result
-        (λ at. limited_next (resumed workspace.old place) ≡ Ok (workspace.new, At at))
-        (λ e. limited_next (resumed workspace.old place) ≡ Err e) }
-    ensures bounds { bounds_of workspace.new.frames ≡ bounds_of workspace.old.frames }
+        (λ at. limited_next (resumed game.old place) ≡ Ok (game.new, At at))
+        (λ e. limited_next (resumed game.old place) ≡ Err e) }
+    ensures bounds { bounds_of game.new.frames ≡ bounds_of game.old.frames }
 {
-    if workspace.memory.version() < 4 {
-        return match decode_branch(&workspace.memory, place) {
-            Ok((branch, next)) => lead(workspace, way_after(Some(branch), next, Some(true))),
+    if game.memory.version() < 4 {
+        return match decode_branch(&game.memory, place) {
+            Ok((branch, next)) => lead(game, continuation_after(Some(branch), next, Some(true))),
             Err(_) => Err(Refusal::Fault(Fault::BadTarget)),
         };
     }
-    match workspace.memory.cell(place) {
-        Some(variable) => go_to(workspace, Some(variable), Some(2), place + 1),
+    match game.memory.cell(place) {
+        Some(variable) => go_to(game, Some(variable), Some(2), place + 1),
         None => Err(Refusal::Fault(Fault::BadTarget)),
     }
 }
 
 /// Goes on where a state was saved that is back now.
-pub fn resume(workspace: &mut Workspace, place: u32) -> Result<Next, Refusal>
+pub fn resume(game: &mut GameState, place: u32) -> Result<Next, Refusal>
     ensures value { MatchResult result
-        (λ n. limited_next (resumed workspace.old place) ≡ Ok (workspace.new, n))
-        (λ e. limited_next (resumed workspace.old place) ≡ Err e) }
-    ensures bounds { bounds_of workspace.new.frames ≡ bounds_of workspace.old.frames }
+        (λ n. limited_next (resumed game.old place) ≡ Ok (game.new, n))
+        (λ e. limited_next (resumed game.old place) ≡ Err e) }
+    ensures bounds { bounds_of game.new.frames ≡ bounds_of game.old.frames }
 {
-    match place_back(workspace, place) {
+    match place_back(game, place) {
         Ok(at) => Ok(Next::At(at)),
         Err(refusal) => Err(refusal),
     }

@@ -5,8 +5,8 @@ ghost use Rattle.std.specs.Prelude.{◌≡◌, Ok, Err, IfOk, MatchResult};
 ghost use Rattle.zk_step.specs.Routines.{call_effect, routine_effect, calls, was_supplied};
 
 use crate::ending::{Effect, Ending, Output};
+use crate::game_state::GameState;
 use crate::values::Values;
-use crate::workspace::Workspace;
 use zk_code::opcode::{Call, Routine};
 use zk_mem::fault::Fault;
 
@@ -40,24 +40,24 @@ pub fn call_effect(operation: Call, values: &Values) -> Effect
 
 /// Whether the current routine was given the argument of a number.
 #[inline(always)]
-pub fn is_supplied(workspace: &Workspace, number: u16) -> bool
-    ensures { result ≡ was_supplied workspace.now number }
+pub fn is_supplied(game: &GameState, number: u16) -> bool
+    ensures { result ≡ was_supplied game.now number }
 {
-    number > 0 && number <= workspace.frames.supplied() as u16
+    number > 0 && number <= game.frames.supplied() as u16
 }
 
 /// The effect of an opcode that returns or looks at frames.
-#[tactic(auto, unfolding(crate::specs::Routines::routine_effect), using(zk_state::proofs::Kept::popped_bounds))]
+#[tactic(auto, unfolding(crate::specs::Routines::routine_effect), using(zk_state::proofs::BoundsKept::popped_bounds))]
 pub fn routine_effect(
     operation: Routine,
-    workspace: &mut Workspace,
+    game: &mut GameState,
     values: &Values,
 ) -> Result<Effect, Fault>
     ensures value { MatchResult result
-        (λ e. routine_effect operation workspace.old values.now ≡ Ok (workspace.new, e))
-        (λ f. routine_effect operation workspace.old values.now ≡ Err f) }
+        (λ e. routine_effect operation game.old values.now ≡ Ok (game.new, e))
+        (λ f. routine_effect operation game.old values.now ≡ Err f) }
     ensures silent { IfOk result (λ e. e.output ≡ Output.Nothing) }
-    ensures bounds { bounds_of workspace.new.frames ≡ bounds_of workspace.old.frames }
+    ensures bounds { bounds_of game.new.frames ≡ bounds_of game.old.frames }
 {
     let first = values.first();
     match operation {
@@ -65,11 +65,11 @@ pub fn routine_effect(
         Routine::Rfalse => Ok(Effect::ends(Ending::Return(0))),
         Routine::Ret => Ok(Effect::ends(Ending::Return(first))),
         Routine::RetPopped => {
-            let value = workspace.frames.pop()?;
+            let value = game.frames.pop()?;
             Ok(Effect::ends(Ending::Return(value)))
         }
-        Routine::Catch => Ok(Effect::gives(workspace.frames.depth())),
+        Routine::Catch => Ok(Effect::gives(game.frames.depth())),
         Routine::Throw => Ok(Effect::ends(Ending::Throw(first, values.second()))),
-        Routine::CheckArgCount => Ok(Effect::tests(is_supplied(workspace, first))),
+        Routine::CheckArgCount => Ok(Effect::tests(is_supplied(game, first))),
     }
 }

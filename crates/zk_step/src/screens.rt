@@ -7,9 +7,9 @@ ghost use Rattle.zk_step.specs.Screens.{selected_by, erased_by, erased_line, in_
 ghost use Rattle.zk_term.specs.Windows.{cursor_set};
 
 use crate::ending::{Effect, Output};
+use crate::game_state::{GameState, View};
 use crate::status::status_line;
 use crate::values::Values;
-use crate::workspace::{View, Workspace};
 use zk_code::opcode::Window as Operation;
 use zk_mem::fault::Fault;
 use zk_mem::memory::Memory;
@@ -78,19 +78,19 @@ fn store_cursor(memory: &mut Memory, address: u16, windows: &Windows) -> Result<
 }
 
 /// Shows the status line in version 3, where the view has one.
-fn show_status(workspace: &Workspace) -> Result<Effect, Fault>
+fn show_status(game: &GameState) -> Result<Effect, Fault>
     ensures value { MatchResult result
-        (λ e. status_by workspace.now.view workspace.now ≡ Ok (workspace.now, e))
-        (λ f. status_by workspace.now.view workspace.now ≡ Err f) }
-    ensures ready { IfOk result (λ e. IsPrintable workspace.now.memory workspace.now.memory e.output e.ending) }
+        (λ e. status_by game.now.view game.now ≡ Ok (game.now, e))
+        (λ f. status_by game.now.view game.now ≡ Err f) }
+    ensures ready { IfOk result (λ e. IsPrintable game.now.memory game.now.memory e.output e.ending) }
 {
-    match workspace.view {
+    match game.view {
         View::Plain => Ok(Effect::goes_on()),
         View::Upper => {
-            if workspace.memory.version() != 3 {
+            if game.memory.version() != 3 {
                 return Ok(Effect::goes_on());
             }
-            match status_line(&workspace.memory) {
+            match status_line(&game.memory) {
                 Ok(_) => Ok(Effect::prints(Output::Status)),
                 Err(fault) => Err(fault),
             }
@@ -102,26 +102,26 @@ fn show_status(workspace: &Workspace) -> Result<Effect, Fault>
 #[tactic(auto, unfolding(crate::specs::Screens::window_effect))]
 pub fn windows_effect(
     operation: Operation,
-    workspace: &mut Workspace,
+    game: &mut GameState,
     values: &Values,
 ) -> Result<Effect, Fault>
     ensures value { MatchResult result
-        (λ e. window_effect operation workspace.old values.now ≡ Ok (workspace.new, e))
-        (λ f. window_effect operation workspace.old values.now ≡ Err f) }
-    ensures ready { IfOk result (λ e. IsPrintable workspace.old.memory workspace.new.memory e.output e.ending) }
-    ensures bounds { bounds_of workspace.new.frames ≡ bounds_of workspace.old.frames }
+        (λ e. window_effect operation game.old values.now ≡ Ok (game.new, e))
+        (λ f. window_effect operation game.old values.now ≡ Err f) }
+    ensures ready { IfOk result (λ e. IsPrintable game.old.memory game.new.memory e.output e.ending) }
+    ensures bounds { bounds_of game.new.frames ≡ bounds_of game.old.frames }
 {
     let first = values.first();
     match operation {
-        Operation::SplitWindow => workspace.windows.split(workspace.memory.version(), first),
-        Operation::SetWindow => select(&mut workspace.windows, first),
-        Operation::EraseWindow => erase(&mut workspace.windows, first),
-        Operation::EraseLine => erase_line(&mut workspace.windows, first),
-        Operation::SetCursor => set_cursor(&mut workspace.windows, first, values.second()),
+        Operation::SplitWindow => game.windows.split(game.memory.version(), first),
+        Operation::SetWindow => select(&mut game.windows, first),
+        Operation::EraseWindow => erase(&mut game.windows, first),
+        Operation::EraseLine => erase_line(&mut game.windows, first),
+        Operation::SetCursor => set_cursor(&mut game.windows, first, values.second()),
         Operation::GetCursor => {
-            store_cursor(&mut workspace.memory, first, &workspace.windows)?;
+            store_cursor(&mut game.memory, first, &game.windows)?;
         }
-        Operation::ShowStatus => return show_status(workspace),
+        Operation::ShowStatus => return show_status(game),
     }
     Ok(Effect::goes_on())
 }

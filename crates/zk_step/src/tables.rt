@@ -6,8 +6,8 @@ ghost use Rattle.zk_step.specs.Printing.{IsPrintable};
 ghost use Rattle.zk_step.specs.Tables.{rectangle_of, scan_answer, table_effect};
 
 use crate::ending::{Effect, Ending, Output};
+use crate::game_state::GameState;
 use crate::values::Values;
-use crate::workspace::Workspace;
 use zk_arrays::copying::copy_table;
 use zk_arrays::rectangle::{Rectangle, check_rectangle};
 use zk_arrays::scanning::scan_table;
@@ -45,20 +45,20 @@ fn answer_by(found: Option<u16>) -> Effect
 #[tactic(auto, unfolding(crate::specs::Tables::table_effect))]
 pub fn tables_effect(
     operation: Table,
-    workspace: &mut Workspace,
+    game: &mut GameState,
     values: &Values,
 ) -> Result<Effect, Fault>
     ensures value { MatchResult result
-        (λ e. table_effect operation workspace.old values.now ≡ Ok (workspace.new, e))
-        (λ f. table_effect operation workspace.old values.now ≡ Err f) }
-    ensures ready { IfOk result (λ e. IsPrintable workspace.old.memory workspace.new.memory e.output e.ending) }
-    ensures bounds { bounds_of workspace.new.frames ≡ bounds_of workspace.old.frames }
+        (λ e. table_effect operation game.old values.now ≡ Ok (game.new, e))
+        (λ f. table_effect operation game.old values.now ≡ Err f) }
+    ensures ready { IfOk result (λ e. IsPrintable game.old.memory game.new.memory e.output e.ending) }
+    ensures bounds { bounds_of game.new.frames ≡ bounds_of game.old.frames }
 {
     match operation {
         Table::ScanTable => {
             let form = values.get_or(3, WORDS);
             let found = scan_table(
-                &workspace.memory,
+                &game.memory,
                 values.first(),
                 values.second(),
                 values.third(),
@@ -68,7 +68,7 @@ pub fn tables_effect(
         }
         Table::CopyTable => {
             copy_table(
-                &mut workspace.memory,
+                &mut game.memory,
                 values.first(),
                 values.second(),
                 values.third(),
@@ -77,7 +77,7 @@ pub fn tables_effect(
         }
         Table::PrintTable => {
             let rectangle = rectangle_by(values);
-            check_rectangle(&workspace.memory, rectangle)?;
+            check_rectangle(&game.memory, rectangle)?;
             Ok(Effect::prints(Output::Rows(rectangle)))
         }
     }

@@ -5,8 +5,8 @@ ghost use Rattle.std.specs.Prelude.{◌≡◌, ◌<◌, ◌≤◌, [], ◌∷◌
 ghost use Rattle.zk_step.specs.Values.{first, second, third, fourth, given_or};
 ghost use Rattle.zk_step.specs.Variables.{operand_read, operands_read};
 
+use crate::game_state::GameState;
 use crate::variables::read_variable;
-use crate::workspace::Workspace;
 use arrayvec::ArrayVec;
 use std::marker::Model;
 use zk_code::operands::{Operand, Operands};
@@ -114,26 +114,26 @@ impl Values {
 }
 
 #[tactic(auto, unfolding(crate::specs::Variables::operand_read))]
-fn read_operand(workspace: &mut Workspace, operand: Operand) -> Result<u16, Fault>
-    ensures value { MatchResult result (λ x. operand_read workspace.old operand ≡ Ok (workspace.new, x)) (λ e. operand_read workspace.old operand ≡ Err e) }
-    ensures bounds { bounds_of workspace.new.frames ≡ bounds_of workspace.old.frames }
+fn read_operand(game: &mut GameState, operand: Operand) -> Result<u16, Fault>
+    ensures value { MatchResult result (λ x. operand_read game.old operand ≡ Ok (game.new, x)) (λ e. operand_read game.old operand ≡ Err e) }
+    ensures bounds { bounds_of game.new.frames ≡ bounds_of game.old.frames }
 {
     match operand {
         Operand::Large(value) => Ok(value),
         Operand::Small(value) => Ok(value as u16),
-        Operand::Variable(variable) => read_variable(workspace, variable),
+        Operand::Variable(variable) => read_variable(game, variable),
     }
 }
 
 /// The values of operands, first to last.
-pub fn read_operands(workspace: &mut Workspace, operands: &Operands) -> Result<Values, Fault>
-    ensures value { MatchResult result (λ v. operands_read workspace.old operands.now ≡ Ok (workspace.new, v)) (λ e. operands_read workspace.old operands.now ≡ Err e) }
-    ensures bounds { bounds_of workspace.new.frames ≡ bounds_of workspace.old.frames }
+pub fn read_operands(game: &mut GameState, operands: &Operands) -> Result<Values, Fault>
+    ensures value { MatchResult result (λ v. operands_read game.old operands.now ≡ Ok (game.new, v)) (λ e. operands_read game.old operands.now ≡ Err e) }
+    ensures bounds { bounds_of game.new.frames ≡ bounds_of game.old.frames }
 {
     let _few = operands.len();
     let mut values = Values::new();
     for operand in operands.as_slice() {
-        match read_operand(workspace, *operand) {
+        match read_operand(game, *operand) {
             Ok(value) => values.push(value),
             Err(fault) => return Err(fault),
         }

@@ -5,7 +5,7 @@ ghost use Rattle.std.specs.Prelude.{◌≡◌, ◌≤◌, Ok, Err, MatchResult};
 ghost use Rattle.zk_step.specs.Limited.{limited};
 ghost use Rattle.zk_step.specs.Variables.{global_address, named_read, named_written, variable_read, variable_written, indirect_read, indirect_written};
 
-use crate::workspace::Workspace;
+use crate::game_state::GameState;
 use zk_mem::fault::Fault;
 use zk_mem::memory::Memory;
 use zk_state::refusal::Refusal;
@@ -20,117 +20,117 @@ pub fn global_of(memory: &Memory, variable: u8) -> u32
 
 /// The byte address of a global variable.
 #[inline(always)]
-pub fn global(workspace: &Workspace, variable: u8) -> u32
-    ensures { 16 ≤ variable → result ≡ global_address workspace.now.memory variable }
+pub fn global(game: &GameState, variable: u8) -> u32
+    ensures { 16 ≤ variable → result ≡ global_address game.now.memory variable }
 {
-    global_of(&workspace.memory, variable)
+    global_of(&game.memory, variable)
 }
 
 /// The value of a local or global variable.
 #[tactic(auto, unfolding(crate::specs::Variables::named_read))]
-fn read_named(workspace: &Workspace, variable: u8) -> Result<u16, Fault>
-    ensures { result ≡ named_read workspace.now variable }
+fn read_named(game: &GameState, variable: u8) -> Result<u16, Fault>
+    ensures { result ≡ named_read game.now variable }
 {
     if variable < 16 {
-        workspace.frames.local(variable)
+        game.frames.local(variable)
     } else {
-        workspace.memory.word(global(workspace, variable))
+        game.memory.word(global(game, variable))
     }
 }
 
 /// Gives a local or global variable a value.
-#[tactic(auto, unfolding(crate::specs::Variables::named_written), using(zk_state::proofs::Kept::local_bounds))]
-pub fn write_named(workspace: &mut Workspace, variable: u8, value: u16) -> Result<(), Fault>
+#[tactic(auto, unfolding(crate::specs::Variables::named_written), using(zk_state::proofs::BoundsKept::local_bounds))]
+pub fn write_named(game: &mut GameState, variable: u8, value: u16) -> Result<(), Fault>
     ensures value { MatchResult result
-        (λ _. named_written workspace.old variable value ≡ Ok workspace.new)
-        (λ e. named_written workspace.old variable value ≡ Err e) }
-    ensures bounds { bounds_of workspace.new.frames ≡ bounds_of workspace.old.frames }
+        (λ _. named_written game.old variable value ≡ Ok game.new)
+        (λ e. named_written game.old variable value ≡ Err e) }
+    ensures bounds { bounds_of game.new.frames ≡ bounds_of game.old.frames }
 {
     if variable < 16 {
-        workspace.frames.set_local(variable, value)?;
+        game.frames.set_local(variable, value)?;
         Ok(())
     } else {
-        let address = global(workspace, variable);
-        workspace.memory.set_word(address, value)?;
+        let address = global(game, variable);
+        game.memory.set_word(address, value)?;
         Ok(())
     }
 }
 
 /// The value of a variable. Variable 0 pulls the newest word of the evaluation stack.
-#[tactic(auto, unfolding(crate::specs::Variables::variable_read), using(zk_state::proofs::Kept::popped_bounds))]
-pub fn read_variable(workspace: &mut Workspace, variable: u8) -> Result<u16, Fault>
+#[tactic(auto, unfolding(crate::specs::Variables::variable_read), using(zk_state::proofs::BoundsKept::popped_bounds))]
+pub fn read_variable(game: &mut GameState, variable: u8) -> Result<u16, Fault>
     ensures value { MatchResult result
-        (λ x. variable_read workspace.old variable ≡ Ok (workspace.new, x))
-        (λ e. variable_read workspace.old variable ≡ Err e) }
-    ensures bounds { bounds_of workspace.new.frames ≡ bounds_of workspace.old.frames }
+        (λ x. variable_read game.old variable ≡ Ok (game.new, x))
+        (λ e. variable_read game.old variable ≡ Err e) }
+    ensures bounds { bounds_of game.new.frames ≡ bounds_of game.old.frames }
 {
     if variable == 0 {
-        let value = workspace.frames.pop()?;
+        let value = game.frames.pop()?;
         Ok(value)
     } else {
-        let value = read_named(workspace, variable)?;
+        let value = read_named(game, variable)?;
         Ok(value)
     }
 }
 
 /// Pushes a word on the evaluation stack.
-#[tactic(auto, unfolding(crate::specs::Variables::variable_written, zk_state::specs::Frames::pushed), using(zk_state::proofs::Kept::pushed_bounds, crate::proofs::WithinBounds::kept_within, crate::proofs::WithinBounds::kept_refused))]
-fn push(workspace: &mut Workspace, value: u16) -> Result<(), Refusal>
+#[tactic(auto, unfolding(crate::specs::Variables::variable_written, zk_state::specs::Frames::pushed), using(zk_state::proofs::BoundsKept::pushed_bounds, crate::proofs::WithinBounds::kept_within, crate::proofs::WithinBounds::kept_refused))]
+fn push(game: &mut GameState, value: u16) -> Result<(), Refusal>
     ensures value { MatchResult result
-        (λ _. limited (variable_written workspace.old 0 value) ≡ Ok workspace.new)
-        (λ e. limited (variable_written workspace.old 0 value) ≡ Err e) }
-    ensures bounds { bounds_of workspace.new.frames ≡ bounds_of workspace.old.frames }
+        (λ _. limited (variable_written game.old 0 value) ≡ Ok game.new)
+        (λ e. limited (variable_written game.old 0 value) ≡ Err e) }
+    ensures bounds { bounds_of game.new.frames ≡ bounds_of game.old.frames }
 {
-    workspace.frames.push(value)?;
+    game.frames.push(value)?;
     Ok(())
 }
 
 /// Gives a variable a value. Variable 0 pushes it on the evaluation stack.
 #[tactic(auto, unfolding(crate::specs::Variables::variable_written))]
-pub fn write_variable(workspace: &mut Workspace, variable: u8, value: u16) -> Result<(), Refusal>
+pub fn write_variable(game: &mut GameState, variable: u8, value: u16) -> Result<(), Refusal>
     ensures value { MatchResult result
-        (λ _. limited (variable_written workspace.old variable value) ≡ Ok workspace.new)
-        (λ e. limited (variable_written workspace.old variable value) ≡ Err e) }
-    ensures bounds { bounds_of workspace.new.frames ≡ bounds_of workspace.old.frames }
+        (λ _. limited (variable_written game.old variable value) ≡ Ok game.new)
+        (λ e. limited (variable_written game.old variable value) ≡ Err e) }
+    ensures bounds { bounds_of game.new.frames ≡ bounds_of game.old.frames }
 {
     if variable == 0 {
-        return push(workspace, value);
+        return push(game, value);
     }
-    write_named(workspace, variable, value)?;
-    workspace.is_bounded();
+    write_named(game, variable, value)?;
+    game.is_bounded();
     Ok(())
 }
 
 /// The value of a variable that an operand names. Of the evaluation stack it is the newest word, which
 /// stays there.
 #[tactic(auto, unfolding(crate::specs::Variables::indirect_read))]
-pub fn read_indirect(workspace: &Workspace, variable: u16) -> Result<u16, Fault>
-    ensures { result ≡ indirect_read workspace.now variable }
+pub fn read_indirect(game: &GameState, variable: u16) -> Result<u16, Fault>
+    ensures { result ≡ indirect_read game.now variable }
 {
     if variable > 255 {
         Err(Fault::NoSuchLocal)
     } else if variable == 0 {
-        workspace.frames.top()
+        game.frames.top()
     } else {
-        read_named(workspace, variable as u8)
+        read_named(game, variable as u8)
     }
 }
 
 /// Gives a variable that an operand names a value. On the evaluation stack it takes the place of the
 /// newest word.
-#[tactic(auto, unfolding(crate::specs::Variables::indirect_written), using(zk_state::proofs::Kept::top_bounds))]
-pub fn write_indirect(workspace: &mut Workspace, variable: u16, value: u16) -> Result<(), Fault>
+#[tactic(auto, unfolding(crate::specs::Variables::indirect_written), using(zk_state::proofs::BoundsKept::top_bounds))]
+pub fn write_indirect(game: &mut GameState, variable: u16, value: u16) -> Result<(), Fault>
     ensures value { MatchResult result
-        (λ _. indirect_written workspace.old variable value ≡ Ok workspace.new)
-        (λ e. indirect_written workspace.old variable value ≡ Err e) }
-    ensures bounds { bounds_of workspace.new.frames ≡ bounds_of workspace.old.frames }
+        (λ _. indirect_written game.old variable value ≡ Ok game.new)
+        (λ e. indirect_written game.old variable value ≡ Err e) }
+    ensures bounds { bounds_of game.new.frames ≡ bounds_of game.old.frames }
 {
     if variable > 255 {
         Err(Fault::NoSuchLocal)
     } else if variable == 0 {
-        workspace.frames.set_top(value)?;
+        game.frames.set_top(value)?;
         Ok(())
     } else {
-        write_named(workspace, variable as u8, value)
+        write_named(game, variable as u8, value)
     }
 }

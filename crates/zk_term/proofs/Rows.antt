@@ -3,7 +3,7 @@ use Rattle.std.proofs.Common.{◌≡◌, ◌≢◌, ◌∙◌, ◌+◌, ◌-◌,
 use Rattle.std.proofs.lemmas.Bool.{cond-false, ne_eqb, and_from, le-leb}
 use Rattle.std.proofs.lemmas.List.{take_more, get_or-take, get_or-drop}
 use Rattle.zk_term.specs.Grid.{is_on_grid}
-use Rattle.zk_term.specs.Places.{place_of, cells_of}
+use Rattle.zk_term.specs.Places.{cell_number, cells_of}
 use Rattle.zk_term.specs.Windows.{before_blanks, without_last_blanks, columns_from}
 use Rattle.zk_term.proofs.Grids.{at-cells_of}
 
@@ -57,14 +57,14 @@ pub on_row : (row column : ℕ) → 1 ≤ row → row ≤ 255 → 1 ≤ column �
 on_row row column row_from row_to column_from column_to =
     and_from _ _ (and_from _ _ (and_from _ _ (le-leb 1 row row_from) (le-leb row 255 row_to)) (le-leb 1 column column_from)) (le-leb column 80 column_to)
 
-row_item : (items : List ℕ) (row start k : ℕ) → 1 ≤ row → row ≤ 255 → start ≡ place_of row 1 → k < 80 → get_or (take 80 (drop start items)) k 0 ≡ (cells_of items).at row (1 + k)
+row_item : (items : List ℕ) (row start k : ℕ) → 1 ≤ row → row ≤ 255 → start ≡ cell_number row 1 → k < 80 → get_or (take 80 (drop start items)) k 0 ≡ (cells_of items).at row (1 + k)
 row_item items row start k from to is low =
-    let there : start + k ≡ place_of row (1 + k) = omega arith in
+    let there : start + k ≡ cell_number row (1 + k) = omega arith in
     get_or-take 80 (drop start items) k 0 low
     ∙ (get_or-drop start items k 0 ∙ (ap (λ (n : ℕ). get_or items n 0) there ∙ sym (at-cells_of items row (1 + k) (on_row row (1 + k) from to (omega arith) (omega arith)))))
 
 -- the items of a row, by the cells
-pub row_items : (items : List ℕ) (row start : ℕ) → length items ≡ 20400 → 1 ≤ row → row ≤ 255 → start ≡ place_of row 1 → take 80 (drop start items) ≡ map ((cells_of items).at row) (columns_from 1 80)
+pub row_items : (items : List ℕ) (row start : ℕ) → length items ≡ 20400 → 1 ≤ row → row ≤ 255 → start ≡ cell_number row 1 → take 80 (drop start items) ≡ map ((cells_of items).at row) (columns_from 1 80)
 row_items items row start long from to is =
     same_columns ((cells_of items).at row) (take 80 (drop start items)) 1 80 (length-take-le 80 (drop start items) (omega (arith, length-drop start items)))
     (λ k low. row_item items row start k from to is low)

@@ -3,7 +3,7 @@
 ghost use Rattle.std.specs.Prelude.{◌≡◌, ◌≤◌, ◌<◌, ◌&&◌, ◌*◌, ℕ, IfOk, if◌then◌else◌, length, nat_le, nat_lt, slice_index};
 ghost use Rattle.zk_term.specs.Windows.{first_windows, homed, past, split, window_selected, cleared, unsplit, line_erased, cursor_set, next_row, character_put, character_printed, row_text, without_last_blanks};
 ghost use Rattle.zk_term.specs.Grid.{emptied};
-ghost use Rattle.zk_term.specs.Places.{place_of};
+ghost use Rattle.zk_term.specs.Places.{cell_number};
 
 use std::alloc::{AllocError, Global};
 use std::marker::Model;
@@ -92,7 +92,7 @@ fn without_last_spaces(row: &[char]) -> &[char]
 fn place(row: u16, column: u8) -> usize
     requires row { 1 ≤ row }
     requires column { 1 ≤ column }
-    ensures { result ≡ place_of row column }
+    ensures { result ≡ cell_number row column }
 {
     (row as usize - 1) * COLUMNS + (column as usize - 1)
 }

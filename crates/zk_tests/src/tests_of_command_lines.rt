@@ -4,20 +4,20 @@ use crate::tests_of_plays::AMPLE;
 use crate::tests_same::same;
 use std::alloc::Global;
 use zk_command::choice::{Choice, choose};
-use zk_command::manner::Manner;
-use zk_step::workspace::View;
+use zk_command::settings::Settings;
+use zk_step::game_state::View;
 
 /// The manner that some words ask for, where they name no saved game and no transcript.
-pub(crate) fn manner_asked(alloc: Global, words: &[&str]) -> Option<Manner> {
+pub(crate) fn manner_asked(alloc: Global, words: &[&str]) -> Option<Settings> {
     match choose(alloc, words) {
         Ok(
             Choice::Play {
                 story,
                 save: None,
                 script: None,
-                manner,
+                settings,
             },
-        ) if story == "hello.z3" => Some(manner),
+        ) if story == "hello.z3" => Some(settings),
         _ => None,
     }
 }
@@ -25,7 +25,7 @@ pub(crate) fn manner_asked(alloc: Global, words: &[&str]) -> Option<Manner> {
 #[test]
 fn a_manner_is_asked_for(rt: HostRuntime) {
     let alloc = rt.alloc();
-    let plain = Manner {
+    let plain = Settings {
         limits: AMPLE,
         seed: 1,
         view: View::Plain,
@@ -39,11 +39,11 @@ fn a_manner_is_asked_for(rt: HostRuntime) {
         ("18446744073709551615", 18_446_744_073_709_551_615),
     ] {
         let words = ["zkit", "play", "--seed", word, "hello.z3"];
-        let manner = Manner { seed, ..plain };
-        same(&rt, manner_asked(alloc, words.as_slice()), Some(manner));
+        let settings = Settings { seed, ..plain };
+        same(&rt, manner_asked(alloc, words.as_slice()), Some(settings));
     }
     let words = ["zkit", "play", "hello.z3", "--upper"];
-    let upper = Manner {
+    let upper = Settings {
         view: View::Upper,
         ..plain
     };

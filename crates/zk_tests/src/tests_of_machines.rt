@@ -9,7 +9,7 @@ use std::process::Abort;
 use std::test::Fail;
 use zk_mem::story::Story;
 use zk_state::refusal::Limit;
-use zk_step::workspace::View;
+use zk_step::game_state::View;
 use zk_term::nothing::Nothing;
 use zk_term::over::Over;
 use zk_vm::limits::Limits;

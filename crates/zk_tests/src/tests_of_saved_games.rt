@@ -6,19 +6,19 @@ use std::alloc::{AllocError, Global};
 use std::process::Abort;
 use std::test::Fail;
 use zk_command::about::About;
-use zk_command::manner::Manner;
 use zk_command::playing::play_bytes;
+use zk_command::settings::Settings;
 use zk_term::nothing::Nothing;
 use zk_term::over::Over;
 use zk_vm::slot::SaveSlot;
 
 /// A slot with one saved game, which it gives as often as it is asked.
 #[derive(Drop)]
-pub(crate) struct Held {
+pub(crate) struct MemorySlot {
     pub(crate) file: Vec<u8>,
 }
 
-impl SaveSlot for Held {
+impl SaveSlot for MemorySlot {
     ghost use Rattle.std.specs.Prelude.{None};
 
     ghost held = { λ _. None };
@@ -47,26 +47,26 @@ pub(crate) struct Game<'a> {
 pub(crate) fn goes_on(
     rt: &(impl Abort + AllocGlobal),
     game: Game<'_>,
-    manner: Manner,
+    settings: Settings,
     screen: &str,
     status: u8,
     line: &str,
 ) -> Result<(), Fail> {
     let bytes = story_bytes(rt.alloc(), game.version, game.code)?;
-    let mut slot = Held { file: game.file };
-    demand(&rt, manner.limits.check());
+    let mut slot = MemorySlot { file: game.file };
+    demand(&rt, settings.limits.check());
     let mut shown = Over::new(Vec::new(rt.alloc()));
     let ending = play_bytes(
         rt.alloc(),
         bytes,
         &About::new("story", "said"),
-        manner,
+        settings,
         &mut Over::new(game.typed),
         &mut shown,
         &mut Nothing,
         &mut slot,
     );
-    let (ended, lines) = reported(rt.alloc(), &ending, &manner.limits);
+    let (ended, lines) = reported(rt.alloc(), &ending, &settings.limits);
     same(&rt, shown.into_inner().as_slice(), screen.as_bytes());
     demand(&rt, lines.as_slice().ends_with(line.as_bytes()));
     same(&rt, ended, status);

@@ -7,8 +7,8 @@ use Rattle.zk_mem.specs.Words.{words_at, words_in}
 use Rattle.std.proofs.lemmas.Bool.Decides.{nat_tests}
 use Rattle.std.proofs.lemmas.List.{drop_all}
 use Rattle.zk_mem.proofs.TextWords.{word_there}
-use Rattle.zk_text.specs.declared.pieces.Held.{Held}
-use Rattle.zk_text.specs.declared.pieces.Held.TheVariants as held
+use Rattle.zk_text.specs.declared.pieces.Pending.{Pending}
+use Rattle.zk_text.specs.declared.pieces.Pending.TheVariants as held
 use Rattle.zk_text.specs.declared.pieces.Piece.{Piece}
 use Rattle.zk_text.specs.declared.unit.Unit.TheVariants as unit
 use Rattle.zk_text.specs.declared.sweep.Rest.{Rest}
@@ -55,7 +55,7 @@ before_fault m None ps = refl
 before_fault m (Some p) ps = rw (values_cons (letter_of m) (abbreviation m) p ps) (joined_fault (value (letter_of m) (abbreviation m) p) (values (letter_of m) (abbreviation m) ps))
 
 -- one Z-character
-pub pass_fault : (m : MemoryMap) (h next : Held) (c : ℕ) (o : Option Piece) (f : Option Fault) (zs : List ℕ) → pieces (held_back h ++ c ∷ zs) ≡ piece_before o (pieces (held_back next ++ zs)) → f ≡ piece_fault m o → fault_behind m h (c ∷ zs) ≡ first_of f (fault_behind m next zs)
+pub pass_fault : (m : MemoryMap) (h next : Pending) (c : ℕ) (o : Option Piece) (f : Option Fault) (zs : List ℕ) → pieces (held_back h ++ c ∷ zs) ≡ piece_before o (pieces (held_back next ++ zs)) → f ≡ piece_fault m o → fault_behind m h (c ∷ zs) ≡ first_of f (fault_behind m next zs)
 pass_fault m h next c o f zs e k = rw (e, k) (before_fault m o (pieces (held_back next ++ zs)))
 
 -- what is kept for each that may be held back
@@ -70,7 +70,7 @@ rest_of m zs r a b c d e f g u held.Escape = g
 rest_of m zs r a b c d e f g u (held.UpperHalf high) = u high
 
 -- behind the last word
-pub nothing_behind : (m : MemoryMap) (h : Held) → None ≡ fault_behind m h []
+pub nothing_behind : (m : MemoryMap) (h : Pending) → None ≡ fault_behind m h []
 unfolding z_characters
 nothing_behind m h = sym (ap fault_of (held_ends m (abbreviation m) h))
 

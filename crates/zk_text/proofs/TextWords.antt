@@ -4,8 +4,8 @@ use Rattle.std.proofs.lemmas.Bool.Decides.{nat_tests}
 use Rattle.zk_mem.specs.Map.{MemoryMap, code_word_at}
 use Rattle.zk_mem.specs.Words.{word_before, words_at, text_end_at}
 use Rattle.zk_mem.proofs.TextWords.{word_there, end_past}
-use Rattle.zk_text.specs.declared.pieces.Held.{Held}
-use Rattle.zk_text.specs.declared.pieces.Held.TheVariants as held
+use Rattle.zk_text.specs.declared.pieces.Pending.{Pending}
+use Rattle.zk_text.specs.declared.pieces.Pending.TheVariants as held
 use Rattle.zk_text.specs.Words.{z_characters}
 use Rattle.zk_text.specs.Pieces.{pieces_past}
 use Rattle.zk_text.specs.Reading.{held_back}
@@ -36,7 +36,7 @@ word_first m a w vs e h = go (nat_le 32768 w) refl
     go false test = let p = before_some w (words_at m (a + 2)) vs (sym (rw test at (word_there m a w e)) ∙ h) in (p.0, p.2)
 
 -- what is held back at the end shows nothing
-pub held_ends : (m : MemoryMap) (expand : ℕ → Units) (h : Held) → meaning m expand (held_back h ++ z_characters []) ≡ Ok []
+pub held_ends : (m : MemoryMap) (expand : ℕ → Units) (h : Pending) → meaning m expand (held_back h ++ z_characters []) ≡ Ok []
 unfolding values pieces_past z_characters
 held_ends m expand held.Nothing = refl
 held_ends m expand held.First = refl

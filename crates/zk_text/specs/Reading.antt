@@ -2,11 +2,11 @@
 use Rattle.std.specs.Prelude.{◌≤◌, ℕ, ◌+◌, ◌*◌, length, List, [], ◌∷◌, Option, Some, None}
 use Rattle.zk_text.specs.declared.extra.Table.{Table}
 use Rattle.zk_text.specs.Extra.{ExtraTable, words_from}
-use Rattle.zk_text.specs.declared.pieces.Held.{Held}
-use Rattle.zk_text.specs.declared.pieces.Held.TheVariants as held
+use Rattle.zk_text.specs.declared.pieces.Pending.{Pending}
+use Rattle.zk_text.specs.declared.pieces.Pending.TheVariants as held
 
 -- the Z-characters that a reader holds back
-abbrev pub held_back : Held → List ℕ
+abbrev pub held_back : Pending → List ℕ
 held_back held.Nothing = []
 held_back held.First = 1 ∷ []
 held_back held.Second = 2 ∷ []

@@ -3,8 +3,8 @@ use Rattle.std.specs.Prelude.{◌≡◌, ℕ, ◌+◌, List, ◌++◌, Option, S
 use Rattle.zk_mem.specs.declared.fault.Fault.{Fault}
 use Rattle.zk_mem.specs.Map.{MemoryMap}
 use Rattle.zk_mem.specs.Words.{words_at}
-use Rattle.zk_text.specs.declared.pieces.Held.{Held}
-use Rattle.zk_text.specs.declared.pieces.Held.TheVariants as held
+use Rattle.zk_text.specs.declared.pieces.Pending.{Pending}
+use Rattle.zk_text.specs.declared.pieces.Pending.TheVariants as held
 use Rattle.zk_text.specs.declared.pieces.Piece.{Piece}
 use Rattle.zk_text.specs.declared.sweep.Rest.{Rest}
 use Rattle.zk_text.specs.declared.sweep.Sweep.{Sweep}
@@ -33,11 +33,11 @@ piece_fault m None = None
 piece_fault m (Some p) = fault_of (value (letter_of m) (abbreviation m) p)
 
 -- the fault of the Z-characters that are held back and those that follow
-abbrev pub fault_behind : MemoryMap → Held → List ℕ → Option Fault
+abbrev pub fault_behind : MemoryMap → Pending → List ℕ → Option Fault
 fault_behind m h zs = fault_of (meaning m (abbreviation m) (held_back h ++ zs))
 
 -- what is kept of a rest, by what is held back before it
-abbrev pub kept_for : Rest → Held → Option Fault
+abbrev pub kept_for : Rest → Pending → Option Fault
 kept_for r held.Nothing = r.nothing
 kept_for r held.First = r.first
 kept_for r held.Second = r.second
@@ -49,7 +49,7 @@ kept_for r (held.UpperHalf high) = r.upper_half
 
 -- what is kept is of these Z-characters
 abbrev pub IsRestOf : MemoryMap → List ℕ → Rest → Type 0
-IsRestOf m zs r = (h : Held) → kept_for r h ≡ fault_behind m h zs
+IsRestOf m zs r = (h : Pending) → kept_for r h ≡ fault_behind m h zs
 
 -- what is kept is of the text at an address, where it has an end
 abbrev pub IsTextRest : MemoryMap → ℕ → Option Rest → Type 0

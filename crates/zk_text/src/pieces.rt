@@ -20,7 +20,7 @@ pub enum Piece {
 
 /// What a reader holds back of a piece that is not yet whole.
 #[derive(Clone, Copy, PartialEq, Eq, Drop)]
-pub(crate) enum Held {
+pub(crate) enum Pending {
     Nothing,
     /// A 1, 2 or 3.
     First,
@@ -38,58 +38,61 @@ pub(crate) enum Held {
 /// The next Z-character, where nothing is held back.
 #[tactic(auto, unfolding(crate::specs::Pieces::pieces_past))]
 #[inline(always)]
-fn begin(character: u8) -> (Held, Option<Piece>)
+fn begin(character: u8) -> (Pending, Option<Piece>)
     ensures { (zs : List ℕ) →
         pieces (character ∷ zs) ≡ piece_before result.1 (pieces (held_back result.0 ++ zs)) }
 {
     match character {
-        0 => (Held::Nothing, Some(Piece::Code(32))),
-        1 => (Held::First, None),
-        2 => (Held::Second, None),
-        3 => (Held::Third, None),
-        4 => (Held::ShiftToA1, None),
-        5 => (Held::ShiftToA2, None),
-        _ => (Held::Nothing, Some(Piece::Letter(Row::A0, character))),
+        0 => (Pending::Nothing, Some(Piece::Code(32))),
+        1 => (Pending::First, None),
+        2 => (Pending::Second, None),
+        3 => (Pending::Third, None),
+        4 => (Pending::ShiftToA1, None),
+        5 => (Pending::ShiftToA2, None),
+        _ => (Pending::Nothing, Some(Piece::Letter(Row::A0, character))),
     }
 }
 
 /// The next Z-character: what is held back then, and the piece that it ends.
 #[tactic(auto, unfolding(crate::specs::Pieces::pieces_past))]
 #[inline(always)]
-pub(crate) fn advance(held: Held, character: u8) -> (Held, Option<Piece>)
+pub(crate) fn advance(held: Pending, character: u8) -> (Pending, Option<Piece>)
     ensures { (zs : List ℕ) →
         pieces (held_back held ++ character ∷ zs) ≡ piece_before result.1 (pieces (held_back result.0 ++ zs)) }
 {
     match held {
-        Held::Nothing => begin(character),
-        Held::First => (Held::Nothing, Some(Piece::Abbreviation(character as u16))),
-        Held::Second => (
-            Held::Nothing,
+        Pending::Nothing => begin(character),
+        Pending::First => (
+            Pending::Nothing,
+            Some(Piece::Abbreviation(character as u16)),
+        ),
+        Pending::Second => (
+            Pending::Nothing,
             Some(Piece::Abbreviation(32 + character as u16)),
         ),
-        Held::Third => (
-            Held::Nothing,
+        Pending::Third => (
+            Pending::Nothing,
             Some(Piece::Abbreviation(64 + character as u16)),
         ),
-        Held::ShiftToA1 => {
+        Pending::ShiftToA1 => {
             if character < 6 {
                 begin(character)
             } else {
-                (Held::Nothing, Some(Piece::Letter(Row::A1, character)))
+                (Pending::Nothing, Some(Piece::Letter(Row::A1, character)))
             }
         }
-        Held::ShiftToA2 => {
+        Pending::ShiftToA2 => {
             if character < 6 {
                 begin(character)
             } else if character == 6 {
-                (Held::Escape, None)
+                (Pending::Escape, None)
             } else {
-                (Held::Nothing, Some(Piece::Letter(Row::A2, character)))
+                (Pending::Nothing, Some(Piece::Letter(Row::A2, character)))
             }
         }
-        Held::Escape => (Held::UpperHalf(character), None),
-        Held::UpperHalf(high) => (
-            Held::Nothing,
+        Pending::Escape => (Pending::UpperHalf(character), None),
+        Pending::UpperHalf(high) => (
+            Pending::Nothing,
             Some(Piece::Code(32 * high as u16 + character as u16)),
         ),
     }

@@ -6,7 +6,7 @@ ghost use Rattle.zk_text.specs.Meaning.{abbreviation, text_units};
 ghost use Rattle.zk_text.specs.Words.{z_characters};
 ghost use Rattle.zk_text.specs.Sweeps.{AreFaults, IsRestOf, IsSweptTo, IsTextRest, fault_behind, fault_of, first_of, kept_for, piece_fault};
 
-use crate::pieces::{Held, Piece, advance};
+use crate::pieces::{Pending, Piece, advance};
 use crate::text::check_abbreviation;
 use std::alloc::{AllocError, Global};
 use zk_mem::fault::Fault;
@@ -70,9 +70,9 @@ fn piece_fault(memory: &Memory, faults: &[Option<Fault>], piece: Option<Piece>) 
 fn pass(
     memory: &Memory,
     faults: &[Option<Fault>],
-    held: Held,
+    held: Pending,
     character: u8,
-) -> (Held, Option<Fault>)
+) -> (Pending, Option<Fault>)
     requires { AreFaults memory.now faults.now }
     ensures { (zs : List ℕ) → fault_behind memory.now held (character ∷ zs) ≡ first_of result.1 (fault_behind memory.now result.0 zs) }
 {
@@ -111,18 +111,18 @@ impl Rest {
     }
 
     #[inline(always)]
-    fn kept_for(&self, held: Held) -> Option<Fault>
+    fn kept_for(&self, held: Pending) -> Option<Fault>
         ensures { result ≡ kept_for self.now held }
     {
         match held {
-            Held::Nothing => self.nothing,
-            Held::First => self.first,
-            Held::Second => self.second,
-            Held::Third => self.third,
-            Held::ShiftToA1 => self.shift_to_a1,
-            Held::ShiftToA2 => self.shift_to_a2,
-            Held::Escape => self.escape,
-            Held::UpperHalf(_) => self.upper_half,
+            Pending::Nothing => self.nothing,
+            Pending::First => self.first,
+            Pending::Second => self.second,
+            Pending::Third => self.third,
+            Pending::ShiftToA1 => self.shift_to_a1,
+            Pending::ShiftToA2 => self.shift_to_a2,
+            Pending::Escape => self.escape,
+            Pending::UpperHalf(_) => self.upper_half,
         }
     }
 }
@@ -132,7 +132,7 @@ impl Rest {
 fn fault_before(
     memory: &Memory,
     faults: &[Option<Fault>],
-    held: Held,
+    held: Pending,
     character: u8,
     rest: &Rest,
 ) -> Option<Fault>
@@ -152,15 +152,15 @@ fn rest_before(memory: &Memory, faults: &[Option<Fault>], character: u8, rest: &
     ensures { (zs : List ℕ) → IsRestOf memory.now zs rest.now → IsRestOf memory.now (character ∷ zs) result }
 {
     Rest {
-        nothing: fault_before(memory, faults, Held::Nothing, character, rest),
-        first: fault_before(memory, faults, Held::First, character, rest),
-        second: fault_before(memory, faults, Held::Second, character, rest),
-        third: fault_before(memory, faults, Held::Third, character, rest),
-        shift_to_a1: fault_before(memory, faults, Held::ShiftToA1, character, rest),
-        shift_to_a2: fault_before(memory, faults, Held::ShiftToA2, character, rest),
-        escape: fault_before(memory, faults, Held::Escape, character, rest),
+        nothing: fault_before(memory, faults, Pending::Nothing, character, rest),
+        first: fault_before(memory, faults, Pending::First, character, rest),
+        second: fault_before(memory, faults, Pending::Second, character, rest),
+        third: fault_before(memory, faults, Pending::Third, character, rest),
+        shift_to_a1: fault_before(memory, faults, Pending::ShiftToA1, character, rest),
+        shift_to_a2: fault_before(memory, faults, Pending::ShiftToA2, character, rest),
+        escape: fault_before(memory, faults, Pending::Escape, character, rest),
         // which half it is shows in no fault
-        upper_half: fault_before(memory, faults, Held::UpperHalf(0), character, rest),
+        upper_half: fault_before(memory, faults, Pending::UpperHalf(0), character, rest),
     }
 }
 

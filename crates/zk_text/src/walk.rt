@@ -9,7 +9,7 @@ ghost use Rattle.zk_text.specs.Meaning.{value, meaning};
 ghost use Rattle.zk_text.specs.Walks.{Walked, Passes, trouble_of};
 
 use crate::alphabet::Alphabet;
-use crate::pieces::{Held, Piece, advance};
+use crate::pieces::{Pending, Piece, advance};
 use crate::sink::Sink;
 use crate::unit::Unit;
 use zk_mem::fault::Fault;
@@ -117,10 +117,10 @@ fn walk_piece<A: Abbreviations, S: Sink>(
 fn walk_character<A: Abbreviations, S: Sink>(
     memory: &Memory,
     alphabet: Alphabet,
-    held: Held,
+    held: Pending,
     character: u8,
     sink: &mut S,
-) -> Result<Held, Trouble>
+) -> Result<Pending, Trouble>
     requires { alphabet.table ≡ alphabet_table memory.now }
     ensures ok { IfOk result (λ next. (zs : List ℕ) → Passes S.gave S.refused sink.old sink.new
         (meaning memory.now (A.stands memory.now) (held_back held ++ character ∷ zs))
@@ -142,10 +142,10 @@ fn walk_character<A: Abbreviations, S: Sink>(
 fn walk_word<A: Abbreviations, S: Sink>(
     memory: &Memory,
     alphabet: Alphabet,
-    held: Held,
+    held: Pending,
     word: u16,
     sink: &mut S,
-) -> Result<Held, Trouble>
+) -> Result<Pending, Trouble>
     requires { alphabet.table ≡ alphabet_table memory.now }
     ensures ok { IfOk result (λ next. (ws : List ℕ) → Passes S.gave S.refused sink.old sink.new
         (meaning memory.now (A.stands memory.now) (held_back held ++ z_characters (word ∷ ws)))
@@ -172,7 +172,7 @@ pub(crate) fn walk_text<A: Abbreviations, S: Sink>(
         (meaning memory.now (A.stands memory.now) (z_characters ws)) }
 {
     let mut at = address;
-    let mut held = Held::Nothing;
+    let mut held = Pending::Nothing;
     for _i in 0..memory.len() {
         let Some(word) = memory.code_word(at) else {
             return Err(Trouble::Text(Fault::TextPastEnd));

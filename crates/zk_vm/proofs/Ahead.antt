@@ -6,11 +6,11 @@ use Rattle.zk_save.specs.States.{AreOf, UndoStates, WholeState}
 use Rattle.zk_step.specs.declared.ending.Next.TheVariants.{At}
 use Rattle.zk_step.specs.Laws.{fixed_parts}
 use Rattle.zk_fast.specs.Caches.{IsCacheOf}
-use Rattle.zk_step.specs.declared.workspace.Workspace.{Workspace}
+use Rattle.zk_step.specs.declared.game_state.GameState.{GameState}
 use Rattle.zk_step.specs.Instructions.{carried_out}
 use Rattle.zk_step.specs.Routing.{Texts, no_text}
-use Rattle.zk_fast.specs.Strides.{IsRefused, IsRefusedBehind, IsStride, Strides}
-use Rattle.zk_fast.specs.Strides.Strides.{none, more}
+use Rattle.zk_fast.specs.QuietSteps.{IsRefused, IsRefusedAfter, IsQuietStep, QuietSteps}
+use Rattle.zk_fast.specs.QuietSteps.QuietSteps.{none, more}
 use Rattle.zk_vm.specs.declared.limits.Limits.{Limits}
 use Rattle.zk_vm.specs.declared.machine.Machine.TheInside.{Inside}
 use Rattle.zk_vm.specs.declared.stop.Stop.{Stop}
@@ -29,13 +29,13 @@ use Rattle.zk_vm.proofs.Keeping.{same_states, seen}
 use Rattle.zk_vm.proofs.Runs.{ShowsRest, last_shown}
 use Rattle.zk_vm.proofs.Sounds.{running, sound_now, story_stays}
 
--- a stride is a step that goes on in silence
-pub record IsSilentStep (s : State) (v : Workspace) (q : ℕ) : Type 0 where
-  pub after : state_after s (step s) ≡ record s { workspace = v; place = q; steps = s.steps + 1 }
+-- a steps is a step that goes on in silence
+pub record IsSilentStep (s : State) (v : GameState) (q : ℕ) : Type 0 where
+  pub after : state_after s (step s) ≡ record s { game = v; place = q; steps = s.steps + 1 }
   pub goes : verdict_of s (step s) ≡ GoesOn
   pub shows : text_of s (step s) ≡ no_text
 
-stride_step : (s : State) (v : Workspace) (q : ℕ) → IsStride s.workspace s.place v q → IsSilentStep s v q
+stride_step : (s : State) (v : GameState) (q : ℕ) → IsQuietStep s.game s.place v q → IsSilentStep s v q
 stride_step s v q stride =
     let at = at_step s stride.instruction v q no_text stride.fetched stride.carried in
     record {
@@ -49,61 +49,61 @@ segment_step : (k : ℕ) (s t : State) → state_after s (step s) ≡ t → verd
 unfolding segment
 segment_step k s t after goes shows = rw (goes, shows, after) refl
 
-none_behind : (s : State) → behind_strides s zero s.workspace s.place ≡ s
+none_behind : (s : State) → behind_strides s zero s.game s.place ≡ s
 none_behind s = let e : s.steps + zero ≡ s.steps = omega arith in ap (λ (n : ℕ). let t : State = record s { steps = n } in t) e
 
-more_behind : (s : State) (v end : Workspace) (q last n : ℕ) → behind_strides (record s { workspace = v; place = q; steps = s.steps + 1 }) n end last ≡ behind_strides s (suc n) end last
+more_behind : (s : State) (v end : GameState) (q last n : ℕ) → behind_strides (record s { game = v; place = q; steps = s.steps + 1 }) n end last ≡ behind_strides s (suc n) end last
 more_behind s v end q last n =
     let e : s.steps + 1 + n ≡ s.steps + suc n = omega arith in
-    ap (λ (k : ℕ). let t : State = record s { workspace = end; place = last; steps = k } in t) e
+    ap (λ (k : ℕ). let t : State = record s { game = end; place = last; steps = k } in t) e
 
-pub segment_ahead : (n k : ℕ) (w end : Workspace) (place last : ℕ) → Strides n w place end last → (s : State) → s.workspace ≡ w → s.place ≡ place → segment (n + k) s ≡ segment k (behind_strides s n end last)
+pub segment_ahead : (n k : ℕ) (w end : GameState) (place last : ℕ) → QuietSteps n w place end last → (s : State) → s.game ≡ w → s.place ≡ place → segment (n + k) s ≡ segment k (behind_strides s n end last)
 segment_ahead _ k _ _ _ _ (none {w} {place}) s here there =
     let e : behind_strides s zero w place ≡ s = rw (← here, ← there) (none_behind s) in
     let count : zero + k ≡ k = omega arith in
     rw count (ap (segment k) (sym e))
 segment_ahead _ k _ _ _ _ (more {n} {w} {v} {end} {place} {next} {last} stride rest) s here there =
-    let now : IsStride s.workspace s.place v next = rw (here, there) stride in
+    let now : IsQuietStep s.game s.place v next = rw (here, there) stride in
     let one = stride_step s v next now in
     let count : suc n + k ≡ suc (n + k) = omega arith in
-    rw count (segment_step (n + k) s (record s { workspace = v; place = next; steps = s.steps + 1 }) one.after one.goes one.shows
-    ∙ segment_ahead n k v end next last rest (record s { workspace = v; place = next; steps = s.steps + 1 }) refl refl
+    rw count (segment_step (n + k) s (record s { game = v; place = next; steps = s.steps + 1 }) one.after one.goes one.shows
+    ∙ segment_ahead n k v end next last rest (record s { game = v; place = next; steps = s.steps + 1 }) refl refl
     ∙ ap (segment k) (more_behind s v end next last n))
 
 pub left_ahead : (old new : Session) (ahead : GoesAhead old new) → new.state.steps ≤ new.limits.steps → steps_left old ≡ steps_left new
 left_ahead old new ahead few =
     let limits : new.limits.steps ≡ old.limits.steps = ap (λ (s : Session). s.limits.steps) ahead.there in
     let steps : new.state.steps ≡ old.state.steps + ahead.steps = ap (λ (s : Session). s.state.steps) ahead.there in
-    let state : behind_strides old.state ahead.steps new.state.workspace new.state.place ≡ new.state = sym (ap (λ (s : Session). s.state) ahead.there) in
+    let state : behind_strides old.state ahead.steps new.state.game new.state.place ≡ new.state = sym (ap (λ (s : Session). s.state) ahead.there) in
     let all : old.limits.steps - old.state.steps ≡ ahead.steps + (new.limits.steps - new.state.steps) = omega (arith, limits, steps, few) in
     ap (λ (n : ℕ). segment n old.state) all
-    ∙ segment_ahead ahead.steps (new.limits.steps - new.state.steps) _ _ _ _ ahead.strides old.state refl refl
+    ∙ segment_ahead ahead.steps (new.limits.steps - new.state.steps) _ _ _ _ ahead.quiet_steps old.state refl refl
     ∙ ap (segment (new.limits.steps - new.state.steps)) state
 
 -- a machine that comes to keep a state behind them came to keep it before
-abbrev moved : Session → ℕ → Workspace → ℕ → Session
+abbrev moved : Session → ℕ → GameState → ℕ → Session
 moved s n w place = record s { state = behind_strides s.state n w place }
 
-comes_behind : (n : ℕ) (w end : Workspace) (place last : ℕ) → Strides n w place end last → (s : Session) → s.state.workspace ≡ w → s.state.place ≡ place → s.stopped ≡ None → s.state.due ≡ []
+comes_behind : (n : ℕ) (w end : GameState) (place last : ℕ) → QuietSteps n w place end last → (s : Session) → s.state.game ≡ w → s.state.place ≡ place → s.stopped ≡ None → s.state.due ≡ []
     → (text : Texts) (taken : State) → ComesToKeepAt (moved s n end last) text taken → ComesToKeepAt s text taken
 comes_behind _ _ _ _ _ (none {w} {place}) s here there runs silent text taken comes =
     let e : behind_strides s.state zero w place ≡ s.state = rw (← here, ← there) (none_behind s.state) in
     subst (λ (t : State). ComesToKeepAt (record s { state = t }) text taken) e comes
 comes_behind _ _ _ _ _ (more {n} {w} {v} {end} {place} {next} {last} stride rest) s here there runs silent text taken comes =
-    let now : IsStride s.state.workspace s.state.place v next = rw (here, there) stride in
+    let now : IsQuietStep s.state.game s.state.place v next = rw (here, there) stride in
     let one = stride_step s.state v next now in
-    let mid : Session = record s { state = record s.state { workspace = v; place = next; steps = s.state.steps + 1 } } in
+    let mid : Session = record s { state = record s.state { game = v; place = next; steps = s.state.steps + 1 } } in
     let inner : ComesToKeepAt (moved mid n end last) text taken = subst (λ (t : State). ComesToKeepAt (record s { state = t }) text taken) (sym (more_behind s.state v end next last n)) comes in
     comes_before s mid no_text text taken runs silent silent refl (sym one.after) refl one.goes one.shows (comes_behind n v end next last rest mid refl refl runs silent text taken inner)
 
 pub comes_ahead : (old new : Session) (ahead : GoesAhead old new) → old.stopped ≡ None → old.state.due ≡ [] → (text : Texts) (taken : State) → ComesToKeepAt new text taken → ComesToKeepAt old text taken
 comes_ahead old new ahead runs silent text taken comes =
-    comes_behind ahead.steps _ _ _ _ ahead.strides old refl refl runs silent text taken (subst (λ (s : Session). ComesToKeepAt s text taken) ahead.there comes)
+    comes_behind ahead.steps _ _ _ _ ahead.quiet_steps old refl refl runs silent text taken (subst (λ (s : Session). ComesToKeepAt s text taken) ahead.there comes)
 
 -- an instruction that is refused behind them
-refused_step : (s : State) (r : Refusal) → IsRefused s.workspace s.place r → (verdict_of s (step s) ≡ StopsBy (stop_by s.place r)) × (text_of s (step s) ≡ no_text)
+refused_step : (s : State) (r : Refusal) → IsRefused s.game s.place r → (verdict_of s (step s) ≡ StopsBy (stop_by s.place r)) × (text_of s (step s) ≡ no_text)
 refused_step s r refused =
-    let parts = err_step s refused.instruction (carried_out s.workspace refused.instruction) r refused.refused in
+    let parts = err_step s refused.instruction (carried_out s.game refused.instruction) r refused.refused in
     let is = fetched_is s refused.instruction refused.fetched in
     (ap (verdict_of s) is ∙ parts.0, ap (text_of s) is ∙ parts.1)
 
@@ -116,7 +116,7 @@ stops_ahead old new h stops =
     let k : ℕ = old.limits.steps - old.state.steps - (stops.steps + 1) in
     let all : old.limits.steps - old.state.steps ≡ stops.steps + suc k = omega (arith, stops.few) in
     let there = behind_strides old.state stops.steps stops.refused.end stops.place in
-    let e : steps_left old ≡ segment (suc k) there = ap (λ (n : ℕ). segment n old.state) all ∙ segment_ahead stops.steps (suc k) _ _ _ _ stops.refused.strides old.state refl refl in
+    let e : steps_left old ≡ segment (suc k) there = ap (λ (n : ℕ). segment n old.state) all ∙ segment_ahead stops.steps (suc k) _ _ _ _ stops.refused.quiet_steps old.state refl refl in
     let parts = refused_step there stops.refusal stops.refused.refused in
     let ends = refused_segment k there (stop_by stops.place stops.refusal) parts.0 parts.1 in
     (ap (λ (g : Segment). g.end) e ∙ ends.0, ap (λ (g : Segment). g.text) e ∙ ends.1)
@@ -136,30 +136,30 @@ halts_ahead {S} shows first now old mid new h stops end text silence =
 
 -- ---- a machine behind them
 
-pub strides_fixed : (n : ℕ) (w end : Workspace) (place last : ℕ) → Strides n w place end last → fixed_parts end.memory ≡ fixed_parts w.memory
+pub strides_fixed : (n : ℕ) (w end : GameState) (place last : ℕ) → QuietSteps n w place end last → fixed_parts end.memory ≡ fixed_parts w.memory
 strides_fixed _ _ _ _ _ none = refl
 strides_fixed _ _ _ _ _ (more {n} {w} {v} {end} {place} {next} {last} stride rest) =
     strides_fixed n v end next last rest ∙ carried_fixed w stride.instruction v (At next) no_text stride.carried
 
-pub sound_ahead : (m n : Inside) (k : ℕ) → Strides k m.workspace m.place n.workspace n.place → IsSound m → m.stopped ≡ None → n.limits ≡ m.limits → n.waiting ≡ None → n.steps ≤ m.limits.steps → n.reads ≡ m.reads → n.undo ≡ m.undo → IsCacheOf (fixed_parts m.workspace.memory) n.cache
-    → bounds_of n.workspace.frames ≡ bounds_of m.workspace.frames → IsSound n
-sound_ahead m n k strides is runs limits free steps reads undo cache bounds =
+pub sound_ahead : (m n : Inside) (k : ℕ) → QuietSteps k m.game m.place n.game n.place → IsSound m → m.stopped ≡ None → n.limits ≡ m.limits → n.waiting ≡ None → n.steps ≤ m.limits.steps → n.reads ≡ m.reads → n.undo ≡ m.undo → IsCacheOf (fixed_parts m.game.memory) n.cache
+    → bounds_of n.game.frames ≡ bounds_of m.game.frames → IsSound n
+sound_ahead m n k quiet_steps is runs limits free steps reads undo cache bounds =
     let has = running m.stopped (IsOfStory m) runs is.story in
-    let are = subst (λ (u : UndoStates). AreOf m.workspace.memory m.workspace.frames u) (sym undo) has.are_of in
+    let are = subst (λ (u : UndoStates). AreOf m.game.memory m.game.frames u) (sym undo) has.are_of in
     sound_now m n is limits free steps (rw reads is.reads) (ap (λ (u : UndoStates). u.most) undo) bounds
-    (λ e. story_stays n m.workspace are (has.memory ∙ ap (λ (l : Limits). l.undo) (sym limits)) cache (strides_fixed k m.workspace n.workspace m.place n.place strides) bounds)
+    (λ e. story_stays n m.game are (has.memory ∙ ap (λ (l : Limits). l.undo) (sym limits)) cache (strides_fixed k m.game n.game m.place n.place quiet_steps) bounds)
 
-pub seen_ahead : (m : Inside) (k : ℕ) (w : Workspace) (p : ℕ) → Strides k m.workspace m.place w p → GoesAhead (seen m) (seen (record m { workspace = w; place = p; steps = m.steps + k }))
-seen_ahead m k w p strides =
-    let same = same_states m.workspace.memory w.memory m.undo (strides_fixed k m.workspace w m.place p strides) in
-    let to : State = record (state_seen m) { workspace = w; place = p; steps = m.steps + k } in
+pub seen_ahead : (m : Inside) (k : ℕ) (w : GameState) (p : ℕ) → QuietSteps k m.game m.place w p → GoesAhead (seen m) (seen (record m { game = w; place = p; steps = m.steps + k }))
+seen_ahead m k w p quiet_steps =
+    let same = same_states m.game.memory w.memory m.undo (strides_fixed k m.game w m.place p quiet_steps) in
+    let to : State = record (state_seen m) { game = w; place = p; steps = m.steps + k } in
     record {
       steps = k;
-      strides = strides;
+      quiet_steps = quiet_steps;
       there = ap (λ (u : List WholeState). let s : Session = record (seen m) { state = record to { undo = u } } in s) same;
     }
 
 pub seen_stop : (old new : Session) (answer : Result (Unit {0}) Halt) (k place : ℕ) (refusal : Refusal) → answer ≡ Err (halt.Stops (stop_by place refusal)) → k < old.limits.steps - old.state.steps
-    → IsRefusedBehind k old.state.workspace old.state.place place refusal → new.waiting ≡ None → IsAhead old new answer
+    → IsRefusedAfter k old.state.game old.state.place place refusal → new.waiting ≡ None → IsAhead old new answer
 seen_stop old new answer k place refusal tells few refused free =
     subst (λ (r : Result (Unit {0}) Halt). IsAhead old new r) (sym tells) (record { steps = k; place = place; refusal = refusal; few = few; refused = refused; tells = refl; free = free })

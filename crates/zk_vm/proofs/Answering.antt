@@ -14,9 +14,9 @@ use Rattle.zk_save.specs.States.{AreOf, UndoStates, WholeState, memory_back, sta
 use Rattle.zk_step.specs.declared.ending.Next.{Next}
 use Rattle.zk_step.specs.declared.ending.Wait.{Wait}
 use Rattle.zk_step.specs.declared.ending.Wait.TheVariants as wait
-use Rattle.zk_step.specs.declared.workspace.Workspace.{Workspace}
+use Rattle.zk_step.specs.declared.game_state.GameState.{GameState}
 use Rattle.zk_step.specs.Inputs.{character_answered, line_answered, result_answered}
-use Rattle.zk_step.specs.Restarts.{renewed}
+use Rattle.zk_step.specs.Restarts.{windows_closed}
 use Rattle.zk_step.specs.Resuming.{resumed}
 use Rattle.zk_step.specs.Laws.{fixed_parts}
 use Rattle.zk_step.specs.Limited.{limited_next}
@@ -29,7 +29,7 @@ use Rattle.zk_vm.specs.declared.stop.Event.TheVariants as event
 use Rattle.zk_vm.specs.declared.stop.Stop.{Stop}
 use Rattle.zk_vm.specs.declared.waiting.Waiting.{Waiting}
 use Rattle.zk_vm.specs.Answers.{Answer, answered, answer_settled, restored_from, restored_to, transcribed, truth_word}
-use Rattle.zk_vm.specs.Answers.Answer.{Typed, Kept, File}
+use Rattle.zk_vm.specs.Answers.Answer.{Typed, GameKept, File}
 use Rattle.zk_vm.specs.Going.{verdict_by, place_by, steps_by, stopped_by, limit_of, restored_by, restored_on}
 use Rattle.zk_vm.specs.Halts.{CanAnswer, IsAnswerable, IsLeftAs, event_by, event_waited}
 use Rattle.zk_vm.specs.Outcome.{given}
@@ -79,31 +79,31 @@ asks_restore x w h k = restore_by w.wait (asks x w event.Restore h k)
 
 -- ---- saved games
 
-saves : (s : State) (w : Waiting) (k : Bool) → w.wait ≡ wait.Save → answered s w (Kept k) ≡ goes_to s s.undo (result_answered s.workspace w.instruction (truth_word k) k)
+saves : (s : State) (w : Waiting) (k : Bool) → w.wait ≡ wait.Save → answered s w (GameKept k) ≡ goes_to s s.undo (result_answered s.game w.instruction (truth_word k) k)
 unfolding answered
 saves s w k e = rw e refl
 
 -- a machine that was answered, and waits no more
-answered_sound : (m : Inside) (v : Workspace) (place steps : ℕ) (stopped : Option Stop) (led : Result Next Refusal) → IsSound m → m.stopped ≡ None → m.steps < m.limits.steps → IsOfStory m → bounds_of v.frames ≡ bounds_of m.workspace.frames
-    → steps ≡ steps_by m.steps led → stopped ≡ stopped_by m.stopped (verdict_by m.place led) → ((n : Next) → led ≡ Ok n → fixed_parts v.memory ≡ fixed_parts m.workspace.memory) → IsSound (behind (record m { waiting = None }) v place steps stopped m.undo)
+answered_sound : (m : Inside) (v : GameState) (place steps : ℕ) (stopped : Option Stop) (led : Result Next Refusal) → IsSound m → m.stopped ≡ None → m.steps < m.limits.steps → IsOfStory m → bounds_of v.frames ≡ bounds_of m.game.frames
+    → steps ≡ steps_by m.steps led → stopped ≡ stopped_by m.stopped (verdict_by m.place led) → ((n : Next) → led ≡ Ok n → fixed_parts v.memory ≡ fixed_parts m.game.memory) → IsSound (behind (record m { waiting = None }) v place steps stopped m.undo)
 answered_sound m v place steps stopped led is runs room has bounds counts stops fixed =
     sound_after m (behind (record m { waiting = None }) v place steps stopped m.undo) m.place led is room refl refl counts refl refl bounds stops
-    (λ n e. story_stays (behind (record m { waiting = None }) v place steps stopped m.undo) m.workspace has.are_of has.memory has.cache (fixed n e) bounds)
+    (λ n e. story_stays (behind (record m { waiting = None }) v place steps stopped m.undo) m.game has.are_of has.memory has.cache (fixed n e) bounds)
 
-pub save_answered : (m : Inside) (w : Waiting) (k : Bool) (word : ℕ) (led : Result Next Refusal) (v : Workspace) (place steps : ℕ) (stopped : Option Stop) → IsSound m → m.waiting ≡ Some w → event_waited m.waiting ≡ Some event.Save → word ≡ truth_word k
-    → Told led (limited_next (result_answered m.workspace w.instruction word k)) v → bounds_of v.frames ≡ bounds_of m.workspace.frames
+pub save_answered : (m : Inside) (w : Waiting) (k : Bool) (word : ℕ) (led : Result Next Refusal) (v : GameState) (place steps : ℕ) (stopped : Option Stop) → IsSound m → m.waiting ≡ Some w → event_waited m.waiting ≡ Some event.Save → word ≡ truth_word k
+    → Told led (limited_next (result_answered m.game w.instruction word k)) v → bounds_of v.frames ≡ bounds_of m.game.frames
     → place ≡ place_by m.place led → steps ≡ steps_by m.steps led → stopped ≡ stopped_by m.stopped (verdict_by m.place led)
     → IsSound (behind (record m { waiting = None }) v place steps stopped m.undo)
-    × IsLeftAs (seen (behind (record m { waiting = None }) v place steps stopped m.undo)) (given (seen m) (Kept k)) (given (seen m) (Kept k)).stopped
+    × IsLeftAs (seen (behind (record m { waiting = None }) v place steps stopped m.undo)) (given (seen m) (GameKept k)) (given (seen m) (GameKept k)).stopped
 save_answered m w k word led v place steps stopped is waits saving value told bounds at counts stops =
     let can = answerable m w is waits in
     let has = running m.stopped (IsOfStory m) can.runs is.story in
-    let fixed : (n : Next) → result_answered m.workspace w.instruction word k ≡ Ok (v, n) → fixed_parts v.memory ≡ fixed_parts m.workspace.memory
-    = (λ n e. answers_leave_stories.result m.workspace w.instruction word k (v, n) e) in
+    let fixed : (n : Next) → result_answered m.game w.instruction word k ≡ Ok (v, n) → fixed_parts v.memory ≡ fixed_parts m.game.memory
+    = (λ n e. answers_leave_stories.result m.game w.instruction word k (v, n) e) in
     let here = saves (state_seen m) w k (asks_save m.waiting w waits saving) in
     let word_is = rw (← value) at here in (
-      answered_sound m v place steps stopped led is can.runs can.steps has bounds counts stops (told_on led (result_answered m.workspace w.instruction word k) v told fixed),
-      file_answered (seen m) w (Kept k) (states_in v.memory.file m.undo) (result_answered m.workspace w.instruction word k) led v place steps stopped waits can.runs word_is told at counts stops (λ n e. same_states m.workspace.memory v.memory m.undo (fixed n e)),
+      answered_sound m v place steps stopped led is can.runs can.steps has bounds counts stops (told_on led (result_answered m.game w.instruction word k) v told fixed),
+      file_answered (seen m) w (GameKept k) (states_in v.memory.file m.undo) (result_answered m.game w.instruction word k) led v place steps stopped waits can.runs word_is told at counts stops (λ n e. same_states m.game.memory v.memory m.undo (fixed n e)),
     )
 
 -- ---- a saved game that is restored
@@ -128,15 +128,15 @@ pub restored_fixed : (file : List ℕ) (m n : MemoryMap) (s g : FrameList) (p : 
 unfolding restored
 restored_fixed file m n s g p h = loaded_fixed (loaded m file) m n s g p h
 
-renewed_memory : (w : Workspace) → (renewed w).memory ≡ w.memory
-unfolding renewed
+renewed_memory : (w : GameState) → (windows_closed w).memory ≡ w.memory
+unfolding windows_closed
 renewed_memory w = refl
 
 -- where a restored machine goes on, the story's parts stay
-restored_stays : (w : Workspace) (i : Instr) (q : Result (MemoryMap × FrameList × ℕ) RestoreError) (led : Result Next Refusal) (v : Workspace) → ((n : MemoryMap) (g : FrameList) (p : ℕ) → q ≡ Ok (n, g, p) → fixed_parts n ≡ fixed_parts w.memory)
+restored_stays : (w : GameState) (i : Instr) (q : Result (MemoryMap × FrameList × ℕ) RestoreError) (led : Result Next Refusal) (v : GameState) → ((n : MemoryMap) (g : FrameList) (p : ℕ) → q ≡ Ok (n, g, p) → fixed_parts n ≡ fixed_parts w.memory)
     → Told led (restored_by w i q) v → (n : Next) → led ≡ Ok n → fixed_parts v.memory ≡ fixed_parts w.memory
 restored_stays w i (Ok (m, f, p)) led v same told =
-    told_on led (resumed (renewed (record w { memory = m; frames = f })) p) v told (λ n e. answers_leave_stories.back (renewed (record w { memory = m; frames = f })) p (v, n) e ∙ ap fixed_parts (renewed_memory (record w { memory = m; frames = f })) ∙ same m f p refl)
+    told_on led (resumed (windows_closed (record w { memory = m; frames = f })) p) v told (λ n e. answers_leave_stories.back (windows_closed (record w { memory = m; frames = f })) p (v, n) e ∙ ap fixed_parts (renewed_memory (record w { memory = m; frames = f })) ∙ same m f p refl)
 restored_stays w i (Err (restore_error.Limit l)) (Ok x) v same told = absurd cc
 restored_stays w i (Err (restore_error.Limit l)) (Err e) v same told = λ n h. absurd cc
 restored_stays w i (Err restore_error.NotQuetzal) led v same told = told_on led (result_answered w i 0 false) v told (λ n e. answers_leave_stories.result w i 0 false (v, n) e)
@@ -145,54 +145,54 @@ restored_stays w i (Err restore_error.OtherStory) led v same told = told_on led 
 restored_stays w i (Err restore_error.BadMemory) led v same told = told_on led (result_answered w i 0 false) v told (λ n e. answers_leave_stories.result w i 0 false (v, n) e)
 restored_stays w i (Err restore_error.BadStack) led v same told = told_on led (result_answered w i 0 false) v told (λ n e. answers_leave_stories.result w i 0 false (v, n) e)
 
-restored_left : (m : Inside) (w : Waiting) (a : Answer) (q : Result (MemoryMap × FrameList × ℕ) RestoreError) (led : Result Next Refusal) (v : Workspace) (place steps : ℕ) (stopped : Option Stop) → m.waiting ≡ Some w → m.stopped ≡ None
-    → answered (state_seen m) w a ≡ restored_to (state_seen m) w.instruction q → Told led (restored_by m.workspace w.instruction q) v → place ≡ place_by m.place led → steps ≡ steps_by m.steps led → stopped ≡ stopped_by m.stopped (verdict_by m.place led)
-    → ((n : MemoryMap) (g : FrameList) (p : ℕ) → q ≡ Ok (n, g, p) → fixed_parts n ≡ fixed_parts m.workspace.memory)
+restored_left : (m : Inside) (w : Waiting) (a : Answer) (q : Result (MemoryMap × FrameList × ℕ) RestoreError) (led : Result Next Refusal) (v : GameState) (place steps : ℕ) (stopped : Option Stop) → m.waiting ≡ Some w → m.stopped ≡ None
+    → answered (state_seen m) w a ≡ restored_to (state_seen m) w.instruction q → Told led (restored_by m.game w.instruction q) v → place ≡ place_by m.place led → steps ≡ steps_by m.steps led → stopped ≡ stopped_by m.stopped (verdict_by m.place led)
+    → ((n : MemoryMap) (g : FrameList) (p : ℕ) → q ≡ Ok (n, g, p) → fixed_parts n ≡ fixed_parts m.game.memory)
     → IsLeftAs (seen (behind (record m { waiting = None }) v place steps stopped m.undo)) (given (seen m) a) (given (seen m) a).stopped
 restored_left m w a (Ok (n, f, p)) led v place steps stopped waits runs is told at counts stops fixed =
-    file_answered (seen m) w a (states_in v.memory.file m.undo) (resumed (renewed (record m.workspace { memory = n; frames = f })) p) led v place steps stopped waits runs is told at counts stops (λ x e. same_states m.workspace.memory v.memory m.undo (answers_leave_stories.back (renewed (record m.workspace { memory = n; frames = f })) p (v, x) e ∙ ap fixed_parts (renewed_memory (record m.workspace { memory = n; frames = f })) ∙ fixed n f p refl))
+    file_answered (seen m) w a (states_in v.memory.file m.undo) (resumed (windows_closed (record m.game { memory = n; frames = f })) p) led v place steps stopped waits runs is told at counts stops (λ x e. same_states m.game.memory v.memory m.undo (answers_leave_stories.back (windows_closed (record m.game { memory = n; frames = f })) p (v, x) e ∙ ap fixed_parts (renewed_memory (record m.game { memory = n; frames = f })) ∙ fixed n f p refl))
 restored_left m w a (Err (restore_error.Limit l)) led v place steps stopped waits runs is told at counts stops fixed =
     limit_answered (seen m) w a l (states_in v.memory.file m.undo) led v place steps stopped waits runs is told at counts stops
 restored_left m w a (Err restore_error.NotQuetzal) led v place steps stopped waits runs is told at counts stops fixed =
-    file_answered (seen m) w a (states_in v.memory.file m.undo) (result_answered m.workspace w.instruction 0 false) led v place steps stopped waits runs is told at counts stops (λ x e. same_states m.workspace.memory v.memory m.undo (answers_leave_stories.result m.workspace w.instruction 0 false (v, x) e))
+    file_answered (seen m) w a (states_in v.memory.file m.undo) (result_answered m.game w.instruction 0 false) led v place steps stopped waits runs is told at counts stops (λ x e. same_states m.game.memory v.memory m.undo (answers_leave_stories.result m.game w.instruction 0 false (v, x) e))
 restored_left m w a (Err restore_error.Truncated) led v place steps stopped waits runs is told at counts stops fixed =
-    file_answered (seen m) w a (states_in v.memory.file m.undo) (result_answered m.workspace w.instruction 0 false) led v place steps stopped waits runs is told at counts stops (λ x e. same_states m.workspace.memory v.memory m.undo (answers_leave_stories.result m.workspace w.instruction 0 false (v, x) e))
+    file_answered (seen m) w a (states_in v.memory.file m.undo) (result_answered m.game w.instruction 0 false) led v place steps stopped waits runs is told at counts stops (λ x e. same_states m.game.memory v.memory m.undo (answers_leave_stories.result m.game w.instruction 0 false (v, x) e))
 restored_left m w a (Err restore_error.OtherStory) led v place steps stopped waits runs is told at counts stops fixed =
-    file_answered (seen m) w a (states_in v.memory.file m.undo) (result_answered m.workspace w.instruction 0 false) led v place steps stopped waits runs is told at counts stops (λ x e. same_states m.workspace.memory v.memory m.undo (answers_leave_stories.result m.workspace w.instruction 0 false (v, x) e))
+    file_answered (seen m) w a (states_in v.memory.file m.undo) (result_answered m.game w.instruction 0 false) led v place steps stopped waits runs is told at counts stops (λ x e. same_states m.game.memory v.memory m.undo (answers_leave_stories.result m.game w.instruction 0 false (v, x) e))
 restored_left m w a (Err restore_error.BadMemory) led v place steps stopped waits runs is told at counts stops fixed =
-    file_answered (seen m) w a (states_in v.memory.file m.undo) (result_answered m.workspace w.instruction 0 false) led v place steps stopped waits runs is told at counts stops (λ x e. same_states m.workspace.memory v.memory m.undo (answers_leave_stories.result m.workspace w.instruction 0 false (v, x) e))
+    file_answered (seen m) w a (states_in v.memory.file m.undo) (result_answered m.game w.instruction 0 false) led v place steps stopped waits runs is told at counts stops (λ x e. same_states m.game.memory v.memory m.undo (answers_leave_stories.result m.game w.instruction 0 false (v, x) e))
 restored_left m w a (Err restore_error.BadStack) led v place steps stopped waits runs is told at counts stops fixed =
-    file_answered (seen m) w a (states_in v.memory.file m.undo) (result_answered m.workspace w.instruction 0 false) led v place steps stopped waits runs is told at counts stops (λ x e. same_states m.workspace.memory v.memory m.undo (answers_leave_stories.result m.workspace w.instruction 0 false (v, x) e))
+    file_answered (seen m) w a (states_in v.memory.file m.undo) (result_answered m.game w.instruction 0 false) led v place steps stopped waits runs is told at counts stops (λ x e. same_states m.game.memory v.memory m.undo (answers_leave_stories.result m.game w.instruction 0 false (v, x) e))
 
-pub file_restored : (m : Inside) (w : Waiting) (file : List ℕ) (led : Result Next Refusal) (v : Workspace) (place steps : ℕ) (stopped : Option Stop) → IsSound m → m.waiting ≡ Some w → event_waited m.waiting ≡ Some event.Restore
-    → Told led (restored_on m.workspace w.instruction file) v → bounds_of v.frames ≡ bounds_of m.workspace.frames
+pub file_restored : (m : Inside) (w : Waiting) (file : List ℕ) (led : Result Next Refusal) (v : GameState) (place steps : ℕ) (stopped : Option Stop) → IsSound m → m.waiting ≡ Some w → event_waited m.waiting ≡ Some event.Restore
+    → Told led (restored_on m.game w.instruction file) v → bounds_of v.frames ≡ bounds_of m.game.frames
     → place ≡ place_by m.place led → steps ≡ steps_by m.steps led → stopped ≡ stopped_by m.stopped (verdict_by m.place led)
     → IsSound (behind (record m { waiting = None }) v place steps stopped m.undo)
     × IsLeftAs (seen (behind (record m { waiting = None }) v place steps stopped m.undo)) (given (seen m) (File (Some file))) (given (seen m) (File (Some file))).stopped
 file_restored m w file led v place steps stopped is waits restoring told bounds at counts stops =
     let can = answerable m w is waits in
     let has = running m.stopped (IsOfStory m) can.runs is.story in
-    let same : (n : MemoryMap) (g : FrameList) (p : ℕ) → restored file m.workspace.memory m.workspace.frames ≡ Ok (n, g, p) → fixed_parts n ≡ fixed_parts m.workspace.memory
-    = (λ n g p e. restored_fixed file m.workspace.memory n m.workspace.frames g p e) in
-    let fixed = restored_stays m.workspace w.instruction (restored file m.workspace.memory m.workspace.frames) led v same told in
+    let same : (n : MemoryMap) (g : FrameList) (p : ℕ) → restored file m.game.memory m.game.frames ≡ Ok (n, g, p) → fixed_parts n ≡ fixed_parts m.game.memory
+    = (λ n g p e. restored_fixed file m.game.memory n m.game.frames g p e) in
+    let fixed = restored_stays m.game w.instruction (restored file m.game.memory m.game.frames) led v same told in
     let here = restores (state_seen m) w (Some file) (asks_restore m.waiting w waits restoring) in (
       answered_sound m v place steps stopped led is can.runs can.steps has bounds counts stops fixed,
-      restored_left m w (File (Some file)) (restored file m.workspace.memory m.workspace.frames) led v place steps stopped waits can.runs here told at counts stops same,
+      restored_left m w (File (Some file)) (restored file m.game.memory m.game.frames) led v place steps stopped waits can.runs here told at counts stops same,
     )
 
-pub none_restored : (m : Inside) (w : Waiting) (led : Result Next Refusal) (v : Workspace) (place steps : ℕ) (stopped : Option Stop) → IsSound m → m.waiting ≡ Some w → event_waited m.waiting ≡ Some event.Restore
-    → Told led (limited_next (result_answered m.workspace w.instruction 0 false)) v → bounds_of v.frames ≡ bounds_of m.workspace.frames
+pub none_restored : (m : Inside) (w : Waiting) (led : Result Next Refusal) (v : GameState) (place steps : ℕ) (stopped : Option Stop) → IsSound m → m.waiting ≡ Some w → event_waited m.waiting ≡ Some event.Restore
+    → Told led (limited_next (result_answered m.game w.instruction 0 false)) v → bounds_of v.frames ≡ bounds_of m.game.frames
     → place ≡ place_by m.place led → steps ≡ steps_by m.steps led → stopped ≡ stopped_by m.stopped (verdict_by m.place led)
     → IsSound (behind (record m { waiting = None }) v place steps stopped m.undo)
     × IsLeftAs (seen (behind (record m { waiting = None }) v place steps stopped m.undo)) (given (seen m) (File None)) (given (seen m) (File None)).stopped
 none_restored m w led v place steps stopped is waits restoring told bounds at counts stops =
     let can = answerable m w is waits in
     let has = running m.stopped (IsOfStory m) can.runs is.story in
-    let fixed : (n : Next) → result_answered m.workspace w.instruction 0 false ≡ Ok (v, n) → fixed_parts v.memory ≡ fixed_parts m.workspace.memory
-    = (λ n e. answers_leave_stories.result m.workspace w.instruction 0 false (v, n) e) in
+    let fixed : (n : Next) → result_answered m.game w.instruction 0 false ≡ Ok (v, n) → fixed_parts v.memory ≡ fixed_parts m.game.memory
+    = (λ n e. answers_leave_stories.result m.game w.instruction 0 false (v, n) e) in
     let here = restores (state_seen m) w None (asks_restore m.waiting w waits restoring) in (
-      answered_sound m v place steps stopped led is can.runs can.steps has bounds counts stops (told_on led (result_answered m.workspace w.instruction 0 false) v told fixed),
-      file_answered (seen m) w (File None) (states_in v.memory.file m.undo) (result_answered m.workspace w.instruction 0 false) led v place steps stopped waits can.runs here told at counts stops (λ n e. same_states m.workspace.memory v.memory m.undo (fixed n e)),
+      answered_sound m v place steps stopped led is can.runs can.steps has bounds counts stops (told_on led (result_answered m.game w.instruction 0 false) v told fixed),
+      file_answered (seen m) w (File None) (states_in v.memory.file m.undo) (result_answered m.game w.instruction 0 false) led v place steps stopped waits can.runs here told at counts stops (λ n e. same_states m.game.memory v.memory m.undo (fixed n e)),
     )
 
 -- ---- reads
@@ -203,55 +203,55 @@ few_reads n x read past =
     grind (arith, nat_tests, here)
 
 pub read_sound : (m n : Inside) (w : Waiting) (led : Result Next Refusal) → IsSound m → m.waiting ≡ Some w → is_read w.wait ≡ true → n.limits ≡ m.limits → n.waiting ≡ None → n.steps ≡ 0 → n.reads ≡ m.reads + 1 → n.undo ≡ m.undo → n.cache ≡ m.cache
-    → bounds_of n.workspace.frames ≡ bounds_of m.workspace.frames → n.stopped ≡ stopped_by m.stopped (verdict_by m.place led) → ((x : Next) → led ≡ Ok x → fixed_parts n.workspace.memory ≡ fixed_parts m.workspace.memory) → IsSound n
+    → bounds_of n.game.frames ≡ bounds_of m.game.frames → n.stopped ≡ stopped_by m.stopped (verdict_by m.place led) → ((x : Next) → led ≡ Ok x → fixed_parts n.game.memory ≡ fixed_parts m.game.memory) → IsSound n
 read_sound m n w led is waits read limits free steps reads undo same bounds stops fixed =
     let can = answerable m w is waits in
     let has = running m.stopped (IsOfStory m) can.runs is.story in
     let few = few_reads m.reads w.wait read can.reads in
-    let are = subst (λ (u : UndoStates). AreOf m.workspace.memory m.workspace.frames u) (sym undo) has.are_of in
-    let cache = subst (λ (k : Cache). IsCacheOf (fixed_parts m.workspace.memory) k) (sym same) has.cache in
+    let are = subst (λ (u : UndoStates). AreOf m.game.memory m.game.frames u) (sym undo) has.are_of in
+    let cache = subst (λ (k : Cache). IsCacheOf (fixed_parts m.game.memory) k) (sym same) has.cache in
     sound_now m n is limits free (omega (arith, steps)) (omega (arith, reads, few)) (ap (λ (u : UndoStates). u.most) undo) bounds
-    (going_led n.stopped m.stopped m.place led (IsOfStory n) stops (λ x e. story_stays n m.workspace are (has.memory ∙ ap (λ (l : Limits). l.undo) (sym limits)) cache (fixed x e) bounds))
+    (going_led n.stopped m.stopped m.place led (IsOfStory n) stops (λ x e. story_stays n m.game are (has.memory ∙ ap (λ (l : Limits). l.undo) (sym limits)) cache (fixed x e) bounds))
 
-reads_char : (s : State) (w : Waiting) (code : ℕ) → w.wait ≡ wait.Char → answered s w (Typed (code ∷ [])) ≡ answer_settled s [] (character_answered s.workspace w.instruction code)
+reads_char : (s : State) (w : Waiting) (code : ℕ) → w.wait ≡ wait.Char → answered s w (Typed (code ∷ [])) ≡ answer_settled s [] (character_answered s.game w.instruction code)
 unfolding answered
 reads_char s w code e = rw e refl
 
 reads_line : (s : State) (w : Waiting) (text parse : ℕ) (codes : List ℕ) → w.wait ≡ wait.Line text parse
-    → answered s w (Typed codes) ≡ answer_settled s (transcribed s.workspace (wait.Line text parse) codes) (line_answered s.workspace w.instruction text parse codes)
+    → answered s w (Typed codes) ≡ answer_settled s (transcribed s.game (wait.Line text parse) codes) (line_answered s.game w.instruction text parse codes)
 unfolding answered
 reads_line s w text parse codes e = rw e refl
 
-pub char_fixed : (m : Inside) (w : Waiting) (code : ℕ) (led : Result Next Refusal) (v : Workspace) → Told led (limited_next (character_answered m.workspace w.instruction code)) v → (n : Next) → led ≡ Ok n → fixed_parts v.memory ≡ fixed_parts m.workspace.memory
-char_fixed m w code led v told = told_on led (character_answered m.workspace w.instruction code) v told (λ n e. answers_leave_stories.character m.workspace w.instruction code (v, n) e)
+pub char_fixed : (m : Inside) (w : Waiting) (code : ℕ) (led : Result Next Refusal) (v : GameState) → Told led (limited_next (character_answered m.game w.instruction code)) v → (n : Next) → led ≡ Ok n → fixed_parts v.memory ≡ fixed_parts m.game.memory
+char_fixed m w code led v told = told_on led (character_answered m.game w.instruction code) v told (λ n e. answers_leave_stories.character m.game w.instruction code (v, n) e)
 
-pub line_fixed : (m : Inside) (w : Waiting) (text parse : ℕ) (codes : List ℕ) (led : Result Next Refusal) (v : Workspace) → Told led (limited_next (line_answered m.workspace w.instruction text parse codes)) v
-    → (n : Next) → led ≡ Ok n → fixed_parts v.memory ≡ fixed_parts m.workspace.memory
-line_fixed m w text parse codes led v told = told_on led (line_answered m.workspace w.instruction text parse codes) v told (λ n e. answers_leave_stories.line m.workspace w.instruction text parse codes (v, n) e)
+pub line_fixed : (m : Inside) (w : Waiting) (text parse : ℕ) (codes : List ℕ) (led : Result Next Refusal) (v : GameState) → Told led (limited_next (line_answered m.game w.instruction text parse codes)) v
+    → (n : Next) → led ≡ Ok n → fixed_parts v.memory ≡ fixed_parts m.game.memory
+line_fixed m w text parse codes led v told = told_on led (line_answered m.game w.instruction text parse codes) v told (λ n e. answers_leave_stories.line m.game w.instruction text parse codes (v, n) e)
 
-pub char_answered : (m : Inside) (w : Waiting) (code : ℕ) (due : List ℕ) (led : Result Next Refusal) (v : Workspace) (place : ℕ) (stopped : Option Stop) → IsSound m → m.waiting ≡ Some w → event_waited m.waiting ≡ Some event.Char → due ≡ []
-    → Told led (limited_next (character_answered m.workspace w.instruction code)) v → place ≡ place_by m.place led → stopped ≡ stopped_by m.stopped (verdict_by m.place led)
+pub char_answered : (m : Inside) (w : Waiting) (code : ℕ) (due : List ℕ) (led : Result Next Refusal) (v : GameState) (place : ℕ) (stopped : Option Stop) → IsSound m → m.waiting ≡ Some w → event_waited m.waiting ≡ Some event.Char → due ≡ []
+    → Told led (limited_next (character_answered m.game w.instruction code)) v → place ≡ place_by m.place led → stopped ≡ stopped_by m.stopped (verdict_by m.place led)
     → IsLeftAs (reading (seen m) v place due (states_in v.memory.file m.undo) stopped) (given (seen m) (Typed (code ∷ []))) (given (seen m) (Typed (code ∷ []))).stopped
 char_answered m w code due led v place stopped is waits reading_char none told at stops =
     let can = answerable m w is waits in
     let here = reads_char (state_seen m) w code (asks_char m.waiting w waits reading_char) in
-    let done : answered (state_seen m) w (Typed (code ∷ [])) ≡ answer_settled (state_seen m) due (character_answered m.workspace w.instruction code) = rw none here in
-    read_answered (seen m) w (Typed (code ∷ [])) due (states_in v.memory.file m.undo) (character_answered m.workspace w.instruction code) led v place stopped waits can.runs done told at stops
-    (λ n e. same_states m.workspace.memory v.memory m.undo (answers_leave_stories.character m.workspace w.instruction code (v, n) e))
+    let done : answered (state_seen m) w (Typed (code ∷ [])) ≡ answer_settled (state_seen m) due (character_answered m.game w.instruction code) = rw none here in
+    read_answered (seen m) w (Typed (code ∷ [])) due (states_in v.memory.file m.undo) (character_answered m.game w.instruction code) led v place stopped waits can.runs done told at stops
+    (λ n e. same_states m.game.memory v.memory m.undo (answers_leave_stories.character m.game w.instruction code (v, n) e))
 
-pub line_typed : (m : Inside) (w : Waiting) (text parse : ℕ) (codes due : List ℕ) (led : Result Next Refusal) (v : Workspace) (place : ℕ) (stopped : Option Stop) → IsSound m → m.waiting ≡ Some w → w.wait ≡ wait.Line text parse
-    → due ≡ transcribed m.workspace (wait.Line text parse) codes
-    → Told led (limited_next (line_answered m.workspace w.instruction text parse codes)) v → place ≡ place_by m.place led → stopped ≡ stopped_by m.stopped (verdict_by m.place led)
+pub line_typed : (m : Inside) (w : Waiting) (text parse : ℕ) (codes due : List ℕ) (led : Result Next Refusal) (v : GameState) (place : ℕ) (stopped : Option Stop) → IsSound m → m.waiting ≡ Some w → w.wait ≡ wait.Line text parse
+    → due ≡ transcribed m.game (wait.Line text parse) codes
+    → Told led (limited_next (line_answered m.game w.instruction text parse codes)) v → place ≡ place_by m.place led → stopped ≡ stopped_by m.stopped (verdict_by m.place led)
     → IsLeftAs (reading (seen m) v place due (states_in v.memory.file m.undo) stopped) (given (seen m) (Typed codes)) (given (seen m) (Typed codes)).stopped
 line_typed m w text parse codes due led v place stopped is waits line transcript told at stops =
     let can = answerable m w is waits in
     let here = reads_line (state_seen m) w text parse codes line in
-    let done : answered (state_seen m) w (Typed codes) ≡ answer_settled (state_seen m) due (line_answered m.workspace w.instruction text parse codes) = rw transcript here in
-    read_answered (seen m) w (Typed codes) due (states_in v.memory.file m.undo) (line_answered m.workspace w.instruction text parse codes) led v place stopped waits can.runs done told at stops
-    (λ n e. same_states m.workspace.memory v.memory m.undo (answers_leave_stories.line m.workspace w.instruction text parse codes (v, n) e))
+    let done : answered (state_seen m) w (Typed codes) ≡ answer_settled (state_seen m) due (line_answered m.game w.instruction text parse codes) = rw transcript here in
+    read_answered (seen m) w (Typed codes) due (states_in v.memory.file m.undo) (line_answered m.game w.instruction text parse codes) led v place stopped waits can.runs done told at stops
+    (λ n e. same_states m.game.memory v.memory m.undo (answers_leave_stories.line m.game w.instruction text parse codes (v, n) e))
 
 -- a file that is refused, but for a limit, is none
-pub refused_on : (w : Workspace) (i : Instr) (file : List ℕ) (e : RestoreError) → restored file w.memory w.frames ≡ Err e → limit_of e ≡ None → restored_on w i file ≡ limited_next (result_answered w i 0 false)
+pub refused_on : (w : GameState) (i : Instr) (file : List ℕ) (e : RestoreError) → restored file w.memory w.frames ≡ Err e → limit_of e ≡ None → restored_on w i file ≡ limited_next (result_answered w i 0 false)
 refused_on w i file e h none = ap (restored_by w i) h ∙ go e none
   where
     go : (e : RestoreError) → limit_of e ≡ None → restored_by w i (Err e) ≡ limited_next (result_answered w i 0 false)
@@ -262,7 +262,7 @@ refused_on w i file e h none = ap (restored_by w i) h ∙ go e none
     go restore_error.BadMemory none = refl
     go restore_error.BadStack none = refl
 
-pub limit_on : (w : Workspace) (i : Instr) (file : List ℕ) (e : RestoreError) (l : Limit) → restored file w.memory w.frames ≡ Err e → limit_of e ≡ Some l → restored_on w i file ≡ Err (refusal.Limit l)
+pub limit_on : (w : GameState) (i : Instr) (file : List ℕ) (e : RestoreError) (l : Limit) → restored file w.memory w.frames ≡ Err e → limit_of e ≡ Some l → restored_on w i file ≡ Err (refusal.Limit l)
 limit_on w i file e l h some = ap (restored_by w i) h ∙ go e some
   where
     go : (e : RestoreError) → limit_of e ≡ Some l → restored_by w i (Err e) ≡ Err (refusal.Limit l)
@@ -273,9 +273,9 @@ limit_on w i file e l h some = ap (restored_by w i) h ∙ go e some
     go restore_error.BadMemory some = absurd cc
     go restore_error.BadStack some = absurd cc
 
-pub refused_told : (w : Workspace) (i : Instr) (file : List ℕ) (e : RestoreError) (n : MemoryMap) (g : FrameList) (led : Result Next Refusal) (v : Workspace) → restored file w.memory w.frames ≡ Err e → n ≡ w.memory → g ≡ w.frames → limit_of e ≡ None
+pub refused_told : (w : GameState) (i : Instr) (file : List ℕ) (e : RestoreError) (n : MemoryMap) (g : FrameList) (led : Result Next Refusal) (v : GameState) → restored file w.memory w.frames ≡ Err e → n ≡ w.memory → g ≡ w.frames → limit_of e ≡ None
     → Told led (limited_next (result_answered (record w { memory = n; frames = g }) i 0 false)) v → Told led (restored_on w i file) v
 refused_told w i file e n g led v h memory frames none told =
     let both : ◌≡◌ {A = MemoryMap × FrameList} (n, g) (w.memory, w.frames) = cc in
     let here : Told led (limited_next (result_answered w i 0 false)) v = subst (λ (p : MemoryMap × FrameList). Told led (limited_next (result_answered (record w { memory = p.0; frames = p.1 }) i 0 false)) v) both told in
-    subst (λ (r : Result (Workspace × Next) Refusal). Told led r v) (sym (refused_on w i file e h none)) here
+    subst (λ (r : Result (GameState × Next) Refusal). Told led r v) (sym (refused_on w i file e h none)) here

@@ -19,7 +19,7 @@ use Rattle.zk_code.proofs.Longer.{ends_inside as instruction_ends}
 use Rattle.zk_code.proofs.Saved.{saved_from_five}
 use Rattle.zk_save.specs.Loading.{restored}
 use Rattle.zk_save.specs.States.{WholeState}
-use Rattle.zk_step.specs.declared.workspace.View.{View}
+use Rattle.zk_step.specs.declared.game_state.View.{View}
 use Rattle.zk_step.specs.Laws.{IsOneStory, KeepsStory}
 use Rattle.zk_step.proofs.Inside.{ends_inside, goes_inside, next_inside, read_inside}
 use Rattle.zk_step.proofs.Sweep.{Anywhere, ResumesInto, ends_anywhere, leads_anywhere, return_anywhere}
@@ -76,7 +76,7 @@ module _ (m : MemoryMap) where
 
   files_anywhere : (s : State) (w : Waiting) (a : Answer) → Inside m Anywhere s → FilesInto m Anywhere s w a
   files_anywhere s w a h file n f place restore there e =
-      let k = loaded_keeps file s.workspace.memory s.workspace.frames n f place h.memory e in
+      let k = loaded_keeps file s.game.memory s.game.frames n f place h.memory e in
       let story = h.story in
       let back = k.1 in
       record {
@@ -95,20 +95,20 @@ same_instr : (i j : Instr) → ◌≡◌ {A = Result Instr Fault} (Ok i) (Ok j) 
 same_instr i j e = cc
 
 module _ (m : MemoryMap) (P : ℕ → Type 0) (clean : IsClean m P) (keeps : KeepsStory m) where
-  there : (s : State) → Inside m P s → (i : Instr) × IsInstruction m s.place i i.next × (instr_at s.workspace.memory s.place ≡ Ok i)
-  there s h = let d = clean.decodes s.place h.place in (d.0, d.1, read_inside m P clean keeps s.place d.0 h.place d.1 s.workspace.memory h.memory h.story)
+  there : (s : State) → Inside m P s → (i : Instr) × IsInstruction m s.place i i.next × (instr_at s.game.memory s.place ≡ Ok i)
+  there s h = let d = clean.decodes s.place h.place in (d.0, d.1, read_inside m P clean keeps s.place d.0 h.place d.1 s.game.memory h.memory h.story)
 
-  kept_place : (s : State) (i : Instr) → IsOneStory m s.workspace.memory → IsInstruction m s.place i i.next → 5 ≤ m.version → saved_place s i + 1 ≡ i.next
+  kept_place : (s : State) (i : Instr) → IsOneStory m s.game.memory → IsInstruction m s.place i i.next → 5 ≤ m.version → saved_place s i + 1 ≡ i.next
   kept_place s i story stands late =
       let version = story.version in
-      let test : nat_lt s.workspace.memory.version 4 ≡ false = grind (arith, nat_tests) in
+      let test : nat_lt s.game.memory.version 4 ≡ false = grind (arith, nat_tests) in
       let some = (instruction_ends m s.place i i.next stands).0 in
       rw test (omega (arith, some))
 
   knows : (s : State) → Inside m P s → (i : Instr) → IsInstruction m s.place i i.next → leads_by_variable i ≡ false → Knows m P s i
   unfolding goes_on
   knows s h i stands known = record {
-    ends = λ u v vs e taken by k story. ends_inside m P clean keeps s.place i h.place stands v.memory k story known s.workspace u vs taken e by;
+    ends = λ u v vs e taken by k story. ends_inside m P clean keeps s.place i h.place stands v.memory k story known s.game u vs taken e by;
     on = goes_inside m P clean keeps s.place i h.place stands;
     kept = λ by.
         (let late = saved_from_five m s.place i i.next stands by in
@@ -118,7 +118,7 @@ module _ (m : MemoryMap) (P : ℕ → Type 0) (clean : IsClean m P) (keeps : Kee
         (record { branch = λ b a early. absurd cc; store = λ k. after }, after));
   }
 
-  known : (s : State) → Inside m P s → goes_by_variable s ≡ false → (i : Instr) → instr_at s.workspace.memory s.place ≡ Ok i → Knows m P s i
+  known : (s : State) → Inside m P s → goes_by_variable s ≡ false → (i : Instr) → instr_at s.game.memory s.place ≡ Ok i → Knows m P s i
   unfolding goes_by_variable
   known s h more i e =
       let t = there s h in
@@ -131,7 +131,7 @@ module _ (m : MemoryMap) (P : ℕ → Type 0) (clean : IsClean m P) (keeps : Kee
   both true false h e k = absurd cc
   both false y h e k = absurd cc
 
-  loaded_so : (s : State) (o : Option (List ℕ)) (file : List ℕ) (r : _) → o ≡ Some file → restored file s.workspace.memory s.workspace.frames ≡ Ok r → is_loaded s o ≡ true
+  loaded_so : (s : State) (o : Option (List ℕ)) (file : List ℕ) (r : _) → o ≡ Some file → restored file s.game.memory s.game.frames ≡ Ok r → is_loaded s o ≡ true
   loaded_so s None file r e k = absurd cc
   loaded_so s (Some x) file r e k = let same : x ≡ file = cc in rw (same, k) refl
 
@@ -154,7 +154,7 @@ module _ (m : MemoryMap) (P : ℕ → Type 0) (clean : IsClean m P) (keeps : Kee
   is_read : (s : State) → Inside m Anywhere s → IsRead P s
   is_read s h inside f e =
       let d = clean.decodes s.place inside in
-      step_is_later s d.0 f (read_inside m P clean keeps s.place d.0 inside d.1 s.workspace.memory h.memory h.story) e
+      step_is_later s d.0 f (read_inside m P clean keeps s.place d.0 inside d.1 s.game.memory h.memory h.story) e
 
 -- ---- the laws
 
@@ -166,7 +166,7 @@ stays_clean story k P is clean =
       inside = λ seed l view answers. run_inside (fresh story k) P clean keeps l answers (begun story seed l view).state (begins story k P seed l view is clean.closed.first);
       read = λ seed l view answers. all_anywhere (fresh story k) (IsRead P) (is_read (fresh story k) P clean keeps) l answers (begun story seed l view).state (begins story k Anywhere seed l view is tt);
       answers = answer_is_later;
-      memory = λ seed l view answers. all_anywhere (fresh story k) (λ s. KeepsStory s.workspace.memory) (λ s h. h.memory) l answers (begun story seed l view).state (begins story k Anywhere seed l view is tt);
+      memory = λ seed l view answers. all_anywhere (fresh story k) (λ s. KeepsStory s.game.memory) (λ s h. h.memory) l answers (begun story seed l view).state (begins story k Anywhere seed l view is tt);
     }
 
 pub clean_stays : CleanStays

@@ -14,7 +14,7 @@ use Rattle.zk_step.specs.declared.ending.Next.{Next}
 use Rattle.zk_step.specs.declared.ending.Next.TheVariants as next
 use Rattle.zk_step.specs.declared.ending.Wait.{Wait}
 use Rattle.zk_step.specs.declared.ending.Wait.TheVariants as wait
-use Rattle.zk_step.specs.declared.workspace.Workspace.{Workspace}
+use Rattle.zk_step.specs.declared.game_state.GameState.{GameState}
 use Rattle.zk_step.specs.Inputs.{character_answered, line_answered, result_answered}
 use Rattle.zk_step.specs.Routing.{Texts}
 use Rattle.zk_vm.specs.declared.limits.Limits.{Limits}
@@ -34,7 +34,7 @@ abbrev NoWait : Step → Type 0
 NoWait (Waits s w text) = ⊥
 NoWait _ = Unit {0}
 
-goes_free : (s : State) (us : List WholeState) (r : Result (Workspace × Next) Fault) → NoWait (goes_to s us r)
+goes_free : (s : State) (us : List WholeState) (r : Result (GameState × Next) Fault) → NoWait (goes_to s us r)
 goes_free s us (Ok (w, next.At place)) = tt
 goes_free s us (Ok (w, next.Waits x)) = tt
 goes_free s us (Ok (w, next.Keeps)) = tt
@@ -42,7 +42,7 @@ goes_free s us (Ok (w, next.Resumes)) = tt
 goes_free s us (Ok (w, next.End)) = tt
 goes_free s us (Err f) = tt
 
-answer_free : (s : State) (due : List ℕ) (r : Result (Workspace × Next) Fault) → NoWait (answer_settled s due r)
+answer_free : (s : State) (due : List ℕ) (r : Result (GameState × Next) Fault) → NoWait (answer_settled s due r)
 answer_free s due (Ok (w, next.At place)) = tt
 answer_free s due (Ok (w, next.Waits x)) = tt
 answer_free s due (Ok (w, next.Keeps)) = tt
@@ -53,20 +53,20 @@ answer_free s due (Err f) = tt
 restored_free : (s : State) (i : Instr) (r : Result (MemoryMap × FrameList × ℕ) RestoreError) → NoWait (restored_to s i r)
 restored_free s i (Ok (m, f, place)) = goes_free s s.undo _
 restored_free s i (Err (restore_error.Limit l)) = tt
-restored_free s i (Err restore_error.NotQuetzal) = goes_free s s.undo (result_answered s.workspace i 0 false)
-restored_free s i (Err restore_error.Truncated) = goes_free s s.undo (result_answered s.workspace i 0 false)
-restored_free s i (Err restore_error.OtherStory) = goes_free s s.undo (result_answered s.workspace i 0 false)
-restored_free s i (Err restore_error.BadMemory) = goes_free s s.undo (result_answered s.workspace i 0 false)
-restored_free s i (Err restore_error.BadStack) = goes_free s s.undo (result_answered s.workspace i 0 false)
+restored_free s i (Err restore_error.NotQuetzal) = goes_free s s.undo (result_answered s.game i 0 false)
+restored_free s i (Err restore_error.Truncated) = goes_free s s.undo (result_answered s.game i 0 false)
+restored_free s i (Err restore_error.OtherStory) = goes_free s s.undo (result_answered s.game i 0 false)
+restored_free s i (Err restore_error.BadMemory) = goes_free s s.undo (result_answered s.game i 0 false)
+restored_free s i (Err restore_error.BadStack) = goes_free s s.undo (result_answered s.game i 0 false)
 
 file_free : (s : State) (i : Instr) (o : Option (List ℕ)) → NoWait (restored_from s i o)
-file_free s i None = goes_free s s.undo (result_answered s.workspace i 0 false)
-file_free s i (Some file) = restored_free s i (restored file s.workspace.memory s.workspace.frames)
+file_free s i None = goes_free s s.undo (result_answered s.game i 0 false)
+file_free s i (Some file) = restored_free s i (restored file s.game.memory s.game.frames)
 
 by_free : (s : State) (i : Instr) (x : Wait) (a : Answer) → NoWait (answered_by s i x a)
-by_free s i (wait.Line text parse) a = answer_free s (transcribed s.workspace (wait.Line text parse) (codes_of a)) (line_answered s.workspace i text parse (codes_of a))
-by_free s i wait.Char a = answer_free s [] (character_answered s.workspace i (first_code (codes_of a)))
-by_free s i wait.Save a = goes_free s s.undo (result_answered s.workspace i (truth_word (is_kept a)) (is_kept a))
+by_free s i (wait.Line text parse) a = answer_free s (transcribed s.game (wait.Line text parse) (codes_of a)) (line_answered s.game i text parse (codes_of a))
+by_free s i wait.Char a = answer_free s [] (character_answered s.game i (first_code (codes_of a)))
+by_free s i wait.Save a = goes_free s s.undo (result_answered s.game i (truth_word (is_kept a)) (is_kept a))
 by_free s i wait.Restore a = file_free s i (file_of a)
 
 answered_free : (s : State) (w : Waiting) (a : Answer) → NoWait (answered s w a)
@@ -125,7 +125,7 @@ module _ (is_so : State → Bool) where
 
   resumed_said : (l : Limits) (answers : List Answer) (s : Session) (x : Step) → NoWait x → Onward (verdict_of s.state x) (EachOfRun At never never_ends l answers (state_after s.state x)) (λ v. Unit {0}) → (resumed s (verdict_of s.state x) (state_after s.state x)).stopped ≡ None
       → EachOfRun At never never_ends l answers (resumed s (verdict_of s.state x) (state_after s.state x)).state
-  resumed_said l answers s (Goes t text) free on k = goes_said l answers s s.state.place t (within_bounds t.workspace.frames) on k
+  resumed_said l answers s (Goes t text) free on k = goes_said l answers s s.state.place t (within_bounds t.game.frames) on k
   resumed_said l answers s (Waits t v text) free on k = absurd free
   resumed_said l answers s (Quits text) free on k = absurd cc
   resumed_said l answers s (Faults f) free on k = absurd cc

@@ -17,9 +17,9 @@ use Rattle.zk_step.specs.declared.ending.Next.{Next}
 use Rattle.zk_step.specs.declared.ending.Next.TheVariants.{At, Waits as Awaits, Keeps, Resumes, End}
 use Rattle.zk_step.specs.declared.ending.Wait.{Wait}
 use Rattle.zk_step.specs.declared.ending.Wait.TheVariants as wait
-use Rattle.zk_step.specs.declared.workspace.View.{View}
-use Rattle.zk_step.specs.declared.workspace.View.TheVariants as view
-use Rattle.zk_step.specs.declared.workspace.Workspace.{Workspace}
+use Rattle.zk_step.specs.declared.game_state.View.{View}
+use Rattle.zk_step.specs.declared.game_state.View.TheVariants as view
+use Rattle.zk_step.specs.declared.game_state.GameState.{GameState}
 use Rattle.zk_step.specs.Instructions.{carried_out}
 use Rattle.zk_mem.specs.Map.{MemoryMap}
 use Rattle.zk_save.specs.States.{WholeState, gone_back, memory_back}
@@ -49,16 +49,16 @@ step_in f w (Faults e) = Faults e
 step_in f w (Exceeds l) = Exceeds l
 
 -- the view looks at no bounds
-abbrev viewed_in : ℕ → ℕ → Result (Workspace × Texts) Fault → Result (Workspace × Texts) Fault
+abbrev viewed_in : ℕ → ℕ → Result (GameState × Texts) Fault → Result (GameState × Texts) Fault
 viewed_in f m (Ok v) = Ok (rebounded f m v.0, v.1)
 viewed_in f m (Err e) = Err e
 
-lines_same : (f m : ℕ) (w : Workspace) (cs : List ℕ) → ◌≡◌ {A = Result (Workspace × Texts) Fault} (Ok (lines_shown (rebounded f m w) cs)) (viewed_in f m (Ok (lines_shown w cs)))
+lines_same : (f m : ℕ) (w : GameState) (cs : List ℕ) → ◌≡◌ {A = Result (GameState × Texts) Fault} (Ok (lines_shown (rebounded f m w) cs)) (viewed_in f m (Ok (lines_shown w cs)))
 unfolding lines_shown
 lines_same f m w [] = refl
 lines_same f m w (c ∷ cs) = refl
 
-viewed_by_same : (f m : ℕ) (v : View) (w : Workspace) → viewed_by v (rebounded f m w) ≡ viewed_in f m (viewed_by v w)
+viewed_by_same : (f m : ℕ) (v : View) (w : GameState) → viewed_by v (rebounded f m w) ≡ viewed_in f m (viewed_by v w)
 viewed_by_same f m view.Plain w = refl
 viewed_by_same f m view.Upper w = go (status_shown w.memory)
   where
@@ -67,23 +67,23 @@ viewed_by_same f m view.Upper w = go (status_shown w.memory)
     go (Ok status) = lines_same f m w (status ++ rows_shown w.windows 1 w.windows.height)
     go (Err e) = refl
 
-viewed_same : (f m : ℕ) (w : Workspace) → viewed (rebounded f m w) ≡ viewed_in f m (viewed w)
+viewed_same : (f m : ℕ) (w : GameState) → viewed (rebounded f m w) ≡ viewed_in f m (viewed w)
 unfolding viewed
 viewed_same f m w = viewed_by_same f m w.view w
 
-waits_by_same : (f m : ℕ) (s : State) (i : Instr) (wait : Wait) (r : Result (Workspace × Texts) Fault) → waits_by (state_in f m s) i wait (viewed_in f m r) ≡ step_in f m (waits_by s i wait r)
+waits_by_same : (f m : ℕ) (s : State) (i : Instr) (wait : Wait) (r : Result (GameState × Texts) Fault) → waits_by (state_in f m s) i wait (viewed_in f m r) ≡ step_in f m (waits_by s i wait r)
 unfolding step_in
 waits_by_same f m s i wait (Ok v) = refl
 waits_by_same f m s i wait (Err e) = refl
 
-view_before_same : (f m : ℕ) (x : Wait) (w : Workspace) → view_before x (rebounded f m w) ≡ viewed_in f m (view_before x w)
+view_before_same : (f m : ℕ) (x : Wait) (w : GameState) → view_before x (rebounded f m w) ≡ viewed_in f m (view_before x w)
 view_before_same f m (wait.Line text parse) w = viewed_same f m w
 view_before_same f m wait.Char w = viewed_same f m w
 view_before_same f m wait.Save w = refl
 view_before_same f m wait.Restore w = refl
 
 -- what was finished in silence leads to the same
-pub goes_to_same : (f m : ℕ) (s : State) (undo : List WholeState) (r : Result (Workspace × Next) Fault) → goes_to (state_in f m s) undo (led_in f m r) ≡ step_in f m (goes_to s undo r)
+pub goes_to_same : (f m : ℕ) (s : State) (undo : List WholeState) (r : Result (GameState × Next) Fault) → goes_to (state_in f m s) undo (led_in f m r) ≡ step_in f m (goes_to s undo r)
 unfolding step_in
 goes_to_same f m s undo (Ok (w, At place)) = refl
 goes_to_same f m s undo (Ok (w, Awaits x)) = refl
@@ -97,15 +97,15 @@ pub frames_same : (f m : ℕ) (s : FrameList) (fs : List Frame) → with_frames 
 frames_same f m s [] = refl
 frames_same f m s (x ∷ fs) = refl
 
-back_same : (f m : ℕ) (s : State) (i : Instr) (w : Workspace) (ws : List WholeState) → back_to (state_in f m s) i (rebounded f m w) (gone_back ws w.memory (with_bounds f m w.frames)) ≡ step_in f m (back_to s i w (gone_back ws w.memory w.frames))
+back_same : (f m : ℕ) (s : State) (i : Instr) (w : GameState) (ws : List WholeState) → back_to (state_in f m s) i (rebounded f m w) (gone_back ws w.memory (with_bounds f m w.frames)) ≡ step_in f m (back_to s i w (gone_back ws w.memory w.frames))
 unfolding gone_back
 back_same f m s i w [] = ap (goes_to (state_in f m s) s.undo) (answers_see_no_bounds.result f m w i 0 false) ∙ goes_to_same f m s s.undo (result_answered w i 0 false)
 back_same f m s i w (x ∷ ws) =
-    let v : Workspace = record w { memory = memory_back x w.memory; frames = with_frames w.frames x.frames } in
+    let v : GameState = record w { memory = memory_back x w.memory; frames = with_frames w.frames x.frames } in
     ap (λ (g : FrameList). goes_to (state_in f m s) ws (resumed (record w { memory = memory_back x w.memory; frames = g }) x.place)) (frames_same f m w.frames x.frames)
     ∙ ap (goes_to (state_in f m s) ws) (answers_see_no_bounds.back f m v x.place) ∙ goes_to_same f m s ws (resumed v x.place)
 
-led_same : (f m : ℕ) (s : State) (i : Instr) (w : Workspace) (text : Texts) (n : Next) → led_to (state_in f m s) i (rebounded f m w) text n ≡ step_in f m (led_to s i w text n)
+led_same : (f m : ℕ) (s : State) (i : Instr) (w : GameState) (text : Texts) (n : Next) → led_to (state_in f m s) i (rebounded f m w) text n ≡ step_in f m (led_to s i w text n)
 unfolding step_in
 led_same f m s i w text (At place) = refl
 led_same f m s i w text (Awaits x) = ap (waits_by (state_in f m s) i x) (view_before_same f m x w) ∙ waits_by_same f m s i x (view_before x w)
@@ -114,19 +114,19 @@ led_same f m s i w text Keeps =
 led_same f m s i w text Resumes = back_same f m s i w s.undo
 led_same f m s i w text End = refl
 
-settled_same : (f m : ℕ) (s : State) (i : Instr) (r : Result (Workspace × (Next × Texts)) Fault) → settled (state_in f m s) i (moved_in f m r) ≡ step_in f m (settled s i r)
+settled_same : (f m : ℕ) (s : State) (i : Instr) (r : Result (GameState × (Next × Texts)) Fault) → settled (state_in f m s) i (moved_in f m r) ≡ step_in f m (settled s i r)
 unfolding step_in
 settled_same f m s i (Ok r) = led_same f m s i r.0 r.1.1 r.1.0
 settled_same f m s i (Err e) = refl
 
 fetched_same : (f m : ℕ) (s : State) (r : Result Instr Fault) → fetched (state_in f m s) r ≡ step_in f m (fetched s r)
 unfolding step_in
-fetched_same f m s (Ok i) = ap (settled (state_in f m s) i) (bounds_are_not_seen f m s.workspace i) ∙ settled_same f m s i (carried_out s.workspace i)
+fetched_same f m s (Ok i) = ap (settled (state_in f m s) i) (bounds_are_not_seen f m s.game i) ∙ settled_same f m s i (carried_out s.game i)
 fetched_same f m s (Err e) = refl
 
 pub step_same : (f m : ℕ) (s : State) → step (state_in f m s) ≡ step_in f m (step s)
 unfolding step
-step_same f m s = fetched_same f m s (instr_at s.workspace.memory s.place)
+step_same f m s = fetched_same f m s (instr_at s.game.memory s.place)
 
 -- frames that pass the test are within their bounds
 pub within_is : (s t : FrameList) → within_bounds s ≡ Ok t → (length (frames_of s) ≤ s.most_frames) × (total_of s ≤ s.most_words)
@@ -158,14 +158,14 @@ over_is s e h = go (nat_lt s.most_frames (length (frames_of s))) (nat_lt s.most_
 pub goes_same : (s t : State) (text more : Texts) → Goes s text ≡ Goes t more → s ≡ t
 goes_same s t text more h = cc
 
-keeps : (s t : State) (text : Texts) → step s ≡ Goes t text → bounds_of t.workspace.frames ≡ bounds_of s.workspace.frames
+keeps : (s t : State) (text : Texts) → step s ≡ Goes t text → bounds_of t.game.frames ≡ bounds_of s.game.frames
 unfolding bounds_of step_in
 keeps s t text h =
-    let same = step_same s.workspace.frames.most_frames s.workspace.frames.most_words s in
-    let again : Goes t text ≡ Goes (state_in s.workspace.frames.most_frames s.workspace.frames.most_words t) text = sym h ∙ same ∙ ap (step_in s.workspace.frames.most_frames s.workspace.frames.most_words) h in
-    ap (λ (u : State). bounds_of u.workspace.frames) (goes_same t (state_in s.workspace.frames.most_frames s.workspace.frames.most_words t) text text again)
+    let same = step_same s.game.frames.most_frames s.game.frames.most_words s in
+    let again : Goes t text ≡ Goes (state_in s.game.frames.most_frames s.game.frames.most_words t) text = sym h ∙ same ∙ ap (step_in s.game.frames.most_frames s.game.frames.most_words) h in
+    ap (λ (u : State). bounds_of u.game.frames) (goes_same t (state_in s.game.frames.most_frames s.game.frames.most_words t) text text again)
 
-frames_kept : (s t : State) (text : Texts) → step s ≡ Goes t text → (t.workspace.frames.most_frames ≡ s.workspace.frames.most_frames) × (t.workspace.frames.most_words ≡ s.workspace.frames.most_words)
+frames_kept : (s t : State) (text : Texts) → step s ≡ Goes t text → (t.game.frames.most_frames ≡ s.game.frames.most_frames) × (t.game.frames.most_words ≡ s.game.frames.most_words)
 unfolding bounds_of
 frames_kept s t text h =
     let e = keeps s t text h in
@@ -196,20 +196,20 @@ by_limit place Reads (inr d) own = absurd cc
 
 -- what becomes of a step, with other bounds: the same, and the same text
 pub verdict_same : (f m : ℕ) (s : State) (x : Step)
-    → ((t : State) (text : Texts) → x ≡ Goes t text → (t.workspace.frames.most_frames ≤ f) × (t.workspace.frames.most_words ≤ m))
+    → ((t : State) (text : Texts) → x ≡ Goes t text → (t.game.frames.most_frames ≤ f) × (t.game.frames.most_words ≤ m))
     → (rest : Segment) → IsNoFrameLimit (continued (verdict_of s x) (state_after s x) (text_of s x) rest).end
     → (verdict_of (state_in f m s) (step_in f m x) ≡ verdict_of s x) × (text_of (state_in f m s) (step_in f m x) ≡ text_of s x) × (state_after (state_in f m s) (step_in f m x) ≡ state_in f m (state_after s x))
 unfolding step_in
-verdict_same f m s (Goes t text) bounds rest own = go (within_bounds t.workspace.frames) refl own
+verdict_same f m s (Goes t text) bounds rest own = go (within_bounds t.game.frames) refl own
   where
-    go : (r : Result FrameList Refusal) → within_bounds t.workspace.frames ≡ r → IsNoFrameLimit (continued (goes_by s.place r) t (text_within r text) rest).end
-        → (goes_by s.place (within_bounds (with_bounds f m t.workspace.frames)) ≡ goes_by s.place r) × (text_within (within_bounds (with_bounds f m t.workspace.frames)) text ≡ text_within r text) × (state_in f m t ≡ state_in f m t)
+    go : (r : Result FrameList Refusal) → within_bounds t.game.frames ≡ r → IsNoFrameLimit (continued (goes_by s.place r) t (text_within r text) rest).end
+        → (goes_by s.place (within_bounds (with_bounds f m t.game.frames)) ≡ goes_by s.place r) × (text_within (within_bounds (with_bounds f m t.game.frames)) text ≡ text_within r text) × (state_in f m t ≡ state_in f m t)
     go (Ok u) e k =
         let least = bounds t text refl in
-        let more = within_more t.workspace.frames u f m least.0 least.1 e in
+        let more = within_more t.game.frames u f m least.0 least.1 e in
         (rw more refl, rw more refl, refl)
-    go (Err (refusal.Fault g)) e k = absurd (no_fault t.workspace.frames g e)
-    go (Err (refusal.Limit l)) e k = absurd (by_limit s.place l (over_is t.workspace.frames (refusal.Limit l) e) k)
+    go (Err (refusal.Fault g)) e k = absurd (no_fault t.game.frames g e)
+    go (Err (refusal.Limit l)) e k = absurd (by_limit s.place l (over_is t.game.frames (refusal.Limit l) e) k)
 verdict_same f m s (Waits t waiting text) bounds rest own = (refl, refl, refl)
 verdict_same f m s (Quits text) bounds rest own = (refl, refl, refl)
 verdict_same f m s (Faults e) bounds rest own = (refl, refl, refl)
@@ -238,15 +238,15 @@ pub frame_limits_only_cut : FrameLimitsOnlyCut
 unfolding segment
 frame_limits_only_cut zero f m s few short own = refl
 frame_limits_only_cut (suc n) f m s few short own =
-    let bounds : (t : State) (text : Texts) → step s ≡ Goes t text → (t.workspace.frames.most_frames ≤ f) × (t.workspace.frames.most_words ≤ m)
+    let bounds : (t : State) (text : Texts) → step s ≡ Goes t text → (t.game.frames.most_frames ≤ f) × (t.game.frames.most_words ≤ m)
     = (λ t text e. let same = frames_kept s t text e in (omega (arith, same.0), omega (arith, same.1))) in
     let parts = verdict_same f m s (step s) bounds (segment n (state_after s (step s))) own in
     let more : verdict_of s (step s) ≡ GoesOn → IsNoFrameLimit (segment n (state_after s (step s))).end → segment n (state_in f m (state_after s (step s))) ≡ segment_in f m (segment n (state_after s (step s)))
     = (λ on free. let to = goes_on_to s (step s) on in
     let least = bounds to.0 to.1.0 to.1.1 in
     let there : state_after s (step s) ≡ to.0 = ap (state_after s) to.1.1 in
-    let here : (state_after s (step s)).workspace.frames.most_frames ≤ f = rw there least.0 in
-    let below : (state_after s (step s)).workspace.frames.most_words ≤ m = rw there least.1 in
+    let here : (state_after s (step s)).game.frames.most_frames ≤ f = rw there least.0 in
+    let below : (state_after s (step s)).game.frames.most_words ≤ m = rw there least.1 in
     frame_limits_only_cut n f m (state_after s (step s)) here below free) in
     rw (step_same f m s, parts.0, parts.1, parts.2)
     (same_here f m s (verdict_of s (step s)) (state_after s (step s)) (text_of s (step s)) (segment n (state_after s (step s))) (segment n (state_in f m (state_after s (step s)))) more own)
@@ -271,7 +271,7 @@ limits_cut_there (suc n) k s end text l lead h =
     rw (e, lead.1, rest.0, rest.1, lead.3) (refl, refl)
 
 -- a step that waits does not go on
-waits_no_goes : (s t : State) (i : Instr) (wait : Wait) (more : Texts) (r : Result (Workspace × Texts) Fault) → waits_by s i wait r ≡ Goes t more → ⊥
+waits_no_goes : (s t : State) (i : Instr) (wait : Wait) (more : Texts) (r : Result (GameState × Texts) Fault) → waits_by s i wait r ≡ Goes t more → ⊥
 waits_no_goes s t i wait more (Ok v) h = absurd cc
 waits_no_goes s t i wait more (Err e) h = absurd cc
 
@@ -279,21 +279,21 @@ waits_no_goes s t i wait more (Err e) h = absurd cc
 pub record Counts (s t : State) : Type 0 where
   pub steps : t.steps ≡ s.steps + 1
   pub reads : t.reads ≡ s.reads
-  pub most : t.workspace.memory.undo_states ≡ s.workspace.memory.undo_states
-  pub undo : length s.undo ≤ s.workspace.memory.undo_states → length t.undo ≤ s.workspace.memory.undo_states
+  pub most : t.game.memory.undo_states ≡ s.game.memory.undo_states
+  pub undo : length s.undo ≤ s.game.memory.undo_states → length t.undo ≤ s.game.memory.undo_states
 
 pub same_most : (m n : MemoryMap) → fixed_parts n ≡ fixed_parts m → n.undo_states ≡ m.undo_states
 unfolding fixed_parts
 same_most m n e = ap (λ (p : (ℕ × ℕ) × (List ℕ × ℕ)). p.1.1) e
 
-goes_counts : (s t : State) (undo : List WholeState) (r : Result (Workspace × Next) Fault) (more : Texts) → ((w : Workspace) (n : Next) → r ≡ Ok (w, n) → w.memory.undo_states ≡ s.workspace.memory.undo_states)
-    → (length s.undo ≤ s.workspace.memory.undo_states → length undo ≤ s.workspace.memory.undo_states) → goes_to s undo r ≡ Goes t more → Counts s t
+goes_counts : (s t : State) (undo : List WholeState) (r : Result (GameState × Next) Fault) (more : Texts) → ((w : GameState) (n : Next) → r ≡ Ok (w, n) → w.memory.undo_states ≡ s.game.memory.undo_states)
+    → (length s.undo ≤ s.game.memory.undo_states → length undo ≤ s.game.memory.undo_states) → goes_to s undo r ≡ Goes t more → Counts s t
 goes_counts s t undo (Ok (w, At place)) more most few h =
     let same = sym (goes_same _ t no_text more h) in
     record {
       steps = ap (λ (u : State). u.steps) same;
       reads = ap (λ (u : State). u.reads) same;
-      most = ap (λ (u : State). u.workspace.memory.undo_states) same ∙ most w (At place) refl;
+      most = ap (λ (u : State). u.game.memory.undo_states) same ∙ most w (At place) refl;
       undo = λ k. let here = few k in let length_is = ap (λ (u : State). length u.undo) same in omega (arith, here, length_is);
     }
 goes_counts s t undo (Ok (w, Awaits x)) more most few h = absurd cc
@@ -302,41 +302,41 @@ goes_counts s t undo (Ok (w, Resumes)) more most few h = absurd cc
 goes_counts s t undo (Ok (w, End)) more most few h = absurd cc
 goes_counts s t undo (Err e) more most few h = absurd cc
 
-back_counts : (s t : State) (i : Instr) (w : Workspace) (ws : List WholeState) (more : Texts) → w.memory.undo_states ≡ s.workspace.memory.undo_states → length ws ≤ length s.undo → back_to s i w (gone_back ws w.memory w.frames) ≡ Goes t more → Counts s t
+back_counts : (s t : State) (i : Instr) (w : GameState) (ws : List WholeState) (more : Texts) → w.memory.undo_states ≡ s.game.memory.undo_states → length ws ≤ length s.undo → back_to s i w (gone_back ws w.memory w.frames) ≡ Goes t more → Counts s t
 unfolding gone_back
 back_counts s t i w [] more most few h =
     goes_counts s t s.undo (result_answered w i 0 false) more (λ v n e. same_most w.memory v.memory (answers_leave_stories.result w i 0 false (v, n) e) ∙ most) (λ k. k) h
 back_counts s t i w (x ∷ ws) more most few h =
-    let u : Workspace = record w { memory = memory_back x w.memory; frames = with_frames w.frames x.frames } in
+    let u : GameState = record w { memory = memory_back x w.memory; frames = with_frames w.frames x.frames } in
     goes_counts s t ws (resumed u x.place) more (λ v n e. same_most u.memory v.memory (answers_leave_stories.back u x.place (v, n) e) ∙ same_most w.memory u.memory (back_fixed x w.memory) ∙ most) (λ k. omega (arith, k, few)) h
 
-led_counts : (s t : State) (i : Instr) (w : Workspace) (text more : Texts) (n : Next) → w.memory.undo_states ≡ s.workspace.memory.undo_states → led_to s i w text n ≡ Goes t more → Counts s t
+led_counts : (s t : State) (i : Instr) (w : GameState) (text more : Texts) (n : Next) → w.memory.undo_states ≡ s.game.memory.undo_states → led_to s i w text n ≡ Goes t more → Counts s t
 led_counts s t i w text more (At place) most h =
     let same = sym (goes_same _ t text more h) in
     record {
       steps = ap (λ (u : State). u.steps) same;
       reads = ap (λ (u : State). u.reads) same;
-      most = ap (λ (u : State). u.workspace.memory.undo_states) same ∙ most;
+      most = ap (λ (u : State). u.game.memory.undo_states) same ∙ most;
       undo = λ k. let length_is = ap (λ (u : State). length u.undo) same in omega (arith, k, length_is);
     }
 led_counts s t i w text more (Awaits x) most h = absurd (waits_no_goes s t i x more (view_before x w) h)
 led_counts s t i w text more Keeps most h =
-    let short : length (with_kept s i w) ≤ s.workspace.memory.undo_states = rw (← most, length-take) (omega arith) in
+    let short : length (with_kept s i w) ≤ s.game.memory.undo_states = rw (← most, length-take) (omega arith) in
     goes_counts s t (with_kept s i w) (result_answered w i (kept_answer w.memory.undo_states) true) more (λ v n e. same_most w.memory v.memory (answers_leave_stories.result w i (kept_answer w.memory.undo_states) true (v, n) e) ∙ most) (λ k. short) h
 led_counts s t i w text more Resumes most h = back_counts s t i w s.undo more most (omega arith) h
 led_counts s t i w text more End most h = absurd cc
 
 fetched_counts : (s t : State) (more : Texts) (r : Result Instr Fault) → fetched s r ≡ Goes t more → Counts s t
-fetched_counts s t more (Ok i) h = go (carried_out s.workspace i) refl h
+fetched_counts s t more (Ok i) h = go (carried_out s.game i) refl h
   where
-    go : (r : Result (Workspace × (Next × Texts)) Fault) → carried_out s.workspace i ≡ r → settled s i r ≡ Goes t more → Counts s t
-    go (Ok r) e k = led_counts s t i r.0 r.1.1 more r.1.0 (same_most s.workspace.memory r.0.memory (stories_stay s.workspace i r e)) k
+    go : (r : Result (GameState × (Next × Texts)) Fault) → carried_out s.game i ≡ r → settled s i r ≡ Goes t more → Counts s t
+    go (Ok r) e k = led_counts s t i r.0 r.1.1 more r.1.0 (same_most s.game.memory r.0.memory (stories_stay s.game i r e)) k
     go (Err f) e k = absurd cc
 fetched_counts s t more (Err e) h = absurd cc
 
 pub counts : (s t : State) (text : Texts) → step s ≡ Goes t text → Counts s t
 unfolding step
-counts s t text h = fetched_counts s t text (instr_at s.workspace.memory s.place) h
+counts s t text h = fetched_counts s t text (instr_at s.game.memory s.place) h
 
 -- a step that goes on leads to a state within the bounds
 goes_within : (place : ℕ) (r : Result FrameList Refusal) → goes_by place r ≡ GoesOn → (u : FrameList) × (r ≡ Ok u)
@@ -344,16 +344,16 @@ goes_within place (Ok u) h = (u, refl)
 goes_within place (Err (refusal.Limit l)) h = absurd cc
 goes_within place (Err (refusal.Fault e)) h = absurd cc
 
-pub after_goes : (l : Limits) (s t : State) (text : Texts) → step s ≡ Goes t text → bounds_of s.workspace.frames ≡ (l.frames, l.words) → s.workspace.memory.undo_states ≡ l.undo → s.steps + 1 ≤ l.steps → s.reads ≤ most_reads → length s.undo ≤ l.undo
-    → goes_by s.place (within_bounds t.workspace.frames) ≡ GoesOn → IsWithin l t × (bounds_of t.workspace.frames ≡ (l.frames, l.words)) × (t.workspace.memory.undo_states ≡ l.undo) × (t.steps ≡ s.steps + 1)
+pub after_goes : (l : Limits) (s t : State) (text : Texts) → step s ≡ Goes t text → bounds_of s.game.frames ≡ (l.frames, l.words) → s.game.memory.undo_states ≡ l.undo → s.steps + 1 ≤ l.steps → s.reads ≤ most_reads → length s.undo ≤ l.undo
+    → goes_by s.place (within_bounds t.game.frames) ≡ GoesOn → IsWithin l t × (bounds_of t.game.frames ≡ (l.frames, l.words)) × (t.game.memory.undo_states ≡ l.undo) × (t.steps ≡ s.steps + 1)
 unfolding bounds_of
 after_goes l s t text e b most few read kept h =
-    let within = goes_within s.place (within_bounds t.workspace.frames) h in
-    let most_of = within_is t.workspace.frames within.0 within.1 in
+    let within = goes_within s.place (within_bounds t.game.frames) h in
+    let most_of = within_is t.game.frames within.0 within.1 in
     let same = keeps s t text e ∙ b in
     let more = counts s t text e in
-    let f : t.workspace.frames.most_frames ≡ l.frames = ap (λ (p : ℕ × ℕ). p.0) same in
-    let w : t.workspace.frames.most_words ≡ l.words = ap (λ (p : ℕ × ℕ). p.1) same in
-    let before : length s.undo ≤ s.workspace.memory.undo_states = omega (arith, kept, most) in
+    let f : t.game.frames.most_frames ≡ l.frames = ap (λ (p : ℕ × ℕ). p.0) same in
+    let w : t.game.frames.most_words ≡ l.words = ap (λ (p : ℕ × ℕ). p.1) same in
+    let before : length s.undo ≤ s.game.memory.undo_states = omega (arith, kept, most) in
     let after = more.undo before in
     (record { frames = omega (arith, most_of.0, f); words = omega (arith, most_of.1, w); steps = omega (arith, more.steps); reads = omega (arith, more.reads); undo = omega (arith, after, most) }, same, more.most ∙ most, more.steps)

@@ -9,9 +9,9 @@ use Rattle.zk_step.specs.declared.ending.Next.{Next}
 use Rattle.zk_step.specs.declared.ending.Next.TheVariants as next
 use Rattle.zk_step.specs.declared.ending.Wait.{Wait}
 use Rattle.zk_step.specs.declared.ending.Wait.TheVariants as wait
-use Rattle.zk_step.specs.declared.workspace.Workspace.{Workspace}
+use Rattle.zk_step.specs.declared.game_state.GameState.{GameState}
 use Rattle.zk_step.specs.Inputs.{character_answered, line_answered, result_answered}
-use Rattle.zk_step.specs.Restarts.{renewed}
+use Rattle.zk_step.specs.Restarts.{windows_closed}
 use Rattle.zk_step.specs.Resuming.{resumed as back}
 use Rattle.zk_code.specs.declared.instr.Instr.{Instr}
 use Rattle.zk_mem.specs.Map.{MemoryMap}
@@ -81,7 +81,7 @@ pub record AnswersSo (s t : State) : Type 0 where
   pub steps : t.steps ≤ s.steps + 1
   pub reads : t.reads ≤ s.reads + 1
   pub undo : t.undo ≡ s.undo
-  pub most : t.workspace.memory.undo_states ≡ s.workspace.memory.undo_states
+  pub most : t.game.memory.undo_states ≡ s.game.memory.undo_states
 
 -- the same, for an answer that is no read
 pub record AnswersNoRead (s t : State) : Type 0 where
@@ -89,28 +89,28 @@ pub record AnswersNoRead (s t : State) : Type 0 where
   pub same : t.reads ≡ s.reads
 
 -- what an instruction leads to has memory that keeps as many states
-abbrev KeepsAsMany : State → Result (Workspace × Next) Fault → Type 0
-KeepsAsMany s r = (v : Workspace) (n : Next) → r ≡ Ok (v, n) → v.memory.undo_states ≡ s.workspace.memory.undo_states
+abbrev KeepsAsMany : State → Result (GameState × Next) Fault → Type 0
+KeepsAsMany s r = (v : GameState) (n : Next) → r ≡ Ok (v, n) → v.memory.undo_states ≡ s.game.memory.undo_states
 
-settled_goes : (s t : State) (due : List ℕ) (text : Texts) (r : Result (Workspace × Next) Fault) → KeepsAsMany s r → answer_settled s due r ≡ Goes t text → AnswersSo s t
+settled_goes : (s t : State) (due : List ℕ) (text : Texts) (r : Result (GameState × Next) Fault) → KeepsAsMany s r → answer_settled s due r ≡ Goes t text → AnswersSo s t
 settled_goes s t due text (Ok (w, next.At p)) most h =
-    let same : record s { workspace = w; place = p; steps = 0; reads = s.reads + 1; due = due } ≡ t = cc in
+    let same : record s { game = w; place = p; steps = 0; reads = s.reads + 1; due = due } ≡ t = cc in
     let none : 0 ≡ t.steps = ap (λ (u : State). u.steps) same in
     let one : s.reads + 1 ≡ t.reads = ap (λ (u : State). u.reads) same in
-    record { steps = omega (arith, none); reads = omega (arith, one); undo = sym (ap (λ (u : State). u.undo) same); most = sym (ap (λ (u : State). u.workspace.memory.undo_states) same) ∙ most w (next.At p) refl }
+    record { steps = omega (arith, none); reads = omega (arith, one); undo = sym (ap (λ (u : State). u.undo) same); most = sym (ap (λ (u : State). u.game.memory.undo_states) same) ∙ most w (next.At p) refl }
 settled_goes s t due text (Ok (w, next.Waits x)) most h = absurd cc
 settled_goes s t due text (Ok (w, next.Keeps)) most h = absurd cc
 settled_goes s t due text (Ok (w, next.Resumes)) most h = absurd cc
 settled_goes s t due text (Ok (w, next.End)) most h = absurd cc
 settled_goes s t due text (Err f) most h = absurd cc
 
-goes_goes : (s t : State) (text : Texts) (r : Result (Workspace × Next) Fault) → KeepsAsMany s r → goes_to s s.undo r ≡ Goes t text → AnswersNoRead s t
+goes_goes : (s t : State) (text : Texts) (r : Result (GameState × Next) Fault) → KeepsAsMany s r → goes_to s s.undo r ≡ Goes t text → AnswersNoRead s t
 goes_goes s t text (Ok (w, next.At p)) most h =
-    let same : record s { workspace = w; place = p; steps = s.steps + 1; undo = s.undo } ≡ t = cc in
+    let same : record s { game = w; place = p; steps = s.steps + 1; undo = s.undo } ≡ t = cc in
     let one : s.steps + 1 ≡ t.steps = ap (λ (u : State). u.steps) same in
     let none : s.reads ≡ t.reads = ap (λ (u : State). u.reads) same in
     record {
-      so = record { steps = omega (arith, one); reads = omega (arith, none); undo = sym (ap (λ (u : State). u.undo) same); most = sym (ap (λ (u : State). u.workspace.memory.undo_states) same) ∙ most w (next.At p) refl };
+      so = record { steps = omega (arith, one); reads = omega (arith, none); undo = sym (ap (λ (u : State). u.undo) same); most = sym (ap (λ (u : State). u.game.memory.undo_states) same) ∙ most w (next.At p) refl };
       same = sym none;
     }
 goes_goes s t text (Ok (w, next.Waits x)) most h = absurd cc
@@ -119,25 +119,25 @@ goes_goes s t text (Ok (w, next.Resumes)) most h = absurd cc
 goes_goes s t text (Ok (w, next.End)) most h = absurd cc
 goes_goes s t text (Err f) most h = absurd cc
 
-result_most : (s : State) (i : Instr) (x : ℕ) (truth : Bool) → KeepsAsMany s (result_answered s.workspace i x truth)
-result_most s i x truth v n e = same_most s.workspace.memory v.memory (answers_leave_stories.result s.workspace i x truth (v, n) e)
+result_most : (s : State) (i : Instr) (x : ℕ) (truth : Bool) → KeepsAsMany s (result_answered s.game i x truth)
+result_most s i x truth v n e = same_most s.game.memory v.memory (answers_leave_stories.result s.game i x truth (v, n) e)
 
-restored_goes : (s t : State) (i : Instr) (text : Texts) (q : Result (MemoryMap × FrameList × ℕ) RestoreError) → ((m : MemoryMap) (f : FrameList) (p : ℕ) → q ≡ Ok (m, f, p) → fixed_parts m ≡ fixed_parts s.workspace.memory) → restored_to s i q ≡ Goes t text → AnswersNoRead s t
-unfolding renewed
+restored_goes : (s t : State) (i : Instr) (text : Texts) (q : Result (MemoryMap × FrameList × ℕ) RestoreError) → ((m : MemoryMap) (f : FrameList) (p : ℕ) → q ≡ Ok (m, f, p) → fixed_parts m ≡ fixed_parts s.game.memory) → restored_to s i q ≡ Goes t text → AnswersNoRead s t
+unfolding windows_closed
 restored_goes s t i text (Ok (m, f, p)) fixed h =
-    let u : Workspace = renewed (record s.workspace { memory = m; frames = f }) in
-    goes_goes s t text (back u p) (λ v n e. same_most s.workspace.memory v.memory (answers_leave_stories.back u p (v, n) e ∙ fixed m f p refl)) h
+    let u : GameState = windows_closed (record s.game { memory = m; frames = f }) in
+    goes_goes s t text (back u p) (λ v n e. same_most s.game.memory v.memory (answers_leave_stories.back u p (v, n) e ∙ fixed m f p refl)) h
 restored_goes s t i text (Err (restore_error.Limit l)) fixed h = absurd cc
-restored_goes s t i text (Err restore_error.NotQuetzal) fixed h = goes_goes s t text (result_answered s.workspace i 0 false) (result_most s i 0 false) h
-restored_goes s t i text (Err restore_error.Truncated) fixed h = goes_goes s t text (result_answered s.workspace i 0 false) (result_most s i 0 false) h
-restored_goes s t i text (Err restore_error.OtherStory) fixed h = goes_goes s t text (result_answered s.workspace i 0 false) (result_most s i 0 false) h
-restored_goes s t i text (Err restore_error.BadMemory) fixed h = goes_goes s t text (result_answered s.workspace i 0 false) (result_most s i 0 false) h
-restored_goes s t i text (Err restore_error.BadStack) fixed h = goes_goes s t text (result_answered s.workspace i 0 false) (result_most s i 0 false) h
+restored_goes s t i text (Err restore_error.NotQuetzal) fixed h = goes_goes s t text (result_answered s.game i 0 false) (result_most s i 0 false) h
+restored_goes s t i text (Err restore_error.Truncated) fixed h = goes_goes s t text (result_answered s.game i 0 false) (result_most s i 0 false) h
+restored_goes s t i text (Err restore_error.OtherStory) fixed h = goes_goes s t text (result_answered s.game i 0 false) (result_most s i 0 false) h
+restored_goes s t i text (Err restore_error.BadMemory) fixed h = goes_goes s t text (result_answered s.game i 0 false) (result_most s i 0 false) h
+restored_goes s t i text (Err restore_error.BadStack) fixed h = goes_goes s t text (result_answered s.game i 0 false) (result_most s i 0 false) h
 
 from_goes : (s t : State) (i : Instr) (text : Texts) (file : Option (List ℕ)) → restored_from s i file ≡ Goes t text → AnswersNoRead s t
-from_goes s t i text None h = goes_goes s t text (result_answered s.workspace i 0 false) (result_most s i 0 false) h
+from_goes s t i text None h = goes_goes s t text (result_answered s.game i 0 false) (result_most s i 0 false) h
 from_goes s t i text (Some file) h =
-    restored_goes s t i text (restored file s.workspace.memory s.workspace.frames) (λ m f p e. restored_fixed file s.workspace.memory m s.workspace.frames f p e) h
+    restored_goes s t i text (restored file s.game.memory s.game.frames) (λ m f p e. restored_fixed file s.game.memory m s.game.frames f p e) h
 
 -- a read may be one more only where it is one
 abbrev ReadsSo : Wait → State → State → Type 0
@@ -148,13 +148,13 @@ no_read x s t a = (a.so, λ e. a.same)
 
 by_goes : (s t : State) (i : Instr) (x : Wait) (a : Answer) (text : Texts) → answered_by s i x a ≡ Goes t text → ReadsSo x s t
 by_goes s t i (wait.Line buffer parse) a text h = (
-  settled_goes s t (transcribed s.workspace (wait.Line buffer parse) (codes_of a)) text (line_answered s.workspace i buffer parse (codes_of a))
-      (λ v n e. same_most s.workspace.memory v.memory (answers_leave_stories.line s.workspace i buffer parse (codes_of a) (v, n) e)) h,
+  settled_goes s t (transcribed s.game (wait.Line buffer parse) (codes_of a)) text (line_answered s.game i buffer parse (codes_of a))
+      (λ v n e. same_most s.game.memory v.memory (answers_leave_stories.line s.game i buffer parse (codes_of a) (v, n) e)) h,
   λ e. absurd cc,
 )
 by_goes s t i wait.Char a text h =
-    (settled_goes s t [] text (character_answered s.workspace i (first_code (codes_of a))) (λ v n e. same_most s.workspace.memory v.memory (answers_leave_stories.character s.workspace i (first_code (codes_of a)) (v, n) e)) h, λ e. absurd cc)
-by_goes s t i wait.Save a text h = no_read wait.Save s t (goes_goes s t text (result_answered s.workspace i (truth_word (is_kept a)) (is_kept a)) (result_most s i (truth_word (is_kept a)) (is_kept a)) h)
+    (settled_goes s t [] text (character_answered s.game i (first_code (codes_of a))) (λ v n e. same_most s.game.memory v.memory (answers_leave_stories.character s.game i (first_code (codes_of a)) (v, n) e)) h, λ e. absurd cc)
+by_goes s t i wait.Save a text h = no_read wait.Save s t (goes_goes s t text (result_answered s.game i (truth_word (is_kept a)) (is_kept a)) (result_most s i (truth_word (is_kept a)) (is_kept a)) h)
 by_goes s t i wait.Restore a text h = no_read wait.Restore s t (from_goes s t i text (file_of a) h)
 
 pub answered_so : (s t : State) (w : Waiting) (a : Answer) (text : Texts) → answered s w a ≡ Goes t text → ReadsSo w.wait s t
@@ -168,7 +168,7 @@ few_goes s place (Err (refusal.Fault f)) t e h = absurd cc
 
 few_step : (s : Session) (x : Step) → s.state.steps ≤ s.limits.steps → ((t : State) (text : Texts) → x ≡ Goes t text → t.steps ≤ s.limits.steps) → (resumed s (verdict_of s.state x) (state_after s.state x)).stopped ≡ None
     → (resumed s (verdict_of s.state x) (state_after s.state x)).state.steps ≤ (resumed s (verdict_of s.state x) (state_after s.state x)).limits.steps
-few_step s (Goes t text) few goes h = few_goes s s.state.place (within_bounds t.workspace.frames) t (goes t text refl) h
+few_step s (Goes t text) few goes h = few_goes s s.state.place (within_bounds t.game.frames) t (goes t text refl) h
 few_step s (Waits t w text) few goes h = go (is_past_reads s.state.reads w.wait) h
   where
     go : (b : Bool) → (resumed s (if b then StopsBy (Limit s.state.place Reads) else WaitsFor w) t).stopped ≡ None → (resumed s (if b then StopsBy (Limit s.state.place Reads) else WaitsFor w) t).state.steps ≤ (resumed s (if b then StopsBy (Limit s.state.place Reads) else WaitsFor w) t).limits.steps

@@ -6,7 +6,7 @@ use Rattle.zk_step.specs.declared.ending.Next.{Next}
 use Rattle.zk_step.specs.declared.ending.Next.TheVariants as next
 use Rattle.zk_step.specs.declared.ending.Wait.{Wait}
 use Rattle.zk_step.specs.declared.ending.Wait.TheVariants.{Line, Char, Save, Restore}
-use Rattle.zk_step.specs.declared.workspace.Workspace.{Workspace}
+use Rattle.zk_step.specs.declared.game_state.GameState.{GameState}
 use Rattle.zk_step.specs.Laws.{rebounded, led_in}
 use Rattle.zk_step.specs.Routing.{Texts, no_text}
 use Rattle.zk_step.proofs.Sweep.{answers_see_no_bounds}
@@ -24,7 +24,7 @@ use Rattle.zk_save.specs.declared.restore.RestoreError.TheVariants as restore_er
 use Rattle.zk_save.specs.Loading.{frames_fit, loaded, loaded_by, put_in_place, restored}
 use Rattle.zk_save.specs.States.{WholeState, memory_back}
 use Rattle.zk_step.specs.Inputs.{character_answered, line_answered, result_answered}
-use Rattle.zk_step.specs.Restarts.{renewed}
+use Rattle.zk_step.specs.Restarts.{windows_closed}
 use Rattle.zk_step.specs.Resuming.{resumed as back}
 use Rattle.zk_vm.specs.declared.stop.Stop.TheVariants.{Limit as LimitAt}
 use Rattle.zk_vm.specs.Answers.{Answer, answered, answered_by, answer_settled, codes_of, file_of, first_code, is_kept, restored_from, restored_to, transcribed, truth_word}
@@ -39,10 +39,10 @@ use Rattle.zk_vm.proofs.Outcomes.{outcome_stopped, ran_waiting}
 -- ---- bounds stay
 
 abbrev most_f : State → ℕ
-most_f s = s.workspace.frames.most_frames
+most_f s = s.game.frames.most_frames
 
 abbrev most_w : State → ℕ
-most_w s = s.workspace.frames.most_words
+most_w s = s.game.frames.most_words
 
 -- a step that is the same in its own bounds keeps them
 waits_same : (s t : State) (v w : Waiting) (text more : Texts) → Waits s v text ≡ Waits t w more → s ≡ t
@@ -93,7 +93,7 @@ ran_bounds s =
 
 -- ---- an answer, with other bounds
 
-settled_same : (f m : ℕ) (s : State) (due : List ℕ) (r : Result (Workspace × Next) Fault) → answer_settled (state_in f m s) due (led_in f m r) ≡ step_in f m (answer_settled s due r)
+settled_same : (f m : ℕ) (s : State) (due : List ℕ) (r : Result (GameState × Next) Fault) → answer_settled (state_in f m s) due (led_in f m r) ≡ step_in f m (answer_settled s due r)
 unfolding step_in
 settled_same f m s due (Ok (w, next.At p)) = refl
 settled_same f m s due (Ok (w, next.Waits x)) = refl
@@ -145,18 +145,18 @@ restored_same : (f m : ℕ) (file : List ℕ) (n : MemoryMap) (s : FrameList) �
 unfolding restored
 restored_same f m file n s few short own = loaded_same f m n s (loaded n file) few short own
 
-renewed_same : (f m : ℕ) (w : Workspace) → renewed (rebounded f m w) ≡ rebounded f m (renewed w)
-unfolding renewed
+renewed_same : (f m : ℕ) (w : GameState) → windows_closed (rebounded f m w) ≡ rebounded f m (windows_closed w)
+unfolding windows_closed
 renewed_same f m w = refl
 
-zero_same : (f m : ℕ) (s : State) (i : Instr) → goes_to (state_in f m s) s.undo (result_answered (rebounded f m s.workspace) i 0 false) ≡ step_in f m (goes_to s s.undo (result_answered s.workspace i 0 false))
-zero_same f m s i = ap (goes_to (state_in f m s) s.undo) (answers_see_no_bounds.result f m s.workspace i 0 false) ∙ goes_to_same f m s s.undo (result_answered s.workspace i 0 false)
+zero_same : (f m : ℕ) (s : State) (i : Instr) → goes_to (state_in f m s) s.undo (result_answered (rebounded f m s.game) i 0 false) ≡ step_in f m (goes_to s s.undo (result_answered s.game i 0 false))
+zero_same f m s i = ap (goes_to (state_in f m s) s.undo) (answers_see_no_bounds.result f m s.game i 0 false) ∙ goes_to_same f m s s.undo (result_answered s.game i 0 false)
 
 restored_to_same : (f m : ℕ) (s : State) (i : Instr) (q : Result (MemoryMap × FrameList × ℕ) RestoreError) → restored_to (state_in f m s) i (restored_in f m q) ≡ step_in f m (restored_to s i q)
 unfolding step_in
 restored_to_same f m s i (Ok (n, g, p)) =
-    let v : Workspace = record s.workspace { memory = n; frames = g } in
-    ap (λ (w : Workspace). goes_to (state_in f m s) s.undo (back w p)) (renewed_same f m v) ∙ ap (goes_to (state_in f m s) s.undo) (answers_see_no_bounds.back f m (renewed v) p) ∙ goes_to_same f m s s.undo (back (renewed v) p)
+    let v : GameState = record s.game { memory = n; frames = g } in
+    ap (λ (w : GameState). goes_to (state_in f m s) s.undo (back w p)) (renewed_same f m v) ∙ ap (goes_to (state_in f m s) s.undo) (answers_see_no_bounds.back f m (windows_closed v) p) ∙ goes_to_same f m s s.undo (back (windows_closed v) p)
 restored_to_same f m s i (Err (restore_error.Limit l)) = refl
 restored_to_same f m s i (Err restore_error.NotQuetzal) = zero_same f m s i
 restored_to_same f m s i (Err restore_error.Truncated) = zero_same f m s i
@@ -170,17 +170,17 @@ exceeds_by s i q l h = ap (restored_to s i) h
 from_same : (f m : ℕ) (s : State) (i : Instr) (file : Option (List ℕ)) → most_f s ≤ f → most_w s ≤ m → ((l : Limit) → restored_from s i file ≡ Exceeds l → IsNoFrameStop (LimitAt 0 l)) → restored_from (state_in f m s) i file ≡ step_in f m (restored_from s i file)
 from_same f m s i None few short own = zero_same f m s i
 from_same f m s i (Some file) few short own =
-    ap (restored_to (state_in f m s) i) (restored_same f m file s.workspace.memory s.workspace.frames few short (λ l e. own l (exceeds_by s i (restored file s.workspace.memory s.workspace.frames) l e)))
-    ∙ restored_to_same f m s i (restored file s.workspace.memory s.workspace.frames)
+    ap (restored_to (state_in f m s) i) (restored_same f m file s.game.memory s.game.frames few short (λ l e. own l (exceeds_by s i (restored file s.game.memory s.game.frames) l e)))
+    ∙ restored_to_same f m s i (restored file s.game.memory s.game.frames)
 
 answered_by_same : (f m : ℕ) (s : State) (i : Instr) (x : Wait) (a : Answer) → most_f s ≤ f → most_w s ≤ m → ((l : Limit) → answered_by s i x a ≡ Exceeds l → IsNoFrameStop (LimitAt 0 l)) → answered_by (state_in f m s) i x a ≡ step_in f m (answered_by s i x a)
 answered_by_same f m s i (Line text parse) a few short own =
-    ap (answer_settled (state_in f m s) (transcribed s.workspace (Line text parse) (codes_of a))) (answers_see_no_bounds.line f m s.workspace i text parse (codes_of a))
-    ∙ settled_same f m s (transcribed s.workspace (Line text parse) (codes_of a)) (line_answered s.workspace i text parse (codes_of a))
+    ap (answer_settled (state_in f m s) (transcribed s.game (Line text parse) (codes_of a))) (answers_see_no_bounds.line f m s.game i text parse (codes_of a))
+    ∙ settled_same f m s (transcribed s.game (Line text parse) (codes_of a)) (line_answered s.game i text parse (codes_of a))
 answered_by_same f m s i Char a few short own =
-    ap (answer_settled (state_in f m s) []) (answers_see_no_bounds.character f m s.workspace i (first_code (codes_of a))) ∙ settled_same f m s [] (character_answered s.workspace i (first_code (codes_of a)))
+    ap (answer_settled (state_in f m s) []) (answers_see_no_bounds.character f m s.game i (first_code (codes_of a))) ∙ settled_same f m s [] (character_answered s.game i (first_code (codes_of a)))
 answered_by_same f m s i Save a few short own =
-    ap (goes_to (state_in f m s) s.undo) (answers_see_no_bounds.result f m s.workspace i (truth_word (is_kept a)) (is_kept a)) ∙ goes_to_same f m s s.undo (result_answered s.workspace i (truth_word (is_kept a)) (is_kept a))
+    ap (goes_to (state_in f m s) s.undo) (answers_see_no_bounds.result f m s.game i (truth_word (is_kept a)) (is_kept a)) ∙ goes_to_same f m s s.undo (result_answered s.game i (truth_word (is_kept a)) (is_kept a))
 answered_by_same f m s i Restore a few short own = from_same f m s i (file_of a) few short own
 
 answered_same : (f m : ℕ) (s : State) (w : Waiting) (a : Answer) → most_f s ≤ f → most_w s ≤ m → ((l : Limit) → answered s w a ≡ Exceeds l → IsNoFrameStop (LimitAt 0 l)) → answered (state_in f m s) w a ≡ step_in f m (answered s w a)
@@ -204,7 +204,7 @@ pub answered_bounds : (s : State) (w : Waiting) (a : Answer) → (most_f (state_
 answered_bounds s w a = bounds_by s w a (answered s w a) refl
 
 goes_bounds : (s : State) (x : Step) (f m : ℕ) → (most_f (state_after s x) ≡ most_f s) × (most_w (state_after s x) ≡ most_w s) → most_f s ≤ f → most_w s ≤ m
-    → (t : State) (text : Texts) → x ≡ Goes t text → (t.workspace.frames.most_frames ≤ f) × (t.workspace.frames.most_words ≤ m)
+    → (t : State) (text : Texts) → x ≡ Goes t text → (t.game.frames.most_frames ≤ f) × (t.game.frames.most_words ≤ m)
 goes_bounds s x f m same few short t text e =
     let there : state_after s x ≡ t = ap (state_after s) e in
     let one : most_f t ≡ most_f s = sym (ap most_f there) ∙ same.0 in

@@ -13,7 +13,7 @@ use Rattle.zk_save.specs.States.{WholeState, gone_back}
 use Rattle.zk_step.specs.declared.ending.Next.{Next}
 use Rattle.zk_step.specs.declared.ending.Next.TheVariants as next
 use Rattle.zk_step.specs.declared.ending.Wait.{Wait}
-use Rattle.zk_step.specs.declared.workspace.Workspace.{Workspace}
+use Rattle.zk_step.specs.declared.game_state.GameState.{GameState}
 use Rattle.zk_step.specs.Inputs.{result_answered}
 use Rattle.zk_step.specs.Instructions.{carried_out}
 use Rattle.zk_step.specs.Resuming.{resumed}
@@ -50,7 +50,7 @@ outcome_stopped answers end s stop e =
 
 -- ---- a segment that ends with what waits has made fewer steps than it might
 
-goes_no_wait : (s t : State) (undo : List WholeState) (w : Waiting) (text : Texts) (r : Result (Workspace × Next) Fault) → goes_to s undo r ≡ Waits t w text → ⊥
+goes_no_wait : (s t : State) (undo : List WholeState) (w : Waiting) (text : Texts) (r : Result (GameState × Next) Fault) → goes_to s undo r ≡ Waits t w text → ⊥
 goes_no_wait s t undo w text (Ok (v, next.At p)) h = absurd cc
 goes_no_wait s t undo w text (Ok (v, next.Waits x)) h = absurd cc
 goes_no_wait s t undo w text (Ok (v, next.Keeps)) h = absurd cc
@@ -58,46 +58,46 @@ goes_no_wait s t undo w text (Ok (v, next.Resumes)) h = absurd cc
 goes_no_wait s t undo w text (Ok (v, next.End)) h = absurd cc
 goes_no_wait s t undo w text (Err e) h = absurd cc
 
-back_no_wait : (s t : State) (i : Instr) (v : Workspace) (w : Waiting) (text : Texts) (q : Option (MemoryMap × FrameList × ℕ × List WholeState)) → back_to s i v q ≡ Waits t w text → ⊥
+back_no_wait : (s t : State) (i : Instr) (v : GameState) (w : Waiting) (text : Texts) (q : Option (MemoryMap × FrameList × ℕ × List WholeState)) → back_to s i v q ≡ Waits t w text → ⊥
 back_no_wait s t i v w text None h = goes_no_wait s t s.undo w text (result_answered v i 0 false) h
 back_no_wait s t i v w text (Some (m, f, p, others)) h = goes_no_wait s t others w text (resumed (record v { memory = m; frames = f }) p) h
 
 -- a step that waits has taken operands, and shown what is shown before a read
 pub record WaitsSo (s t : State) : Type 0 where
-  pub workspace : Workspace
-  pub pops : Pops s.workspace workspace
-  pub same : t ≡ record s { workspace = workspace }
+  pub game : GameState
+  pub pops : Pops s.game game
+  pub same : t ≡ record s { game = game }
 
-waits_so : (s t : State) (i : Instr) (x : Wait) (v : Workspace) (w : Waiting) (text : Texts) (r : Result (Workspace × Texts) Fault) → view_before x v ≡ r → Pops s.workspace v → waits_by s i x r ≡ Waits t w text → WaitsSo s t
+waits_so : (s t : State) (i : Instr) (x : Wait) (v : GameState) (w : Waiting) (text : Texts) (r : Result (GameState × Texts) Fault) → view_before x v ≡ r → Pops s.game v → waits_by s i x r ≡ Waits t w text → WaitsSo s t
 waits_so s t i x v w text (Ok r) e pops h =
-    let same : record s { workspace = r.0 } ≡ t = cc in
-    record { workspace = r.0; pops = pops_twice s.workspace v r.0 pops (shown_pops x v r.0 r.1 e); same = sym same }
+    let same : record s { game = r.0 } ≡ t = cc in
+    record { game = r.0; pops = pops_twice s.game v r.0 pops (shown_pops x v r.0 r.1 e); same = sym same }
 waits_so s t i x v w text (Err f) e pops h = absurd cc
 
-led_so : (s t : State) (i : Instr) (v : Workspace) (w : Waiting) (shown text : Texts) (n : Next) → carried_out s.workspace i ≡ Ok (v, (n, shown)) → led_to s i v shown n ≡ Waits t w text → WaitsSo s t
+led_so : (s t : State) (i : Instr) (v : GameState) (w : Waiting) (shown text : Texts) (n : Next) → carried_out s.game i ≡ Ok (v, (n, shown)) → led_to s i v shown n ≡ Waits t w text → WaitsSo s t
 led_so s t i v w shown text (next.At p) c h = absurd cc
 led_so s t i v w shown text (next.Waits x) c h =
-    let paused = pauses s.workspace i v (next.Waits x) shown c tt in
-    waits_so s t i x v w text (view_before x v) refl (taken_pops s.workspace v i.operands paused.values paused.operands) h
+    let paused = pauses s.game i v (next.Waits x) shown c tt in
+    waits_so s t i x v w text (view_before x v) refl (taken_pops s.game v i.operands paused.values paused.operands) h
 led_so s t i v w shown text next.Keeps c h = absurd (goes_no_wait s t (with_kept s i v) w text (result_answered v i (kept_answer v.memory.undo_states) true) h)
 led_so s t i v w shown text next.Resumes c h = absurd (back_no_wait s t i v w text (gone_back s.undo v.memory v.frames) h)
 led_so s t i v w shown text next.End c h = absurd cc
 
-settled_so : (s t : State) (i : Instr) (w : Waiting) (text : Texts) (r : Result (Workspace × (Next × Texts)) Fault) → carried_out s.workspace i ≡ r → settled s i r ≡ Waits t w text → WaitsSo s t
+settled_so : (s t : State) (i : Instr) (w : Waiting) (text : Texts) (r : Result (GameState × (Next × Texts)) Fault) → carried_out s.game i ≡ r → settled s i r ≡ Waits t w text → WaitsSo s t
 settled_so s t i w text (Ok r) c h = led_so s t i r.0 w r.1.1 text r.1.0 c h
 settled_so s t i w text (Err f) c h = absurd cc
 
 fetched_so : (s t : State) (w : Waiting) (text : Texts) (r : Result Instr Fault) → fetched s r ≡ Waits t w text → WaitsSo s t
-fetched_so s t w text (Ok i) h = settled_so s t i w text (carried_out s.workspace i) refl h
+fetched_so s t w text (Ok i) h = settled_so s t i w text (carried_out s.game i) refl h
 fetched_so s t w text (Err f) h = absurd cc
 
 pub step_waits : (s t : State) (w : Waiting) (text : Texts) → step s ≡ Waits t w text → WaitsSo s t
 unfolding step
-step_waits s t w text h = fetched_so s t w text (instr_at s.workspace.memory s.place) h
+step_waits s t w text h = fetched_so s t w text (instr_at s.game.memory s.place) h
 
 continued_few : (s : State) (x : Step) (n : ℕ) (rest : Segment) (w : Waiting) → ((t : State) (text : Texts) → x ≡ Goes t text → t.steps ≡ s.steps + 1) → ((t : State) (v : Waiting) (text : Texts) → x ≡ Waits t v text → t.steps ≡ s.steps)
     → (rest.end ≡ Ok w → rest.state.steps < (state_after s x).steps + n) → (continued (verdict_of s x) (state_after s x) (text_of s x) rest).end ≡ Ok w → (continued (verdict_of s x) (state_after s x) (text_of s x) rest).state.steps < s.steps + suc n
-continued_few s (Goes t text) n rest w counted waited few h = go (within_bounds t.workspace.frames) h
+continued_few s (Goes t text) n rest w counted waited few h = go (within_bounds t.game.frames) h
   where
     go : (q : Result FrameList Refusal) → (continued (goes_by s.place q) t (text_within q text) rest).end ≡ Ok w → (continued (goes_by s.place q) t (text_within q text) rest).state.steps < s.steps + suc n
     go (Ok u) k = let less = few k in let one = counted t text refl in omega (arith, less, one)

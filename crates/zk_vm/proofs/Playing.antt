@@ -19,7 +19,7 @@ use Rattle.zk_vm.specs.declared.stop.Stop.{Stop}
 use Rattle.zk_vm.specs.declared.stop.Stop.TheVariants.{Write, Memory}
 use Rattle.zk_vm.specs.declared.waiting.Waiting.{Waiting}
 use Rattle.zk_vm.specs.Answers.{Answer, first_code, answered}
-use Rattle.zk_vm.specs.Answers.Answer.{Typed, Kept, File}
+use Rattle.zk_vm.specs.Answers.Answer.{Typed, GameKept, File}
 use Rattle.zk_vm.specs.Halts.{event_by, event_of, event_waited, is_read_event, ComesToKeep, IsLeftAs}
 use Rattle.zk_vm.specs.Outcome.{Outcome, Session, Segment, ended, followed, outcome, segment_of, segment_by, ran, given, given_to, given_all, shown_up_to, with_stop}
 use Rattle.zk_vm.specs.Plays.{codes_read, AsksForLine, AsksForFile, IsSlotAnswer, IsLastSlot, AreSlotAnswers, IsServed, ShowsOfRun, IsRunOn, AsksForNoFile, EndsTurn, IsLeftByTurn, EndsTurnOrFails, TookTexts, IsTurn, stop_behind, stop_waiting, IsOutcomeOn, CanBeGiven, FoundNoLine, IsLastRead, IsNoLine, IsAnswered, ArePlayed, IsLastAnswered, IsHeard, IsPlayed, IsPlay}
@@ -136,13 +136,13 @@ stopped_as m s (Some y) stop e left = left.0 ∙ e
 
 slot_asks : {K : Type 0} (held : K → Option (Option (List ℕ))) (keeps : K → List ℕ → Option Bool) (before after : K) (s : Session) (a : Answer) → IsSlotAnswer held keeps before after s a → AsksForFile s
 slot_asks held keeps before after s (Typed codes) h = absurd h
-slot_asks held keeps before after s (Kept true) h = inl h.0
-slot_asks held keeps before after s (Kept false) h = inl h.0
+slot_asks held keeps before after s (GameKept true) h = inl h.0
+slot_asks held keeps before after s (GameKept false) h = inl h.0
 slot_asks held keeps before after s (File file) h = inr h.0
 
 slot_can : {K : Type 0} (held : K → Option (Option (List ℕ))) (keeps : K → List ℕ → Option Bool) (before after : K) (s : Session) (a : Answer) → IsSlotAnswer held keeps before after s a → CanBeGiven a
 slot_can held keeps before after s (Typed codes) h = absurd h
-slot_can held keeps before after s (Kept kept) h = tt
+slot_can held keeps before after s (GameKept kept) h = tt
 slot_can held keeps before after s (File file) h = tt
 
 slots_can : {K : Type 0} (held : K → Option (Option (List ℕ))) (keeps : K → List ℕ → Option Bool) (unwritten : Bool) (answers : List Answer) (before after : K) (s : Session) → AreSlotAnswers held keeps unwritten before after s answers → AllByRecursion CanBeGiven answers
@@ -442,7 +442,7 @@ slot_played : {K : Type 0} (held : K → Option (Option (List ℕ))) (keeps : K 
     → IsSlotAnswer held keeps before mid (ran s) a → ArePlayed held keeps unwritten mid after lines left (given (ran s) a) answers → ArePlayed held keeps unwritten before after lines left s (a ∷ answers)
 unfolding ArePlayed
 slot_played held keeps unwritten before mid after lines left s (Typed codes) answers h p = absurd h
-slot_played held keeps unwritten before mid after lines left s (Kept kept) answers h p = (mid, (h, p))
+slot_played held keeps unwritten before mid after lines left s (GameKept kept) answers h p = (mid, (h, p))
 slot_played held keeps unwritten before mid after lines left s (File file) answers h p = (mid, (h, p))
 
 played_alone : {K : Type 0} (held : K → Option (Option (List ℕ))) (keeps : K → List ℕ → Option Bool) (unwritten : Bool) (answers : List Answer) (before after : K) (lines : List (List ℕ)) (s : Session) → AreSlotAnswers held keeps unwritten before after s answers → ArePlayed held keeps unwritten before after lines lines s answers
@@ -521,7 +521,7 @@ played_stopped : {K : Type 0} (held : K → Option (Option (List ℕ))) (keeps :
 unfolding ArePlayed given_all
 played_stopped held keeps before after unwritten m s stop o h left [] e f p q = ((last_stopped held unwritten before after m s stop e p.0, p.1), outcome_of_stopped [] h.over _ _ m s stop o e f (last_of_stopped unwritten left s stop f) q)
 played_stopped held keeps before after unwritten m s stop o h left (Typed codes ∷ answers) e f p q = absurd (no_line m stop e p.1.1.1)
-played_stopped held keeps before after unwritten m s stop o h left (Kept kept ∷ answers) e f p q = absurd (no_file m stop e (slot_asks held keeps before p.0 (ran m) (Kept kept) p.1.0))
+played_stopped held keeps before after unwritten m s stop o h left (GameKept kept ∷ answers) e f p q = absurd (no_file m stop e (slot_asks held keeps before p.0 (ran m) (GameKept kept) p.1.0))
 played_stopped held keeps before after unwritten m s stop o h left (File file ∷ answers) e f p q = absurd (no_file m stop e (slot_asks held keeps before p.0 (ran m) (File file) p.1.0))
 
 played_left_by : {K : Type 0} (held : K → Option (Option (List ℕ))) (keeps : K → List ℕ → Option Bool) (before after : K) (bytes later : List ℕ) (failed unwritten : Bool) (m s : Session) (x : Option Stop) → s.stopped ≡ x → IsLeftAs m s x

@@ -10,7 +10,7 @@ use Rattle.zk_save.specs.States.{WholeState, KeptState, UndoStates, whole_state,
 use Rattle.zk_save.proofs.Wholes.{same_of}
 use Rattle.zk_step.specs.declared.ending.Next.{Next}
 use Rattle.zk_step.specs.declared.ending.Next.TheVariants.{At, Waits, Keeps, Resumes, End}
-use Rattle.zk_step.specs.declared.workspace.Workspace.{Workspace}
+use Rattle.zk_step.specs.declared.game_state.GameState.{GameState}
 use Rattle.zk_step.specs.Laws.{fixed_parts}
 use Rattle.zk_step.proofs.SameStory.{same_base}
 use Rattle.zk_fast.specs.Caches.{IsCacheOf}
@@ -47,18 +47,18 @@ unfolding fixed_parts again settled
 back_fixed w m = refl
 
 -- the states to go back to and the instructions that were decoded are those of a machine's story still
-pub story_stays : (n : Inside) (v : Workspace) → AreOf v.memory v.frames n.undo → v.memory.undo_states ≡ n.limits.undo → IsCacheOf (fixed_parts v.memory) n.cache
-    → fixed_parts n.workspace.memory ≡ fixed_parts v.memory → bounds_of n.workspace.frames ≡ bounds_of v.frames → IsOfStory n
+pub story_stays : (n : Inside) (v : GameState) → AreOf v.memory v.frames n.undo → v.memory.undo_states ≡ n.limits.undo → IsCacheOf (fixed_parts v.memory) n.cache
+    → fixed_parts n.game.memory ≡ fixed_parts v.memory → bounds_of n.game.frames ≡ bounds_of v.frames → IsOfStory n
 story_stays n v are most cache same bounds = record {
-  are_of = same_of v.memory n.workspace.memory v.frames n.workspace.frames n.undo (same_base v.memory n.workspace.memory same) bounds are;
-  memory = same_most v.memory n.workspace.memory same ∙ most;
+  are_of = same_of v.memory n.game.memory v.frames n.game.frames n.undo (same_base v.memory n.game.memory same) bounds are;
+  memory = same_most v.memory n.game.memory same ∙ most;
   cache = rw same cache;
 }
 
 -- ---- invariants
 
 pub sound_now : (m n : Inside) → IsSound m → n.limits ≡ m.limits → n.waiting ≡ None → n.steps ≤ m.limits.steps → n.reads ≤ 16777216 → n.undo.most ≡ m.undo.most
-    → bounds_of n.workspace.frames ≡ bounds_of m.workspace.frames → (n.stopped ≡ None → IsOfStory n) → IsSound n
+    → bounds_of n.game.frames ≡ bounds_of m.game.frames → (n.stopped ≡ None → IsOfStory n) → IsSound n
 sound_now m n is limits free steps reads most bounds story = record {
   steps = rw limits steps;
   bounds = rw limits (bounds ∙ is.bounds);
@@ -82,7 +82,7 @@ going_led x before place (Ok n) P e h none = h n refl
 going_led x before place (Err r) P e h none = absurd cc
 
 pub sound_after : (m n : Inside) (place : ℕ) (led : Result Next Refusal) → IsSound m → m.steps < m.limits.steps → n.limits ≡ m.limits → n.waiting ≡ None → n.steps ≡ steps_by m.steps led → n.reads ≡ m.reads
-    → n.undo.most ≡ m.undo.most → bounds_of n.workspace.frames ≡ bounds_of m.workspace.frames → n.stopped ≡ stopped_by m.stopped (verdict_by place led) → ((x : Next) → led ≡ Ok x → IsOfStory n) → IsSound n
+    → n.undo.most ≡ m.undo.most → bounds_of n.game.frames ≡ bounds_of m.game.frames → n.stopped ≡ stopped_by m.stopped (verdict_by place led) → ((x : Next) → led ≡ Ok x → IsOfStory n) → IsSound n
 sound_after m n place led is room limits free steps reads most bounds stopped undo =
     sound_now m n is limits free (rw steps (few_by m.steps m.limits.steps led room)) (rw reads is.reads) most bounds (going_led n.stopped m.stopped place led (IsOfStory n) stopped undo)
 
@@ -100,12 +100,12 @@ pub first_bounds : (s : FrameList) (f w : ℕ) → s ≡ first_frames f w → bo
 unfolding bounds_of
 first_bounds s f w e = ap bounds_of e
 
-pub within_limits : (m : Inside) → IsSound m → length m.undo.states ≤ m.undo.most → IsBounded m.workspace.frames → IsWithin m.limits (state_seen m)
+pub within_limits : (m : Inside) → IsSound m → length m.undo.states ≤ m.undo.most → IsBounded m.game.frames → IsWithin m.limits (state_seen m)
 unfolding bounds_of
 within_limits m sound few is =
-    let f : m.workspace.frames.most_frames ≡ m.limits.frames = ap (λ (p : ℕ × ℕ). p.0) sound.bounds in
-    let w : m.workspace.frames.most_words ≡ m.limits.words = ap (λ (p : ℕ × ℕ). p.1) sound.bounds in
-    let n = states_counted m.workspace.memory.file m.undo in
+    let f : m.game.frames.most_frames ≡ m.limits.frames = ap (λ (p : ℕ × ℕ). p.0) sound.bounds in
+    let w : m.game.frames.most_words ≡ m.limits.words = ap (λ (p : ℕ × ℕ). p.1) sound.bounds in
+    let n = states_counted m.game.memory.file m.undo in
     record { frames = omega (arith, is.frames, f); words = omega (arith, is.words, w); steps = sound.steps; reads = sound.reads; undo = omega (arith, n, few, sound.most) }
 
 pub first_undo : (story : List ℕ) (undo : ℕ) → (fresh story undo).undo_states ≡ undo

@@ -24,13 +24,13 @@ use Rattle.zk_step.specs.declared.ending.Next.{Next}
 use Rattle.zk_step.specs.declared.ending.Next.TheVariants as next
 use Rattle.zk_step.specs.declared.ending.Wait.{Wait}
 use Rattle.zk_step.specs.declared.ending.Wait.TheVariants as wait
-use Rattle.zk_step.specs.declared.workspace.View.{View}
-use Rattle.zk_step.specs.declared.workspace.View.TheVariants as view
-use Rattle.zk_step.specs.declared.workspace.Workspace.{Workspace}
+use Rattle.zk_step.specs.declared.game_state.View.{View}
+use Rattle.zk_step.specs.declared.game_state.View.TheVariants as view
+use Rattle.zk_step.specs.declared.game_state.GameState.{GameState}
 use Rattle.zk_step.specs.Inputs.{line_answered, character_answered, result_answered}
 use Rattle.zk_step.specs.Instructions.{carried_out}
 use Rattle.zk_step.specs.Laws.{EndsBy, GoesInto, IsOneStory, KeepsStory, ReturnInto, fixed_parts}
-use Rattle.zk_step.specs.Restarts.{renewed}
+use Rattle.zk_step.specs.Restarts.{windows_closed}
 use Rattle.zk_step.specs.Resuming.{resumed}
 use Rattle.zk_step.specs.Routing.{Texts}
 use Rattle.zk_step.specs.Variables.{operands_read}
@@ -51,26 +51,26 @@ use Rattle.zk_vm.proofs.Pauses.{PausesBy, pauses}
 -- ---- what the view leaves
 
 -- memory and frames are the same
-pub record IsShownIn (w v : Workspace) : Type 0 where
+pub record IsShownIn (w v : GameState) : Type 0 where
   pub memory : v.memory ≡ w.memory
   pub frames : v.frames ≡ w.frames
 
-abbrev ShownBeside : Workspace → Workspace × Texts → Type 0
+abbrev ShownBeside : GameState → GameState × Texts → Type 0
 ShownBeside w r = IsShownIn w r.0
 
-shown_none : (w : Workspace) → IsShownIn w w
+shown_none : (w : GameState) → IsShownIn w w
 shown_none w = record { memory = refl; frames = refl }
 
-shown_lines : (w : Workspace) (cs : List ℕ) → IsShownIn w (lines_shown w cs).0
+shown_lines : (w : GameState) (cs : List ℕ) → IsShownIn w (lines_shown w cs).0
 unfolding lines_shown
 shown_lines w [] = shown_none w
 shown_lines w (c ∷ cs) = record { memory = refl; frames = refl }
 
-shown_view : (v : View) (w : Workspace) → Leaves (ShownBeside w) (viewed_by v w)
+shown_view : (v : View) (w : GameState) → Leaves (ShownBeside w) (viewed_by v w)
 shown_view view.Plain w = gives (shown_none w)
 shown_view view.Upper w = leaves_after (status_shown w.memory) _ (λ status. gives (shown_lines w (status ++ rows_shown w.windows 1 w.windows.height)))
 
-shown_before : (x : Wait) (w : Workspace) → Leaves (ShownBeside w) (view_before x w)
+shown_before : (x : Wait) (w : GameState) → Leaves (ShownBeside w) (view_before x w)
 unfolding viewed
 shown_before (wait.Line text parse) w = shown_view w.view w
 shown_before wait.Char w = shown_view w.view w
@@ -101,10 +101,10 @@ module _ (m : MemoryMap) (P : ℕ → Type 0) where
 
   -- memory keeps the story, and all places are inside
   pub record Inside (s : State) : Type 0 where
-    pub memory : KeepsStory s.workspace.memory
-    pub story : IsOneStory m s.workspace.memory
+    pub memory : KeepsStory s.game.memory
+    pub story : IsOneStory m s.game.memory
     pub place : P s.place
-    pub returns : ReturnInto P s.workspace.frames.current.place s.workspace.frames.callers
+    pub returns : ReturnInto P s.game.frames.current.place s.game.frames.callers
     pub undo : All KeptIn s.undo
 
   -- where a step leads is inside, and an instruction that waits goes on inside
@@ -117,7 +117,7 @@ module _ (m : MemoryMap) (P : ℕ → Type 0) where
 
   -- what is known of the instruction at a state's place: where it may lead, and where a state that it keeps goes on
   pub record Knows (s : State) (i : Instr) : Type 0 where
-    pub ends : (u v : Workspace) (vs : List ℕ) (e : Ending) → operands_read s.workspace i.operands ≡ Ok (u, vs) → EndsBy i.opcode vs e → KeepsStory v.memory → IsOneStory m v.memory → EndsInto P v.memory i e
+    pub ends : (u v : GameState) (vs : List ℕ) (e : Ending) → operands_read s.game i.operands ≡ Ok (u, vs) → EndsBy i.opcode vs e → KeepsStory v.memory → IsOneStory m v.memory → EndsInto P v.memory i e
     pub on : goes_on i.opcode ≡ true → GoesOnInto P i
     pub kept : i.opcode ≡ opcode.Saving SaveUndo → ResumesInto P m.version (saved_place s i) × P (saved_place s i + 1)
 
@@ -125,40 +125,40 @@ module _ (m : MemoryMap) (P : ℕ → Type 0) where
   story_after : (a b : MemoryMap) → IsOneStory m a → fixed_parts b ≡ fixed_parts a → IsOneStory m b
   story_after a b h e = record { version = same_version a b e ∙ h.version; base = same_base a b e ∙ h.base; file = same_file a b e ∙ h.file }
 
-  made : (v : Workspace) (t : State) → IsOneStory m v.memory → StaysInside P v t.workspace → P t.place → All KeptIn t.undo → Inside t
-  made v t story k place undo = record { memory = k.inside.memory; story = story_after v.memory t.workspace.memory story k.parts; place = place; returns = k.inside.returns; undo = undo }
+  made : (v : GameState) (t : State) → IsOneStory m v.memory → StaysInside P v t.game → P t.place → All KeptIn t.undo → Inside t
+  made v t story k place undo = record { memory = k.inside.memory; story = story_after v.memory t.game.memory story k.parts; place = place; returns = k.inside.returns; undo = undo }
 
-  abbrev NextInto : Workspace → Workspace × Next → Type 0
+  abbrev NextInto : GameState → GameState × Next → Type 0
   NextInto v x = StaysInside P v x.0 × GoesInto P x.1
 
-  goes_to_inside : (s : State) (us : List WholeState) (v : Workspace) (r : Result (Workspace × Next) Fault) → IsOneStory m v.memory → All KeptIn us → ((x : Workspace × Next) → r ≡ Ok x → NextInto v x) → StepsInto (goes_to s us r)
-  goes_to_inside s us v (Ok (w, next.At place)) story all f = let k = f (w, next.At place) refl in made v (record s { workspace = w; place = place; steps = s.steps + 1; undo = us }) story k.0 k.1 all
+  goes_to_inside : (s : State) (us : List WholeState) (v : GameState) (r : Result (GameState × Next) Fault) → IsOneStory m v.memory → All KeptIn us → ((x : GameState × Next) → r ≡ Ok x → NextInto v x) → StepsInto (goes_to s us r)
+  goes_to_inside s us v (Ok (w, next.At place)) story all f = let k = f (w, next.At place) refl in made v (record s { game = w; place = place; steps = s.steps + 1; undo = us }) story k.0 k.1 all
   goes_to_inside s us v (Ok (w, next.Waits x)) story all f = tt
   goes_to_inside s us v (Ok (w, next.Keeps)) story all f = tt
   goes_to_inside s us v (Ok (w, next.Resumes)) story all f = tt
   goes_to_inside s us v (Ok (w, next.End)) story all f = tt
   goes_to_inside s us v (Err e) story all f = tt
 
-  in_workspace : (s : State) → Inside s → sweep.IsInside P s.workspace
-  in_workspace s h = record { memory = h.memory; returns = h.returns }
+  in_game : (s : State) → Inside s → sweep.IsInside P s.game
+  in_game s h = record { memory = h.memory; returns = h.returns }
 
   -- ---- what an instruction leads to
 
-  waits_inside : (s : State) (i : Instr) (x : Wait) (w : Workspace) (r : Result (Workspace × Texts) Fault) → Inside s → StaysInside P s.workspace w → GoesOnInto P i → Leaves (ShownBeside w) r → StepsInto (waits_by s i x r)
+  waits_inside : (s : State) (i : Instr) (x : Wait) (w : GameState) (r : Result (GameState × Texts) Fault) → Inside s → StaysInside P s.game w → GoesOnInto P i → Leaves (ShownBeside w) r → StepsInto (waits_by s i x r)
   waits_inside s i x w _ h k on (Leaves.gives {x = v} same) =
-      let stays : StaysInside P s.workspace v.0 = record {
+      let stays : StaysInside P s.game v.0 = record {
         inside = record {
           memory = subst KeepsStory (sym same.memory) k.inside.memory;
           returns = subst (λ (f : FrameList). ReturnInto P f.current.place f.callers) (sym same.frames) k.inside.returns;
         };
         parts = ap fixed_parts same.memory ∙ k.parts;
       } in
-      (made s.workspace (record s { workspace = v.0 }) h.story stays h.place h.undo, on)
+      (made s.game (record s { game = v.0 }) h.story stays h.place h.undo, on)
   waits_inside s i x w _ h k on Leaves.fails = tt
 
-  kept_inside : (s : State) (i : Instr) (w : Workspace) → Inside s → Knows s i → StaysInside P s.workspace w → i.opcode ≡ opcode.Saving SaveUndo → All KeptIn (with_kept s i w)
+  kept_inside : (s : State) (i : Instr) (w : GameState) → Inside s → Knows s i → StaysInside P s.game w → i.opcode ≡ opcode.Saving SaveUndo → All KeptIn (with_kept s i w)
   kept_inside s i w h knows k by =
-      let story = story_after s.workspace.memory w.memory h.story k.parts in
+      let story = story_after s.game.memory w.memory h.story k.parts in
       let base = story.base in
       let keeps = k.inside.memory in
       let long : w.memory.static_base ≤ length w.memory.bytes = omega (arith, keeps.inside, keeps.size) in
@@ -179,7 +179,7 @@ module _ (m : MemoryMap) (P : ℕ → Type 0) where
   back_story u n h = record { version = h.version; base = h.base; file = h.file }
 
   -- what was put back goes on
-  put_back : (s : State) (us : List WholeState) (n : MemoryMap) (f : FrameList) (w : Workspace) (place : ℕ) → KeepsStory n → IsOneStory m n → ReturnInto P f.current.place f.callers → ResumesInto P m.version place → w.memory ≡ n → w.frames ≡ f → All KeptIn us → StepsInto (goes_to s us (resumed w place))
+  put_back : (s : State) (us : List WholeState) (n : MemoryMap) (f : FrameList) (w : GameState) (place : ℕ) → KeepsStory n → IsOneStory m n → ReturnInto P f.current.place f.callers → ResumesInto P m.version place → w.memory ≡ n → w.frames ≡ f → All KeptIn us → StepsInto (goes_to s us (resumed w place))
   put_back s us n f w place keeps story returns into same frames all =
       let inside : sweep.IsInside P w = record {
         memory = subst KeepsStory (sym same) keeps;
@@ -189,13 +189,13 @@ module _ (m : MemoryMap) (P : ℕ → Type 0) where
       let version = here.version in
       goes_to_inside s us w (resumed w place) here all (λ x e. back_inside P w inside place x (subst (λ (v : ℕ). ResumesInto P v place) (sym version) into) e)
 
-  back_to_inside : (s : State) (i : Instr) (w : Workspace) (us : List WholeState) → Inside s → StaysInside P s.workspace w → GoesOnInto P i → All KeptIn us → StepsInto (back_to s i w (gone_back us w.memory w.frames))
+  back_to_inside : (s : State) (i : Instr) (w : GameState) (us : List WholeState) → Inside s → StaysInside P s.game w → GoesOnInto P i → All KeptIn us → StepsInto (back_to s i w (gone_back us w.memory w.frames))
   unfolding gone_back
   back_to_inside s i w [] h k on all =
-      goes_to_inside s s.undo w (result_answered w i 0 false) (story_after s.workspace.memory w.memory h.story k.parts) h.undo (λ x e. result_inside P w k.inside i 0 false x on e)
+      goes_to_inside s s.undo w (result_answered w i 0 false) (story_after s.game.memory w.memory h.story k.parts) h.undo (λ x e. result_inside P w k.inside i 0 false x on e)
   back_to_inside s i w (u ∷ us) h k on all =
       let kept = All-head KeptIn u us all in
-      let story = story_after s.workspace.memory w.memory h.story k.parts in
+      let story = story_after s.game.memory w.memory h.story k.parts in
       let base = story.base in
       put_back s us (memory_back u w.memory) (with_frames w.frames u.frames) (record w { memory = memory_back u w.memory; frames = with_frames w.frames u.frames }) u.place
       (memory_keeps u w.memory k.inside.memory (kept.dynamic ∙ sym base)) (back_story u w.memory story) (frames_put w.frames u.frames k.inside.returns kept.frames) kept.resumes refl refl (All-tail KeptIn u us all)
@@ -203,36 +203,36 @@ module _ (m : MemoryMap) (P : ℕ → Type 0) where
   by_opcode : (o q : Opcode) → goes_on q ≡ true → o ≡ q → goes_on o ≡ true
   by_opcode o q on e = ap goes_on e ∙ on
 
-  led_inside : (s : State) (i : Instr) (w : Workspace) (n : Next) (text : Texts) → Inside s → Knows s i → StaysInside P s.workspace w → GoesInto P n → PausesBy i.opcode n → StepsInto (led_to s i w text n)
+  led_inside : (s : State) (i : Instr) (w : GameState) (n : Next) (text : Texts) → Inside s → Knows s i → StaysInside P s.game w → GoesInto P n → PausesBy i.opcode n → StepsInto (led_to s i w text n)
   unfolding goes_on
-  led_inside s i w (next.At place) text h knows k into by = made s.workspace (record s { workspace = w; place = place; steps = s.steps + 1 }) h.story k into h.undo
+  led_inside s i w (next.At place) text h knows k into by = made s.game (record s { game = w; place = place; steps = s.steps + 1 }) h.story k into h.undo
   led_inside s i w (next.Waits x) text h knows k into by = waits_inside s i x w (view_before x w) h k (knows.on by) (shown_before x w)
   led_inside s i w next.Keeps text h knows k into by =
-      goes_to_inside s (with_kept s i w) w (result_answered w i (kept_answer w.memory.undo_states) true) (story_after s.workspace.memory w.memory h.story k.parts) (kept_inside s i w h knows k by)
+      goes_to_inside s (with_kept s i w) w (result_answered w i (kept_answer w.memory.undo_states) true) (story_after s.game.memory w.memory h.story k.parts) (kept_inside s i w h knows k by)
       (λ x e. result_inside P w k.inside i (kept_answer w.memory.undo_states) true x (knows.on (by_opcode i.opcode (opcode.Saving SaveUndo) refl by)) e)
   led_inside s i w next.Resumes text h knows k into by = back_to_inside s i w s.undo h k (knows.on (by_opcode i.opcode (opcode.Saving RestoreUndo) refl by)) h.undo
   led_inside s i w next.End text h knows k into by = tt
 
-  paused : (s : State) (i : Instr) (w : Workspace) (n : Next) (text : Texts) → carried_out s.workspace i ≡ Ok (w, (n, text)) → PausesBy i.opcode n
+  paused : (s : State) (i : Instr) (w : GameState) (n : Next) (text : Texts) → carried_out s.game i ≡ Ok (w, (n, text)) → PausesBy i.opcode n
   paused s i w (next.At place) text e = tt
-  paused s i w (next.Waits x) text e = (pauses s.workspace i w (next.Waits x) text e tt).by
-  paused s i w next.Keeps text e = (pauses s.workspace i w next.Keeps text e tt).by
-  paused s i w next.Resumes text e = (pauses s.workspace i w next.Resumes text e tt).by
+  paused s i w (next.Waits x) text e = (pauses s.game i w (next.Waits x) text e tt).by
+  paused s i w next.Keeps text e = (pauses s.game i w next.Keeps text e tt).by
+  paused s i w next.Resumes text e = (pauses s.game i w next.Resumes text e tt).by
   paused s i w next.End text e = tt
 
-  settled_inside : (s : State) (i : Instr) (r : Result (Workspace × (Next × Texts)) Fault) → Inside s → Knows s i → carried_out s.workspace i ≡ r → StepsInto (step_settled s i r)
+  settled_inside : (s : State) (i : Instr) (r : Result (GameState × (Next × Texts)) Fault) → Inside s → Knows s i → carried_out s.game i ≡ r → StepsInto (step_settled s i r)
   settled_inside s i (Ok (w, (n, text))) h knows e =
-      let k = carried_inside P s.workspace (in_workspace s h) i (w, (n, text)) (λ u v vs x taken by l. knows.ends u v vs x taken by l.inside.memory (story_after s.workspace.memory v.memory h.story l.parts)) e in
+      let k = carried_inside P s.game (in_game s h) i (w, (n, text)) (λ u v vs x taken by l. knows.ends u v vs x taken by l.inside.memory (story_after s.game.memory v.memory h.story l.parts)) e in
       led_inside s i w n text h knows k.0 k.1 (paused s i w n text e)
   settled_inside s i (Err f) h knows e = tt
 
   fetched_inside : (s : State) (r : Result Instr Fault) → Inside s → ((i : Instr) → r ≡ Ok i → Knows s i) → StepsInto (fetched s r)
-  fetched_inside s (Ok i) h knows = settled_inside s i (carried_out s.workspace i) h (knows i refl) refl
+  fetched_inside s (Ok i) h knows = settled_inside s i (carried_out s.game i) h (knows i refl) refl
   fetched_inside s (Err f) h knows = tt
 
-  step_inside : (s : State) → Inside s → ((i : Instr) → instr_at s.workspace.memory s.place ≡ Ok i → Knows s i) → StepsInto (step s)
+  step_inside : (s : State) → Inside s → ((i : Instr) → instr_at s.game.memory s.place ≡ Ok i → Knows s i) → StepsInto (step s)
   unfolding step
-  step_inside s h knows = fetched_inside s (instr_at s.workspace.memory s.place) h knows
+  step_inside s h knows = fetched_inside s (instr_at s.game.memory s.place) h knows
 
   -- ---- what an answer leads to
 
@@ -245,24 +245,24 @@ module _ (m : MemoryMap) (P : ℕ → Type 0) where
 
   -- so it is where an answer restores one
   abbrev pub FilesInto : State → Waiting → Answer → Type 0
-  FilesInto s w a = (file : List ℕ) (n : MemoryMap) (f : FrameList) (place : ℕ) → is_restore w.wait ≡ true → file_of a ≡ Some file → restored file s.workspace.memory s.workspace.frames ≡ Ok (n, f, place) → BackIn n f place
+  FilesInto s w a = (file : List ℕ) (n : MemoryMap) (f : FrameList) (place : ℕ) → is_restore w.wait ≡ true → file_of a ≡ Some file → restored file s.game.memory s.game.frames ≡ Ok (n, f, place) → BackIn n f place
 
-  answer_inside : (s : State) (due : List ℕ) (r : Result (Workspace × Next) Fault) → Inside s → ((x : Workspace × Next) → r ≡ Ok x → NextInto s.workspace x) → StepsInto (answer_settled s due r)
-  answer_inside s due (Ok (w, next.At place)) h f = let k = f (w, next.At place) refl in made s.workspace (record s { workspace = w; place = place; steps = 0; reads = s.reads + 1; due = due }) h.story k.0 k.1 h.undo
+  answer_inside : (s : State) (due : List ℕ) (r : Result (GameState × Next) Fault) → Inside s → ((x : GameState × Next) → r ≡ Ok x → NextInto s.game x) → StepsInto (answer_settled s due r)
+  answer_inside s due (Ok (w, next.At place)) h f = let k = f (w, next.At place) refl in made s.game (record s { game = w; place = place; steps = 0; reads = s.reads + 1; due = due }) h.story k.0 k.1 h.undo
   answer_inside s due (Ok (w, next.Waits x)) h f = tt
   answer_inside s due (Ok (w, next.Keeps)) h f = tt
   answer_inside s due (Ok (w, next.Resumes)) h f = tt
   answer_inside s due (Ok (w, next.End)) h f = tt
   answer_inside s due (Err e) h f = tt
 
-  result_to : (s : State) (i : Instr) (x : ℕ) (truth : Bool) → Inside s → GoesOnInto P i → StepsInto (goes_to s s.undo (result_answered s.workspace i x truth))
-  result_to s i x truth h on = goes_to_inside s s.undo s.workspace (result_answered s.workspace i x truth) h.story h.undo (λ r e. result_inside P s.workspace (in_workspace s h) i x truth r on e)
+  result_to : (s : State) (i : Instr) (x : ℕ) (truth : Bool) → Inside s → GoesOnInto P i → StepsInto (goes_to s s.undo (result_answered s.game i x truth))
+  result_to s i x truth h on = goes_to_inside s s.undo s.game (result_answered s.game i x truth) h.story h.undo (λ r e. result_inside P s.game (in_game s h) i x truth r on e)
 
   restored_inside : (s : State) (i : Instr) (r : Result (MemoryMap × FrameList × ℕ) RestoreError) → Inside s → GoesOnInto P i → ((n : MemoryMap) (f : FrameList) (place : ℕ) → r ≡ Ok (n, f, place) → BackIn n f place) → StepsInto (restored_to s i r)
-  unfolding renewed
+  unfolding windows_closed
   restored_inside s i (Ok (n, f, place)) h on back =
       let b = back n f place refl in
-      put_back s s.undo n f (renewed (record s.workspace { memory = n; frames = f })) place b.memory b.story b.returns b.resumes refl refl h.undo
+      put_back s s.undo n f (windows_closed (record s.game { memory = n; frames = f })) place b.memory b.story b.returns b.resumes refl refl h.undo
   restored_inside s i (Err (restore_error.Limit l)) h on back = tt
   restored_inside s i (Err restore_error.NotQuetzal) h on back = result_to s i 0 false h on
   restored_inside s i (Err restore_error.Truncated) h on back = result_to s i 0 false h on
@@ -270,14 +270,14 @@ module _ (m : MemoryMap) (P : ℕ → Type 0) where
   restored_inside s i (Err restore_error.BadMemory) h on back = result_to s i 0 false h on
   restored_inside s i (Err restore_error.BadStack) h on back = result_to s i 0 false h on
 
-  from_inside : (s : State) (i : Instr) (o : Option (List ℕ)) → Inside s → GoesOnInto P i → ((file : List ℕ) (n : MemoryMap) (f : FrameList) (place : ℕ) → o ≡ Some file → restored file s.workspace.memory s.workspace.frames ≡ Ok (n, f, place) → BackIn n f place) → StepsInto (restored_from s i o)
+  from_inside : (s : State) (i : Instr) (o : Option (List ℕ)) → Inside s → GoesOnInto P i → ((file : List ℕ) (n : MemoryMap) (f : FrameList) (place : ℕ) → o ≡ Some file → restored file s.game.memory s.game.frames ≡ Ok (n, f, place) → BackIn n f place) → StepsInto (restored_from s i o)
   from_inside s i None h on back = result_to s i 0 false h on
-  from_inside s i (Some file) h on back = restored_inside s i (restored file s.workspace.memory s.workspace.frames) h on (λ n f place e. back file n f place refl e)
+  from_inside s i (Some file) h on back = restored_inside s i (restored file s.game.memory s.game.frames) h on (λ n f place e. back file n f place refl e)
 
   by_inside : (s : State) (i : Instr) (x : Wait) (a : Answer) → Inside s → GoesOnInto P i → FilesInto s (record { wait = x; instruction = i }) a → StepsInto (answered_by s i x a)
   by_inside s i (wait.Line text parse) a h on files =
-      answer_inside s (transcribed s.workspace (wait.Line text parse) (codes_of a)) (line_answered s.workspace i text parse (codes_of a)) h (λ r e. line_inside P s.workspace (in_workspace s h) i text parse (codes_of a) r on e)
-  by_inside s i wait.Char a h on files = answer_inside s [] (character_answered s.workspace i (first_code (codes_of a))) h (λ r e. character_inside P s.workspace (in_workspace s h) i (first_code (codes_of a)) r on e)
+      answer_inside s (transcribed s.game (wait.Line text parse) (codes_of a)) (line_answered s.game i text parse (codes_of a)) h (λ r e. line_inside P s.game (in_game s h) i text parse (codes_of a) r on e)
+  by_inside s i wait.Char a h on files = answer_inside s [] (character_answered s.game i (first_code (codes_of a))) h (λ r e. character_inside P s.game (in_game s h) i (first_code (codes_of a)) r on e)
   by_inside s i wait.Save a h on files = result_to s i (truth_word (is_kept a)) (is_kept a) h on
   by_inside s i wait.Restore a h on files = from_inside s i (file_of a) h on (λ file n f place there e. files file n f place refl there e)
 
@@ -297,14 +297,14 @@ module _ (m : MemoryMap) (P : ℕ → Type 0) where
   waits_onward false stop w A B h = h
 
   onward : (s : State) (x : Step) (A : State → Type 0) (B : State → Waiting → Type 0) → StepsInto x → ((t : State) → Inside t → A t) → ((t : State) (w : Waiting) → Inside t → GoesOnInto P w.instruction → B t w) → Onward (verdict_of s x) (A (state_after s x)) (B (state_after s x))
-  onward s (Goes t text) A B h a b = goes_onward s.place (within_bounds t.workspace.frames) (A t) (B t) (a t h)
+  onward s (Goes t text) A B h a b = goes_onward s.place (within_bounds t.game.frames) (A t) (B t) (a t h)
   onward s (Waits t w text) A B h a b = waits_onward (is_past_reads s.reads w.wait) _ w (A t) (B t) (b t w h.0 h.1)
   onward s (Quits text) A B h a b = tt
   onward s (Faults f) A B h a b = tt
   onward s (Exceeds l) A B h a b = tt
 
   module _ (At : State → Type 0) (is_last : State → Bool) (ends : State → Waiting → Answer → Bool) (at : (s : State) → Inside s → At s)
-      (known : (s : State) → Inside s → is_last s ≡ false → (i : Instr) → instr_at s.workspace.memory s.place ≡ Ok i → Knows s i)
+      (known : (s : State) → Inside s → is_last s ≡ false → (i : Instr) → instr_at s.game.memory s.place ≡ Ok i → Knows s i)
       (files : (s : State) (w : Waiting) (a : Answer) → Inside s → ends s w a ≡ false → FilesInto s w a) where
     each_step : (Rest : State → Waiting → Type 0) (left : ℕ) (s : State) → Inside s → ((t : State) (w : Waiting) → Inside t → GoesOnInto P w.instruction → Rest t w) → EachStep At is_last Rest left s
     each_step Rest zero s h rest = tt

@@ -2,7 +2,7 @@
 use Rattle.std.proofs.Common.{◌≡◌, ◌∙◌, ◌<◌, ℕ, zero, suc, ◌+◌, true, List, [], ◌∷◌, ◌++◌, length, take, get_or, refl, sym, ap, subst, arith, append_assoc, append-nil}
 use Rattle.std.proofs.lemmas.List.{take_more}
 use Rattle.zk_term.specs.Windows.{Windows, row_text}
-use Rattle.zk_step.specs.declared.workspace.Workspace.{Workspace}
+use Rattle.zk_step.specs.declared.game_state.GameState.{GameState}
 use Rattle.zk_step.specs.Routing.{on_screen, fresh_line, with_line_start}
 use Rattle.zk_vm.specs.View.{rows_shown, lines_shown}
 
@@ -30,7 +30,7 @@ rows_more w (suc n) row =
     rw (one, there) (ap (λ (cs : List ℕ). row_line w row ++ cs) (rows_more w n (row + 1)) ∙ sym (append_assoc (row_line w row) (rows_shown w (row + 1) n) (row_line w (row + 1 + n))))
 
 -- lines that are shown
-pub some_lines : (w : Workspace) (cs : List ℕ) → (cs ≡ [] → ⊥) → lines_shown w cs ≡ (with_line_start true w, on_screen (fresh_line w.at_line_start ++ cs))
+pub some_lines : (w : GameState) (cs : List ℕ) → (cs ≡ [] → ⊥) → lines_shown w cs ≡ (with_line_start true w, on_screen (fresh_line w.at_line_start ++ cs))
 unfolding lines_shown
 some_lines w [] h = absurd (h refl)
 some_lines w (c ∷ cs) h = refl

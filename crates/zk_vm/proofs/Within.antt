@@ -12,7 +12,7 @@ use Rattle.zk_vm.specs.declared.stop.Stop.{Stop}
 use Rattle.zk_vm.specs.declared.stop.Stop.TheVariants.{Limit}
 use Rattle.zk_vm.specs.declared.waiting.Waiting.{Waiting}
 use Rattle.zk_vm.specs.Answers.{Answer, answered}
-use Rattle.zk_step.specs.declared.workspace.View.{View}
+use Rattle.zk_step.specs.declared.game_state.View.{View}
 use Rattle.zk_vm.specs.Bounds.{AreInRange}
 use Rattle.zk_vm.specs.Laws.{IsWithin, RunsStayWithin}
 use Rattle.zk_vm.specs.Outcome.{Leads, Segment, Session, begun, continued, ended, given, given_all, given_to, ran, resumed, segment, segment_by, segment_of}
@@ -27,8 +27,8 @@ use Rattle.zk_vm.proofs.Sounds.{first_undo}
 
 -- a state keeps to the limits, and has them as its own
 pub record Holds (l : Limits) (s : State) : Type 0 where
-  pub bounds : bounds_of s.workspace.frames ≡ (l.frames, l.words)
-  pub most : s.workspace.memory.undo_states ≡ l.undo
+  pub bounds : bounds_of s.game.frames ≡ (l.frames, l.words)
+  pub most : s.game.memory.undo_states ≡ l.undo
   pub within : IsWithin l s
 
 -- ---- steps that go on
@@ -42,7 +42,7 @@ stays l (suc n) s end text h few lead =
     let rest : Leads n to.0 end lead.0 = subst (λ (u : State). Leads n u end lead.0) there lead.2 in
     stays l n to.0 end lead.0 next.0 (omega (arith, next.1)) rest
   where
-    goes_holds : (l : Limits) (s t : State) (text : Texts) → Holds l s → s.steps + 1 ≤ l.steps → step s ≡ Goes t text → goes_by s.place (within_bounds t.workspace.frames) ≡ GoesOn → Holds l t × (t.steps ≡ s.steps + 1)
+    goes_holds : (l : Limits) (s t : State) (text : Texts) → Holds l s → s.steps + 1 ≤ l.steps → step s ≡ Goes t text → goes_by s.place (within_bounds t.game.frames) ≡ GoesOn → Holds l t × (t.steps ≡ s.steps + 1)
     goes_holds l s t text h few e goes =
         let next = after_goes l s t text e h.bounds h.most few h.within.reads h.within.undo goes in
         (record { bounds = next.1; most = next.2; within = next.0 }, next.3)
@@ -51,7 +51,7 @@ stays l (suc n) s end text h few lead =
 
 -- what waits is not a read too many
 waits_on : (s : State) (x : Step) (w : Waiting) → verdict_of s x ≡ WaitsFor w → (t : State) × ((text : Texts) × ((x ≡ Waits t w text) × (is_past_reads s.reads w.wait ≡ false)))
-waits_on s (Goes t text) w h = absurd (no_wait (within_bounds t.workspace.frames) h)
+waits_on s (Goes t text) w h = absurd (no_wait (within_bounds t.game.frames) h)
   where
     no_wait : (q : Result FrameList Refusal) → goes_by s.place q ≡ WaitsFor w → ⊥
     no_wait (Ok u) k = absurd cc
@@ -74,7 +74,7 @@ pub record HoldsBack (l : Limits) (s : State) (w : Waiting) : Type 0 where
 waits_hold : (l : Limits) (s t : State) (w : Waiting) (text : Texts) → Holds l s → step s ≡ Waits t w text → is_past_reads s.reads w.wait ≡ false → HoldsBack l t w
 waits_hold l s t w text h e may =
     let so = step_waits s t w text e in
-    let here : Holds l (record s { workspace = so.workspace }) = record {
+    let here : Holds l (record s { game = so.game }) = record {
       bounds = so.pops.bounds ∙ h.bounds;
       most = ap (λ m. m.undo_states) so.pops.memory ∙ h.most;
       within = record { frames = omega (arith, so.pops.frames, h.within.frames); words = omega (arith, so.pops.words, h.within.words); steps = h.within.steps; reads = h.within.reads; undo = h.within.undo };
@@ -145,17 +145,17 @@ reads_by : (n m : ℕ) (b : Bool) → (b && nat_le most_reads n) ≡ false → n
 reads_by n m true h few one same = let room = may_read n true h refl in omega (arith, room, one)
 reads_by n m false h few one same = let e = same refl in omega (arith, e, few)
 
-goes_holds : (l : Limits) (s t : State) (w : Waiting) (a : Answer) (text : Texts) → HoldsBack l s w → s.steps < l.steps → answered s w a ≡ Goes t text → (u : FrameList) → within_bounds t.workspace.frames ≡ Ok u → Holds l t
+goes_holds : (l : Limits) (s t : State) (w : Waiting) (a : Answer) (text : Texts) → HoldsBack l s w → s.steps < l.steps → answered s w a ≡ Goes t text → (u : FrameList) → within_bounds t.game.frames ≡ Ok u → Holds l t
 unfolding bounds_of
 goes_holds l s t w a text h room e u inside =
     let so = answered_so s t w a text e in
     let there : state_after s (answered s w a) ≡ t = ap (state_after s) e in
     let same = answered_bounds s w a in
-    let frames : t.workspace.frames.most_frames ≡ s.workspace.frames.most_frames = sym (ap (λ (v : State). v.workspace.frames.most_frames) there) ∙ same.0 in
-    let words : t.workspace.frames.most_words ≡ s.workspace.frames.most_words = sym (ap (λ (v : State). v.workspace.frames.most_words) there) ∙ same.1 in
-    let own_frames : s.workspace.frames.most_frames ≡ l.frames = ap (λ (p : ℕ × ℕ). p.0) h.holds.bounds in
-    let own_words : s.workspace.frames.most_words ≡ l.words = ap (λ (p : ℕ × ℕ). p.1) h.holds.bounds in
-    let both = within_is t.workspace.frames u inside in
+    let frames : t.game.frames.most_frames ≡ s.game.frames.most_frames = sym (ap (λ (v : State). v.game.frames.most_frames) there) ∙ same.0 in
+    let words : t.game.frames.most_words ≡ s.game.frames.most_words = sym (ap (λ (v : State). v.game.frames.most_words) there) ∙ same.1 in
+    let own_frames : s.game.frames.most_frames ≡ l.frames = ap (λ (p : ℕ × ℕ). p.0) h.holds.bounds in
+    let own_words : s.game.frames.most_words ≡ l.words = ap (λ (p : ℕ × ℕ). p.1) h.holds.bounds in
+    let both = within_is t.game.frames u inside in
     let kept : length t.undo ≡ length s.undo = ap (λ (v : List _). length v) so.0.undo in
     record {
       bounds = pair (frames ∙ own_frames) (words ∙ own_words);
@@ -174,9 +174,9 @@ goes_holds l s t w a text h room e u inside =
 
 resumed_holds : (l : Limits) (s : Session) (w : Waiting) (a : Answer) (x : Step) → answered s.state w a ≡ x → HoldsBack l s.state w → s.state.steps < l.steps → (resumed s (verdict_of s.state x) (state_after s.state x)).stopped ≡ None
     → Holds l (resumed s (verdict_of s.state x) (state_after s.state x)).state
-resumed_holds l s w a (Goes t text) e h room runs = go (within_bounds t.workspace.frames) refl runs
+resumed_holds l s w a (Goes t text) e h room runs = go (within_bounds t.game.frames) refl runs
   where
-    go : (q : Result FrameList Refusal) → within_bounds t.workspace.frames ≡ q → (resumed s (goes_by s.state.place q) t).stopped ≡ None → Holds l (resumed s (goes_by s.state.place q) t).state
+    go : (q : Result FrameList Refusal) → within_bounds t.game.frames ≡ q → (resumed s (goes_by s.state.place q) t).stopped ≡ None → Holds l (resumed s (goes_by s.state.place q) t).state
     go (Ok u) inside k = goes_holds l s.state t w a text h room e u inside
     go (Err (refusal.Limit m)) inside k = absurd cc
     go (Err (refusal.Fault f)) inside k = absurd cc

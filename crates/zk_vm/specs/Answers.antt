@@ -9,13 +9,13 @@ use Rattle.zk_step.specs.declared.ending.Next.{Next}
 use Rattle.zk_step.specs.declared.ending.Next.TheVariants.{At}
 use Rattle.zk_step.specs.declared.ending.Wait.{Wait}
 use Rattle.zk_step.specs.declared.ending.Wait.TheVariants.{Line, Char, Save, Restore}
-use Rattle.zk_step.specs.declared.workspace.Workspace.{Workspace}
+use Rattle.zk_step.specs.declared.game_state.GameState.{GameState}
 use Rattle.zk_state.specs.Frames.{FrameList}
 use Rattle.zk_save.specs.declared.restore.RestoreError.{RestoreError}
 use Rattle.zk_save.specs.declared.restore.RestoreError.TheVariants as restore_error
 use Rattle.zk_save.specs.Loading.{restored}
 use Rattle.zk_step.specs.Inputs.{line_answered, character_answered, result_answered}
-use Rattle.zk_step.specs.Restarts.{renewed}
+use Rattle.zk_step.specs.Restarts.{windows_closed}
 use Rattle.zk_step.specs.Resuming.{resumed}
 use Rattle.zk_step.specs.Routing.{no_text, script_is_on}
 use Rattle.zk_step.specs.Status.{code_units}
@@ -28,7 +28,7 @@ use Rattle.zk_vm.specs.Step.Step.{Goes, Quits, Faults, Exceeds}
 -- an answer: the codes of a line that was typed, whether a saved game was kept, or a saved game, where there is one
 pub data Answer : Type 0 where
   Typed : (codes : List ℕ) → Answer
-  Kept : (kept : Bool) → Answer
+  GameKept : (kept : Bool) → Answer
   File : (file : Option (List ℕ)) → Answer
 
 -- the codes of an answer; what is no line has none
@@ -38,7 +38,7 @@ codes_of _ = []
 
 -- a saved game was kept
 abbrev pub is_kept : Answer → Bool
-is_kept (Kept kept) = kept
+is_kept (GameKept kept) = kept
 is_kept _ = false
 
 -- the saved game of an answer
@@ -63,20 +63,20 @@ abbrev pub line_shown : MemoryMap → ℕ → List ℕ → List ℕ
 line_shown m text codes = shown_all (own_characters m) (code_units (letters_or_none (kept_of m text codes))) ++ 10 ∷ []
 
 -- the transcript is on, and no table of stream 3 is open
-abbrev pub is_transcribed : Workspace → Bool
+abbrev pub is_transcribed : GameState → Bool
 is_transcribed w = script_is_on w.memory && is_none (newest_of w.streams.tables)
 
 -- what the transcript gets of what was typed: a line, but no character (section 7.1.1.1)
-abbrev pub transcribed : Workspace → Wait → List ℕ → List ℕ
+abbrev pub transcribed : GameState → Wait → List ℕ → List ℕ
 transcribed w (Line text parse) codes = if is_transcribed w then line_shown w.memory text codes else []
 transcribed w _ codes = []
 
 -- the read is answered: no steps were made since, and the transcript is to get what was typed
-abbrev pub answer_led : State → List ℕ → Workspace → Next → Step
-answer_led s due w (At place) = Goes (record s { workspace = w; place = place; steps = 0; reads = s.reads + 1; due = due }) no_text
+abbrev pub answer_led : State → List ℕ → GameState → Next → Step
+answer_led s due w (At place) = Goes (record s { game = w; place = place; steps = 0; reads = s.reads + 1; due = due }) no_text
 answer_led s due w _ = Quits no_text
 
-abbrev pub answer_settled : State → List ℕ → Result (Workspace × Next) Fault → Step
+abbrev pub answer_settled : State → List ℕ → Result (GameState × Next) Fault → Step
 answer_settled s due (Ok r) = answer_led s due r.0 r.1
 answer_settled s due (Err f) = Faults f
 
@@ -90,21 +90,21 @@ truth_word false = 0
 -- a saved game is back, and goes on where it was saved; where it is refused nothing changes and the answer is 0 or a
 -- falsehood, but for one with too many frames or words
 abbrev pub restored_to : State → Instr → Result (MemoryMap × FrameList × ℕ) RestoreError → Step
-restored_to s i (Ok (m, f, place)) = goes_to s s.undo (resumed (renewed (record s.workspace { memory = m; frames = f })) place)
+restored_to s i (Ok (m, f, place)) = goes_to s s.undo (resumed (windows_closed (record s.game { memory = m; frames = f })) place)
 restored_to s i (Err (restore_error.Limit l)) = Exceeds l
-restored_to s i (Err _) = goes_to s s.undo (result_answered s.workspace i 0 false)
+restored_to s i (Err _) = goes_to s s.undo (result_answered s.game i 0 false)
 
 -- without a saved game the answer is 0 or a falsehood
 abbrev pub restored_from : State → Instr → Option (List ℕ) → Step
-restored_from s i None = goes_to s s.undo (result_answered s.workspace i 0 false)
-restored_from s i (Some file) = restored_to s i (restored file s.workspace.memory s.workspace.frames)
+restored_from s i None = goes_to s s.undo (result_answered s.game i 0 false)
+restored_from s i (Some file) = restored_to s i (restored file s.game.memory s.game.frames)
 
 -- ---- all answers
 
 abbrev pub answered_by : State → Instr → Wait → Answer → Step
-answered_by s i (Line text parse) a = answer_settled s (transcribed s.workspace (Line text parse) (codes_of a)) (line_answered s.workspace i text parse (codes_of a))
-answered_by s i Char a = answer_settled s [] (character_answered s.workspace i (first_code (codes_of a)))
-answered_by s i Save a = goes_to s s.undo (result_answered s.workspace i (truth_word (is_kept a)) (is_kept a))
+answered_by s i (Line text parse) a = answer_settled s (transcribed s.game (Line text parse) (codes_of a)) (line_answered s.game i text parse (codes_of a))
+answered_by s i Char a = answer_settled s [] (character_answered s.game i (first_code (codes_of a)))
+answered_by s i Save a = goes_to s s.undo (result_answered s.game i (truth_word (is_kept a)) (is_kept a))
 answered_by s i Restore a = restored_from s i (file_of a)
 
 -- the rest of the instruction that waits, once its answer has come

@@ -4,7 +4,7 @@ use Rattle.std.specs.Prelude.{◌≡◌, ℕ, List, [], ◌∷◌, ◌++◌, Som
 use Rattle.zk_mem.specs.declared.fault.Fault.TheVariants.{BadAddress, DivisionByZero, BadOpcode, CodePastEnd, ReadOnly}
 use Rattle.zk_state.specs.declared.refusal.Limit.TheVariants.{Frames, Words, Steps, Reads}
 use Rattle.zk_state.specs.Frames.{first_frames}
-use Rattle.zk_step.specs.declared.workspace.View.TheVariants.{Plain, Upper}
+use Rattle.zk_step.specs.declared.game_state.View.TheVariants.{Plain, Upper}
 use Rattle.zk_vm.specs.declared.limits.Limits.{Limits}
 use Rattle.zk_vm.specs.declared.stop.Event.TheVariants as event
 use Rattle.zk_vm.specs.declared.stop.Stop.{Stop}
@@ -86,7 +86,7 @@ abbrev pub BeginsAtTheFirstInstruction : Type 0
 BeginsAtTheFirstInstruction =
     ((starts prints_and_quits (limits_of 3 4 10)).state.place ≡ 64)
     × ((starts prints_and_quits (limits_of 3 4 10)).state.steps ≡ 0)
-    × ((starts prints_and_quits (limits_of 3 4 10)).state.workspace.frames ≡ first_frames 3 4)
+    × ((starts prints_and_quits (limits_of 3 4 10)).state.game.frames ≡ first_frames 3 4)
     × ((starts prints_and_quits (limits_of 3 4 10)).stopped ≡ None)
 
 -- a machine that has stopped shows nothing more, and has its stop

@@ -11,13 +11,13 @@ use Rattle.zk_save.specs.declared.restore.RestoreError.TheVariants as restore_er
 use Rattle.zk_save.specs.Loading.{restored}
 use Rattle.zk_step.specs.declared.ending.Next.{Next}
 use Rattle.zk_step.specs.declared.ending.Next.TheVariants.{At}
-use Rattle.zk_step.specs.declared.workspace.Workspace.{Workspace}
+use Rattle.zk_step.specs.declared.game_state.GameState.{GameState}
 use Rattle.zk_step.specs.Inputs.{result_answered}
 use Rattle.zk_step.specs.Limited.{limited_next}
-use Rattle.zk_step.specs.Restarts.{renewed}
+use Rattle.zk_step.specs.Restarts.{windows_closed}
 use Rattle.zk_step.specs.Resuming.{resumed}
 use Rattle.zk_step.specs.Routing.{Texts}
-use Rattle.zk_fast.specs.Strides.{IsRefusedBehind, Strides}
+use Rattle.zk_fast.specs.QuietSteps.{IsRefusedAfter, QuietSteps}
 use Rattle.zk_vm.specs.declared.stop.Stop.{Stop}
 use Rattle.zk_vm.specs.declared.stop.Stop.TheVariants as stop
 use Rattle.zk_vm.specs.declared.waiting.Halt.{Halt}
@@ -69,7 +69,7 @@ pub record LacksMemory (old new : Session) (answer : Result (Unit {0}) Halt) : T
   pub tells : answer ≡ Err (halt.Stops stop.Memory)
   pub same : new.state ≡ old.state
   pub waiting : new.waiting ≡ None
-  pub some : 0 < old.state.workspace.memory.undo_states
+  pub some : 0 < old.state.game.memory.undo_states
 
 -- the limit that a saved game passes, where it is refused for that
 abbrev pub limit_of : RestoreError → Option Limit
@@ -77,13 +77,13 @@ limit_of (restore_error.Limit l) = Some l
 limit_of _ = None
 
 -- where an instruction leads that restores, by what was loaded
-abbrev pub restored_by : Workspace → Instr → Result (MemoryMap × FrameList × ℕ) RestoreError → Result (Workspace × Next) Refusal
-restored_by w i (Ok (m, f, place)) = limited_next (resumed (renewed (record w { memory = m; frames = f })) place)
+abbrev pub restored_by : GameState → Instr → Result (MemoryMap × FrameList × ℕ) RestoreError → Result (GameState × Next) Refusal
+restored_by w i (Ok (m, f, place)) = limited_next (resumed (windows_closed (record w { memory = m; frames = f })) place)
 restored_by w i (Err (restore_error.Limit l)) = Err (refusal.Limit l)
 restored_by w i (Err _) = limited_next (result_answered w i 0 false)
 
 -- where an instruction leads that restores a file
-abbrev pub restored_on : Workspace → Instr → List ℕ → Result (Workspace × Next) Refusal
+abbrev pub restored_on : GameState → Instr → List ℕ → Result (GameState × Next) Refusal
 restored_on w i file = restored_by w i (restored file w.memory w.frames)
 
 -- the segment of the steps that a machine has left
@@ -100,14 +100,14 @@ IsHalted old new answer Shown =
 -- ---- steps that are made in silence
 
 -- a state behind so many of them
-abbrev pub behind_strides : State → ℕ → Workspace → ℕ → State
-behind_strides s n w place = record s { workspace = w; place = place; steps = s.steps + n }
+abbrev pub behind_strides : State → ℕ → GameState → ℕ → State
+behind_strides s n w place = record s { game = w; place = place; steps = s.steps + n }
 
 -- a machine has made some steps by instructions that show nothing, and goes on
 pub record GoesAhead (old new : Session) : Type 0 where
   pub steps : ℕ
-  pub strides : Strides steps old.state.workspace old.state.place new.state.workspace new.state.place
-  pub there : new ≡ record old { state = behind_strides old.state steps new.state.workspace new.state.place }
+  pub quiet_steps : QuietSteps steps old.state.game old.state.place new.state.game new.state.place
+  pub there : new ≡ record old { state = behind_strides old.state steps new.state.game new.state.place }
 
 -- the instruction behind them is refused
 pub record StopsAhead (old new : Session) (answer : Halt) : Type 0 where
@@ -115,7 +115,7 @@ pub record StopsAhead (old new : Session) (answer : Halt) : Type 0 where
   pub place : ℕ
   pub refusal : Refusal
   pub few : steps < old.limits.steps - old.state.steps
-  pub refused : IsRefusedBehind steps old.state.workspace old.state.place place refusal
+  pub refused : IsRefusedAfter steps old.state.game old.state.place place refusal
   pub tells : answer ≡ halt.Stops (stop_by place refusal)
   pub free : new.waiting ≡ None
 

@@ -8,7 +8,7 @@ use Rattle.zk_code.specs.Reading.{instr_at}
 use Rattle.zk_step.specs.declared.ending.Next.TheVariants.{Waits, Keeps, Resumes}
 use Rattle.zk_step.specs.declared.ending.Wait.{Wait}
 use Rattle.zk_step.specs.declared.ending.Wait.TheVariants as wait
-use Rattle.zk_step.specs.declared.workspace.Workspace.{Workspace}
+use Rattle.zk_step.specs.declared.game_state.GameState.{GameState}
 use Rattle.zk_step.specs.Routing.{Texts, no_text, on_script, text_joined}
 use Rattle.zk_step.specs.Variables.{operands_read}
 use Rattle.zk_vm.specs.declared.limits.Limits.{Limits}
@@ -101,13 +101,13 @@ IsQuiet _ text = Unit {0}
 -- taken, and nothing else has changed
 pub record IsKeeping (s taken : State) : Type 0 where
   pub instruction : Instr
-  pub fetched : instr_at s.workspace.memory s.place ≡ Ok instruction
+  pub fetched : instr_at s.game.memory s.place ≡ Ok instruction
   pub keeps : instruction.opcode ≡ Saving SaveUndo
-  pub some : 0 < s.workspace.memory.undo_states
-  pub workspace : Workspace
+  pub some : 0 < s.game.memory.undo_states
+  pub game : GameState
   pub values : List ℕ
-  pub operands : operands_read s.workspace instruction.operands ≡ Ok (workspace, values)
-  pub beside : taken ≡ record s { workspace = workspace }
+  pub operands : operands_read s.game instruction.operands ≡ Ok (game, values)
+  pub beside : taken ≡ record s { game = game }
 
 -- a step was made as the Standard's machine makes it, and its text was shown; or it came to keep a state, for which there
 -- was no memory

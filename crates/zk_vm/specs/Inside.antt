@@ -12,7 +12,7 @@ use Rattle.zk_save.specs.Loading.{restored}
 use Rattle.zk_save.specs.States.{WholeState}
 use Rattle.zk_step.specs.declared.ending.Wait.{Wait}
 use Rattle.zk_step.specs.declared.ending.Wait.TheVariants.{Restore}
-use Rattle.zk_step.specs.declared.workspace.View.{View}
+use Rattle.zk_step.specs.declared.game_state.View.{View}
 use Rattle.zk_step.specs.Laws.{KeepsStory, ReturnInto, is_of_reading}
 use Rattle.zk_step.specs.Routing.{Texts}
 use Rattle.zk_vm.specs.declared.limits.Limits.{Limits}
@@ -38,7 +38,7 @@ pub record IsKeptInside (P : ℕ → Type 0) (kept : WholeState) : Type 0 where
 -- a state of play is inside a set: its place, the places that its routines return to, and the states to go back to
 pub record IsInside (P : ℕ → Type 0) (s : State) : Type 0 where
   pub place : P s.place
-  pub frames : ReturnInto P s.workspace.frames.current.place s.workspace.frames.callers
+  pub frames : ReturnInto P s.game.frames.current.place s.game.frames.callers
   pub undo : All (IsKeptInside P) s.undo
 
 -- ---- what nothing is said after
@@ -49,7 +49,7 @@ found_by_variable (Err f) = false
 
 -- the instruction at a state's place calls or jumps by a variable
 unfoldable pub goes_by_variable : State → Bool
-goes_by_variable s = found_by_variable (instr_at s.workspace.memory s.place)
+goes_by_variable s = found_by_variable (instr_at s.game.memory s.place)
 
 abbrev pub is_restore : Wait → Bool
 is_restore Restore = true
@@ -57,7 +57,7 @@ is_restore _ = false
 
 abbrev pub is_loaded : State → Option (List ℕ) → Bool
 is_loaded s None = false
-is_loaded s (Some file) = is_ok (restored file s.workspace.memory s.workspace.frames)
+is_loaded s (Some file) = is_ok (restored file s.game.memory s.game.frames)
 
 -- an answer restores a saved game; a file that is refused restores none
 unfoldable pub loads_file : State → Waiting → Answer → Bool
@@ -105,7 +105,7 @@ pub record StaysClean (story : List ℕ) (P : ℕ → Type 0) : Type 0 where
   pub inside : (seed : ℕ) (l : Limits) (view : View) (answers : List Answer) → EachOfRun (IsInside P) goes_by_variable loads_file l answers (begun story seed l view).state
   pub read : (seed : ℕ) (l : Limits) (view : View) (answers : List Answer) → EachOfRun (IsRead P) never never_ends l answers (begun story seed l view).state
   pub answers : (s : State) (w : Waiting) (a : Answer) (f : Fault) → answered s w a ≡ Faults f → is_of_reading f ≡ false
-  pub memory : (seed : ℕ) (l : Limits) (view : View) (answers : List Answer) → EachOfRun (λ s. KeepsStory s.workspace.memory) never never_ends l answers (begun story seed l view).state
+  pub memory : (seed : ℕ) (l : Limits) (view : View) (answers : List Answer) → EachOfRun (λ s. KeepsStory s.game.memory) never never_ends l answers (begun story seed l view).state
 
 -- so it is for each clean set
 abbrev pub CleanStays : Type 0

@@ -4,7 +4,7 @@ use Rattle.zk_state.specs.declared.refusal.Limit.{Limit}
 use Rattle.zk_state.specs.declared.refusal.Limit.TheVariants.{Frames, Words, Steps, Reads}
 use Rattle.zk_state.specs.declared.refusal.Refusal.TheVariants as refusal
 use Rattle.zk_state.specs.Frames.{frames_of, total_of, within_bounds}
-use Rattle.zk_step.specs.declared.workspace.View.{View}
+use Rattle.zk_step.specs.declared.game_state.View.{View}
 use Rattle.zk_step.specs.Laws.{rebounded}
 use Rattle.zk_step.specs.Routing.{Texts, on_script, text_joined}
 use Rattle.zk_vm.specs.declared.limits.Limits.{Limits}
@@ -20,8 +20,8 @@ use Rattle.zk_vm.specs.Outcome.{Segment, Session, segment, segment_of, ran, outc
 -- no more frames and words than the limits say, no more steps since the last answered read, no more reads, and no more
 -- states to go back to
 pub record IsWithin (l : Limits) (s : State) : Type 0 where
-  pub frames : length (frames_of s.workspace.frames) ≤ l.frames
-  pub words : total_of s.workspace.frames ≤ l.words
+  pub frames : length (frames_of s.game.frames) ≤ l.frames
+  pub words : total_of s.game.frames ≤ l.words
   pub steps : s.steps ≤ l.steps
   pub reads : s.reads ≤ most_reads
   pub undo : length s.undo ≤ l.undo
@@ -58,7 +58,7 @@ StepLimitCutsThere = (n : ℕ) (s end : State) (text : Texts) → Leads n s end 
 
 -- the state with other bounds on frames and words
 abbrev pub state_in : ℕ → ℕ → State → State
-state_in f w s = record s { workspace = rebounded f w s.workspace }
+state_in f w s = record s { game = rebounded f w s.game }
 
 -- a stop that is not the limit on frames or words
 abbrev pub IsNoFrameStop : Stop → Type 0
@@ -77,13 +77,13 @@ segment_in f w g = record g { state = state_in f w g.state }
 
 -- a segment that ends otherwise is the same under any greater limits on frames and words
 abbrev pub FrameLimitsOnlyCut : Type 0
-FrameLimitsOnlyCut = (n f w : ℕ) (s : State) → s.workspace.frames.most_frames ≤ f → s.workspace.frames.most_words ≤ w
+FrameLimitsOnlyCut = (n f w : ℕ) (s : State) → s.game.frames.most_frames ≤ f → s.game.frames.most_words ≤ w
     → IsNoFrameLimit (segment n s).end → segment n (state_in f w s) ≡ segment_in f w (segment n s)
 
 -- what a step or an answer leads to passes a limit: too many frames or words, too many in a file that it restores, or one
 -- read too many
 abbrev pub Passes : Limit → State → Step → Type 0
-Passes l old (Goes s text) = within_bounds s.workspace.frames ≡ Err (refusal.Limit l)
+Passes l old (Goes s text) = within_bounds s.game.frames ≡ Err (refusal.Limit l)
 Passes l old (Waits s waiting text) = (l ≡ Reads) × (is_past_reads old.reads waiting.wait ≡ true)
 Passes l old (Exceeds limit) = l ≡ limit
 Passes l old _ = ⊥
@@ -111,7 +111,7 @@ session_in f w s = record s { state = state_in f w s.state; limits = record s.li
 
 -- a run that stops for another reason is the same under any greater limits on frames and words, whatever answers it gets
 abbrev pub FrameLimitsOnlyCutRuns : Type 0
-FrameLimitsOnlyCutRuns = (answers : List Answer) (end : Stop) (f w : ℕ) (s : Session) → s.state.workspace.frames.most_frames ≤ f → s.state.workspace.frames.most_words ≤ w
+FrameLimitsOnlyCutRuns = (answers : List Answer) (end : Stop) (f w : ℕ) (s : Session) → s.state.game.frames.most_frames ≤ f → s.state.game.frames.most_words ≤ w
     → IsNoFrameStop (outcome answers end s).stop → outcome answers end (session_in f w s) ≡ outcome answers end s
 
 -- how a machine's run stops by a limit, behind the answers that it got: at the step that is one too many, at the first step

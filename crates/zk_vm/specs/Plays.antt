@@ -15,7 +15,7 @@ use Rattle.zk_vm.specs.declared.stop.Stop.{Stop}
 use Rattle.zk_vm.specs.declared.stop.Stop.TheVariants.{EndOfInput, Read, Write, Memory}
 use Rattle.zk_vm.specs.declared.waiting.Waiting.{Waiting}
 use Rattle.zk_vm.specs.Answers.{Answer}
-use Rattle.zk_vm.specs.Answers.Answer.{Typed, Kept, File}
+use Rattle.zk_vm.specs.Answers.Answer.{Typed, GameKept, File}
 use Rattle.zk_vm.specs.Halts.{event_of, event_waited, ComesToKeep, IsLeftAs, IsRun}
 use Rattle.zk_vm.specs.Outcome.{Outcome, Session, outcome, segment_of, ran, given, given_all, shown_up_to}
 use Rattle.zk_vm.specs.Step.{saved_place}
@@ -24,12 +24,12 @@ use Rattle.zk_vm.specs.Step.{saved_place}
 
 -- the codes of a line, by the extra characters in force where it is read
 abbrev pub codes_read : Session → List ℕ → List ℕ
-codes_read s line = line_codes (own_characters s.state.workspace.memory) line
+codes_read s line = line_codes (own_characters s.state.game.memory) line
 
 -- the saved game of a machine that waits for it to be kept
 abbrev pub image_by : Session → Option Waiting → List ℕ
 image_by s None = []
-image_by s (Some w) = saved s.state.workspace.memory s.state.workspace.frames (saved_place s.state w.instruction)
+image_by s (Some w) = saved s.state.game.memory s.state.game.frames (saved_place s.state w.instruction)
 
 -- the same by what the machine waits for
 abbrev pub image_of : Session → List ℕ
@@ -47,9 +47,9 @@ AsksForFile s = (event_waited s.waiting ≡ Some event.Save) ⊎ (event_waited s
 -- then, or the one that it has
 abbrev pub IsSlotAnswer : {K : Type 0} → (K → Option (Option (List ℕ))) → (K → List ℕ → Option Bool) → K → K → Session → Answer → Type 0
 IsSlotAnswer {K} held keeps before after s (Typed codes) = ⊥
-IsSlotAnswer {K} held keeps before after s (Kept true) =
+IsSlotAnswer {K} held keeps before after s (GameKept true) =
     (event_waited s.waiting ≡ Some event.Save) × IfSome (keeps before (image_of s)) (λ b. true ≡ b) × IfSome (held after) (λ f. f ≡ Some (image_of s))
-IsSlotAnswer {K} held keeps before after s (Kept false) =
+IsSlotAnswer {K} held keeps before after s (GameKept false) =
     (event_waited s.waiting ≡ Some event.Save) × IfSome (keeps before (image_of s)) (λ b. false ≡ b) × (held after ≡ held before)
 IsSlotAnswer {K} held keeps before after s (File file) =
     (event_waited s.waiting ≡ Some event.Restore) × IfSome (held before) (λ f. file ≡ f) × (held after ≡ held before)
@@ -148,7 +148,7 @@ IsOutcomeOn answers over IsLast s o =
 -- an answer of codes that can be typed, or of a slot
 abbrev pub CanBeGiven : Answer → Type 0
 CanBeGiven (Typed codes) = AllByRecursion (λ c. is_input_code c ≡ true) codes
-CanBeGiven (Kept kept) = Unit {0}
+CanBeGiven (GameKept kept) = Unit {0}
 CanBeGiven (File file) = Unit {0}
 
 -- the last read of a source found no line: it found the end, or it failed, or too many bytes had come without a new line

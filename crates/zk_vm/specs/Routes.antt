@@ -6,18 +6,18 @@ use Rattle.zk_code.specs.declared.instr.Instr.{Instr}
 use Rattle.zk_step.specs.declared.ending.Effect.{Effect}
 use Rattle.zk_step.specs.declared.ending.Ending.{Ending}
 use Rattle.zk_step.specs.declared.ending.Next.{Next}
-use Rattle.zk_step.specs.declared.workspace.Workspace.{Workspace}
+use Rattle.zk_step.specs.declared.game_state.GameState.{GameState}
 use Rattle.zk_step.specs.Finish.{finished}
 use Rattle.zk_step.specs.Limited.{limited_next}
 use Rattle.zk_step.specs.Routing.{Texts, no_text, routed, text_routed}
 
 -- an instruction is finished behind its route
-abbrev pub finished_after : Result (Workspace × Texts) Fault → Instr → List ℕ → Ending → Result (Workspace × Next) Fault
+abbrev pub finished_after : Result (GameState × Texts) Fault → Instr → List ℕ → Ending → Result (GameState × Next) Fault
 finished_after r i vs ending = r >>= λ x. finished x.0 i vs ending
 
--- a route has led to a workspace, and where it shows something, nothing can refuse the instruction any more
-abbrev pub IsRoutedBy : Result (Workspace × Texts) Fault → Workspace → Instr → List ℕ → Ending → Type 0
+-- a route has led to a game state, and where it shows something, nothing can refuse the instruction any more
+abbrev pub IsRoutedBy : Result (GameState × Texts) Fault → GameState → Instr → List ℕ → Ending → Type 0
 IsRoutedBy r new i vs ending = (r ≡ Ok (new, text_routed r)) × ((text_routed r ≡ no_text) ⊎ IsOk (limited_next (finished new i vs ending)))
 
-abbrev pub IsRouted : Workspace → Workspace → Instr → List ℕ → Effect → Type 0
+abbrev pub IsRouted : GameState → GameState → Instr → List ℕ → Effect → Type 0
 IsRouted old new i vs effect = IsRoutedBy (routed old.memory old effect.output) new i vs effect.ending

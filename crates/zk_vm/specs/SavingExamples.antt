@@ -5,7 +5,7 @@ use Rattle.zk_vm.specs.declared.limits.Limits.{Limits}
 use Rattle.zk_vm.specs.declared.stop.Event.TheVariants as event
 use Rattle.zk_vm.specs.declared.stop.Stop.TheVariants.{Quit, Limit, EndOfInput}
 use Rattle.zk_vm.specs.Answers.{Answer}
-use Rattle.zk_vm.specs.Answers.Answer.{Kept, File}
+use Rattle.zk_vm.specs.Answers.Answer.{GameKept, File}
 use Rattle.zk_vm.specs.Examples.{outcome_of, starts, stops, story_of}
 use Rattle.zk_vm.specs.Halts.{event_waited}
 use Rattle.zk_vm.specs.Outcome.{Outcome, Session, outcome, ran}
@@ -54,9 +54,9 @@ answered_with a s = outcome (a ∷ []) EndOfInput s
 -- a saved game that is kept gives 1, one that is not 0 (section 15, `save`)
 abbrev pub SavesAreAnswered : Type 0
 SavesAreAnswered =
-    (answered_with (Kept true) (starts (asks 0) (keeping 0 4)) ≡ stops Quit (codes "1"))
-    × (answered_with (Kept false) (starts (asks 0) (keeping 0 4)) ≡ stops Quit (codes "0"))
-    × (answered_with (Kept true) (starts (asks 0) (keeping 0 3)) ≡ stops (Limit 75 Steps) (codes "1"))
+    (answered_with (GameKept true) (starts (asks 0) (keeping 0 4)) ≡ stops Quit (codes "1"))
+    × (answered_with (GameKept false) (starts (asks 0) (keeping 0 4)) ≡ stops Quit (codes "0"))
+    × (answered_with (GameKept true) (starts (asks 0) (keeping 0 3)) ≡ stops (Limit 75 Steps) (codes "1"))
 
 -- without a saved game, or with one that is cut off, the answer is 0 (section 15, `restore`)
 abbrev pub RestoresAreAnswered : Type 0

@@ -11,25 +11,25 @@ use Rattle.zk_vm.specs.Step.{State}
 -- the state of play that contracts speak of: the states to go back to are whole
 abbrev pub state_seen : Inside → State
 state_seen m = record {
-  workspace = m.workspace;
+  game = m.game;
   place = m.place;
   steps = m.steps;
   reads = m.reads;
   due = m.due.items;
-  undo = states_in m.workspace.memory.file m.undo;
+  undo = states_in m.game.memory.file m.undo;
 }
 
 -- the states to go back to are those of the story, and as many of them are kept as its memory says; the instructions that
 -- were decoded before are the story's
 pub record IsOfStory (m : Inside) : Type 0 where
-  pub are_of : AreOf m.workspace.memory m.workspace.frames m.undo
-  pub memory : m.workspace.memory.undo_states ≡ m.limits.undo
-  pub cache : IsCacheOf (fixed_parts m.workspace.memory) m.cache
+  pub are_of : AreOf m.game.memory m.game.frames m.undo
+  pub memory : m.game.memory.undo_states ≡ m.limits.undo
+  pub cache : IsCacheOf (fixed_parts m.game.memory) m.cache
 
 -- a machine keeps to its limits; while it has no stop its states can be gone back to
 pub record IsSound (m : Inside) : Type 0 where
   pub steps : m.steps ≤ m.limits.steps
-  pub bounds : bounds_of m.workspace.frames ≡ (m.limits.frames, m.limits.words)
+  pub bounds : bounds_of m.game.frames ≡ (m.limits.frames, m.limits.words)
   pub reads : m.reads ≤ 16777216
   pub most : m.undo.most ≡ m.limits.undo
   pub story : WhileRunning m.stopped (IsOfStory m)

@@ -16,7 +16,7 @@ use Rattle.zk_state.specs.Frames.{FrameList, within_bounds}
 use Rattle.zk_vm.specs.declared.stop.Stop.{Stop}
 use Rattle.zk_vm.specs.declared.stop.Stop.TheVariants as stop
 use Rattle.zk_vm.specs.declared.waiting.Waiting.{Waiting}
-use Rattle.zk_step.specs.declared.workspace.Workspace.{Workspace}
+use Rattle.zk_step.specs.declared.game_state.GameState.{GameState}
 use Rattle.zk_save.specs.States.{WholeState, state_of, gone_back}
 use Rattle.zk_step.specs.Inputs.{result_answered}
 use Rattle.zk_step.specs.Instructions.{carried_out}
@@ -24,11 +24,11 @@ use Rattle.zk_step.specs.Resuming.{resumed}
 use Rattle.zk_step.specs.Routing.{Texts, no_text}
 use Rattle.zk_vm.specs.View.{viewed}
 
--- the state of play: the workspace, the byte address of the next instruction, how many steps were made since the last
+-- the state of play: the game state, the byte address of the next instruction, how many steps were made since the last
 -- read was answered, how many reads were answered, what the transcript is still to get of the line that was read, and
 -- the states that can be gone back to, the newest first
 pub record State : Type 0 where
-  pub workspace : Workspace
+  pub game : GameState
   pub place : ℕ
   pub steps : ℕ
   pub reads : ℕ
@@ -54,29 +54,29 @@ is_read wait.Save = false
 is_read wait.Restore = false
 
 -- an instruction that waits has shown what the view shows before a read
-abbrev pub waits_by : State → Instr → Wait → Result (Workspace × Texts) Fault → Step
-waits_by s i wait (Ok v) = Waits (record s { workspace = v.0 }) (record { wait = wait; instruction = i }) v.1
+abbrev pub waits_by : State → Instr → Wait → Result (GameState × Texts) Fault → Step
+waits_by s i wait (Ok v) = Waits (record s { game = v.0 }) (record { wait = wait; instruction = i }) v.1
 waits_by s i wait (Err f) = Faults f
 
 -- the view is shown before a read alone
-abbrev pub view_before : Wait → Workspace → Result (Workspace × Texts) Fault
+abbrev pub view_before : Wait → GameState → Result (GameState × Texts) Fault
 view_before wait w = if is_read wait then viewed w else Ok (w, no_text)
 
 -- ---- states to go back to (section 15, `save_undo` and `restore_undo`)
 
 -- where an instruction leads that is finished in silence, with these states to go back to
-abbrev pub goes_to : State → List WholeState → Result (Workspace × Next) Fault → Step
-goes_to s undo (Ok (w, next.At place)) = Goes (record s { workspace = w; place = place; steps = s.steps + 1; undo = undo }) no_text
+abbrev pub goes_to : State → List WholeState → Result (GameState × Next) Fault → Step
+goes_to s undo (Ok (w, next.At place)) = Goes (record s { game = w; place = place; steps = s.steps + 1; undo = undo }) no_text
 goes_to s undo (Ok (w, _)) = Quits no_text
 goes_to s undo (Err f) = Faults f
 
 -- where the run goes on from a state that an instruction saves: its branch in version 3, its store byte from version 4
 -- on (Quetzal 1.4, section 5)
 abbrev pub saved_place : State → Instr → ℕ
-saved_place s i = if nat_lt s.workspace.memory.version 4 then s.place + 1 else i.next - 1
+saved_place s i = if nat_lt s.game.memory.version 4 then s.place + 1 else i.next - 1
 
 -- the state is kept in front of the others, of which the newest stay
-abbrev pub with_kept : State → Instr → Workspace → List WholeState
+abbrev pub with_kept : State → Instr → GameState → List WholeState
 with_kept s i w = take w.memory.undo_states (state_of w.memory w.frames (saved_place s i) ∷ s.undo)
 
 -- the answer of an instruction that keeps the state: 1, or -1 where none is ever kept
@@ -84,31 +84,31 @@ abbrev pub kept_answer : ℕ → ℕ
 kept_answer most = if most == 0 then 65535 else 1
 
 -- the newest state is back, with the others left, and goes on where it was saved; where there is none the answer is 0
-abbrev pub back_to : State → Instr → Workspace → Option (MemoryMap × FrameList × ℕ × List WholeState) → Step
+abbrev pub back_to : State → Instr → GameState → Option (MemoryMap × FrameList × ℕ × List WholeState) → Step
 back_to s i w None = goes_to s s.undo (result_answered w i 0 false)
 back_to s i w (Some (m, f, place, others)) = goes_to s others (resumed (record w { memory = m; frames = f }) place)
 
 -- what an instruction that was carried out leads to; one that waits, or keeps or goes back, has printed nothing
-abbrev pub led_to : State → Instr → Workspace → Texts → Next → Step
-led_to s i w text (next.At place) = Goes (record s { workspace = w; place = place; steps = s.steps + 1 }) text
+abbrev pub led_to : State → Instr → GameState → Texts → Next → Step
+led_to s i w text (next.At place) = Goes (record s { game = w; place = place; steps = s.steps + 1 }) text
 led_to s i w text (next.Waits wait) = waits_by s i wait (view_before wait w)
 led_to s i w text next.Keeps = goes_to s (with_kept s i w) (result_answered w i (kept_answer w.memory.undo_states) true)
 led_to s i w text next.Resumes = back_to s i w (gone_back s.undo w.memory w.frames)
 led_to s i w text next.End = Quits text
 
 -- the step that an instruction makes
-abbrev pub settled : State → Instr → Result (Workspace × (Next × Texts)) Fault → Step
+abbrev pub settled : State → Instr → Result (GameState × (Next × Texts)) Fault → Step
 settled s i (Ok r) = led_to s i r.0 r.1.1 r.1.0
 settled s i (Err f) = Faults f
 
 -- the step from a state, by the instruction that was fetched
 abbrev pub fetched : State → Result Instr Fault → Step
-fetched s (Ok i) = settled s i (carried_out s.workspace i)
+fetched s (Ok i) = settled s i (carried_out s.game i)
 fetched s (Err f) = Faults f
 
 -- the step from a state: the instruction at its place is carried out
 unfoldable pub step : State → Step
-step s = fetched s (instr_at s.workspace.memory s.place)
+step s = fetched s (instr_at s.game.memory s.place)
 
 -- the state after a step, the state before it where the step is the last
 abbrev pub state_after : State → Step → State
@@ -140,7 +140,7 @@ is_past_reads reads wait = is_read wait && nat_le most_reads reads
 
 -- what becomes of a run at a step from a state
 abbrev pub verdict_of : State → Step → Verdict
-verdict_of old (Goes s text) = goes_by old.place (within_bounds s.workspace.frames)
+verdict_of old (Goes s text) = goes_by old.place (within_bounds s.game.frames)
 verdict_of old (Waits s waiting text) = if is_past_reads old.reads waiting.wait then StopsBy (stop.Limit old.place Reads) else WaitsFor waiting
 verdict_of old (Quits text) = StopsBy stop.Quit
 verdict_of old (Faults f) = StopsBy (stop.Fault old.place f)
@@ -153,7 +153,7 @@ text_within (Err e) text = no_text
 
 -- what a run shows of a step: nothing where it would pass a limit
 abbrev pub text_of : State → Step → Texts
-text_of old (Goes s text) = text_within (within_bounds s.workspace.frames) text
+text_of old (Goes s text) = text_within (within_bounds s.game.frames) text
 text_of old (Waits s waiting text) = if is_past_reads old.reads waiting.wait then no_text else text
 text_of old (Quits text) = text
 text_of old (Faults f) = no_text

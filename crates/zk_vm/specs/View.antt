@@ -6,9 +6,9 @@ use Rattle.zk_mem.specs.Results.{◌>>=◌}
 use Rattle.zk_text.specs.Extra.{own_characters}
 use Rattle.zk_text.specs.Shown.{shown_all}
 use Rattle.zk_term.specs.Windows.{Windows, row_text}
-use Rattle.zk_step.specs.declared.workspace.View.{View}
-use Rattle.zk_step.specs.declared.workspace.View.TheVariants.{Plain, Upper}
-use Rattle.zk_step.specs.declared.workspace.Workspace.{Workspace}
+use Rattle.zk_step.specs.declared.game_state.View.{View}
+use Rattle.zk_step.specs.declared.game_state.View.TheVariants.{Plain, Upper}
+use Rattle.zk_step.specs.declared.game_state.GameState.{GameState}
 use Rattle.zk_step.specs.Routing.{Texts, no_text, on_screen, fresh_line, with_line_start}
 use Rattle.zk_step.specs.Status.{status_units}
 
@@ -22,14 +22,14 @@ abbrev pub status_shown : MemoryMap → Result (List ℕ) Fault
 status_shown m = if m.version == 3 then (status_units m >>= λ units. Ok (shown_all (own_characters m) units ++ 10 ∷ [])) else Ok []
 
 -- lines on the screen, where there are some, behind a new line unless the last character was one
-unfoldable pub lines_shown : Workspace → List ℕ → Workspace × Texts
+unfoldable pub lines_shown : GameState → List ℕ → GameState × Texts
 lines_shown w [] = (w, no_text)
 lines_shown w (c ∷ cs) = (with_line_start true w, on_screen (fresh_line w.at_line_start ++ c ∷ cs))
 
 -- the status line and the rows of the upper window, by the view
-abbrev pub viewed_by : View → Workspace → Result (Workspace × Texts) Fault
+abbrev pub viewed_by : View → GameState → Result (GameState × Texts) Fault
 viewed_by Plain w = Ok (w, no_text)
 viewed_by Upper w = status_shown w.memory >>= λ status. Ok (lines_shown w (status ++ rows_shown w.windows 1 w.windows.height))
 
-unfoldable pub viewed : Workspace → Result (Workspace × Texts) Fault
+unfoldable pub viewed : GameState → Result (GameState × Texts) Fault
 viewed w = viewed_by w.view w

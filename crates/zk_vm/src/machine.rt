@@ -7,11 +7,11 @@ ghost use Rattle.zk_state.specs.Frames.{IsBounded, bounds_of};
 ghost use Rattle.zk_code.specs.Reading.{instr_at};
 ghost use Rattle.zk_vm.specs.Bounds.{AreInRange};
 ghost use Rattle.zk_vm.specs.Answers.{truth_word};
-ghost use Rattle.zk_vm.specs.Answers.Answer.{Typed, Kept, File};
+ghost use Rattle.zk_vm.specs.Answers.Answer.{Typed, GameKept, File};
 ghost use Rattle.zk_vm.specs.Going.{IsAhead, limit_of, stop_by, verdict_by, place_by, steps_by, stopped_by, restored_on, Settles, LacksMemory, IsHalted};
 ghost use Rattle.zk_vm.specs.Halts.{ComesToKeep, IsLeftAs, IsLeftBy, IsRun, IsStep, event_by, event_waited, halt_by, halt_of, is_read_event};
 ghost use Rattle.zk_vm.specs.Laws.{IsWithin};
-ghost use Rattle.zk_vm.specs.Outcome.{begun, first_workspace, given, segment, with_stop};
+ghost use Rattle.zk_vm.specs.Outcome.{begun, first_game, given, segment, with_stop};
 ghost use Rattle.zk_vm.specs.Plays.{image_of};
 ghost use Rattle.zk_vm.specs.Step.{is_read, led_to, text_of};
 ghost use Rattle.zk_step.specs.Routing.{no_text};
@@ -39,11 +39,11 @@ use zk_save::undo::Undo;
 use zk_state::frames::Frames;
 use zk_state::refusal::{Limit, Refusal};
 use zk_step::ending::{Next, Wait};
+use zk_step::game_state::{GameState, View};
 use zk_step::inputs::{answer_character, answer_line, answer_result};
 use zk_step::random::Generators;
 use zk_step::resuming::resume;
 use zk_step::streams::Streams;
-use zk_step::workspace::{View, Workspace};
 use zk_term::windows::Windows;
 
 /// So many reads are answered in a run.
@@ -53,7 +53,7 @@ pub const MOST_READS: u32 = 16_777_216;
 /// and why it stops, are those of the Standard's machine up to that stop.
 #[derive(Drop)]
 pub struct Machine {
-    workspace: Workspace,
+    game: GameState,
     place: u32,
     steps: u32,
     reads: u32,
@@ -77,7 +77,7 @@ impl Model for Machine {
     ghost use Rattle.zk_vm.specs.Outcome.{Session};
     ghost use Rattle.zk_vm.specs.Sound.{state_seen, IsSound};
     ghost use Rattle.std.specs.Coded as coded;
-    ghost use Rattle.zk_step.specs.contracts.workspace.Workspace as play;
+    ghost use Rattle.zk_step.specs.contracts.game.GameState as play;
 
     ghost Value = { Session };
 
@@ -88,16 +88,16 @@ impl Model for Machine {
     ghost invariant = { IsSound };
 }
 
-/// The workspace that a story begins with. `seed` begins its random numbers.
-fn fresh_workspace(
+/// The game state that a story begins with. `seed` begins its random numbers.
+fn fresh_game(
     alloc: Global,
     story: Story,
     seed: u64,
     limits: Limits,
     view: View,
-) -> Result<Workspace, AllocError>
+) -> Result<GameState, AllocError>
     requires { AreInRange limits }
-    ensures { IfOk result (λ w. w ≡ first_workspace story seed limits view) }
+    ensures { IfOk result (λ w. w ≡ first_game story seed limits view) }
 {
     let setup = Setup {
         undo_states: limits.undo,
@@ -109,7 +109,7 @@ fn fresh_workspace(
         free: seed,
         predictable: None,
     };
-    Ok(Workspace {
+    Ok(GameState {
         memory,
         frames,
         streams: Streams::new(),
@@ -135,12 +135,12 @@ impl Machine {
         ensures { IfOk result (λ m. m ≡ begun story seed limits view) }
     {
         let place = story.header().first_instruction as u32;
-        let workspace = fresh_workspace(alloc, story, seed, limits, view)?;
+        let game = fresh_game(alloc, story, seed, limits, view)?;
         let undo = Undo::new(alloc, limits.undo)?;
-        let cache = Cache::new(alloc, &workspace.memory)?;
+        let cache = Cache::new(alloc, &game.memory)?;
         let codes = Codes::new(alloc)?;
         Ok(Machine {
-            workspace,
+            game,
             place,
             steps: 0,
             reads: 0,
@@ -157,12 +157,12 @@ impl Machine {
     /// There are no more frames, words, steps, reads and states to go back to than the limits say.
     #[inline(always)]
     fn is_within(&self)
-        ensures bounded { IsBounded self.now.state.workspace.frames }
+        ensures bounded { IsBounded self.now.state.game.frames }
         ensures within { IsWithin self.now.limits self.now.state }
     {
         let _ = &self.limits;
         self.undo.len();
-        self.workspace.frames.is_bounded();
+        self.game.frames.is_bounded();
     }
 
     /// Carries out an instruction that was fetched from the machine's place.
@@ -173,7 +173,7 @@ impl Machine {
         requires silent { self.old.state.due ≡ [] }
         requires near { i.next ≤ 2 ^ 20 }
         requires inside { self.old.state.place < i.next }
-        requires fetched { instr_at self.old.state.workspace.memory self.old.state.place ≡ Ok i }
+        requires fetched { instr_at self.old.state.game.memory self.old.state.place ≡ Ok i }
         ensures step { IsStep self.old self.new result (λ t. S.shows screen.old screen.new t.screen t.script) }
         ensures counted { OnOk result (self.new.state.steps ≡ self.old.state.steps + 1) }
         ensures silent { OnOk result (self.new.state.due ≡ self.old.state.due) }
@@ -181,7 +181,7 @@ impl Machine {
         ensures more { self.old.state.steps ≤ self.new.state.steps }
         ensures limits { self.new.limits ≡ self.old.limits }
     {
-        match carry_out(&mut self.workspace, &i, &mut self.codes, screen) {
+        match carry_out(&mut self.game, &i, &mut self.codes, screen) {
             Ok(Next::At(place)) => {
                 self.place = place;
                 self.steps += 1;
@@ -203,7 +203,7 @@ impl Machine {
         requires runs { self.old.stopped ≡ None }
         requires near { i.now.next ≤ 2 ^ 20 }
         requires inside { self.old.state.place < i.now.next }
-        ensures step { Settles self.old self.new result (led_to self.old.state i.now self.old.state.workspace no_text Next.Keeps) ⊎ LacksMemory self.old self.new result }
+        ensures step { Settles self.old self.new result (led_to self.old.state i.now self.old.state.game no_text Next.Keeps) ⊎ LacksMemory self.old self.new result }
         ensures counted { OnOk result (self.new.state.steps ≡ self.old.state.steps + 1) }
         ensures silent { OnOk result (self.new.state.due ≡ self.old.state.due) }
         ensures reads { self.new.state.reads ≡ self.old.state.reads }
@@ -212,18 +212,15 @@ impl Machine {
     {
         if self.limits.undo == 0 {
             self.undo.len();
-            let led = answer_result(&mut self.workspace, i, 0xffff, true);
+            let led = answer_result(&mut self.game, i, 0xffff, true);
             return go_on(&mut self.place, &mut self.steps, &mut self.stopped, led);
         }
-        let place = place_of_save(self.workspace.memory.version(), self.place, i.next);
-        match self
-            .undo
-            .put(&self.workspace.memory, &self.workspace.frames, place)
-        {
+        let place = place_of_save(self.game.memory.version(), self.place, i.next);
+        match self.undo.put(&self.game.memory, &self.game.frames, place) {
             Ok(()) => {}
             Err(_) => return halt(&mut self.stopped, Stop::Memory),
         }
-        let led = answer_result(&mut self.workspace, i, 1, true);
+        let led = answer_result(&mut self.game, i, 1, true);
         go_on(&mut self.place, &mut self.steps, &mut self.stopped, led)
     }
 
@@ -234,23 +231,20 @@ impl Machine {
         requires free { self.old.waiting ≡ None }
         requires runs { self.old.stopped ≡ None }
         requires near { i.now.next ≤ 2 ^ 20 }
-        ensures step { Settles self.old self.new result (led_to self.old.state i.now self.old.state.workspace no_text Next.Resumes) }
+        ensures step { Settles self.old self.new result (led_to self.old.state i.now self.old.state.game no_text Next.Resumes) }
         ensures counted { OnOk result (self.new.state.steps ≡ self.old.state.steps + 1) }
         ensures silent { OnOk result (self.new.state.due ≡ self.old.state.due) }
         ensures reads { self.new.state.reads ≡ self.old.state.reads }
         ensures more { self.old.state.steps ≤ self.new.state.steps }
         ensures limits { self.new.limits ≡ self.old.limits }
     {
-        match self
-            .undo
-            .take(&mut self.workspace.memory, &mut self.workspace.frames)
-        {
+        match self.undo.take(&mut self.game.memory, &mut self.game.frames) {
             Some(place) => {
-                let led = resume(&mut self.workspace, place);
+                let led = resume(&mut self.game, place);
                 go_on(&mut self.place, &mut self.steps, &mut self.stopped, led)
             }
             None => {
-                let led = answer_result(&mut self.workspace, i, 0, false);
+                let led = answer_result(&mut self.game, i, 0, false);
                 go_on(&mut self.place, &mut self.steps, &mut self.stopped, led)
             }
         }
@@ -269,8 +263,8 @@ impl Machine {
         requires silent { self.old.state.due ≡ [] }
         requires near { instruction.next ≤ 2 ^ 20 }
         requires inside { self.old.state.place < instruction.next }
-        ensures step { Settles self.old self.new result (led_to self.old.state instruction self.old.state.workspace no_text (Next.Waits wait)) }
-        ensures text { S.shows screen.old screen.new (text_of self.old.state (led_to self.old.state instruction self.old.state.workspace no_text (Next.Waits wait))).screen (text_of self.old.state (led_to self.old.state instruction self.old.state.workspace no_text (Next.Waits wait))).script }
+        ensures step { Settles self.old self.new result (led_to self.old.state instruction self.old.state.game no_text (Next.Waits wait)) }
+        ensures text { S.shows screen.old screen.new (text_of self.old.state (led_to self.old.state instruction self.old.state.game no_text (Next.Waits wait))).screen (text_of self.old.state (led_to self.old.state instruction self.old.state.game no_text (Next.Waits wait))).script }
         ensures waits { OnOk result ⊥ }
         ensures reads { self.new.state.reads ≡ self.old.state.reads }
         ensures more { self.old.state.steps ≤ self.new.state.steps }
@@ -297,21 +291,21 @@ impl Machine {
         requires near { instruction.next ≤ 2 ^ 20 }
         requires inside { self.old.state.place < instruction.next }
         requires read { is_read wait ≡ true }
-        ensures step { Settles self.old self.new result (led_to self.old.state instruction self.old.state.workspace no_text (Next.Waits wait)) }
-        ensures text { S.shows screen.old screen.new (text_of self.old.state (led_to self.old.state instruction self.old.state.workspace no_text (Next.Waits wait))).screen (text_of self.old.state (led_to self.old.state instruction self.old.state.workspace no_text (Next.Waits wait))).script }
+        ensures step { Settles self.old self.new result (led_to self.old.state instruction self.old.state.game no_text (Next.Waits wait)) }
+        ensures text { S.shows screen.old screen.new (text_of self.old.state (led_to self.old.state instruction self.old.state.game no_text (Next.Waits wait))).screen (text_of self.old.state (led_to self.old.state instruction self.old.state.game no_text (Next.Waits wait))).script }
         ensures waits { OnOk result ⊥ }
         ensures reads { self.new.state.reads ≡ self.old.state.reads }
         ensures more { self.old.state.steps ≤ self.new.state.steps }
         ensures limits { self.new.limits ≡ self.old.limits }
     {
-        match check_view(&self.workspace) {
+        match check_view(&self.game) {
             Ok(()) => {}
             Err(fault) => return halt(&mut self.stopped, Stop::Fault(self.place, fault)),
         }
         if self.reads >= MOST_READS {
             return halt(&mut self.stopped, Stop::Limit(self.place, Limit::Reads));
         }
-        show_view(&mut self.workspace, screen);
+        show_view(&mut self.game, screen);
         self.waiting = Some(Waiting { wait, instruction });
         Err(Halt::Waits(wait))
     }
@@ -329,7 +323,7 @@ impl Machine {
         ensures more { self.old.state.steps ≤ self.new.state.steps }
         ensures limits { self.new.limits ≡ self.old.limits }
     {
-        match decode(&self.workspace.memory, self.place) {
+        match decode(&self.game.memory, self.place) {
             Ok(i) => self.advance(i, screen),
             Err(fault) => halt(&mut self.stopped, Stop::Fault(self.place, fault)),
         }
@@ -345,12 +339,12 @@ impl Machine {
         ensures limits { self.new.limits ≡ self.old.limits }
     {
         let most = self.limits.steps - self.steps;
-        let stretch = run_ahead(&mut self.workspace, &mut self.cache, self.place, most);
-        self.place = stretch.place;
-        self.steps += stretch.made;
-        match stretch.refused {
+        let batch = run_ahead(&mut self.game, &mut self.cache, self.place, most);
+        self.place = batch.place;
+        self.steps += batch.made;
+        match batch.refused {
             None => Ok(()),
-            Some(refusal) => halt(&mut self.stopped, stop_at(stretch.place, refusal)),
+            Some(refusal) => halt(&mut self.stopped, stop_at(batch.place, refusal)),
         }
     }
 
@@ -394,7 +388,7 @@ impl Machine {
         ensures steps { OnOk result ((self.old.state.steps ≤ self.new.state.steps) × (self.new.state.steps < self.new.limits.steps)) }
         ensures runs { OnOk result (self.new.stopped ≡ None) }
         ensures limits { self.new.limits ≡ self.old.limits }
-        ensures frames { IsBounded self.new.state.workspace.frames }
+        ensures frames { IsBounded self.new.state.game.frames }
         ensures within { IsWithin self.new.limits self.new.state }
     {
         if let Some(stop) = self.stopped {
@@ -443,10 +437,10 @@ impl Machine {
             return;
         };
         if let Wait::Line(text, parse) = waiting.wait {
-            self.due = transcribe(&self.workspace, text, codes);
+            self.due = transcribe(&self.game, text, codes);
             let words = self.cache.words();
             let i = &waiting.instruction;
-            let answered = answer_line(&mut self.workspace, &words, i, text, parse, codes);
+            let answered = answer_line(&mut self.game, &words, i, text, parse, codes);
             count_read(&mut self.reads, &mut self.steps);
             follow(&mut self.place, &mut self.stopped, answered);
             self.is_within();
@@ -468,7 +462,7 @@ impl Machine {
             return;
         };
         self.due.clear();
-        let answered = answer_character(&mut self.workspace, &waiting.instruction, code);
+        let answered = answer_character(&mut self.game, &waiting.instruction, code);
         count_read(&mut self.reads, &mut self.steps);
         follow(&mut self.place, &mut self.stopped, answered);
         self.is_within();
@@ -480,21 +474,21 @@ impl Machine {
     pub fn image(&self, alloc: Global) -> Result<Vec<u8>, AllocError>
         requires waits { event_waited self.now.waiting ≡ Some Event.Save }
         ensures value { IfOk result (λ v. v.items ≡ image_of self.now) }
-        ensures len { IfOk result (λ v. length v.items ≤ 51 + self.now.state.workspace.memory.static_base + 8 * self.now.limits.frames + 2 * self.now.limits.words) }
+        ensures len { IfOk result (λ v. length v.items ≤ 51 + self.now.state.game.memory.static_base + 8 * self.now.limits.frames + 2 * self.now.limits.words) }
     {
         let next = match &self.waiting {
             Some(waiting) => waiting.instruction.next,
             None => 1,
         };
-        let place = place_of_save(self.workspace.memory.version(), self.place, next);
-        save(alloc, &self.workspace.memory, &self.workspace.frames, place)
+        let place = place_of_save(self.game.memory.version(), self.place, next);
+        save(alloc, &self.game.memory, &self.game.frames, place)
     }
 
     /// Answers whether the saved game was kept (Z-Machine Standards Document 1.1, section 15, `save`). A fault
     /// or a limit comes from the next `run`. The machine waits for it to be kept.
     pub fn answer_save(&mut self, kept: bool)
         requires waits { event_waited self.old.waiting ≡ Some Event.Save }
-        ensures left { IsLeftAs self.new (given self.old (Kept kept)) (given self.old (Kept kept)).stopped }
+        ensures left { IsLeftAs self.new (given self.old (GameKept kept)) (given self.old (GameKept kept)).stopped }
         ensures free { self.new.waiting ≡ None }
         ensures counted { self.new.stopped ≡ None → self.new.state.steps ≡ self.old.state.steps + 1 }
         ensures reads { self.new.stopped ≡ None → self.new.state.reads ≡ self.old.state.reads }
@@ -505,7 +499,7 @@ impl Machine {
             return;
         };
         let word = truth_word(kept);
-        let answered = answer_result(&mut self.workspace, &waiting.instruction, word, kept);
+        let answered = answer_result(&mut self.game, &waiting.instruction, word, kept);
         let _ = go_on(
             &mut self.place,
             &mut self.steps,
@@ -532,7 +526,7 @@ impl Machine {
         };
         match file {
             Some(file) => {
-                let answered = restore_from(&mut self.workspace, &waiting.instruction, file);
+                let answered = restore_from(&mut self.game, &waiting.instruction, file);
                 let _ = go_on(
                     &mut self.place,
                     &mut self.steps,
@@ -542,7 +536,7 @@ impl Machine {
                 self.is_within();
             }
             None => {
-                let answered = answer_result(&mut self.workspace, &waiting.instruction, 0, false);
+                let answered = answer_result(&mut self.game, &waiting.instruction, 0, false);
                 let _ = go_on(
                     &mut self.place,
                     &mut self.steps,
@@ -556,9 +550,9 @@ impl Machine {
 
     /// The memory of the story.
     pub fn memory(&self) -> &Memory
-        ensures { result.now ≡ self.now.state.workspace.memory }
+        ensures { result.now ≡ self.now.state.game.memory }
     {
-        &self.workspace.memory
+        &self.game.memory
     }
 
     /// Ends the machine with a stop, in place of one that it may have. It waits for nothing.
@@ -697,22 +691,22 @@ fn limit_in(error: RestoreError) -> Option<Limit>
 }
 
 /// Restores a saved game and goes on where it was saved; where it is refused the answer is 0, or a falsehood.
-#[tactic(auto, unfolding(zk_step::specs::Restarts::renewed))]
-fn restore_from(workspace: &mut Workspace, i: &Instr, file: &[u8]) -> Result<Next, Refusal>
+#[tactic(auto, unfolding(zk_step::specs::Restarts::windows_closed))]
+fn restore_from(game: &mut GameState, i: &Instr, file: &[u8]) -> Result<Next, Refusal>
     requires { i.now.next ≤ 2 ^ 20 }
     ensures value { MatchResult result
-        (λ n. restored_on workspace.old i.now file.now ≡ Ok (workspace.new, n))
-        (λ e. restored_on workspace.old i.now file.now ≡ Err e) }
-    ensures bounds { bounds_of workspace.new.frames ≡ bounds_of workspace.old.frames }
+        (λ n. restored_on game.old i.now file.now ≡ Ok (game.new, n))
+        (λ e. restored_on game.old i.now file.now ≡ Err e) }
+    ensures bounds { bounds_of game.new.frames ≡ bounds_of game.old.frames }
 {
-    match restore(file, &mut workspace.memory, &mut workspace.frames) {
+    match restore(file, &mut game.memory, &mut game.frames) {
         Ok(place) => {
-            workspace.renew();
-            resume(workspace, place)
+            game.close_windows();
+            resume(game, place)
         }
         Err(error) => match limit_in(error) {
             Some(limit) => Err(Refusal::Limit(limit)),
-            None => answer_result(workspace, i, 0, false),
+            None => answer_result(game, i, 0, false),
         },
     }
 }

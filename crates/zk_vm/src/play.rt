@@ -160,7 +160,7 @@ pub fn turn<S: Target, T: Target, K: SaveSlot>(
 /// The next line, by the extra characters in force.
 fn next_line<R: Source>(lines: &mut Lines, reader: &mut R, machine: &Machine) -> Input
     ensures over { (o : Over) → lines.old.over ≡ Some o → (result ≡ over_input o) × (lines.new ≡ lines.old) × (reader.new ≡ reader.old) }
-    ensures heard { (bytes : List ℕ) → lines.old.over ≡ None → R.left reader.old ≡ Some bytes → (later : List ℕ) × (R.left reader.new ≡ Some later) × Hears (own_characters machine.now.state.workspace.memory) (lines.old.ahead ++ bytes) (lines.new.ahead ++ later) lines.new.over (ReadFailed R.fails R.failed reader.new lines.new) (R.failed reader.new ≡ R.failed reader.old) result }
+    ensures heard { (bytes : List ℕ) → lines.old.over ≡ None → R.left reader.old ≡ Some bytes → (later : List ℕ) × (R.left reader.new ≡ Some later) × Hears (own_characters machine.now.state.game.memory) (lines.old.ahead ++ bytes) (lines.new.ahead ++ later) lines.new.over (ReadFailed R.fails R.failed reader.new lines.new) (R.failed reader.new ≡ R.failed reader.old) result }
     ensures next { lines.old.over ≡ None → IsOverAfter result lines.new.over }
     ensures codes { HasInputCodes result }
     ensures failed { FailsAlone (ReadFailed R.fails R.failed reader.new lines.new) (R.failed reader.new ≡ R.failed reader.old) result }

@@ -26,9 +26,9 @@ use zk_mem::fault::Fault;
 use zk_mem::memory::Memory;
 use zk_state::refusal::Refusal;
 use zk_step::ending::Output;
+use zk_step::game_state::GameState;
 use zk_step::instruction::{Begun, check};
 use zk_step::streams::OpenTable;
-use zk_step::workspace::Workspace;
 use zk_term::windows::{Window, Windows};
 use zk_text::extra::Extra;
 
@@ -52,23 +52,23 @@ fn collect(memory: &Memory, output: Output, codes: &mut Codes)
 /// Stores what is printed in the newest table of stream 3. All of it is collected before the first code is stored; the
 /// first that can't be stored decides.
 fn fill_table(
-    workspace: &mut Workspace,
+    game: &mut GameState,
     table: OpenTable,
     output: Output,
     codes: &mut Codes,
 ) -> Result<(), Fault>
-    requires ready { IsReady workspace.old.memory output }
-    requires newest { newest_of workspace.old.streams.tables ≡ Some table }
+    requires ready { IsReady game.old.memory output }
+    requires newest { newest_of game.old.streams.tables ≡ Some table }
     ensures value { MatchResult result
-        (λ _. table_filled workspace.old table (stored_all (own_characters workspace.old.memory) (units_of workspace.old.memory output)) ≡ Ok workspace.new)
-        (λ e. table_filled workspace.old table (stored_all (own_characters workspace.old.memory) (units_of workspace.old.memory output)) ≡ Err e) }
-    ensures bounds { bounds_of workspace.new.frames ≡ bounds_of workspace.old.frames }
+        (λ _. table_filled game.old table (stored_all (own_characters game.old.memory) (units_of game.old.memory output)) ≡ Ok game.new)
+        (λ e. table_filled game.old table (stored_all (own_characters game.old.memory) (units_of game.old.memory output)) ≡ Err e) }
+    ensures bounds { bounds_of game.new.frames ≡ bounds_of game.old.frames }
 {
-    collect(&workspace.memory, output, codes);
+    collect(&game.memory, output, codes);
     let end = table.address as u32 + 2 + table.count as u32;
-    match put_bytes(&mut workspace.memory, end, codes.as_slice()) {
+    match put_bytes(&mut game.memory, end, codes.as_slice()) {
         Ok(()) => {
-            workspace.streams.count(codes.as_slice().len() as u16);
+            game.streams.count(codes.as_slice().len() as u16);
             Ok(())
         }
         Err(fault) => Err(fault),
@@ -87,36 +87,36 @@ pub fn is_script_on(memory: &Memory) -> bool
 }
 
 /// Shows what is printed on the screen and in the transcript, while they are on.
-fn show_text<S: Screen>(workspace: &mut Workspace, output: Output, screen: &mut S)
-    requires ready { IsReady workspace.old.memory output }
-    ensures state { workspace.new ≡ (streamed workspace.old.memory workspace.old (characters_of workspace.old.memory output)).0 }
-    ensures text { S.shows screen.old screen.new (streamed workspace.old.memory workspace.old (characters_of workspace.old.memory output)).1.screen (streamed workspace.old.memory workspace.old (characters_of workspace.old.memory output)).1.script }
+fn show_text<S: Screen>(game: &mut GameState, output: Output, screen: &mut S)
+    requires ready { IsReady game.old.memory output }
+    ensures state { game.new ≡ (streamed game.old.memory game.old (characters_of game.old.memory output)).0 }
+    ensures text { S.shows screen.old screen.new (streamed game.old.memory game.old (characters_of game.old.memory output)).1.screen (streamed game.old.memory game.old (characters_of game.old.memory output)).1.script }
 {
-    let extra = Extra::of(&workspace.memory);
+    let extra = Extra::of(&game.memory);
     let mut printer = Printer {
         screen,
         extra: &extra,
         selected: Selected {
-            screen: workspace.streams.screen(),
-            script: is_script_on(&workspace.memory),
+            screen: game.streams.screen(),
+            script: is_script_on(&game.memory),
         },
-        at_line_start: workspace.at_line_start,
+        at_line_start: game.at_line_start,
     };
-    match give_output(&workspace.memory, output, &mut printer) {
-        Ok(()) => workspace.at_line_start = printer.at_line_start,
+    match give_output(&game.memory, output, &mut printer) {
+        Ok(()) => game.at_line_start = printer.at_line_start,
         Err(_) => unreachable!(),
     }
 }
 
 /// Shows the status line on a line of its own.
-fn show_status<S: Screen>(workspace: &mut Workspace, screen: &mut S)
-    requires { IsOk (status_units workspace.old.memory) }
-    ensures state { workspace.new ≡ with_line_start true workspace.old }
-    ensures text { S.shows screen.old screen.new (text_routed (status_shown workspace.old.memory workspace.old (status_units workspace.old.memory))).screen [] }
+fn show_status<S: Screen>(game: &mut GameState, screen: &mut S)
+    requires { IsOk (status_units game.old.memory) }
+    ensures state { game.new ≡ with_line_start true game.old }
+    ensures text { S.shows screen.old screen.new (text_routed (status_shown game.old.memory game.old (status_units game.old.memory))).screen [] }
 {
-    start_line(screen, workspace.at_line_start);
-    show_status_line(&workspace.memory, screen);
-    workspace.at_line_start = true;
+    start_line(screen, game.at_line_start);
+    show_status_line(&game.memory, screen);
+    game.at_line_start = true;
 }
 
 /// Prints a row of a rectangle in the upper window.
@@ -199,39 +199,39 @@ fn print_upper(windows: &mut Windows, memory: &Memory, output: Output, on: bool)
 
 /// A text finds its way: while a table of stream 3 is open to that alone; else by the window that is selected.
 fn route_text<S: Screen>(
-    workspace: &mut Workspace,
+    game: &mut GameState,
     i: &Instr,
     begun: &Begun,
     output: Output,
     codes: &mut Codes,
     screen: &mut S,
 ) -> Result<(), Refusal>
-    requires ready { IsReady workspace.old.memory output }
+    requires ready { IsReady game.old.memory output }
     requires plain { IsPlainEnd begun.now.effect.ending }
     ensures value { MatchResult result
-        (λ _. IsRoutedBy (routed_by (newest_of workspace.old.streams.tables) workspace.old.memory workspace.old output) workspace.new i.now begun.now.values begun.now.effect.ending)
-        (λ e. limited_next (finished_after (routed_by (newest_of workspace.old.streams.tables) workspace.old.memory workspace.old output) i.now begun.now.values begun.now.effect.ending) ≡ Err e) }
+        (λ _. IsRoutedBy (routed_by (newest_of game.old.streams.tables) game.old.memory game.old output) game.new i.now begun.now.values begun.now.effect.ending)
+        (λ e. limited_next (finished_after (routed_by (newest_of game.old.streams.tables) game.old.memory game.old output) i.now begun.now.values begun.now.effect.ending) ≡ Err e) }
     ensures text { MatchResult result
-        (λ _. S.shows screen.old screen.new (text_routed (routed_by (newest_of workspace.old.streams.tables) workspace.old.memory workspace.old output)).screen (text_routed (routed_by (newest_of workspace.old.streams.tables) workspace.old.memory workspace.old output)).script)
+        (λ _. S.shows screen.old screen.new (text_routed (routed_by (newest_of game.old.streams.tables) game.old.memory game.old output)).screen (text_routed (routed_by (newest_of game.old.streams.tables) game.old.memory game.old output)).script)
         (λ _. S.shows screen.old screen.new [] []) }
-    ensures bounds { bounds_of workspace.new.frames ≡ bounds_of workspace.old.frames }
+    ensures bounds { bounds_of game.new.frames ≡ bounds_of game.old.frames }
 {
-    match workspace.streams.newest() {
-        Some(table) => match fill_table(workspace, table, output, codes) {
+    match game.streams.newest() {
+        Some(table) => match fill_table(game, table, output, codes) {
             Ok(()) => Ok(()),
             Err(fault) => Err(Refusal::Fault(fault)),
         },
-        None => match workspace.windows.selected() {
-            Window::Lower => match check(workspace, i, begun) {
+        None => match game.windows.selected() {
+            Window::Lower => match check(game, i, begun) {
                 Ok(()) => {
-                    show_text(workspace, output, screen);
+                    show_text(game, output, screen);
                     Ok(())
                 }
                 Err(refusal) => Err(refusal),
             },
             Window::Upper => {
-                let on = workspace.streams.screen();
-                print_upper(&mut workspace.windows, &workspace.memory, output, on);
+                let on = game.streams.screen();
+                print_upper(&mut game.windows, &game.memory, output, on);
                 Ok(())
             }
         },
@@ -240,30 +240,30 @@ fn route_text<S: Screen>(
 
 /// What is printed finds its way, once nothing can refuse the instruction any more that shows it.
 pub fn route<S: Screen>(
-    workspace: &mut Workspace,
+    game: &mut GameState,
     i: &Instr,
     begun: &Begun,
     codes: &mut Codes,
     screen: &mut S,
 ) -> Result<(), Refusal>
-    requires { IsPrintable workspace.old.memory workspace.old.memory begun.now.effect.output begun.now.effect.ending }
+    requires { IsPrintable game.old.memory game.old.memory begun.now.effect.output begun.now.effect.ending }
     ensures value { MatchResult result
-        (λ _. IsRouted workspace.old workspace.new i.now begun.now.values begun.now.effect)
-        (λ e. limited_next (finished_after (routed workspace.old.memory workspace.old begun.now.effect.output) i.now begun.now.values begun.now.effect.ending) ≡ Err e) }
+        (λ _. IsRouted game.old game.new i.now begun.now.values begun.now.effect)
+        (λ e. limited_next (finished_after (routed game.old.memory game.old begun.now.effect.output) i.now begun.now.values begun.now.effect.ending) ≡ Err e) }
     ensures text { MatchResult result
-        (λ _. S.shows screen.old screen.new (text_routed (routed workspace.old.memory workspace.old begun.now.effect.output)).screen (text_routed (routed workspace.old.memory workspace.old begun.now.effect.output)).script)
+        (λ _. S.shows screen.old screen.new (text_routed (routed game.old.memory game.old begun.now.effect.output)).screen (text_routed (routed game.old.memory game.old begun.now.effect.output)).script)
         (λ _. S.shows screen.old screen.new [] []) }
-    ensures bounds { bounds_of workspace.new.frames ≡ bounds_of workspace.old.frames }
+    ensures bounds { bounds_of game.new.frames ≡ bounds_of game.old.frames }
 {
     match begun.effect.output {
         Output::Nothing => Ok(()),
-        Output::Status => match check(workspace, i, begun) {
+        Output::Status => match check(game, i, begun) {
             Ok(()) => {
-                show_status(workspace, screen);
+                show_status(game, screen);
                 Ok(())
             }
             Err(refusal) => Err(refusal),
         },
-        output => route_text(workspace, i, begun, output, codes, screen),
+        output => route_text(game, i, begun, output, codes, screen),
     }
 }

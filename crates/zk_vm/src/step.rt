@@ -12,35 +12,35 @@ use crate::screen::Screen;
 use zk_code::instr::Instr;
 use zk_state::refusal::Refusal;
 use zk_step::ending::Next;
+use zk_step::game_state::GameState;
 use zk_step::instruction::{begin, finish};
-use zk_step::workspace::Workspace;
 
 /// Carries out an instruction, shows or stores what it prints, and answers where the machine goes on. What is printed
 /// is read from memory as the instruction finds it, before its result is stored; where the instruction is refused nothing
 /// is shown. `codes` is room for what a table of stream 3 gets.
 pub fn carry_out<S: Screen>(
-    workspace: &mut Workspace,
+    game: &mut GameState,
     i: &Instr,
     codes: &mut Codes,
     screen: &mut S,
 ) -> Result<Next, Refusal>
     requires { i.now.next ≤ 2 ^ 20 }
     ensures value { MatchResult result
-        (λ n. limited_move (carried_out workspace.old i.now) ≡ Ok (workspace.new, (n, text_in (limited_move (carried_out workspace.old i.now)))))
-        (λ e. limited_move (carried_out workspace.old i.now) ≡ Err e) }
-    ensures quiet { IfOk result (λ n. IsQuiet n (text_in (limited_move (carried_out workspace.old i.now)))) }
-    ensures bounds { bounds_of workspace.new.frames ≡ bounds_of workspace.old.frames }
-    ensures text { S.shows screen.old screen.new (text_in (limited_move (carried_out workspace.old i.now))).screen (text_in (limited_move (carried_out workspace.old i.now))).script }
+        (λ n. limited_move (carried_out game.old i.now) ≡ Ok (game.new, (n, text_in (limited_move (carried_out game.old i.now)))))
+        (λ e. limited_move (carried_out game.old i.now) ≡ Err e) }
+    ensures quiet { IfOk result (λ n. IsQuiet n (text_in (limited_move (carried_out game.old i.now)))) }
+    ensures bounds { bounds_of game.new.frames ≡ bounds_of game.old.frames }
+    ensures text { S.shows screen.old screen.new (text_in (limited_move (carried_out game.old i.now))).screen (text_in (limited_move (carried_out game.old i.now))).script }
 {
-    let begun = match begin(workspace, i) {
+    let begun = match begin(game, i) {
         Ok(begun) => begun,
         Err(refusal) => return Err(refusal),
     };
-    match route(workspace, i, &begun, codes, screen) {
+    match route(game, i, &begun, codes, screen) {
         Ok(()) => {}
         Err(refusal) => return Err(refusal),
     }
-    match finish(workspace, i, &begun) {
+    match finish(game, i, &begun) {
         Ok(next) => Ok(next),
         Err(refusal) => Err(refusal),
     }

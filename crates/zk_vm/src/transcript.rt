@@ -10,8 +10,8 @@ use crate::routing::is_script_on;
 use crate::screen::Screen;
 use arrayvec::ArrayVec;
 use zk_mem::memory::Memory;
+use zk_step::game_state::GameState;
 use zk_step::text_buffers::kept_letters;
-use zk_step::workspace::Workspace;
 use zk_text::extra::Extra;
 use zk_text::shown::Shown;
 use zk_text::unit::Unit;
@@ -62,12 +62,12 @@ fn show_line(memory: &Memory, text: u16, codes: &[u8]) -> ArrayVec<char, 511>
 }
 
 /// What the transcript gets of a line, where it is on and no table of stream 3 is open.
-pub fn transcribe(workspace: &Workspace, text: u16, codes: &[u8]) -> ArrayVec<char, 511>
+pub fn transcribe(game: &GameState, text: u16, codes: &[u8]) -> ArrayVec<char, 511>
     requires { length codes.now ≤ 255 }
-    ensures { result.items ≡ (if is_transcribed workspace.now then line_shown workspace.now.memory text codes.now else []) }
+    ensures { result.items ≡ (if is_transcribed game.now then line_shown game.now.memory text codes.now else []) }
 {
-    if is_script_on(&workspace.memory) && workspace.streams.newest().is_none() {
-        show_line(&workspace.memory, text, codes)
+    if is_script_on(&game.memory) && game.streams.newest().is_none() {
+        show_line(&game.memory, text, codes)
     } else {
         ArrayVec::new()
     }

@@ -10,15 +10,15 @@ ghost use Rattle.zk_step.specs.Routing.{fresh_line};
 ghost use Rattle.zk_step.specs.Status.{status_units};
 ghost use Rattle.zk_vm.specs.View.{viewed, viewed_by, rows_shown};
 ghost use Rattle.zk_step.specs.Routing.{text_routed};
-ghost use Rattle.zk_step.specs.declared.workspace.View.TheVariants as view;
+ghost use Rattle.zk_step.specs.declared.game_state.View.TheVariants as view;
 
 use crate::giving::give_status;
 use crate::printer::{Printer, Selected};
 use crate::screen::Screen;
 use zk_mem::fault::Fault;
 use zk_mem::memory::Memory;
+use zk_step::game_state::{GameState, View};
 use zk_step::status::status_line;
-use zk_step::workspace::{View, Workspace};
 use zk_term::windows::Windows;
 use zk_text::extra::Extra;
 use zk_text::sink::Sink;
@@ -90,16 +90,16 @@ fn show_rows<S: Screen>(screen: &mut S, windows: &Windows)
 
 /// Whether the view of the status line and the upper window can be shown.
 #[tactic(auto, unfolding(crate::specs::View::viewed))]
-pub fn check_view(workspace: &Workspace) -> Result<(), Fault>
-    ensures { MatchResult result (λ _. IsOk (viewed workspace.now)) (λ e. viewed workspace.now ≡ Err e) }
+pub fn check_view(game: &GameState) -> Result<(), Fault>
+    ensures { MatchResult result (λ _. IsOk (viewed game.now)) (λ e. viewed game.now ≡ Err e) }
 {
-    match workspace.view {
+    match game.view {
         View::Plain => Ok(()),
         View::Upper => {
-            if workspace.memory.version() != 3 {
+            if game.memory.version() != 3 {
                 return Ok(());
             }
-            match status_line(&workspace.memory) {
+            match status_line(&game.memory) {
                 Ok(_) => Ok(()),
                 Err(fault) => Err(fault),
             }
@@ -109,57 +109,57 @@ pub fn check_view(workspace: &Workspace) -> Result<(), Fault>
 
 /// Shows the status line and the rows of the upper window before a read, on lines of their own.
 #[tactic(auto, unfolding(crate::specs::View::viewed))]
-pub fn show_view<S: Screen>(workspace: &mut Workspace, screen: &mut S)
-    requires { IsOk (viewed workspace.old) }
-    ensures state { viewed workspace.old ≡ Ok (workspace.new, text_routed (viewed workspace.old)) }
-    ensures text { S.shows screen.old screen.new (text_routed (viewed workspace.old)).screen (text_routed (viewed workspace.old)).script }
-    ensures bounds { bounds_of workspace.new.frames ≡ bounds_of workspace.old.frames }
+pub fn show_view<S: Screen>(game: &mut GameState, screen: &mut S)
+    requires { IsOk (viewed game.old) }
+    ensures state { viewed game.old ≡ Ok (game.new, text_routed (viewed game.old)) }
+    ensures text { S.shows screen.old screen.new (text_routed (viewed game.old)).screen (text_routed (viewed game.old)).script }
+    ensures bounds { bounds_of game.new.frames ≡ bounds_of game.old.frames }
 {
-    match workspace.view {
+    match game.view {
         View::Plain => {}
-        View::Upper => show_lines(workspace, screen),
+        View::Upper => show_lines(game, screen),
     }
 }
 
 /// Shows the status line and the rows of the upper window, in version 3.
-fn show_status_and_rows<S: Screen>(workspace: &mut Workspace, screen: &mut S)
-    requires third { (workspace.old.memory.version == 3) ≡ true }
-    requires ready { IsOk (status_units workspace.old.memory) }
-    ensures state { viewed_by view.Upper workspace.old ≡ Ok (workspace.new, text_routed (viewed_by view.Upper workspace.old)) }
-    ensures text { S.shows screen.old screen.new (text_routed (viewed_by view.Upper workspace.old)).screen (text_routed (viewed_by view.Upper workspace.old)).script }
-    ensures bounds { bounds_of workspace.new.frames ≡ bounds_of workspace.old.frames }
+fn show_status_and_rows<S: Screen>(game: &mut GameState, screen: &mut S)
+    requires third { (game.old.memory.version == 3) ≡ true }
+    requires ready { IsOk (status_units game.old.memory) }
+    ensures state { viewed_by view.Upper game.old ≡ Ok (game.new, text_routed (viewed_by view.Upper game.old)) }
+    ensures text { S.shows screen.old screen.new (text_routed (viewed_by view.Upper game.old)).screen (text_routed (viewed_by view.Upper game.old)).script }
+    ensures bounds { bounds_of game.new.frames ≡ bounds_of game.old.frames }
 {
-    start_line(screen, workspace.at_line_start);
-    show_status_line(&workspace.memory, screen);
-    show_rows(screen, &workspace.windows);
-    workspace.at_line_start = true;
+    start_line(screen, game.at_line_start);
+    show_status_line(&game.memory, screen);
+    show_rows(screen, &game.windows);
+    game.at_line_start = true;
 }
 
 /// Shows the rows of the upper window, in other versions.
-fn show_rows_alone<S: Screen>(workspace: &mut Workspace, screen: &mut S)
-    requires { (workspace.old.memory.version == 3) ≡ false }
-    ensures state { viewed_by view.Upper workspace.old ≡ Ok (workspace.new, text_routed (viewed_by view.Upper workspace.old)) }
-    ensures text { S.shows screen.old screen.new (text_routed (viewed_by view.Upper workspace.old)).screen (text_routed (viewed_by view.Upper workspace.old)).script }
-    ensures bounds { bounds_of workspace.new.frames ≡ bounds_of workspace.old.frames }
+fn show_rows_alone<S: Screen>(game: &mut GameState, screen: &mut S)
+    requires { (game.old.memory.version == 3) ≡ false }
+    ensures state { viewed_by view.Upper game.old ≡ Ok (game.new, text_routed (viewed_by view.Upper game.old)) }
+    ensures text { S.shows screen.old screen.new (text_routed (viewed_by view.Upper game.old)).screen (text_routed (viewed_by view.Upper game.old)).script }
+    ensures bounds { bounds_of game.new.frames ≡ bounds_of game.old.frames }
 {
-    if workspace.windows.height() == 0 {
+    if game.windows.height() == 0 {
         return;
     }
-    start_line(screen, workspace.at_line_start);
-    show_rows(screen, &workspace.windows);
-    workspace.at_line_start = true;
+    start_line(screen, game.at_line_start);
+    show_rows(screen, &game.windows);
+    game.at_line_start = true;
 }
 
 /// Shows the status line in version 3, and the rows of the upper window.
-fn show_lines<S: Screen>(workspace: &mut Workspace, screen: &mut S)
-    requires { IsOk (viewed_by view.Upper workspace.old) }
-    ensures state { viewed_by view.Upper workspace.old ≡ Ok (workspace.new, text_routed (viewed_by view.Upper workspace.old)) }
-    ensures text { S.shows screen.old screen.new (text_routed (viewed_by view.Upper workspace.old)).screen (text_routed (viewed_by view.Upper workspace.old)).script }
-    ensures bounds { bounds_of workspace.new.frames ≡ bounds_of workspace.old.frames }
+fn show_lines<S: Screen>(game: &mut GameState, screen: &mut S)
+    requires { IsOk (viewed_by view.Upper game.old) }
+    ensures state { viewed_by view.Upper game.old ≡ Ok (game.new, text_routed (viewed_by view.Upper game.old)) }
+    ensures text { S.shows screen.old screen.new (text_routed (viewed_by view.Upper game.old)).screen (text_routed (viewed_by view.Upper game.old)).script }
+    ensures bounds { bounds_of game.new.frames ≡ bounds_of game.old.frames }
 {
-    if workspace.memory.version() == 3 {
-        show_status_and_rows(workspace, screen);
+    if game.memory.version() == 3 {
+        show_status_and_rows(game, screen);
         return;
     }
-    show_rows_alone(workspace, screen);
+    show_rows_alone(game, screen);
 }

@@ -13,15 +13,15 @@ use std::process::ExitCode;
 use std::{env, io};
 use zk_command::about::About;
 use zk_command::choice::{Choice, choose, story_named, usage_status_of};
-use zk_command::ending::Ending;
+use zk_command::exit::Exit;
 use zk_command::listing::{Listing, list_and_report};
-use zk_command::manner::Manner;
 use zk_command::missing::{MissingSave, MissingScript};
 use zk_command::playing::play_and_report;
 use zk_command::report::{report, report_briefly, report_listing};
 use zk_command::same_file::is_same_file;
 use zk_command::save_file::SaveFile;
 use zk_command::script::ScriptFile;
+use zk_command::settings::Settings;
 use zk_command::watched::Watched;
 use zk_term::over::Over;
 use zk_term::target::Target;
@@ -33,19 +33,19 @@ use zk_vm::stop::Stop;
 fn play_with<T: Target, K: SaveSlot>(
     rt: &HostRuntime,
     about: &About,
-    manner: Manner,
+    settings: Settings,
     script: &mut T,
     slot: &mut K,
 ) -> u8
-    requires in_range { AreInRange manner.limits }
+    requires in_range { AreInRange settings.limits }
     requires script_works { T.failed script.old ≡ false }
 {
     let mut errors = Over::new(rt.stderr());
     match File::open(rt, about.path) {
         Err(error) => report(
             rt.alloc(),
-            &Ending::Unread(error),
-            &manner.limits,
+            &Exit::Unread(error),
+            &settings.limits,
             about,
             &mut errors,
         ),
@@ -53,7 +53,7 @@ fn play_with<T: Target, K: SaveSlot>(
             rt.alloc(),
             file,
             about,
-            manner,
+            settings,
             &mut Over::new(Watched::new(rt.stdin(), &about.input)),
             &mut Over::new(Watched::new(io::writer(rt), &about.screen)),
             script,
@@ -69,15 +69,15 @@ fn play_saving<T: Target>(
     rt: &HostRuntime,
     about: &About,
     save: Option<&str>,
-    manner: Manner,
+    settings: Settings,
     script: &mut T,
 ) -> u8
-    requires in_range { AreInRange manner.limits }
+    requires in_range { AreInRange settings.limits }
     requires script_works { T.failed script.old ≡ false }
 {
     match save {
-        None => play_with(rt, about, manner, script, &mut MissingSave::new(rt)),
-        Some(save) => play_with(rt, about, manner, script, &mut SaveFile::new(rt, save)),
+        None => play_with(rt, about, settings, script, &mut MissingSave::new(rt)),
+        Some(save) => play_with(rt, about, settings, script, &mut SaveFile::new(rt, save)),
     }
 }
 
@@ -88,16 +88,16 @@ fn play_file(
     path: &str,
     save: Option<&str>,
     script: Option<&str>,
-    manner: Manner,
+    settings: Settings,
 ) -> u8
-    requires { AreInRange manner.limits }
+    requires { AreInRange settings.limits }
 {
     let about = About::new(path, script.unwrap_or(""));
     match script {
-        None => play_saving(rt, &about, save, manner, &mut MissingScript::new(rt)),
+        None => play_saving(rt, &about, save, settings, &mut MissingScript::new(rt)),
         Some(script) => {
             let mut file = ScriptFile::new(rt, script, &about.script);
-            play_saving(rt, &about, save, manner, &mut file)
+            play_saving(rt, &about, save, settings, &mut file)
         }
     }
 }
@@ -107,7 +107,7 @@ fn list_file(rt: &HostRuntime, path: &str, listing: Listing) -> u8 {
     let mut errors = Over::new(rt.stderr());
     let about = About::new(path, "");
     match File::open(rt, path) {
-        Err(error) => report_listing(rt.alloc(), &Ending::Unread(error), &about, &mut errors),
+        Err(error) => report_listing(rt.alloc(), &Exit::Unread(error), &about, &mut errors),
         Ok(file) => list_and_report(
             rt.alloc(),
             file,
@@ -123,7 +123,7 @@ fn list_file(rt: &HostRuntime, path: &str, listing: Listing) -> u8 {
 fn out_of_memory(rt: &HostRuntime) -> u8
     ensures { result ≡ 5 }
 {
-    report_briefly(&Ending::Stopped(Stop::Memory), &mut Over::new(rt.stderr()))
+    report_briefly(&Exit::Stopped(Stop::Memory), &mut Over::new(rt.stderr()))
 }
 
 /// Tells why help can't be written, and answers the program's status.
@@ -132,8 +132,8 @@ fn tell_unwritten(rt: &HostRuntime, failure: &io::Error) -> u8
 {
     let about = About::new("", "");
     about.screen.note(failure);
-    let ending = Ending::Stopped(Stop::Write);
-    report_listing(rt.alloc(), &ending, &about, &mut Over::new(rt.stderr()))
+    let exit = Exit::Stopped(Stop::Write);
+    report_listing(rt.alloc(), &exit, &about, &mut Over::new(rt.stderr()))
 }
 
 /// Shows help, the version or what is wrong with the words, and answers the program's status: 4 where help can't be
@@ -195,11 +195,11 @@ fn answer(rt: &HostRuntime, words: &[String]) -> u8 {
                 story,
                 save,
                 script,
-                manner,
+                settings,
             },
         ) => match option_on_story(rt, story, save, script) {
             Some(option) => tell_usage(rt, &story_named(rt.alloc(), option)),
-            None => play_file(rt, story, save, script, manner),
+            None => play_file(rt, story, save, script, settings),
         },
         Ok(Choice::Show { story, listing }) => list_file(rt, story, listing),
         Err(error) => {

@@ -8,7 +8,7 @@ unfolding characters_of
 returns-clause-state g c =
     let start = c.in-Ok.ensures.ok.3.0 in
     let here = rw (c.screen.ensures, c.of-extra.ensures) at start in
-    ap (λ (b : Bool). with_line_start b c.args.workspace.now) here
+    ap (λ (b : Bool). with_line_start b c.args.game.now) here
 
 pub returns-clause-text : goal.returns-clause-text
 unfolding characters_of

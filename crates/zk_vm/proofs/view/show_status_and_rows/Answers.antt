@@ -10,7 +10,7 @@ use Rattle.zk_vm.proofs.view.show_status_and_rows.Goals as goal
 
 pub returns-clause-state : goal.returns-clause-state
 returns-clause-state g c =
-    let w = c.args.workspace.now in
+    let w = c.args.game.now in
     let units = was_ok (status_units w.memory) c.requires.ready in
     let status : List ℕ = shown_all (own_characters w.memory) units.0 in
     let rows : List ℕ = rows_shown w.windows 1 w.windows.height in
@@ -18,7 +18,7 @@ returns-clause-state g c =
 
 pub returns-clause-text : goal.returns-clause-text
 returns-clause-text g c =
-    let w = c.args.workspace.now in
+    let w = c.args.game.now in
     let units = was_ok (status_units w.memory) c.requires.ready in
     let status : List ℕ = shown_all (own_characters w.memory) units.0 in
     let rows : List ℕ = rows_shown w.windows 1 w.windows.height in

@@ -21,9 +21,9 @@ pub view_of-requires-clause-base : goal.view_of-requires-clause-base
 view_of-requires-clause-base c =
     (is_viewed c.self.inside c.args.self.now c.args.number c.callers-callers.result.now c.current-current.result c.record_at-own.result c.end_of-end.result c.self.invariant c.self.view_is c.requires c.callers-callers.ensures c.current-current.ensures c.record_at-own.ensures c.end_of-end.ensures).base
 
-pub view_of-requires-clause-floor : goal.view_of-requires-clause-floor
-view_of-requires-clause-floor c =
-    (is_viewed c.self.inside c.args.self.now c.args.number c.callers-callers.result.now c.current-current.result c.record_at-own.result c.end_of-end.result c.self.invariant c.self.view_is c.requires c.callers-callers.ensures c.current-current.ensures c.record_at-own.ensures c.end_of-end.ensures).floor
+pub view_of-requires-clause-stack_base : goal.view_of-requires-clause-stack_base
+view_of-requires-clause-stack_base c =
+    (is_viewed c.self.inside c.args.self.now c.args.number c.callers-callers.result.now c.current-current.result c.record_at-own.result c.end_of-end.result c.self.invariant c.self.view_is c.requires c.callers-callers.ensures c.current-current.ensures c.record_at-own.ensures c.end_of-end.ensures).stack_base
 
 pub view_of-requires-clause-end : goal.view_of-requires-clause-end
 view_of-requires-clause-end c =

@@ -14,7 +14,7 @@ copy_words-requires c =
     let k = c.copy.inside in
     let i = c.copy.invariant in
     let short = rw (← c.self.view_is, ← c.copy.view_is) at c.requires.words in
-    omega (arith, short, copy_size k.current k.callers.items k.words.items i.base i.floor i.below, ap length c.as_slice-2.ensures.value, c.self.invariant.size)
+    omega (arith, short, copy_size k.current k.callers.items k.words.items i.base i.stack_base i.below, ap length c.as_slice-2.ensures.value, c.self.invariant.size)
 
 pub invariant_of-self : goal.invariant_of-self
 invariant_of-self c =
@@ -28,9 +28,9 @@ invariant_of-self c =
     let words : c.len-self-inside.result ≡ length k.words.items = c.len-self-inside.ensures ∙ k.words.ok.0 in
     rw (c.put.ensures, callers) (record {
       base = j.base;
-      floor = omega (arith, j.floor, words);
+      stack_base = omega (arith, j.stack_base, words);
       below = j.below;
-      top = omega (arith, short, copy_size k.current k.callers.items k.words.items j.base j.floor j.below, words);
+      top = omega (arith, short, copy_size k.current k.callers.items k.words.items j.base j.stack_base j.below, words);
       size = c.copy_words.ensures.len ∙ i.size;
       frames = omega (arith, few, copy_length k.current k.callers.items k.words.items);
       frame_room = i.frame_room;

@@ -10,7 +10,7 @@ invariant_of-self c =
     let i = c.self.invariant in
     rw c.put.ensures (record {
       base = omega arith;
-      floor = omega arith;
+      stack_base = omega arith;
       below = first_chain [] refl;
       top = omega arith;
       size = i.size;

@@ -1,4 +1,4 @@
-use Rattle.zk_text.specs.declared.pieces.Held.TheVariants as held
+use Rattle.zk_text.specs.declared.pieces.Pending.TheVariants as held
 use Rattle.zk_text.proofs.Sweeping.{nothing_behind, rest_of}
 use Rattle.zk_text.proofs.sweep.Rest.none.Goals as goal
 

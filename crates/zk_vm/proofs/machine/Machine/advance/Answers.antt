@@ -36,35 +36,35 @@ pub returns-in-Ok-At-clause-step : goal.returns-in-Ok-At-clause-step
 returns-in-Ok-At-clause-step g c =
     let fetched = rw (← c.self.view_is) at c.requires.fetched in
     let value = rw c.in-Ok-At.field-0-is at c.in-Ok-At.ensures.value in
-    rw (← c.self.view_is) (stepped_on g.S.Screen.shows _ _ c.self.inside c.args.i c.carry_out.new.workspace c.in-Ok-At.place _ fetched value c.in-Ok-At.ensures.text)
+    rw (← c.self.view_is) (stepped_on g.S.Screen.shows _ _ c.self.inside c.args.i c.carry_out.new.game c.in-Ok-At.place _ fetched value c.in-Ok-At.ensures.text)
 
 pub returns-in-Ok-Waits-clause-step : goal.returns-in-Ok-Waits-clause-step
 returns-in-Ok-Waits-clause-step g c =
     let fetched = rw (← c.self.view_is) at c.requires.fetched in
     let value = rw c.in-Ok-Waits.field-0-is at c.in-Ok-Waits.ensures.value in
     let quiet = rw c.in-Ok-Waits.field-0-is at c.in-Ok-Waits.ensures.quiet in
-    rw (← c.self.view_is) (stepped_wait g.S.Screen.shows g.met.S.Screen.twice _ _ _ c.self.inside _ c.args.i c.carry_out.new.workspace c.in-Ok-Waits.wait _ _ fetched value quiet c.wait_for.ensures.step c.in-Ok-Waits.ensures.text c.wait_for.ensures.text)
+    rw (← c.self.view_is) (stepped_wait g.S.Screen.shows g.met.S.Screen.twice _ _ _ c.self.inside _ c.args.i c.carry_out.new.game c.in-Ok-Waits.wait _ _ fetched value quiet c.wait_for.ensures.step c.in-Ok-Waits.ensures.text c.wait_for.ensures.text)
 
 pub returns-in-Ok-Keeps-clause-step : goal.returns-in-Ok-Keeps-clause-step
 returns-in-Ok-Keeps-clause-step g c =
     let fetched = rw (← c.self.view_is) at c.requires.fetched in
     let value = rw c.in-Ok-Keeps.field-0-is at c.in-Ok-Keeps.ensures.value in
     let quiet = rw c.in-Ok-Keeps.field-0-is at c.in-Ok-Keeps.ensures.quiet in
-    rw (← c.self.view_is) (stepped_keep g.S.Screen.shows _ _ c.self.inside _ c.args.i c.carry_out.new.workspace _ _ fetched value quiet c.keep.ensures.step c.in-Ok-Keeps.ensures.text)
+    rw (← c.self.view_is) (stepped_keep g.S.Screen.shows _ _ c.self.inside _ c.args.i c.carry_out.new.game _ _ fetched value quiet c.keep.ensures.step c.in-Ok-Keeps.ensures.text)
 
 pub returns-in-Ok-Resumes-clause-step : goal.returns-in-Ok-Resumes-clause-step
 returns-in-Ok-Resumes-clause-step g c =
     let fetched = rw (← c.self.view_is) at c.requires.fetched in
     let value = rw c.in-Ok-Resumes.field-0-is at c.in-Ok-Resumes.ensures.value in
     let quiet = rw c.in-Ok-Resumes.field-0-is at c.in-Ok-Resumes.ensures.quiet in
-    rw (← c.self.view_is) (stepped_back g.S.Screen.shows _ _ c.self.inside _ c.args.i c.carry_out.new.workspace _ _ fetched value quiet c.go_back.ensures.step c.in-Ok-Resumes.ensures.text)
+    rw (← c.self.view_is) (stepped_back g.S.Screen.shows _ _ c.self.inside _ c.args.i c.carry_out.new.game _ _ fetched value quiet c.go_back.ensures.step c.in-Ok-Resumes.ensures.text)
 
 pub returns-in-Ok-End-clause-step : goal.returns-in-Ok-End-clause-step
 returns-in-Ok-End-clause-step g c =
     let free = rw (← c.self.view_is) at c.requires.free in
     let fetched = rw (← c.self.view_is) at c.requires.fetched in
     let value = rw c.in-Ok-End.field-0-is at c.in-Ok-End.ensures.value in
-    rw (← c.self.view_is) (stepped_end g.S.Screen.shows _ _ c.self.inside _ c.args.i c.carry_out.new.workspace _ _ fetched value c.halt.ensures.value free c.in-Ok-End.ensures.text)
+    rw (← c.self.view_is) (stepped_end g.S.Screen.shows _ _ c.self.inside _ c.args.i c.carry_out.new.game _ _ fetched value c.halt.ensures.value free c.in-Ok-End.ensures.text)
 
 pub returns-in-Err-clause-step : goal.returns-in-Err-clause-step
 returns-in-Err-clause-step g c =

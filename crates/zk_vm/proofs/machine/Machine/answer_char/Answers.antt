@@ -8,12 +8,12 @@ invariant_of-self-2 c =
     let waits = sym c.in-Some.ensures.value in
     let asked = rw (← c.self.view_is) at c.requires.waits in
     read_sound c.self.inside _ c.in-Some.waiting c.answer_character-answered.result c.self.invariant waits (ap is_read (asks_char c.self.inside.waiting c.in-Some.waiting waits asked)) refl c.in-Some.ensures.after c.count_read.ensures.steps c.count_read.ensures.reads refl refl c.answer_character-answered.ensures.bounds c.follow.ensures.stopped
-    (char_fixed c.self.inside c.in-Some.waiting c.args.code c.answer_character-answered.result c.answer_character-answered.new.workspace c.answer_character-answered.ensures.value)
+    (char_fixed c.self.inside c.in-Some.waiting c.args.code c.answer_character-answered.result c.answer_character-answered.new.game c.answer_character-answered.ensures.value)
 
 pub returns-clause-left : goal.returns-clause-left
 returns-clause-left c =
     let waits = sym c.in-Some.ensures.value in
     let asked = rw (← c.self.view_is) at c.requires.waits in
-    let left = char_answered c.self.inside c.in-Some.waiting c.args.code c.clear.new.self.items c.answer_character-answered.result c.answer_character-answered.new.workspace c.follow.new.place c.follow.new.stopped c.self.invariant waits asked c.clear.ensures
+    let left = char_answered c.self.inside c.in-Some.waiting c.args.code c.clear.new.self.items c.answer_character-answered.result c.answer_character-answered.new.game c.follow.new.place c.follow.new.stopped c.self.invariant waits asked c.clear.ensures
     c.answer_character-answered.ensures.value c.follow.ensures.place c.follow.ensures.stopped in
     rw (c.in-Some.ensures.after, c.count_read.ensures.reads, c.count_read.ensures.steps, ← c.self.view_is) left

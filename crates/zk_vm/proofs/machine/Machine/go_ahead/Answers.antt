@@ -6,19 +6,19 @@ pub invariant_of-self : goal.invariant_of-self
 invariant_of-self c =
     let runs = rw (← c.self.view_is) at c.requires.runs in
     let free = rw (← c.self.view_is) at c.requires.free in
-    let strides = rw c.in-None.is at c.run_ahead-stretch.ensures.goes in
-    let more : c.self.inside.steps + c.run_ahead-stretch.result.made ≤ c.self.inside.limits.steps = omega (arith, c.run_ahead-stretch.ensures.few, c.self.invariant.steps) in
-    sound_ahead c.self.inside _ c.run_ahead-stretch.result.made strides c.self.invariant runs refl free more refl refl c.run_ahead-stretch.ensures.cache c.run_ahead-stretch.ensures.bounds
+    let quiet_steps = rw c.in-None.is at c.run_ahead-batch.ensures.goes in
+    let more : c.self.inside.steps + c.run_ahead-batch.result.made ≤ c.self.inside.limits.steps = omega (arith, c.run_ahead-batch.ensures.few, c.self.invariant.steps) in
+    sound_ahead c.self.inside _ c.run_ahead-batch.result.made quiet_steps c.self.invariant runs refl free more refl refl c.run_ahead-batch.ensures.cache c.run_ahead-batch.ensures.bounds
 
 pub returns-in-None-clause-ahead : goal.returns-in-None-clause-ahead
 returns-in-None-clause-ahead c =
-    let strides = rw c.in-None.is at c.run_ahead-stretch.ensures.goes in
-    rw (← c.self.view_is) (seen_ahead c.self.inside c.run_ahead-stretch.result.made c.run_ahead-stretch.new.workspace c.run_ahead-stretch.result.place strides)
+    let quiet_steps = rw c.in-None.is at c.run_ahead-batch.ensures.goes in
+    rw (← c.self.view_is) (seen_ahead c.self.inside c.run_ahead-batch.result.made c.run_ahead-batch.new.game c.run_ahead-batch.result.place quiet_steps)
 
 pub returns-in-Some-clause-ahead : goal.returns-in-Some-clause-ahead
 returns-in-Some-clause-ahead c =
     let free = rw (← c.self.view_is) at c.requires.free in
-    let refused = rw c.in-Some.is at c.run_ahead-stretch.ensures.goes in
-    let room = rw c.in-Some.is at c.run_ahead-stretch.ensures.room in
+    let refused = rw c.in-Some.is at c.run_ahead-batch.ensures.goes in
+    let room = rw c.in-Some.is at c.run_ahead-batch.ensures.room in
     let tells = rw c.stop_at.ensures at c.halt.ensures.value in
-    rw (← c.self.view_is) (seen_stop _ _ _ c.run_ahead-stretch.result.made c.run_ahead-stretch.result.place c.in-Some.refusal tells room refused free)
+    rw (← c.self.view_is) (seen_stop _ _ _ c.run_ahead-batch.result.made c.run_ahead-batch.result.place c.in-Some.refusal tells room refused free)

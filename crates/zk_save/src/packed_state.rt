@@ -13,7 +13,7 @@ use zk_state::frames::{Frames, FramesCopy};
 /// A state that is kept: what dynamic memory differs in from the story file, packed, a copy of all frames,
 /// and the place where the run goes on.
 #[derive(Drop)]
-pub(crate) struct Kept {
+pub(crate) struct PackedState {
     packed: Vec<u8>,
     // how many bytes are packed
     length: usize,
@@ -21,7 +21,7 @@ pub(crate) struct Kept {
     place: u32,
 }
 
-impl Model for Kept {
+impl Model for PackedState {
     ghost use Rattle.zk_save.specs.States.{KeptState};
 
     ghost Value = { KeptState };
@@ -33,14 +33,14 @@ impl Model for Kept {
     ghost invariant = { IsPacked };
 }
 
-impl Kept {
+impl PackedState {
     /// The state of a memory and frames, to be kept.
     pub(crate) fn new(
         alloc: Global,
         memory: &Memory,
         frames: &Frames,
         place: u32,
-    ) -> Result<Kept, AllocError>
+    ) -> Result<PackedState, AllocError>
         ensures state { IfOk result (λ k. whole_state memory.now.file k ≡ state_of memory.now frames.now place) }
         ensures is_of { IfOk result (IsOf memory.now.static_base frames.now.most_frames frames.now.most_words) }
     {
@@ -48,7 +48,7 @@ impl Kept {
         let dynamic = memory.dynamic();
         let packed = pack_difference(alloc, dynamic, memory.original())?;
         let frames = frames.copy(alloc)?;
-        Ok(Kept {
+        Ok(PackedState {
             packed,
             length: dynamic.len(),
             frames,

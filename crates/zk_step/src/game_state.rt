@@ -2,7 +2,7 @@
 
 ghost use Rattle.std.specs.Prelude.{◌≡◌, Ok};
 ghost use Rattle.zk_state.specs.Frames.{within_bounds, bounds_of};
-ghost use Rattle.zk_step.specs.Restarts.{renewed, begun_again};
+ghost use Rattle.zk_step.specs.Restarts.{windows_closed, begun_again};
 
 use crate::random::Generators;
 use crate::streams::Streams;
@@ -22,7 +22,7 @@ pub enum View {
 /// The parts of a machine that effects read and change. The place of the next instruction is none of
 /// them: it is decided once an effect has ended.
 #[derive(Drop)]
-pub struct Workspace {
+pub struct GameState {
     pub memory: Memory,
     pub frames: Frames,
     pub streams: Streams,
@@ -33,26 +33,26 @@ pub struct Workspace {
     pub view: View,
 }
 
-impl Workspace {
+impl GameState {
     /// Takes the upper window away and forgets the open tables of stream 3, without their counts: at a restart,
     /// and where a saved game is back.
-    #[tactic(auto, unfolding(crate::specs::Restarts::renewed))]
-    pub fn renew(&mut self)
-        ensures { self.new ≡ renewed self.old }
+    #[tactic(auto, unfolding(crate::specs::Restarts::windows_closed))]
+    pub fn close_windows(&mut self)
+        ensures { self.new ≡ windows_closed self.old }
     {
         self.windows.unsplit();
         self.streams.close_all();
     }
 
     /// Puts memory back and leaves the first frame alone (Z-Machine Standards Document 1.1, section 6.1.3).
-    #[tactic(auto, unfolding(crate::specs::Restarts::begun_again, crate::specs::Restarts::renewed, zk_state::specs::Frames::bounds_of))]
+    #[tactic(auto, unfolding(crate::specs::Restarts::begun_again, crate::specs::Restarts::windows_closed, zk_state::specs::Frames::bounds_of))]
     pub(crate) fn restart(&mut self)
         ensures value { self.new ≡ begun_again self.old }
         ensures bounds { bounds_of self.new.frames ≡ bounds_of self.old.frames }
     {
         self.memory.restart();
         self.frames.restart();
-        self.renew();
+        self.close_windows();
     }
 
     /// The frames and words are no more than there may be.

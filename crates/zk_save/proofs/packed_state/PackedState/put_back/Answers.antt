@@ -5,7 +5,7 @@ use Rattle.zk_save.specs.Unpacking.{unpacked, xored}
 use Rattle.zk_save.specs.States.{KeptState}
 use Rattle.zk_save.specs.Ring.{bytes_in}
 use Rattle.zk_save.proofs.Wholes.{unpacks, turned_again, goes_back, put_bounds, settled_base, settled_story}
-use Rattle.zk_save.proofs.kept.Kept.put_back.Goals as goal
+use Rattle.zk_save.proofs.packed_state.PackedState.put_back.Goals as goal
 
 pub returns-clause-state : goal.returns-clause-state
 returns-clause-state c =

@@ -1,11 +1,11 @@
 // What a run is asked for.
 
-use zk_step::workspace::View;
+use zk_step::game_state::View;
 use zk_vm::limits::Limits;
 
-/// The manner in which a story is played.
+/// The settings in which a story is played.
 #[derive(Clone, Copy, PartialEq, Eq, Drop)]
-pub struct Manner {
+pub struct Settings {
     /// What a run holds and runs at most.
     pub limits: Limits,
     /// What begins the random numbers.

@@ -9,11 +9,11 @@ use std::marker::Model;
 
 /// Which addresses below a bound are marked.
 #[derive(Drop)]
-pub(crate) struct Marks {
+pub(crate) struct AddressSet {
     bits: Vec<bool>,
 }
 
-impl Model for Marks {
+impl Model for AddressSet {
     ghost use Rattle.std.specs.Prelude.{Bool, List};
 
     ghost Value = { List Bool };
@@ -21,13 +21,13 @@ impl Model for Marks {
     ghost view = { λ m. m.bits.items };
 }
 
-impl Marks {
+impl AddressSet {
     /// None of the addresses below a bound.
-    pub fn none(alloc: Global, bound: usize) -> Result<Marks, AllocError>
+    pub fn none(alloc: Global, bound: usize) -> Result<AddressSet, AllocError>
         ensures { IfOk result (λ m. m ≡ replicate bound false) }
     {
         let bits = vec![in alloc; false; bound]?;
-        Ok(Marks { bits })
+        Ok(AddressSet { bits })
     }
 
     /// Whether an address is marked.
@@ -76,10 +76,10 @@ fn list_marked(alloc: Global, bits: &[bool]) -> Result<Addresses, AllocError>
 }
 
 /// No marks, below a bound.
-pub(crate) fn unmarked(alloc: Global, bound: u32) -> Result<Marks, AllocError>
+pub(crate) fn unmarked(alloc: Global, bound: u32) -> Result<AddressSet, AllocError>
     ensures size { IfOk result (λ marks. length marks ≡ bound) }
     ensures none { IfOk result (λ marks. (a : ℕ) → IsMarked marks a → ⊥) }
 {
-    let marks = Marks::none(alloc, bound as usize)?;
+    let marks = AddressSet::none(alloc, bound as usize)?;
     Ok(marks)
 }

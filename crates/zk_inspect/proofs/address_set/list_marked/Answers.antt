@@ -1,8 +1,8 @@
 use Rattle.std.proofs.Common.{◌<◌, ◌+◌, ◌∙◌, sym, subst}
 use Rattle.zk_inspect.specs.Lists.{IsListOf, IsMarked}
 use Rattle.zk_inspect.proofs.Marking.{listed_more, listed_still}
-use Rattle.zk_inspect.proofs.marks.list_marked.Goals as goal
-use Rattle.zk_inspect.proofs.marks.list_marked.Goals.{then-bits-i+in_ok-push, else-bits-i}
+use Rattle.zk_inspect.proofs.address_set.list_marked.Goals as goal
+use Rattle.zk_inspect.proofs.address_set.list_marked.Goals.{then-bits-i+in_ok-push, else-bits-i}
 
 pub loop-i-preserved : goal.loop-i-preserved
 loop-i-preserved c =

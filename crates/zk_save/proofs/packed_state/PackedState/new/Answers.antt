@@ -4,7 +4,7 @@ use Rattle.zk_save.specs.Ring.{bytes_in}
 use Rattle.zk_save.proofs.Packs.{length-xored}
 use Rattle.zk_save.proofs.Rings.{bytes_back}
 use Rattle.zk_save.proofs.Wholes.{bytes_again}
-use Rattle.zk_save.proofs.kept.Kept.new.Goals as goal
+use Rattle.zk_save.proofs.packed_state.PackedState.new.Goals as goal
 
 pub invariant_of-result : goal.invariant_of-result
 invariant_of-result c =
