@@ -22,7 +22,7 @@ reads m a (suc n) inside =
 abbrev pasted : MemoryMap → ℕ → List ℕ → ℕ → MemoryMap
 pasted m b s i = record m { bytes = paste m.bytes b s i }
 
--- the rest of a list is stored behind its first bytes
+-- the rest of a list is stored after its first bytes
 stores : (m : MemoryMap) (b i n : ℕ) (s : List ℕ) → length s ≡ i + n → b + (i + n) ≤ readable_end m → b + (i + n) ≤ m.static_base
     → bytes_stored (pasted m b s i) (places (b + i) n) (drop i s) ≡ Ok (pasted m b s (i + n))
 unfolding places bytes_stored

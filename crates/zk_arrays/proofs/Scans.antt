@@ -6,7 +6,7 @@ use Rattle.zk_mem.specs.Map.{MemoryMap}
 use Rattle.zk_mem.specs.Results.{◌>>=◌}
 use Rattle.zk_arrays.specs.Scanning.{field_at, scanned}
 
--- an entry, and the rest behind it
+-- an entry, and the rest after it
 step : ℕ → ℕ → Result ℕ Fault → Result (Option ℕ) Fault → Result (Option ℕ) Fault
 step x a here rest = here >>= λ v. cond (nat_eq v x) (Ok (Some a)) rest
 

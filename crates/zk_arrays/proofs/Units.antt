@@ -43,7 +43,7 @@ byte_readable m a n k h below =
     let p = was_ok (bytes_read m (places a n)) h in
     rw (read_at m a n k p.0 p.1 below) refl
 
--- the units of a row are those up to a column, the unit there, and those behind it
+-- the units of a row are those up to a column, the unit there, and those after it
 pub units_split : (codes : List ℕ) (k : ℕ) → k < length codes → row_units codes ≡ row_units (take k codes) ++ Code (get_or codes k 0) ∷ row_units (drop (k + 1) codes)
 units_split codes k h =
     let all : codes ≡ take k codes ++ get_or codes k 0 ∷ drop (k + 1) codes = sym (take-append-drop k codes) ∙ ap (λ (xs : List ℕ). take k codes ++ xs) (drop_more codes k 0 h) in

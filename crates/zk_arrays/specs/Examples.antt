@@ -20,7 +20,7 @@ six_dynamic bytes = record { version = 5; static_base = 6; bytes = bytes; file =
 abbrev pub eight : MemoryMap
 eight = six_dynamic (10 ∷ 11 ∷ 12 ∷ 13 ∷ 14 ∷ 15 ∷ 16 ∷ 17 ∷ [])
 
--- bytes are stored one behind the other, the first at the address (section 1.1)
+-- bytes are stored one after the other, the first at the address (section 1.1)
 abbrev pub RunsArePut : Type 0
 RunsArePut =
     (bytes_put eight 4 (1 ∷ 2 ∷ []) ≡ Ok (six_dynamic (10 ∷ 11 ∷ 12 ∷ 13 ∷ 1 ∷ 2 ∷ 16 ∷ 17 ∷ [])))
@@ -35,7 +35,7 @@ RunsEndAtTheStaticBase =
     × (bytes_put eight 8 (1 ∷ 2 ∷ []) ≡ Err BadAddress)
     × (bytes_put eight 65536 (1 ∷ []) ≡ Err BadAddress)
 
--- behind 65535 the bytes of a table go on at 0, a choice of zkit (section 1.1)
+-- after 65535 the bytes of a table go on at 0, a choice of zkit (section 1.1)
 abbrev pub PlacesGoOnAtZero : Type 0
 PlacesGoOnAtZero = places 65534 4 ≡ 65534 ∷ 65535 ∷ 0 ∷ 1 ∷ []
 
@@ -155,7 +155,7 @@ ScansEndAtTheMatch =
     × (scanned searched 0x07c8 6 0x81 2 ≡ Ok (Some 6))
     × (scanned searched 0xc800 6 0x81 2 ≡ Err BadAddress)
 
--- behind 65535 a table goes on at 0, a choice of zkit (section 15, `scan_table`)
+-- after 65535 a table goes on at 0, a choice of zkit (section 15, `scan_table`)
 abbrev pub ScansGoOnAtZero : Type 0
 ScansGoOnAtZero = (m : MemoryMap) → length m.bytes ≡ 65536 → slice_index m.bytes 65535 ≡ 5 → slice_index m.bytes 0 ≡ 9 →
     scanned m 9 65535 0x01 2 ≡ Ok (Some 0)
@@ -177,7 +177,7 @@ RowsAreRead =
     × (rows_of letters (rectangle 1 2 3 0) ≡ Ok ((66 ∷ 67 ∷ []) ∷ (68 ∷ 69 ∷ []) ∷ (70 ∷ 71 ∷ []) ∷ []))
     × (rows_of letters (rectangle 8 4 1 999) ≡ Ok ((73 ∷ 74 ∷ 75 ∷ 76 ∷ []) ∷ []))
 
--- a new line stands between two rows, and none behind the last (section 15, `print_table`)
+-- a new line stands between two rows, and none after the last (section 15, `print_table`)
 abbrev pub RowsAreJoined : Type 0
 RowsAreJoined =
     (joined_rows ((66 ∷ 67 ∷ []) ∷ (69 ∷ 70 ∷ []) ∷ (72 ∷ []) ∷ [])

@@ -12,8 +12,10 @@ use zk_mem::memory::Memory;
 /// Whether so many bytes can be stored in a table, one after the other: the refusal is that of the first that can't.
 #[tactic(auto, using(crate::proofs::Puts::stores_none, crate::proofs::Puts::stores_inside))]
 fn check_stores(memory: &Memory, table: u16, size: u16) -> Result<(), Fault>
-    ensures ok { OnOk result ((bytes : List ℕ) → length bytes ≡ size → IsOk (bytes_stored memory.now (places table size) bytes)) }
-    ensures err { IfErr result (λ e. (bytes : List ℕ) → length bytes ≡ size → bytes_stored memory.now (places table size) bytes ≡ Err e) }
+    ensures ok { OnOk result ((bytes : List ℕ) → length bytes ≡ size
+        → IsOk (bytes_stored memory.now (places table size) bytes)) }
+    ensures err { IfErr result (λ e. (bytes : List ℕ) → length bytes ≡ size
+        → bytes_stored memory.now (places table size) bytes ≡ Err e) }
 {
     memory.is_of_file();
     let end = memory.data_end();
@@ -33,7 +35,9 @@ fn check_stores(memory: &Memory, table: u16, size: u16) -> Result<(), Fault>
 
 /// Copies a byte of a table.
 fn copy_byte(memory: &mut Memory, first: u16, second: u16, index: u16) -> Result<(), Fault>
-    ensures { MatchResult result (λ _. byte_copied memory.old ((first + index) % 65536) ((second + index) % 65536) ≡ Ok memory.new) (λ e. byte_copied memory.old ((first + index) % 65536) ((second + index) % 65536) ≡ Err e) }
+    ensures { MatchResult result (λ _. byte_copied memory.old ((first + index) % 65536)
+        ((second + index) % 65536) ≡ Ok memory.new)
+        (λ e. byte_copied memory.old ((first + index) % 65536) ((second + index) % 65536) ≡ Err e) }
 {
     let byte = memory.byte(place(first, index))?;
     memory.set_byte(place(second, index), byte)
@@ -42,7 +46,8 @@ fn copy_byte(memory: &mut Memory, first: u16, second: u16, index: u16) -> Result
 /// Whether so many bytes of the first table can be read and of the second be stored, and no sum of 16 bits wraps.
 fn lie_inside(memory: &Memory, first: u16, second: u16, size: u16) -> bool
     ensures readable { result ≡ true → first + size ≤ readable_end memory.now }
-    ensures writable { result ≡ true → second + size ≤ min memory.now.static_base (readable_end memory.now) }
+    ensures writable { result ≡ true
+        → second + size ≤ min memory.now.static_base (readable_end memory.now) }
 {
     memory.is_of_file();
     let end = memory.data_end();
@@ -54,7 +59,9 @@ fn lie_inside(memory: &Memory, first: u16, second: u16, size: u16) -> bool
 /// Copies a table from its first byte to its last.
 #[tactic(auto, using(crate::proofs::Passes::forwards_on, crate::proofs::Passes::forwards_end))]
 fn copy_forwards(memory: &mut Memory, first: u16, second: u16, size: u16) -> Result<(), Fault>
-    ensures { MatchResult result (λ _. copied_forwards memory.old (places first size) (places second size) ≡ Ok memory.new) (λ e. copied_forwards memory.old (places first size) (places second size) ≡ Err e) }
+    ensures { MatchResult result
+        (λ _. copied_forwards memory.old (places first size) (places second size) ≡ Ok memory.new)
+        (λ e. copied_forwards memory.old (places first size) (places second size) ≡ Err e) }
 {
     for i in 0..size {
         copy_byte(memory, first, second, i)?;
@@ -74,7 +81,9 @@ fn reads_before_stores(first: u16, second: u16, size: u16) -> bool
 
 /// Copies a table as from its first byte to its last: at once, where no byte is stored over before it is read.
 fn copy_in_order(memory: &mut Memory, first: u16, second: u16, size: u16) -> Result<(), Fault>
-    ensures { MatchResult result (λ _. copied_forwards memory.old (places first size) (places second size) ≡ Ok memory.new) (λ e. copied_forwards memory.old (places first size) (places second size) ≡ Err e) }
+    ensures { MatchResult result
+        (λ _. copied_forwards memory.old (places first size) (places second size) ≡ Ok memory.new)
+        (λ e. copied_forwards memory.old (places first size) (places second size) ≡ Err e) }
 {
     if reads_before_stores(first, second, size) && lie_inside(memory, first, second, size) {
         memory.move_bytes(first as u32, second as u32, size as u32);
@@ -100,7 +109,9 @@ fn copy_backwards(memory: &mut Memory, first: u16, second: u16, size: u16)
 /// copied in the direction that stores over no byte before it is read.
 fn copy_at_once(memory: &mut Memory, first: u16, second: u16, size: u16) -> Result<(), Fault>
     requires { size < 32768 }
-    ensures { MatchResult result (λ _. copied_at_once memory.old (places first size) (places second size) ≡ Ok memory.new) (λ e. copied_at_once memory.old (places first size) (places second size) ≡ Err e) }
+    ensures { MatchResult result
+        (λ _. copied_at_once memory.old (places first size) (places second size) ≡ Ok memory.new)
+        (λ e. copied_at_once memory.old (places first size) (places second size) ≡ Err e) }
 {
     if lie_inside(memory, first, second, size) {
         memory.move_bytes(first as u32, second as u32, size as u32);
@@ -118,7 +129,8 @@ fn copy_at_once(memory: &mut Memory, first: u16, second: u16, size: u16) -> Resu
 /// Clears bytes of a table, from the first on.
 #[tactic(auto, using(crate::proofs::Passes::cleared_on, crate::proofs::Passes::cleared_end))]
 fn clear(memory: &mut Memory, table: u16, size: u16) -> Result<(), Fault>
-    ensures { MatchResult result (λ _. cleared memory.old table size ≡ Ok memory.new) (λ e. cleared memory.old table size ≡ Err e) }
+    ensures { MatchResult result (λ _. cleared memory.old table size ≡ Ok memory.new)
+        (λ e. cleared memory.old table size ≡ Err e) }
 {
     for i in 0..size {
         memory.set_byte(place(table, i), 0)?;
@@ -146,7 +158,8 @@ fn without_sign(size: u16) -> u16
 /// 0, the first that can't be read or stored decides, and what was stored before it stands. It takes no memory.
 #[tactic(auto, unfolding(crate::specs::Copying::table_copied))]
 pub fn copy_table(memory: &mut Memory, first: u16, second: u16, size: u16) -> Result<(), Fault>
-    ensures { MatchResult result (λ _. table_copied memory.old first second size ≡ Ok memory.new) (λ e. table_copied memory.old first second size ≡ Err e) }
+    ensures { MatchResult result (λ _. table_copied memory.old first second size ≡ Ok memory.new)
+        (λ e. table_copied memory.old first second size ≡ Err e) }
 {
     if second == 0 {
         clear(memory, first, without_sign(size))

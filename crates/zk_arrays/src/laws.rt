@@ -4,7 +4,7 @@ ghost use Rattle.zk_arrays.specs.CopyLaws.{CopiesAreWhole, ClearsAreWhole, Forwa
 ghost use Rattle.zk_arrays.specs.Scanning.{ScansAreFirst};
 
 /// What a scan finds is the first entry that begins with the value. Where it finds none, each entry begins with
-/// another; where it is refused, the entry that can't be read stands behind others alone.
+/// another; where it is refused, the entry that can't be read stands after others alone.
 pub fn scans_are_first()
     ensures { ScansAreFirst }
 {}

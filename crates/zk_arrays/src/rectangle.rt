@@ -37,7 +37,8 @@ fn row_address(rectangle: Rectangle, row: u16) -> u16
 /// Whether a row can be read.
 #[tactic(auto, unfolding(crate::specs::Rectangles::row_at), using(crate::proofs::Rows::row_places))]
 fn check_row(memory: &Memory, rectangle: Rectangle, row: u16) -> Result<(), Fault>
-    ensures { MatchResult result (λ _. IsOk (row_at memory.now rectangle row)) (λ e. row_at memory.now rectangle row ≡ Err e) }
+    ensures { MatchResult result (λ _. IsOk (row_at memory.now rectangle row))
+        (λ e. row_at memory.now rectangle row ≡ Err e) }
 {
     check_bytes(memory, row_address(rectangle, row), rectangle.width)
 }
@@ -46,7 +47,8 @@ fn check_row(memory: &Memory, rectangle: Rectangle, row: u16) -> Result<(), Faul
 /// is no row, or rows have no byte, nothing is read. It takes one test for each row.
 #[tactic(auto, unfolding(crate::specs::Rectangles::rows_of), using(crate::proofs::Rows::rows_end))]
 pub fn check_rectangle(memory: &Memory, rectangle: Rectangle) -> Result<(), Fault>
-    ensures { MatchResult result (λ _. IsOk (rows_of memory.now rectangle)) (λ e. rows_of memory.now rectangle ≡ Err e) }
+    ensures { MatchResult result (λ _. IsOk (rows_of memory.now rectangle))
+        (λ e. rows_of memory.now rectangle ≡ Err e) }
 {
     for row in 0..rectangle.height {
         check_row(memory, rectangle, row)?;
@@ -63,10 +65,12 @@ fn give_bytes<S: Sink>(
     sink: &mut S,
 ) -> Result<(), SinkFault>
     requires { IsOk (bytes_read memory.now (places table length)) }
-    ensures ok { OnOk result ((codes : List ℕ) → bytes_read memory.now (places table length) ≡ Ok codes →
-        S.gave sink.old sink.new (row_units codes)) }
-    ensures err { OnErr result ((codes : List ℕ) (more : List Unit) → bytes_read memory.now (places table length) ≡ Ok codes →
-        S.refused sink.old sink.new (row_units codes ++ more)) }
+    ensures ok { OnOk result ((codes : List ℕ)
+        → bytes_read memory.now (places table length) ≡ Ok codes
+        → S.gave sink.old sink.new (row_units codes)) }
+    ensures err { OnErr result ((codes : List ℕ) (more : List Unit)
+        → bytes_read memory.now (places table length) ≡ Ok codes
+        → S.refused sink.old sink.new (row_units codes ++ more)) }
 {
     for column in 0..length {
         let code = memory.byte(place(table, column)).unwrap();
@@ -90,8 +94,9 @@ pub fn give_row<S: Sink>(
         S.gave sink.old sink.new (row_units codes)) }
     ensures err { OnErr result ((codes : List ℕ) → row_at memory.now rectangle row ≡ Ok codes →
         S.refused sink.old sink.new (row_units codes)) }
-    ensures ends { OnErr result ((codes : List ℕ) (more : List Unit) → row_at memory.now rectangle row ≡ Ok codes →
-        S.refused sink.old sink.new (row_units codes ++ more)) }
+    ensures ends { OnErr result ((codes : List ℕ) (more : List Unit)
+        → row_at memory.now rectangle row ≡ Ok codes
+        → S.refused sink.old sink.new (row_units codes ++ more)) }
 {
     give_bytes(memory, row_address(rectangle, row), rectangle.width, sink)
 }
@@ -107,8 +112,9 @@ fn give_line<S: Sink>(
     requires within { row < rectangle.height }
     ensures ok { OnOk result ((codes : List ℕ) → row_at memory.now rectangle row ≡ Ok codes →
         S.gave sink.old sink.new (Unit.Code 13 ∷ row_units codes)) }
-    ensures err { OnErr result ((codes : List ℕ) (more : List Unit) → row_at memory.now rectangle row ≡ Ok codes →
-        S.refused sink.old sink.new (Unit.Code 13 ∷ row_units codes ++ more)) }
+    ensures err { OnErr result ((codes : List ℕ) (more : List Unit)
+        → row_at memory.now rectangle row ≡ Ok codes
+        → S.refused sink.old sink.new (Unit.Code 13 ∷ row_units codes ++ more)) }
 {
     sink.put(Unit::Code(13))?;
     give_row(memory, rectangle, row, sink)

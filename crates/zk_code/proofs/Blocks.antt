@@ -11,7 +11,7 @@ use Rattle.zk_mem.proofs.TextWords.{end_inside}
 use Rattle.zk_code.specs.declared.ends.BlockEnds.{BlockEnds}
 use Rattle.zk_code.specs.Ends.{AreEnds, IsOfBlock}
 
--- what stands in a list behind a change
+-- what stands in a list after a change
 set_cases : {A : Type 0} (xs : List A) (x y : A) (i k : ℕ) → i < length xs → slice_get (slice_set xs i x) k ≡ Some y → ((k ≡ i) × (x ≡ y)) ⊎ (slice_get xs k ≡ Some y)
 set_cases {A} xs x y i k lt h =
     let now = get_or_from_slice_get (slice_set xs i x) k y y h in

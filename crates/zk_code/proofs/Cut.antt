@@ -39,7 +39,7 @@ slice_markers zero c v e = absurd cc
 slice_markers (suc n) zero v e = cc
 slice_markers (suc n) (suc c) v e = slice_markers n c v e
 
--- what stands in a list with a 2 and bytes 128 behind it
+-- what stands in a list with a 2 and bytes 128 after it
 slice_pad : (xs : List ℕ) (n c v : ℕ) → slice_get (xs ++ 2 ∷ markers n) c ≡ Some v → (slice_get xs c ≡ Some v) ⊎ (((c ≡ length xs) × (v ≡ 2)) ⊎ ((length xs < c) × (v ≡ 128)))
 slice_pad [] n zero v e = inr (inl (refl, cc))
 slice_pad [] n (suc c) v e = inr (inr (omega arith, slice_markers n c v e))
@@ -53,7 +53,7 @@ slice_pad (x ∷ xs) n (suc c) v e =
       ]
     ]
 
--- the memory with a 2 and bytes 128 behind it
+-- the memory with a 2 and bytes 128 after it
 abbrev padded : MemoryMap → ℕ → MemoryMap
 padded m a = longer m (2 ∷ markers (a + 40))
 
@@ -75,7 +75,7 @@ padded_bytes m a fits = record {
   ];
 }
 
--- each behind the 2 is 128
+-- each after the 2 is 128
 padded_marked : (m : MemoryMap) (a : ℕ) → EndsMarked (padded m a) (length m.bytes + 1)
 padded_marked m a = record {
   marked = λ c v le e. elim (cell_pad m a c v e) [
@@ -131,7 +131,7 @@ extended_there : (v : ℕ) → 5 ≤ v → extended v 2 ≡ None → ⊥
 unfolding extended
 extended_there v le h = let u : nat_le 5 v ≡ true = grind (arith, nat_tests) in let q = rw u at h in absurd cc
 
--- no opcode is bad whose second byte lies behind the story
+-- no opcode is bad whose second byte lies after the story
 no_bad_over : (m : MemoryMap) (a : ℕ) (f : Form) (p : ℕ) → a < length m.bytes → length m.bytes < p → IsForm m.version f → Stands (padded m a) a (opcode_bytes f) p → entry_of m.version f ≡ None → ⊥
 no_bad_over m a (Long2OP n j k) p lt past f s e = let q = s.1 in omega arith
 no_bad_over m a (Short1OP n k) p lt past f s e = let q = s.1 in omega arith
@@ -149,7 +149,7 @@ no_bad_over m a (Variable2OP n t) p lt past f s e = let q = s.1 in omega arith
 no_bad_over m a (VariableVAR n t) p lt past f s e = let q = s.1 in omega arith
 no_bad_over m a (DoubleVariable n t u) p lt past f s e = let q = s.1 in omega arith
 
--- no opcode is bad that lies behind the story
+-- no opcode is bad that lies after the story
 no_bad_behind : (m : MemoryMap) (a g : ℕ) → length m.bytes ≤ a → cell_at (padded m a) a ≡ Some g → head_at (padded m a) a ≡ Err BadOpcode → ⊥
 no_bad_behind m a g le c h =
     elim (cell_pad m a a g c) [
@@ -160,7 +160,7 @@ no_bad_behind m a g le c h =
       ]
     ]
 
--- no bytes behind the story make an opcode bad
+-- no bytes after the story make an opcode bad
 no_bad : (m : MemoryMap) (a : ℕ) → (NamesNone m a → ⊥) → NamesNone (padded m a) a → ⊥
 no_bad m a h n =
     elim (cases_lt a (length m.bytes)) [
@@ -171,7 +171,7 @@ no_bad m a h n =
       ]
     ]
 
--- where nothing is spelled, an instruction is that ends behind the story
+-- where nothing is spelled, an instruction is that ends after the story
 cut_by : (m : MemoryMap) (a : ℕ) (r : Result (Instr × ℕ) Fault) → HasBytes m → IsExcluded m a CodePastEnd → parts_at (padded m a) a ≡ r → CutOff m a
 cut_by m a (Ok p) fits h e =
     let s = (parts_take (padded m a) a p (padded_bytes m a fits) e).0 in

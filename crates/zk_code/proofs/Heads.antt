@@ -100,7 +100,7 @@ two_again m a t u b h =
     let e : a + 2 ≡ b = omega (arith, h.1.1) in
     rw (byte_again m a (type_byte t) h.0, byte_again m (a + 1) (type_byte u) h.1.0, e) (ap (λ (ks : List OperandType). Ok (ks ++ types_by_byte (type_byte u), b)) (types_again t) ∙ ap (λ (ks : List OperandType). Ok (four_types t ++ ks, b)) (types_again u))
 
--- types behind an omitted one don't matter
+-- types after an omitted one don't matter
 operands_pad : (m : MemoryMap) (ks more : List OperandType) (a : ℕ) → operands_at m (ks ++ Omitted ∷ more) a ≡ operands_at m ks a
 unfolding operands_at
 operands_pad m [] more a = refl
@@ -108,7 +108,7 @@ operands_pad m (k ∷ ks) more a = simp (operands_pad m ks more)
 
 -- ---- the forms
 
--- what is read behind the bytes of an opcode
+-- what is read after the bytes of an opcode
 abbrev pub rest_of : MemoryMap → Form → ℕ → Result Head Fault
 rest_of m (Long2OP n j k) b = with_types (two_operand m.version n) j k b
 rest_of m (Short1OP n k) b = with_types (one_operand m.version n) k Omitted b
@@ -310,7 +310,7 @@ begins_read m a (Err d) fits e = inl (rw (e, byte_err m a d e) refl, (let le = b
 pub begins : (m : MemoryMap) (a : ℕ) → HasBytes m → ((head_at m a ≡ Err CodePastEnd) × (length m.bytes ≤ a + 1)) ⊎ Begins m a
 begins m a fits = begins_read m a (code_byte m a) fits refl
 
--- ---- behind the opcode's bytes
+-- ---- after the opcode's bytes
 
 -- operands are read alike by two lists of types
 abbrev Same : MemoryMap → List OperandType → List OperandType → Type 0

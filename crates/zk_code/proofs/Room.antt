@@ -28,7 +28,7 @@ unfolding text_end_at
 end_none m a None there e = there
 end_none m a (Some ws) there e = let end = rw there at e in absurd cc
 
--- there are words of a text where bytes 128 stand behind it
+-- there are words of a text where bytes 128 stand after it
 words_end : (m : MemoryMap) (q n a : ℕ) → HasBytes m → EndsMarked m q → length m.bytes ≤ a + 2 * n → a + 1 < length m.bytes → words_at m a ≡ None → ⊥
 words_end m q zero a fits r le lt e = omega arith
 words_end m q (suc n) a fits r le lt e =

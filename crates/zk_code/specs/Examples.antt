@@ -100,7 +100,7 @@ ExtendedForms =
 
 -- ---- what follows the operands (sections 4.6 to 4.8)
 
--- the text of `print` begins right behind its byte, and the next instruction behind its last word (section 4.8)
+-- the text of `print` begins right after its byte, and the next instruction after its last word (section 4.8)
 abbrev pub TextsFollow : Type 0
 TextsFollow =
     read 5 (0xb2 ∷ 0x18 ∷ 0xe8 ∷ 0x98 ∷ 0xe8 ∷ 0xba ∷ [])
@@ -113,7 +113,7 @@ StoresBeforeBranches =
     ≡ Ok (record { opcode = opcode.ObjectQuestion GetChild; operands = Small 9 ∷ []; store = Some 0x11; branch = Some (record { on = true; target = ReturnTrue }); text = None; next = 4 })
 
 -- bit 7 of a branch is its sense; bit 6 says that its offset has the other 6 bits, which have no sign; from the
--- address behind it the branch goes as far as the offset says, less 2 (section 4.7)
+-- address after it the branch goes as far as the offset says, less 2 (section 4.7)
 abbrev pub ShortBranches : Type 0
 ShortBranches =
     (read 5 (0x90 ∷ 1 ∷ 0xc5 ∷ 0 ∷ 0 ∷ 0 ∷ 0 ∷ []) ≡ branching (opcode.Comparison Jz) (Small 1 ∷ []) true (At 6) 3)

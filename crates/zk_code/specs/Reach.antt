@@ -38,7 +38,7 @@ abbrev pub saving_goes_on : SavingOperation → Bool
 saving_goes_on Restart = false
 saving_goes_on _ = true
 
--- whether what stands behind an instruction may be carried out after it: not after a return, `throw`, `jump`, `quit` and
+-- whether what stands after an instruction may be carried out after it: not after a return, `throw`, `jump`, `quit` and
 -- `restart` (section 15)
 unfoldable pub goes_on : Opcode → Bool
 goes_on (Routine operation) = routine_goes_on operation
@@ -90,7 +90,7 @@ constant_call m i = if is_call i.opcode then option_and_then (called_at m) (firs
 -- ---- what is reached
 
 -- an address is reached: that of the first instruction (section 5.5), and from an instruction at one that is, up to b:
--- what stands behind it, where its branch leads, where it jumps to by a constant, and the first instruction of a routine
+-- what stands after it, where its branch leads, where it jumps to by a constant, and the first instruction of a routine
 -- that it calls by a constant
 pub data IsReached (m : MemoryMap) : ℕ → Type 0 where
   First : IsReached m (header_of m.file).first_instruction

@@ -103,7 +103,7 @@ CallsByConstants =
 -- ---- what is reached
 
 -- a story of version 3 that begins at 8: there `jz 0` branches to 20; at 11 the routine at 22 is called, whose packed
--- address is 11; at 15 stands a `jump` to 19. At 19 and at 20 stand returns, and behind the `jump` and the second return
+-- address is 11; at 15 stands a `jump` to 19. At 19 and at 20 stand returns, and after the `jump` and the second return
 -- `nop`s. The routine has one local variable, with the value 5, and at 25 a return.
 abbrev pub calling : List ℕ
 calling =
@@ -127,7 +127,7 @@ WaysAreReached =
     IsReached calling_story 8 × IsReached calling_story 11 × IsReached calling_story 20 × IsReached calling_story 15
     × IsReached calling_story 19 × IsReached calling_story 25
 
--- what stands behind a `jump` and behind a return is not, nor is a routine's header
+-- what stands after a `jump` and after a return is not, nor is a routine's header
 abbrev pub RestIsNotReached : Type 0
 RestIsNotReached =
     (IsReached calling_story 18 → ⊥) × (IsReached calling_story 21 → ⊥) × (IsReached calling_story 22 → ⊥)

@@ -186,7 +186,8 @@ pub fn decode(memory: &Memory, address: u32) -> Result<Instr, Fault>
     // What is answered is spelled there.
     ensures found { IfOk result (λ i. IsInstruction memory.now address i i.next) }
     // What is spelled there is answered, so it is the only one.
-    ensures only { (i : Instr) (b : ℕ) → IsInstruction memory.now address i b → (result ≡ Ok i) × (i.next ≡ b) }
+    ensures only { (i : Instr) (b : ℕ) → IsInstruction memory.now address i b
+        → (result ≡ Ok i) × (i.next ≡ b) }
     // A refusal has its reason.
     ensures refused { IfErr result (IsRefusal memory.now address) }
     // Where a refusal's reason is there, it is the answer.
@@ -205,7 +206,8 @@ pub fn decode(memory: &Memory, address: u32) -> Result<Instr, Fault>
 pub fn decode_by(memory: &Memory, ends: &TextEnds, address: u32) -> Result<Instr, Fault>
     requires { KnowsEnds memory.now ends.now }
     ensures found { IfOk result (λ i. IsInstruction memory.now address i i.next) }
-    ensures only { (i : Instr) (b : ℕ) → IsInstruction memory.now address i b → (result ≡ Ok i) × (i.next ≡ b) }
+    ensures only { (i : Instr) (b : ℕ) → IsInstruction memory.now address i b
+        → (result ≡ Ok i) × (i.next ≡ b) }
     ensures value { result ≡ instr_at memory.now address }
     ensures near { IfOk result (λ i. i.next ≤ 2 ^ 20) }
 {

@@ -20,7 +20,8 @@ pub(crate) struct BlockEnds {
 
 /// The end of the text at an address, where that is known.
 fn known_end(blocks: &[Option<BlockEnds>], address: u32) -> Option<Option<u32>>
-    ensures { (m : MemoryMap) → AreEnds m blocks.now → IfSome result (λ end. end ≡ text_end_at m address) }
+    ensures { (m : MemoryMap) → AreEnds m blocks.now
+        → IfSome result (λ end. end ≡ text_end_at m address) }
 {
     let place = address % 256;
     if place > 1 {
@@ -60,7 +61,7 @@ pub(crate) fn text_end(memory: &Memory, blocks: &[Option<BlockEnds>], address: u
     memory.text_end(at)
 }
 
-/// The ends of a block's texts, by those of the blocks behind it.
+/// The ends of a block's texts, by those of the blocks after it.
 fn block_ends(memory: &Memory, blocks: &[Option<BlockEnds>], block: u32) -> BlockEnds
     requires known { AreEnds memory.now blocks.now }
     requires near { block < 2049 }

@@ -41,7 +41,7 @@ pub fn opcodes_by_example()
     ensures names_by_version { NamesByVersion }
 {}
 
-/// Whether what stands behind an instruction may be carried out after it (Standard, section 15).
+/// Whether what stands after an instruction may be carried out after it (Standard, section 15).
 #[tactic(auto, unfolding(crate::specs::Reach::goes_on))]
 pub fn ends_by_example()
     ensures ends_go_nowhere { EndsGoNowhere }

@@ -40,7 +40,7 @@ fn is_call(opcode: Opcode) -> bool
     matches!(opcode, Opcode::Call(_))
 }
 
-/// Whether what stands behind an instruction of an opcode may be carried out after it: not after a return, `throw`, `jump`,
+/// Whether what stands after an instruction of an opcode may be carried out after it: not after a return, `throw`, `jump`,
 /// `quit` and `restart` (Standard, section 15).
 #[tactic(auto, unfolding(crate::specs::Reach::goes_on))]
 pub fn goes_on(opcode: Opcode) -> bool

@@ -48,7 +48,7 @@ shows_failed old new text h = record {
   none = λ f. refl;
 }
 
--- a play behind a write of no bytes to the script
+-- a play after a write of no bytes to the script
 pub after_none : (Is : Outcome → Type 0) (stop : Stop) (unwritten : Bool) (screen0 screen1 script0 between script1 : Option (List ℕ)) → Appends script0 between []
     → IsPlay Is stop unwritten screen0 screen1 between script1 → IsPlay Is stop unwritten screen0 screen1 script0 script1
 after_none Is stop unwritten screen0 screen1 script0 between script1 h p = record {

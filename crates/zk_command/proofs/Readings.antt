@@ -18,7 +18,7 @@ read_through {R} remaining t reader old items limit inner empty h =
     let two = subst (λ (r : R). IfSome (option_map (take 524289) (remaining r)) (λ xs. items ≡ old ++ xs)) inner one in
     by_cases (remaining reader) items (subst (λ (o : List ℕ). IfSome (option_map (take 524289) (remaining reader)) (λ xs. items ≡ o ++ xs)) empty two)
 
--- bytes that were read, behind others, and what is left to read
+-- bytes that were read, after others, and what is left to read
 pub record ReadBehind (first left : Option (List ℕ)) (before bytes : List ℕ) : Type 0 where
   pub read : List ℕ
   pub consumed : Consumes first left read

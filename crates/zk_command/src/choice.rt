@@ -92,7 +92,8 @@ fn story_word_of<'a>(alloc: Global) -> Arg<'a>
 fn with_arg<'a>(command: Command<'a>, arg: Arg<'a>) -> Result<Command<'a>, AllocError>
     requires local { (fields_of command).has_globals ≡ false }
     requires arg_local { arg.global ≡ false }
-    ensures shape { IfOk result (λ c. app_of c ≡ with_rule (app_of command.entry) (rule_of arg.entry)) }
+    ensures shape { IfOk result
+        (λ c. app_of c ≡ with_rule (app_of command.entry) (rule_of arg.entry)) }
     ensures local { IfOk result (λ c. (fields_of c).has_globals ≡ false) }
 {
     command.arg(arg)
@@ -212,10 +213,12 @@ fn number_from(word: &str, least: u64, most: u64) -> Option<u64>
 
 /// The number of an option, if it lies in a range.
 fn number_of(matches: &ArgMatches<'_>, option: &str, least: u64, most: u64) -> Option<u64>
-    ensures says { IfSome result (λ n. SaysNumber (rows_of (found_of matches.now)) option.now least most n) }
+    ensures says { IfSome result
+        (λ n. SaysNumber (rows_of (found_of matches.now)) option.now least most n) }
     ensures least { IfSome result (λ n. least ≤ n) }
     ensures most { IfSome result (λ n. n ≤ most) }
-    ensures none { IfNone result ((n : ℕ) → SaysNumber (rows_of (found_of matches.now)) option.now least most n → ⊥) }
+    ensures none { IfNone result
+        ((n : ℕ) → SaysNumber (rows_of (found_of matches.now)) option.now least most n → ⊥) }
 {
     let Some(word) = matches.get_str(option) else {
         return None;
@@ -272,7 +275,8 @@ fn limits_of(alloc: Global, play: &ArgMatches<'_>) -> Result<Limits, Error>
     ensures says { IfOk result (λ l. SaysLimits (rows_of (found_of play.now)) l) }
     ensures in_range { IfOk result (λ l. AreInRange l) }
     ensures mistake { IfErr result (λ e. 1 ≤ usage_status (kind_of e)) }
-    ensures says_none { OnErr result ((l : Limits) → SaysLimits (rows_of (found_of play.now)) l → ⊥) }
+    ensures says_none { OnErr result
+        ((l : Limits) → SaysLimits (rows_of (found_of play.now)) l → ⊥) }
 {
     let Some(frames) = number_of(play, "frames", 1, 65_535) else {
         return Err(out_of_range(alloc, "frames", 1, 65_535));
@@ -320,7 +324,8 @@ fn manner_of(alloc: Global, play: &ArgMatches<'_>) -> Result<Settings, Error>
     ensures says { IfOk result (λ m. SaysManner (rows_of (found_of play.now)) m) }
     ensures in_range { IfOk result (λ m. AreInRange m.limits) }
     ensures mistake { IfErr result (λ e. 1 ≤ usage_status (kind_of e)) }
-    ensures says_none { OnErr result ((m : Settings) → SaysManner (rows_of (found_of play.now)) m → ⊥) }
+    ensures says_none { OnErr result
+        ((m : Settings) → SaysManner (rows_of (found_of play.now)) m → ⊥) }
 {
     let limits = match limits_of(alloc, play) {
         Ok(limits) => limits,
@@ -337,7 +342,8 @@ fn manner_of(alloc: Global, play: &ArgMatches<'_>) -> Result<Settings, Error>
 fn story_of<'a>(command: &mut Command<'_>, matches: &ArgMatches<'a>) -> Result<&'a str, Error>
     ensures says { IfOk result (λ s. SaysStory (rows_of (found_of matches.now)) s.now) }
     ensures mistake { IfErr result (λ e. 1 ≤ usage_status (kind_of e)) }
-    ensures says_none { OnErr result ((path : List ℕ) → SaysStory (rows_of (found_of matches.now)) path → ⊥) }
+    ensures says_none { OnErr result
+        ((path : List ℕ) → SaysStory (rows_of (found_of matches.now)) path → ⊥) }
 {
     let Some(story) = matches.get_str("STORY") else {
         let text = "the story's path is missing";
@@ -355,7 +361,8 @@ fn choose_play<'a>(
     ensures says { IfOk result (λ c. Says (codes "play") (rows_of (found_of play.now)) c) }
     ensures in_range { IfOk result (λ c. HasLimits c) }
     ensures mistake { IfErr result (λ e. 1 ≤ usage_status (kind_of e)) }
-    ensures says_none { OnErr result ((c : Choice) → Says (codes "play") (rows_of (found_of play.now)) c → ⊥) }
+    ensures says_none { OnErr result
+        ((c : Choice) → Says (codes "play") (rows_of (found_of play.now)) c → ⊥) }
 {
     let story = match story_of(command, play) {
         Ok(story) => story,
@@ -395,12 +402,13 @@ fn sections_of(info: &ArgMatches<'_>) -> Sections
     }
 }
 
-/// What the words behind `info` ask for.
+/// What the words after `info` ask for.
 fn choose_info<'a>(command: &mut Command<'_>, info: &ArgMatches<'a>) -> Result<Choice<'a>, Error>
     ensures says { IfOk result (λ c. Says (codes "info") (rows_of (found_of info.now)) c) }
     ensures in_range { IfOk result (λ c. HasLimits c) }
     ensures mistake { IfErr result (λ e. 1 ≤ usage_status (kind_of e)) }
-    ensures says_none { OnErr result ((c : Choice) → Says (codes "info") (rows_of (found_of info.now)) c → ⊥) }
+    ensures says_none { OnErr result
+        ((c : Choice) → Says (codes "info") (rows_of (found_of info.now)) c → ⊥) }
 {
     match story_of(command, info) {
         Ok(story) => {
@@ -411,7 +419,7 @@ fn choose_info<'a>(command: &mut Command<'_>, info: &ArgMatches<'a>) -> Result<C
     }
 }
 
-/// What the words behind `disasm` ask for.
+/// What the words after `disasm` ask for.
 fn choose_disasm<'a>(
     command: &mut Command<'_>,
     disasm: &ArgMatches<'a>,
@@ -419,7 +427,8 @@ fn choose_disasm<'a>(
     ensures says { IfOk result (λ c. Says (codes "disasm") (rows_of (found_of disasm.now)) c) }
     ensures in_range { IfOk result (λ c. HasLimits c) }
     ensures mistake { IfErr result (λ e. 1 ≤ usage_status (kind_of e)) }
-    ensures says_none { OnErr result ((c : Choice) → Says (codes "disasm") (rows_of (found_of disasm.now)) c → ⊥) }
+    ensures says_none { OnErr result
+        ((c : Choice) → Says (codes "disasm") (rows_of (found_of disasm.now)) c → ⊥) }
 {
     match story_of(command, disasm) {
         Ok(story) => Ok(Choice::Show {
@@ -430,12 +439,13 @@ fn choose_disasm<'a>(
     }
 }
 
-/// What the words behind `check` ask for.
+/// What the words after `check` ask for.
 fn choose_check<'a>(command: &mut Command<'_>, check: &ArgMatches<'a>) -> Result<Choice<'a>, Error>
     ensures says { IfOk result (λ c. Says (codes "check") (rows_of (found_of check.now)) c) }
     ensures in_range { IfOk result (λ c. HasLimits c) }
     ensures mistake { IfErr result (λ e. 1 ≤ usage_status (kind_of e)) }
-    ensures says_none { OnErr result ((c : Choice) → Says (codes "check") (rows_of (found_of check.now)) c → ⊥) }
+    ensures says_none { OnErr result
+        ((c : Choice) → Says (codes "check") (rows_of (found_of check.now)) c → ⊥) }
 {
     match story_of(command, check) {
         Ok(story) => Ok(Choice::Show {
@@ -456,7 +466,8 @@ fn choose_by<'a>(
     ensures says { IfOk result (λ c. Says name.now (rows_of (found_of found.now)) c) }
     ensures in_range { IfOk result (λ c. HasLimits c) }
     ensures mistake { IfErr result (λ e. 1 ≤ usage_status (kind_of e)) }
-    ensures says_none { OnErr result ((c : Choice) → Says name.now (rows_of (found_of found.now)) c → ⊥) }
+    ensures says_none { OnErr result
+        ((c : Choice) → Says name.now (rows_of (found_of found.now)) c → ⊥) }
 {
     if name == "play" {
         choose_play(alloc, command, found)

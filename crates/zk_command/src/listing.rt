@@ -4,6 +4,7 @@ ghost use Rattle.std.specs.Prelude.{◌≡◌, false, IfOk, None};
 ghost use Rattle.zk_mem.specs.Fresh.{fresh};
 ghost use Rattle.zk_mem.specs.Map.{MemoryMap};
 ghost use Rattle.zk_mem.specs.Story.{refusal};
+ghost use Rattle.zk_term.specs.Devices.{device};
 ghost use Rattle.zk_command.specs.Listing.{EndsListing, EndsListingFrom, IsListed, IsListedFrom, Tells};
 ghost use Rattle.zk_command.specs.Verdict.{IsStart};
 ghost use Rattle.zk_command.specs.declared.listing.Listing.{Listing};
@@ -185,7 +186,8 @@ fn list<T: Target>(
 
 /// How a listing ends.
 fn exit_after(listed: Result<bool, ListError>) -> Exit
-    ensures { (listing : Listing) (m : MemoryMap) → IfOk listed (λ found. Tells listing m found) → IsListed listing m result }
+    ensures { (listing : Listing) (m : MemoryMap) → IfOk listed (λ found. Tells listing m found)
+        → IsListed listing m result }
 {
     match listed {
         Ok(true) => Exit::Found,
@@ -267,7 +269,8 @@ pub fn list_and_report<R: Read + Drop, S: Target, E: Target>(
     errors: &mut E,
 ) -> u8
     requires { E.failed errors.old ≡ false }
-    ensures { IsListedFrom listing (R.remaining reader) (record { taken = E.taken errors.old; failed = E.failed errors.old }) (record { taken = E.taken errors.new; failed = E.failed errors.new }) result }
+    ensures { IsListedFrom listing (R.remaining reader) (device E.taken E.failed errors.old)
+        (device E.taken E.failed errors.new) result }
 {
     let exit = list_from(alloc, reader, about, listing, screen);
     report_listing(alloc, &exit, about, errors)

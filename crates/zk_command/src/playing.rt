@@ -1,6 +1,7 @@
 // A story, from the bytes of its file to the screen.
 
 ghost use Rattle.std.specs.Prelude.{◌≡◌, ◌++◌, false, IfOk, OnOk, IfSome, None};
+ghost use Rattle.zk_term.specs.Devices.{device};
 ghost use Rattle.zk_vm.specs.Bounds.{AreInRange};
 ghost use Rattle.zk_vm.specs.Plays.{IsAnswered, IsPlayed};
 ghost use Rattle.zk_command.specs.Playing.{EndsBy, EndsFrom, IsPlayedBy, IsPlayedFrom, IsRun, bytes_read};
@@ -27,10 +28,11 @@ const MOST_BYTES: u64 = 524_289;
 /// So many bytes of a file are read at a time.
 const PIECE: usize = 4_096;
 
-/// Puts what a reader gives behind other bytes, piece by piece: room for all of it would have to be cleared before it is
+/// Puts what a reader gives after other bytes, piece by piece: room for all of it would have to be cleared before it is
 /// read into.
 fn read_pieces<R: Read>(reader: &mut R, bytes: &mut Vec<u8>) -> io::Result<()>
-    ensures { OnOk result (IfSome (R.remaining reader.old) (λ xs. bytes.new.items ≡ bytes.old.items ++ xs)) }
+    ensures { OnOk result
+        (IfSome (R.remaining reader.old) (λ xs. bytes.new.items ≡ bytes.old.items ++ xs)) }
 {
     let mut piece = [0; PIECE];
     // each read gives a byte or more, until the last
@@ -71,7 +73,17 @@ fn play_machine<I: Source, S: Target, T: Target, K: SaveSlot>(
     requires input_works { I.failed input.old ≡ false }
     requires works { S.failed screen.old ≡ false }
     requires script_works { T.failed script.old ≡ false }
-    ensures { IsPlayedBy (IsAnswered I.ends I.fails I.failed input.old input.new) (IsPlayed K.held K.keeps slot.old slot.new) (record { typed = I.left input.old; left = I.left input.new; unread = I.failed input.new }) machine.old (record { screen = record { taken = S.taken screen.old; failed = S.failed screen.old }; script = record { taken = T.taken script.old; failed = T.failed script.old } }) (record { screen = record { taken = S.taken screen.new; failed = S.failed screen.new }; script = record { taken = T.taken script.new; failed = T.failed script.new } }) result }
+    ensures { IsPlayedBy (IsAnswered I.ends I.fails I.failed input.old input.new)
+        (IsPlayed K.held K.keeps slot.old slot.new)
+        (record { typed = I.left input.old; left = I.left input.new; unread = I.failed input.new })
+        machine.old (record {
+          screen = device S.taken S.failed screen.old;
+          script = device T.taken T.failed script.old;
+        })
+        (record {
+          screen = device S.taken S.failed screen.new;
+          script = device T.taken T.failed script.new;
+        }) result }
 {
     match script.write(&[]) {
         Err(Failed) => Stop::Write,
@@ -101,7 +113,17 @@ fn play_story<I: Source, S: Target, T: Target, K: SaveSlot>(
     requires input_works { I.failed input.old ≡ false }
     requires works { S.failed screen.old ≡ false }
     requires script_works { T.failed script.old ≡ false }
-    ensures { IsRun (IsAnswered I.ends I.fails I.failed input.old input.new) (IsPlayed K.held K.keeps slot.old slot.new) (record { typed = I.left input.old; left = I.left input.new; unread = I.failed input.new }) story settings (record { screen = record { taken = S.taken screen.old; failed = S.failed screen.old }; script = record { taken = T.taken script.old; failed = T.failed script.old } }) (record { screen = record { taken = S.taken screen.new; failed = S.failed screen.new }; script = record { taken = T.taken script.new; failed = T.failed script.new } }) result }
+    ensures { IsRun (IsAnswered I.ends I.fails I.failed input.old input.new)
+        (IsPlayed K.held K.keeps slot.old slot.new)
+        (record { typed = I.left input.old; left = I.left input.new; unread = I.failed input.new })
+        story settings (record {
+          screen = device S.taken S.failed screen.old;
+          script = device T.taken T.failed script.old;
+        })
+        (record {
+          screen = device S.taken S.failed screen.new;
+          script = device T.taken T.failed script.new;
+        }) result }
 {
     match Machine::start(alloc, story, settings.seed, settings.limits, settings.view) {
         Err(_) => Stop::Memory,
@@ -128,7 +150,17 @@ pub fn play_bytes<I: Source, S: Target, T: Target, K: SaveSlot>(
     requires input_works { I.failed input.old ≡ false }
     requires works { S.failed screen.old ≡ false }
     requires script_works { T.failed script.old ≡ false }
-    ensures { EndsBy (IsAnswered I.ends I.fails I.failed input.old input.new) (IsPlayed K.held K.keeps slot.old slot.new) (record { typed = I.left input.old; left = I.left input.new; unread = I.failed input.new }) bytes.items settings (record { screen = record { taken = S.taken screen.old; failed = S.failed screen.old }; script = record { taken = T.taken script.old; failed = T.failed script.old } }) (record { screen = record { taken = S.taken screen.new; failed = S.failed screen.new }; script = record { taken = T.taken script.new; failed = T.failed script.new } }) result }
+    ensures { EndsBy (IsAnswered I.ends I.fails I.failed input.old input.new)
+        (IsPlayed K.held K.keeps slot.old slot.new)
+        (record { typed = I.left input.old; left = I.left input.new; unread = I.failed input.new })
+        bytes.items settings (record {
+          screen = device S.taken S.failed screen.old;
+          script = device T.taken T.failed script.old;
+        })
+        (record {
+          screen = device S.taken S.failed screen.new;
+          script = device T.taken T.failed script.new;
+        }) result }
 {
     match Story::of(bytes) {
         Err(error) => Exit::Refused(error),
@@ -153,7 +185,17 @@ pub fn play_from<R: Read + Drop, I: Source, S: Target, T: Target, K: SaveSlot>(
     requires input_works { I.failed input.old ≡ false }
     requires works { S.failed screen.old ≡ false }
     requires script_works { T.failed script.old ≡ false }
-    ensures { EndsFrom (IsAnswered I.ends I.fails I.failed input.old input.new) (IsPlayed K.held K.keeps slot.old slot.new) (record { typed = I.left input.old; left = I.left input.new; unread = I.failed input.new }) (R.remaining reader) settings (record { screen = record { taken = S.taken screen.old; failed = S.failed screen.old }; script = record { taken = T.taken script.old; failed = T.failed script.old } }) (record { screen = record { taken = S.taken screen.new; failed = S.failed screen.new }; script = record { taken = T.taken script.new; failed = T.failed script.new } }) result }
+    ensures { EndsFrom (IsAnswered I.ends I.fails I.failed input.old input.new)
+        (IsPlayed K.held K.keeps slot.old slot.new)
+        (record { typed = I.left input.old; left = I.left input.new; unread = I.failed input.new })
+        (R.remaining reader) settings (record {
+          screen = device S.taken S.failed screen.old;
+          script = device T.taken T.failed script.old;
+        })
+        (record {
+          screen = device S.taken S.failed screen.new;
+          script = device T.taken T.failed script.new;
+        }) result }
 {
     match read_story(alloc, reader) {
         Err(error) => Exit::Unread(error),
@@ -182,8 +224,18 @@ pub fn play_and_report<R: Read + Drop, I: Source, S: Target, T: Target, K: SaveS
     requires works { S.failed screen.old ≡ false }
     requires script_works { T.failed script.old ≡ false }
     requires errors_work { E.failed errors.old ≡ false }
-    ensures { IsPlayedFrom (IsAnswered I.ends I.fails I.failed input.old input.new) (IsPlayed K.held K.keeps slot.old slot.new) (record { typed = I.left input.old; left = I.left input.new; unread = I.failed input.new }) (R.remaining reader) settings (record { screen = record { taken = S.taken screen.old; failed = S.failed screen.old }; script = record { taken = T.taken script.old; failed = T.failed script.old } }) (record { screen = record { taken = S.taken screen.new; failed = S.failed screen.new }; script = record { taken = T.taken script.new; failed = T.failed script.new } })
-        (record { taken = E.taken errors.old; failed = E.failed errors.old }) (record { taken = E.taken errors.new; failed = E.failed errors.new }) result }
+    ensures { IsPlayedFrom (IsAnswered I.ends I.fails I.failed input.old input.new)
+        (IsPlayed K.held K.keeps slot.old slot.new)
+        (record { typed = I.left input.old; left = I.left input.new; unread = I.failed input.new })
+        (R.remaining reader) settings (record {
+          screen = device S.taken S.failed screen.old;
+          script = device T.taken T.failed script.old;
+        })
+        (record {
+          screen = device S.taken S.failed screen.new;
+          script = device T.taken T.failed script.new;
+        }) (device E.taken E.failed errors.old)
+        (device E.taken E.failed errors.new) result }
 {
     let exit = play_from(alloc, reader, about, settings, input, screen, script, slot);
     report(alloc, &exit, &settings.limits, about, errors)

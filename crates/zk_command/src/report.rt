@@ -2,7 +2,7 @@
 
 ghost use Rattle.std.specs.Prelude.{◌≡◌, ◌<◌, false, is_err, map, [], IfOk, OnSome};
 ghost use Rattle.std.specs.List.{concat};
-ghost use Rattle.zk_term.specs.Devices.{Took};
+ghost use Rattle.zk_term.specs.Devices.{Took, device};
 ghost use Rattle.zk_command.specs.LastLine.{IsExplained, TookExplained, cause_at, hex_digit, hex_digits, last_line, line, refused_line, stop_line, unread_line, words_line, zeros_left_out};
 ghost use Rattle.zk_command.specs.Status.{exit_status};
 
@@ -23,7 +23,8 @@ use zk_vm::stop::Stop;
 /// Writes texts one after another, up to a write that fails.
 fn write_texts<E: Target>(errors: &mut E, texts: &[&[u8]]) -> Result<(), Failed>
     requires { E.failed errors.old ≡ false }
-    ensures text { Took (record { taken = E.taken errors.old; failed = E.failed errors.old }) (record { taken = E.taken errors.new; failed = E.failed errors.new }) (concat (map (λ t. t.now) texts.now)) }
+    ensures text { Took (device E.taken E.failed errors.old) (device E.taken E.failed errors.new)
+        (concat (map (λ t. t.now) texts.now)) }
     ensures failed { E.failed errors.new ≡ is_err result }
 {
     let [first, rest @ ..] = texts else {
@@ -81,7 +82,8 @@ fn zeros_before(a: u32) -> usize
 /// Writes a numbered cause at an address.
 fn write_cause<E: Target>(errors: &mut E, cause: &[u8], number: u8, a: u32) -> Result<(), Failed>
     requires { E.failed errors.old ≡ false }
-    ensures { Took (record { taken = E.taken errors.old; failed = E.failed errors.old }) (record { taken = E.taken errors.new; failed = E.failed errors.new }) (line (cause_at cause.now number a)) }
+    ensures { Took (device E.taken E.failed errors.old) (device E.taken E.failed errors.new)
+        (line (cause_at cause.now number a)) }
 {
     let mut decimal = Buffer::new();
     let digits = hex_digits_of(a);
@@ -93,7 +95,8 @@ fn write_cause<E: Target>(errors: &mut E, cause: &[u8], number: u8, a: u32) -> R
 /// Writes a line of the program.
 fn write_line<E: Target>(errors: &mut E, text: &[u8]) -> Result<(), Failed>
     requires { E.failed errors.old ≡ false }
-    ensures text { Took (record { taken = E.taken errors.old; failed = E.failed errors.old }) (record { taken = E.taken errors.new; failed = E.failed errors.new }) (line text.now) }
+    ensures text { Took (device E.taken E.failed errors.old) (device E.taken E.failed errors.new)
+        (line text.now) }
     ensures failed { E.failed errors.new ≡ is_err result }
 {
     write_texts(errors, &[b"zkit: ", text, b"\n"])
@@ -102,7 +105,8 @@ fn write_line<E: Target>(errors: &mut E, text: &[u8]) -> Result<(), Failed>
 /// Writes a line in words, after a new line where the screen does not stand at the start of a line.
 fn write_words_line<E: Target>(errors: &mut E, apart: bool, text: &[u8]) -> Result<(), Failed>
     requires { E.failed errors.old ≡ false }
-    ensures text { Took (record { taken = E.taken errors.old; failed = E.failed errors.old }) (record { taken = E.taken errors.new; failed = E.failed errors.new }) (words_line apart text.now) }
+    ensures text { Took (device E.taken E.failed errors.old) (device E.taken E.failed errors.new)
+        (words_line apart text.now) }
     ensures failed { E.failed errors.new ≡ is_err result }
 {
     if apart {
@@ -113,7 +117,8 @@ fn write_words_line<E: Target>(errors: &mut E, apart: bool, text: &[u8]) -> Resu
 
 fn write_stop<E: Target>(errors: &mut E, stop: &Stop) -> Result<(), Failed>
     requires { E.failed errors.old ≡ false }
-    ensures { Took (record { taken = E.taken errors.old; failed = E.failed errors.old }) (record { taken = E.taken errors.new; failed = E.failed errors.new }) (stop_line stop.now) }
+    ensures { Took (device E.taken E.failed errors.old) (device E.taken E.failed errors.new)
+        (stop_line stop.now) }
 {
     match stop {
         Stop::Quit | Stop::EndOfInput => Ok(()),
@@ -127,7 +132,8 @@ fn write_stop<E: Target>(errors: &mut E, stop: &Stop) -> Result<(), Failed>
 
 fn write_refusal<E: Target>(errors: &mut E, error: &OpenError) -> Result<(), Failed>
     requires { E.failed errors.old ≡ false }
-    ensures { Took (record { taken = E.taken errors.old; failed = E.failed errors.old }) (record { taken = E.taken errors.new; failed = E.failed errors.new }) (refused_line error.now) }
+    ensures { Took (device E.taken E.failed errors.old) (device E.taken E.failed errors.new)
+        (refused_line error.now) }
 {
     match error {
         OpenError::OutOfMemory => write_line(errors, b"out of memory"),
@@ -141,7 +147,8 @@ fn write_refusal<E: Target>(errors: &mut E, error: &OpenError) -> Result<(), Fai
 
 fn write_unread<E: Target>(errors: &mut E, kind: ErrorKind) -> Result<(), Failed>
     requires { E.failed errors.old ≡ false }
-    ensures { Took (record { taken = E.taken errors.old; failed = E.failed errors.old }) (record { taken = E.taken errors.new; failed = E.failed errors.new }) (unread_line kind) }
+    ensures { Took (device E.taken E.failed errors.old) (device E.taken E.failed errors.new)
+        (unread_line kind) }
 {
     match kind {
         ErrorKind::OutOfMemory => write_line(errors, b"out of memory"),
@@ -152,7 +159,8 @@ fn write_unread<E: Target>(errors: &mut E, kind: ErrorKind) -> Result<(), Failed
 /// Writes the last line.
 fn write_last<E: Target>(errors: &mut E, exit: &Exit) -> Result<(), Failed>
     requires { E.failed errors.old ≡ false }
-    ensures { Took (record { taken = E.taken errors.old; failed = E.failed errors.old }) (record { taken = E.taken errors.new; failed = E.failed errors.new }) (last_line exit.now) }
+    ensures { Took (device E.taken E.failed errors.old) (device E.taken E.failed errors.new)
+        (last_line exit.now) }
 {
     match exit {
         Exit::Unread(error) => write_unread(errors, error.kind()),
@@ -264,7 +272,8 @@ fn write_words<E: Target>(
     errors: &mut E,
 ) -> Result<(), Failed>
     requires { E.failed errors.old ≡ false }
-    ensures text { TookExplained exit.now [] (record { taken = E.taken errors.old; failed = E.failed errors.old }) (record { taken = E.taken errors.new; failed = E.failed errors.new }) }
+    ensures text { TookExplained exit.now [] (device E.taken E.failed errors.old)
+        (device E.taken E.failed errors.new) }
     ensures failed { E.failed errors.new ≡ is_err result }
 {
     match words_on(alloc, exit, limits, about) {
@@ -297,7 +306,8 @@ fn status(exit: &Exit) -> u8
 pub fn report_briefly<E: Target>(exit: &Exit, errors: &mut E) -> u8
     requires { E.failed errors.old ≡ false }
     ensures status { result ≡ exit_status exit.now }
-    ensures line { Took (record { taken = E.taken errors.old; failed = E.failed errors.old }) (record { taken = E.taken errors.new; failed = E.failed errors.new }) (last_line exit.now) }
+    ensures line { Took (device E.taken E.failed errors.old) (device E.taken E.failed errors.new)
+        (last_line exit.now) }
 {
     let _ = write_last(errors, exit);
     status(exit)
@@ -315,7 +325,8 @@ pub fn report<E: Target>(
 ) -> u8
     requires { E.failed errors.old ≡ false }
     ensures status { result ≡ exit_status exit.now }
-    ensures lines { TookExplained exit.now (last_line exit.now) (record { taken = E.taken errors.old; failed = E.failed errors.old }) (record { taken = E.taken errors.new; failed = E.failed errors.new }) }
+    ensures lines { TookExplained exit.now (last_line exit.now) (device E.taken E.failed errors.old)
+        (device E.taken E.failed errors.new) }
 {
     match write_words(alloc, exit, limits, about, errors) {
         Ok(()) => report_briefly(exit, errors),
@@ -327,7 +338,8 @@ pub fn report<E: Target>(
 pub fn report_listing<E: Target>(alloc: Global, exit: &Exit, about: &About, errors: &mut E) -> u8
     requires { E.failed errors.old ≡ false }
     ensures status { result ≡ exit_status exit.now }
-    ensures lines { TookExplained exit.now (last_line exit.now) (record { taken = E.taken errors.old; failed = E.failed errors.old }) (record { taken = E.taken errors.new; failed = E.failed errors.new }) }
+    ensures lines { TookExplained exit.now (last_line exit.now) (device E.taken E.failed errors.old)
+        (device E.taken E.failed errors.new) }
 {
     // a listing meets no limits
     let none = Limits {

@@ -21,7 +21,8 @@ use zk_mem::memory::Memory;
 pub fn verdict(alloc: Global, memory: &Memory) -> Result<Vec<Finding>, AllocError>
     requires { IsStart memory.now }
     ensures findings { IfOk result (λ list. AreFindings memory.now list.items) }
-    ensures clean { IfOk result (λ list. list.items ≡ [] → StaysClean memory.now.file (IsReached memory.now)) }
+    ensures clean { IfOk result
+        (λ list. list.items ≡ [] → StaysClean memory.now.file (IsReached memory.now)) }
 {
     memory.has_bytes();
     check(alloc, memory)

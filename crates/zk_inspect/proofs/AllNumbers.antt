@@ -1,4 +1,4 @@
--- The findings of all numbers, behind one another.
+-- The findings of all numbers, after one another.
 use Rattle.std.proofs.Common.{◌≡◌, ◌∙◌, ℕ, List, [], ◌∷◌, ◌++◌, ◌+◌, ◌<◌, inl, inr, length, get_or, take, map, append_assoc, ap, subst, sym}
 use Rattle.std.proofs.lemmas.List.{take_more, append-nil}
 use Rattle.std.specs.List.{Contains, flat_map}

@@ -1,4 +1,4 @@
--- The entries of objects, one behind another, and how many are listed.
+-- The entries of objects, one after another, and how many are listed.
 use Rattle.std.proofs.Common.{◌≡◌, ◌≢◌, ◌∙◌, ℕ, zero, suc, ◌+◌, ◌*◌, ◌-◌, ◌<◌, ◌≤◌, inl, inr, Bool, true, false, Result, Ok, Err, refl, sym, ap, subst, arith, nat_lt, if◌then◌else◌}
 use Rattle.std.specs.Prelude.{◌↔◌, IsOk}
 use Rattle.std.proofs.lemmas.Bool.{cases_lt, cases_eq}
@@ -174,7 +174,7 @@ count_ends m before lowest f c none o e = (
   λ h. c.listed o e h.0 h.1,
 )
 
--- the next begins at a property table or behind one
+-- the next begins at a property table or after one
 pub count_meets : (m : MemoryMap) (before lowest f : ℕ) → Counting m before lowest → entry_of m (before + 1) ≡ Ok f → lowest ≤ f → (o e : ℕ) → IsListed m o e ↔ ((o ≤ before) × (entry_of m o ≡ Ok e))
 count_meets m before lowest f c at high o e = (
   λ h. elim (cases_lt before o) [

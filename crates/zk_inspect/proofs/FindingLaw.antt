@@ -91,7 +91,7 @@ each CodeBelowTheStaticBase = (11, omega arith, refl)
 
 -- ---- the order
 
--- each comes before those behind it
+-- each comes before those after it
 abbrev InOrder : List Finding → Type 0
 InOrder [] = Unit {0}
 InOrder (f ∷ fs) = ((g : Finding) → Contains fs g → Precedes f g) × InOrder fs

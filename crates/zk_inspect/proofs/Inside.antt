@@ -26,7 +26,7 @@ pub target_inside : (n after offset c : ℕ) → address_in (branch_target n aft
 unfolding branch_target
 target_inside n after offset c h = grind (arith, common_steps, offset_inside)
 
--- what stands behind an instruction
+-- what stands after an instruction
 pub behind_inside : (m : MemoryMap) (a : ℕ) (i : Instr) (b : ℕ) → IsInstruction m a i b → b ≤ length m.bytes
 behind_inside m a i b s = (ends_inside m a i b s).1
 

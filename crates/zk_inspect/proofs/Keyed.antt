@@ -33,7 +33,7 @@ with_piece : (m : MemoryMap) (p : Option Piece) (ps : List Piece) → flat_map (
 with_piece m None ps = refl
 with_piece m (Some p) ps = refl
 
--- what the first piece stands for, and what the Z-characters behind it do
+-- what the first piece stands for, and what the Z-characters after it do
 units_step : (m : MemoryMap) (z : ℕ) (zs : List ℕ) → word_units m (z ∷ zs) ≡ piece_units m (cut z zs).0 ++ word_units m (drop (cut z zs).1 zs)
 unfolding word_units pieces_past
 units_step m z zs = with_piece m (cut z zs).0 (pieces_past zs (cut z zs).1) ∙ ap (λ (ps : List Piece). piece_units m (cut z zs).0 ++ flat_map (λ q. piece_units m (Some q)) ps) (past_is_rest zs (cut z zs).1)

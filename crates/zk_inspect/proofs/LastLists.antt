@@ -18,7 +18,7 @@ ended m a h = ([], (a, refl, end_takes m a h))
 same_property : (r : Result (Option Property) Fault) (p q : Property) → r ≡ Ok (Some p) → r ≡ Ok (Some q) → p ≡ q
 same_property r p q h k = let e : Some p ≡ Some q = cc in cc
 
--- a list goes on behind its first property
+-- a list goes on after its first property
 behind_by : (m : MemoryMap) (a : ℕ) (p : Property) (ps : List Property) → property_at m a ≡ Ok (Some p) → IsPropertyList m a ps → HasList m (p.address + p.length)
 behind_by m a p [] h (b, s, z) = absurd (let zero : byte_at m a ≡ Ok 0 = rw s z in let none = end_again m a zero in cc)
 behind_by m a p (q ∷ qs) h (b, s, z) =

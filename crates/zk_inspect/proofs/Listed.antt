@@ -8,7 +8,7 @@ use Rattle.zk_inspect.specs.Lists.{IsListOf}
 use Rattle.zk_inspect.proofs.OneList.{first_or}
 use Rattle.zk_inspect.proofs.Marking.{increasing_push}
 
--- a number behind all others
+-- a number after all others
 pub list_more : (P R : ℕ → Type 0) (xs : List ℕ) (a : ℕ) → IsListOf P xs → ((b : ℕ) → P b → b < a) → ((b : ℕ) → P b → R b) → ((b : ℕ) → R b → P b ⊎ (a ≡ b)) → R a → IsListOf R (xs ++ a ∷ [])
 list_more P R xs a h below up down now = record {
   listed = λ b k. elim (Contains-push_cases xs a b k) [ inl old ↦ up b (h.listed b old) | inr e ↦ subst R e now ];
@@ -20,7 +20,7 @@ list_more P R xs a h below up down now = record {
 pub list_same : (P R : ℕ → Type 0) (xs : List ℕ) → IsListOf P xs → ((b : ℕ) → P b → R b) → ((b : ℕ) → R b → P b) → IsListOf R xs
 list_same P R xs h up down = record { listed = λ b k. up b (h.listed b k); whole = λ b r. h.whole b (down b r); ascending = h.ascending }
 
--- a number behind those below it, or none
+-- a number after those below it, or none
 pub list_next : (P : ℕ → Type 0) (xs : List ℕ) (i : ℕ) → IsListOf (λ a. (a < i) × P a) xs → P i → IsListOf (λ a. (a < i + 1) × P a) (xs ++ i ∷ [])
 list_next P xs i h now = list_more (λ a. (a < i) × P a) (λ a. (a < i + 1) × P a) xs i h
     (λ b p. p.0)

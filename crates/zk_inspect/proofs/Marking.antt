@@ -53,7 +53,7 @@ marked_counts bs a lt h =
 pub some_same : (a b : ℕ) → Some a ≡ Some b → a ≡ b
 some_same a b h = cc
 
--- a greater number behind others
+-- a greater number after others
 pub increasing_push : (xs : List ℕ) (i : ℕ) → IsStrictlyIncreasing xs → ((a : ℕ) → Contains xs a → a < i) → IsStrictlyIncreasing (xs ++ i ∷ [])
 increasing_push xs i up below k lt =
     let size = length-append xs (i ∷ []) in
@@ -66,7 +66,7 @@ increasing_push xs i up below k lt =
           rw (get_or_append_left xs (i ∷ []) 0 k inside, end, get_or-append_seam xs i [] 0) low
     ]
 
--- a marked number is listed behind those before it
+-- a marked number is listed after those before it
 pub listed_more : (bs : List Bool) (xs : List ℕ) (i : ℕ) → IsListOf (λ a. (a < i) × IsMarked bs a) xs → IsMarked bs i → IsListOf (λ a. (a < i + 1) × IsMarked bs a) (xs ++ i ∷ [])
 listed_more bs xs i h now = record {
   listed = λ a k. elim (Contains-push_cases xs i a k) [

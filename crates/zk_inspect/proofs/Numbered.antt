@@ -18,7 +18,7 @@ more_lines f a n i lt =
     ap (flat_map f) (take_more (range_with_len a n) i 0 within) ∙ flat_map-append f (take i (range_with_len a n)) (get_or (range_with_len a n) i 0 ∷ [])
     ∙ ap (λ (l : List ℕ). flat_map f (take i (range_with_len a n)) ++ l) (append-nil (f (get_or (range_with_len a n) i 0)) ∙ ap f item)
 
--- the line of the next number was written behind the others
+-- the line of the next number was written after the others
 pub numbered_more : {S : Type 0} (taken : S → Option (List ℕ)) (has_failed : S → Bool) (e : Bool) (x y z : S) (f : ℕ → List ℕ) (a n i j : ℕ) → i < n → a + i ≡ j
     → Gave taken has_failed false x y (flat_map f (take i (range_with_len a n))) → Gave taken has_failed e y z (f j) → Gave taken has_failed e x z (flat_map f (take (i + 1) (range_with_len a n)))
 numbered_more {S} taken has_failed e x y z f a n i j lt is h k =

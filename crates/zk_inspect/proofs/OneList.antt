@@ -11,7 +11,7 @@ use Rattle.zk_inspect.specs.Lists.{IsListOf}
 abbrev Within : List ℕ → List ℕ → Type 0
 Within xs ys = (a : ℕ) → Contains xs a → Contains ys a
 
--- the list behind the first
+-- the list after the first
 pub behind : (x : ℕ) (xs : List ℕ) → IsStrictlyIncreasing (x ∷ xs) → IsStrictlyIncreasing xs
 behind x xs up k lt =
     let e : suc k + 1 ≡ suc (k + 1) = omega arith in
@@ -26,7 +26,7 @@ above x xs up (suc k) lt =
     let next : get_or xs k 0 < get_or xs (suc k) 0 = subst (λ (j : ℕ). get_or xs k 0 < get_or xs j 0) e (behind x xs up k (omega arith)) in
     omega arith
 
--- a member is the first, or one behind it
+-- a member is the first, or one after it
 pub first_or : (x a : ℕ) (xs : List ℕ) → Contains (x ∷ xs) a → (x ≡ a) ⊎ Contains xs a
 first_or x a xs (zero, lt, e) = inl e
 first_or x a xs (suc k, lt, e) = inr (k, omega arith, e)
@@ -42,7 +42,7 @@ behind_above x a xs up (k, lt, e) =
 least : (x a : ℕ) (xs : List ℕ) → IsStrictlyIncreasing (x ∷ xs) → Contains (x ∷ xs) a → x ≤ a
 least x a xs up c = elim (first_or x a xs c) [ inl e ↦ omega arith | inr k ↦ let lt = behind_above x a xs up k in omega arith ]
 
--- the lists behind equal firsts
+-- the lists after equal firsts
 within_behind : (x y : ℕ) (xs ys : List ℕ) → IsStrictlyIncreasing (x ∷ xs) → x ≡ y → Within (x ∷ xs) (y ∷ ys) → Within xs ys
 within_behind x y xs ys up same within a (k, lt, e) = elim (first_or y a ys (within a (suc k, omega arith, e))) [
   | inl f ↦ absurd (let higher = behind_above x a xs up (k, lt, e) in omega arith)

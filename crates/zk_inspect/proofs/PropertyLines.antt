@@ -15,7 +15,7 @@ use Rattle.zk_inspect.specs.ObjectLines.{properties_or_none, properties_text, pr
 use Rattle.zk_inspect.specs.Written.{Gave, gave_then, gave_nothing}
 use Rattle.zk_inspect.proofs.Outputs.{gave_as, gave_err}
 
--- a property behind a comma
+-- a property after a comma
 abbrev pub behind_comma : Property → List ℕ
 behind_comma p = codes "," ++ property_text p
 

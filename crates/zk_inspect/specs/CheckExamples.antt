@@ -29,7 +29,7 @@ EntriesBelowTables =
     × IsListed (objects_with 76 90) 2 75
     × IsListed (objects_with 90 85) 3 84
 
--- none is listed whose entry begins at such a table, or behind it; or past data; nor object 0
+-- none is listed whose entry begins at such a table, or after it; or past data; nor object 0
 abbrev pub EntriesAtTables : Type 0
 EntriesAtTables =
     ((entry : ℕ) → IsListed (objects_with 75 90) 2 entry → ⊥)

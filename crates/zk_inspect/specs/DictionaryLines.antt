@@ -53,7 +53,7 @@ entry_text m i a = entry_front i a ++ quoted_units (own_characters m) (word_unit
 abbrev pub entry_line : MemoryMap → Dictionary → ℕ → List ℕ
 entry_line m d i = entry_text m i (entry_start d i)
 
--- a separator, counted from 0; they stand behind their count (section 13.2)
+-- a separator, counted from 0; they stand after their count (section 13.2)
 abbrev pub separator_text : MemoryMap → Dictionary → ℕ → List ℕ
 separator_text m d i = quoted_units (own_characters m) (Code (unwrap_or (cell_at m (d.address + 1 + i)) 0) ∷ [])
 

@@ -85,12 +85,12 @@ OperandsByType =
     × (operand_text (Variable 0) ≡ codes "sp")
     × (operand_text (Variable 17) ≡ codes "g1")
 
--- the variable of a result is behind an arrow (section 4.6)
+-- the variable of a result is after an arrow (section 4.6)
 abbrev pub StoresBehindAnArrow : Type 0
 StoresBehindAnArrow =
     (store_text None ≡ []) × (store_text (Some 0) ≡ codes " -> sp") × (store_text (Some 5) ≡ codes " -> l5") × (store_text (Some 26) ≡ codes " -> g10")
 
--- a branch is behind a question mark, and has a tilde where it is taken on false (section 4.7)
+-- a branch is after a question mark, and has a tilde where it is taken on false (section 4.7)
 abbrev pub BranchesBehindAMark : Type 0
 BranchesBehindAMark =
     (branch_text None ≡ [])
@@ -120,7 +120,7 @@ LinesOfOperands =
     × (line_of 5 (0xba ∷ []) ≡ codes "00000 quit\n")
     × (line_of 5 (0 ∷ []) ≡ codes "00000 ?\n")
 
--- behind the variable of a result a branch, whose address has five digits (section 4.7)
+-- after the variable of a result a branch, whose address has five digits (section 4.7)
 abbrev pub LinesOfBranches : Type 0
 LinesOfBranches =
     (line_of 5 (0x90 ∷ 1 ∷ 0xc5 ∷ 0 ∷ 0 ∷ 0 ∷ 0 ∷ []) ≡ codes "00000 jz #01 ?00006\n")
@@ -180,13 +180,13 @@ RoutinesBehindCode =
 abbrev pub memory_by : ℕ → List ℕ → List ℕ → MemoryMap
 memory_by version file bytes = record { version = version; static_base = 0; bytes = bytes; file = file; undo_states = 0 }
 
--- a file of 72 bytes, whose header states 18 units; behind it stand 1 to 5
+-- a file of 72 bytes, whose header states 18 units; after it stand 1 to 5
 abbrev pub file_of : ℕ → List ℕ
 file_of version =
     version ∷ 0x1a ∷ 1 ∷ 2 ∷ 4 ∷ 0x80 ∷ 4 ∷ 0x81 ∷ 3 ∷ 0x10 ∷ 1 ∷ 0 ∷ 2 ∷ 0 ∷ 3 ∷ 0 ∷ 0x80 ∷ 0x1c ∷ 50 ∷ 54 ∷ 49 ∷ 127 ∷ 50 ∷ 32
     ∷ 0 ∷ 0x40 ∷ 0 ∷ 18 ∷ 0 ∷ 15 ∷ replicate 22 0 ++ 0 ∷ 0x42 ∷ 1 ∷ 0x23 ∷ replicate 8 0 ++ 1 ∷ 2 ∷ 3 ∷ 4 ∷ 5 ∷ 0 ∷ 0 ∷ 0 ∷ []
 
--- the length is stated in units of 4 bytes, and in units of 2 up to version 3; the sum of the bytes behind the header up to
+-- the length is stated in units of 4 bytes, and in units of 2 up to version 3; the sum of the bytes after the header up to
 -- there is 15, or 0; from version 5 on there are two lines more (sections 11.1 and 11.1.6)
 abbrev pub HeadersAreLines : Type 0
 HeadersAreLines =
@@ -255,7 +255,7 @@ ListsPastTheEnd =
 
 -- ---- checks
 
--- 0 is no instruction, and behind the last byte there is none (section 4)
+-- 0 is no instruction, and after the last byte there is none (section 4)
 abbrev pub UndecodableAddresses : Type 0
 UndecodableAddresses =
     (is_undecodable (memory_of 5 (0xba ∷ 0 ∷ [])) 0 ≡ false)

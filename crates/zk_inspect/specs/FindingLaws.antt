@@ -26,7 +26,7 @@ rank_of CodeBelowTheStaticBase = 12
 abbrev pub Precedes : Finding → Finding → Type 0
 Precedes f g = (rank_of f.number < rank_of g.number) ⊎ ((f.number ≡ g.number) × (f.address < g.address))
 
--- the findings are all that is wrong, each comes before those behind it, and there are none where nothing is wrong
+-- the findings are all that is wrong, each comes before those after it, and there are none where nothing is wrong
 pub record AreAllFindings (m : MemoryMap) (fs : List Finding) : Type 0 where
   pub exact : (n : Number) (a : ℕ) → Contains fs (at_address n a) ↔ Finds m n a
   pub ascending : (before between behind : List Finding) (f g : Finding) → fs ≡ before ++ f ∷ (between ++ g ∷ behind) → Precedes f g

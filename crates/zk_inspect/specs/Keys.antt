@@ -15,7 +15,7 @@ comes_before (x ∷ xs) (y ∷ ys) = nat_lt x y || (x == y && comes_before xs ys
 unfoldable pub key_in : MemoryMap → Dictionary → ℕ → List ℕ
 key_in m d i = take (key_length m.version) (drop (entry_start d i) m.bytes)
 
--- the entry behind one does not come after it
+-- the entry after one does not come after it
 abbrev pub Falls : MemoryMap → Dictionary → ℕ → Type 0
 Falls m d i = (i + 1 < d.entries) × (comes_before (key_in m d i) (key_in m d (i + 1)) ≡ false)
 

@@ -49,7 +49,7 @@ keyed = record { address = 1; separators = 1; entry_length = 7; entries = 2; is_
 abbrev pub counted_bytes : List ℕ
 counted_bytes = 0 ∷ 1 ∷ 2 ∷ 3 ∷ 4 ∷ 5 ∷ 6 ∷ 7 ∷ 8 ∷ 9 ∷ 10 ∷ 11 ∷ 12 ∷ 13 ∷ 14 ∷ 15 ∷ 16 ∷ 17 ∷ 18 ∷ 19 ∷ []
 
--- a key has 4 bytes up to version 3 and 6 from version 4 on, behind the count of separators, these, the length of an entry
+-- a key has 4 bytes up to version 3 and 6 from version 4 on, after the count of separators, these, the length of an entry
 -- and the count of entries (sections 13.2 to 13.4)
 abbrev pub KeysBeginEntries : Type 0
 KeysBeginEntries =

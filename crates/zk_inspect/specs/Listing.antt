@@ -66,11 +66,11 @@ first_text m i o =
     else if is_jump i.opcode then jump_text o (jump_address m i)
     else operand_text o
 
--- an operand behind another
+-- an operand after another
 abbrev pub further_text : Operand → List ℕ
 further_text o = 32 ∷ operand_text o
 
--- the operands, each behind a space
+-- the operands, each after a space
 unfoldable pub operands_text : MemoryMap → Instr → List Operand → List ℕ
 operands_text m i [] = []
 operands_text m i (o ∷ os) = (32 ∷ first_text m i o) ++ flat_map further_text os

@@ -13,7 +13,7 @@ pub record IsListOf (P : ℕ → Type 0) (xs : List ℕ) : Type 0 where
 abbrev pub IsMarked : List Bool → ℕ → Type 0
 IsMarked marks a = get_or marks a false ≡ true
 
--- marks on the numbers that something holds of, of the last so many below an end and of those behind it
+-- marks on the numbers that something holds of, of the last so many below an end and of those after it
 pub record AreLastMarks (P : ℕ → Type 0) (size end behind : ℕ) (marks : List Bool) : Type 0 where
   pub size_is : length marks ≡ size
   pub known : (a : ℕ) → end ≤ a + behind → IsMarked marks a ↔ P a

@@ -27,7 +27,7 @@ calling_back =
 abbrev pub calling_back_from : ℕ → MemoryMap
 calling_back_from base = record { version = 3; static_base = base; bytes = calling_back; file = calling_back; undo_states = 0 }
 
--- the call is low where the byte at 8 is one of dynamic memory, and neither the return nor what stands behind the call is
+-- the call is low where the byte at 8 is one of dynamic memory, and neither the return nor what stands after the call is
 -- (sections 1.1.1, 5.2 and 6.4)
 abbrev pub LowRoutines : Type 0
 LowRoutines =

@@ -18,13 +18,13 @@ pub record AreParts (m : MemoryMap) (parts : Parts) : Type 0 where
   pub objects : AreObjects m parts.objects
   pub texts : AreTextMarks m parts.texts
 
--- all findings of a number stand behind others
+-- all findings of a number stand after others
 pub record Adds (m : MemoryMap) (n : Number) (old new : List Finding) : Type 0 where
   pub addresses : List ℕ
   pub exact : IsListOf (Finds m n) addresses
   pub joined : new ≡ old ++ map (at_address n) addresses
 
--- all findings of some numbers stand behind others, one number after another
+-- all findings of some numbers stand after others, one number after another
 pub data AddsAll (m : MemoryMap) : List Number → List Finding → List Finding → Type 0 where
   none : {fs : List Finding} → AddsAll m [] fs fs
   more : {n : Number} {ns : List Number} {old between new : List Finding} → Adds m n old between → AddsAll m ns between new → AddsAll m (n ∷ ns) old new

@@ -43,7 +43,7 @@ pub quoted_one : {S : Type 0} (taken : S → Option (List ℕ)) (has_failed : S 
 unfolding quoted_units
 quoted_one {S} taken has_failed t a b u cs is h = subst (λ (x : List ℕ). Gave taken has_failed false a b (quoted_bytes x)) (is ∙ sym (shown_all-one t u)) h
 
--- one unit that could not be written, and others behind it
+-- one unit that could not be written, and others after it
 pub quoted_refused : {S : Type 0} (taken : S → Option (List ℕ)) (has_failed : S → Bool) (t : ExtraTable) (a b : S) (u : Unit) (cs : List ℕ) (more : List Unit) → cs ≡ shown t u → Gave taken has_failed true a b (quoted_bytes cs) → Gave taken has_failed true a b (quoted_units t (u ∷ more))
 unfolding quoted_units shown_all
 quoted_refused {S} taken has_failed t a b u cs more is h =

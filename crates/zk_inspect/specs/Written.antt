@@ -30,7 +30,7 @@ wrote_then true a b c s t h k = record {
   takes = Appends-trans a b c s k.part h k.takes;
 }
 
--- a text behind another
+-- a text after another
 pub gave_then : {S : Type 0} (taken : S → Option (List ℕ)) (has_failed : S → Bool) (e : Bool) (a b c : S) (s t : List ℕ) → Gave taken has_failed false a b s → Gave taken has_failed e b c t → Gave taken has_failed e a c (s ++ t)
 gave_then {S} taken has_failed e a b c s t h k = record {
   written = wrote_then e (taken a) (taken b) (taken c) s t h.written k.written;

@@ -15,16 +15,18 @@ use zk_mem::memory::Memory;
 use zk_term::target::{Failed, Target};
 use zk_text::text::check_abbreviation;
 
-/// Writes a fault in place of a text, behind a space.
+/// Writes a fault in place of a text, after a space.
 fn write_fault<T: Target>(target: &mut T, fault: Fault) -> Result<(), Failed>
-    ensures { Gave T.taken T.failed (is_err result) target.old target.new (codes " " ++ codes "! F" ++ decimal (fault_number fault)) }
+    ensures { Gave T.taken T.failed (is_err result) target.old target.new
+        (codes " " ++ codes "! F" ++ decimal (fault_number fault)) }
 {
     write_decimal(target, b" ", b"! F", fault.number() as u32)
 }
 
-/// Writes what the text of an abbreviation prints, or why it prints nothing, behind a space.
+/// Writes what the text of an abbreviation prints, or why it prints nothing, after a space.
 fn write_text<T: Target>(target: &mut T, memory: &Memory, address: u32) -> Result<(), Failed>
-    ensures { Gave T.taken T.failed (is_err result) target.old target.new (codes " " ++ units_text memory.now (meaning_at no_abbreviation memory.now address)) }
+    ensures { Gave T.taken T.failed (is_err result) target.old target.new
+        (codes " " ++ units_text memory.now (meaning_at no_abbreviation memory.now address)) }
 {
     match check_abbreviation(memory, address) {
         Ok(()) => write_meaning(target, b" ", memory, address),
@@ -32,10 +34,11 @@ fn write_text<T: Target>(target: &mut T, memory: &Memory, address: u32) -> Resul
     }
 }
 
-/// Writes what an abbreviation stands for, or why it stands for nothing, behind a space.
+/// Writes what an abbreviation stands for, or why it stands for nothing, after a space.
 fn write_meaning_of<T: Target>(target: &mut T, memory: &Memory, number: u16) -> Result<(), Failed>
     requires { number < 96 }
-    ensures { Gave T.taken T.failed (is_err result) target.old target.new (codes " " ++ units_text memory.now (abbreviation memory.now number)) }
+    ensures { Gave T.taken T.failed (is_err result) target.old target.new
+        (codes " " ++ units_text memory.now (abbreviation memory.now number)) }
 {
     match memory.word(memory.header().abbreviations as u32 + 2 * number as u32) {
         Ok(word) => write_text(target, memory, 2 * word as u32),
@@ -46,7 +49,8 @@ fn write_meaning_of<T: Target>(target: &mut T, memory: &Memory, number: u16) -> 
 /// Writes the line of an abbreviation.
 fn write_abbreviation<T: Target>(target: &mut T, memory: &Memory, number: u16) -> Result<(), Failed>
     requires { number < 96 }
-    ensures { Gave T.taken T.failed (is_err result) target.old target.new (abbreviation_line memory.now number) }
+    ensures { Gave T.taken T.failed (is_err result) target.old target.new
+        (abbreviation_line memory.now number) }
 {
     write_decimal(target, b"", b"", number as u32)?;
     write_meaning_of(target, memory, number)?;
@@ -55,7 +59,8 @@ fn write_abbreviation<T: Target>(target: &mut T, memory: &Memory, number: u16) -
 
 /// Writes the lines of all abbreviations.
 fn write_all_abbreviations<T: Target>(target: &mut T, memory: &Memory) -> Result<(), Failed>
-    ensures { Gave T.taken T.failed (is_err result) target.old target.new (flat_map (abbreviation_line memory.now) (range_with_len 0 96)) }
+    ensures { Gave T.taken T.failed (is_err result) target.old target.new
+        (flat_map (abbreviation_line memory.now) (range_with_len 0 96)) }
 {
     for number in 0..96 {
         write_abbreviation(target, memory, number)?;
@@ -66,7 +71,8 @@ fn write_all_abbreviations<T: Target>(target: &mut T, memory: &Memory) -> Result
 /// Writes the lines of abbreviations, where the story has a table of them.
 #[tactic(auto, unfolding(crate::specs::AbbreviationLines::abbreviation_lines))]
 pub(crate) fn write_abbreviations<T: Target>(target: &mut T, memory: &Memory) -> Result<(), Failed>
-    ensures { Gave T.taken T.failed (is_err result) target.old target.new (abbreviation_lines memory.now) }
+    ensures { Gave T.taken T.failed (is_err result) target.old target.new
+        (abbreviation_lines memory.now) }
 {
     if memory.header().abbreviations == 0 {
         return Ok(());

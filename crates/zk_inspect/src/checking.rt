@@ -330,9 +330,10 @@ fn find(
     }
 }
 
-/// Puts a finding at each address behind the others.
+/// Puts a finding at each address after the others.
 fn put(findings: &mut Vec<Finding>, number: Number, addresses: &[u32]) -> Result<(), AllocError>
-    ensures { OnOk result (findings.new.items ≡ findings.old.items ++ map (at_address number) addresses.now) }
+    ensures { OnOk result
+        (findings.new.items ≡ findings.old.items ++ map (at_address number) addresses.now) }
 {
     for address in addresses {
         findings.push(Finding {
@@ -343,7 +344,7 @@ fn put(findings: &mut Vec<Finding>, number: Number, addresses: &[u32]) -> Result
     Ok(())
 }
 
-/// Puts all findings of a number behind the others.
+/// Puts all findings of a number after the others.
 fn add(
     alloc: Global,
     memory: &Memory,
@@ -359,7 +360,7 @@ fn add(
     Ok(())
 }
 
-/// Puts all findings of some numbers behind the others, in the order of the numbers.
+/// Puts all findings of some numbers after the others, in the order of the numbers.
 fn add_all(
     alloc: Global,
     memory: &Memory,

@@ -55,7 +55,7 @@ fn cut_a1(rest: &[u8]) -> (Option<Piece>, usize)
     }
 }
 
-/// A code in two halves behind 5 and 6, and how many Z-characters are taken behind the 5.
+/// A code in two halves after 5 and 6, and how many Z-characters are taken after the 5.
 fn cut_code(rest: &[u8]) -> (Option<Piece>, usize)
     ensures piece { result.0 ≡ (code_cut rest.now).0 }
     ensures taken { result.1 ≡ (code_cut rest.now).1 }
@@ -107,7 +107,8 @@ fn cut(first: u8, rest: &[u8]) -> (Option<Piece>, usize)
 /// Writes no units.
 #[tactic(auto, unfolding(crate::specs::Quoted::quoted_units, crate::specs::Listing::quoted_bytes, zk_text::specs::Shown::shown_all))]
 fn write_nothing<T: Target>(target: &mut T, _memory: &Memory) -> Result<(), Failed>
-    ensures { Gave T.taken T.failed (is_err result) target.old target.new (quoted_units (own_characters _memory.now) []) }
+    ensures { Gave T.taken T.failed (is_err result) target.old target.new
+        (quoted_units (own_characters _memory.now) []) }
 {
     write_texts(target, &[])
 }
@@ -118,7 +119,8 @@ fn write_piece<T: Target>(
     memory: &Memory,
     piece: Option<Piece>,
 ) -> Result<(), Failed>
-    ensures { Gave T.taken T.failed (is_err result) target.old target.new (quoted_units (own_characters memory.now) (piece_units memory.now piece)) }
+    ensures { Gave T.taken T.failed (is_err result) target.old target.new
+        (quoted_units (own_characters memory.now) (piece_units memory.now piece)) }
 {
     match piece {
         Some(Piece::Letter(row, character)) => {
@@ -133,7 +135,8 @@ fn write_piece<T: Target>(
 
 /// Writes what Z-characters of a key stand for.
 fn write_word<T: Target>(target: &mut T, memory: &Memory, characters: &[u8]) -> Result<(), Failed>
-    ensures { Gave T.taken T.failed (is_err result) target.old target.new (quoted_units (own_characters memory.now) (word_units memory.now characters.now)) }
+    ensures { Gave T.taken T.failed (is_err result) target.old target.new
+        (quoted_units (own_characters memory.now) (word_units memory.now characters.now)) }
 {
     let [first, rest @ ..] = characters else {
         return Ok(());
@@ -183,7 +186,9 @@ fn key_characters(memory: &Memory, address: u32) -> ArrayVec<u8, 9>
 /// Writes the word whose key stands at an address.
 fn write_key<T: Target>(target: &mut T, memory: &Memory, address: u32) -> Result<(), Failed>
     requires { address < 4294967000 }
-    ensures { Gave T.taken T.failed (is_err result) target.old target.new (quoted_units (own_characters memory.now) (word_units memory.now (key_characters memory.now address))) }
+    ensures { Gave T.taken T.failed (is_err result) target.old target.new
+        (quoted_units (own_characters memory.now)
+        (word_units memory.now (key_characters memory.now address))) }
 {
     let characters = key_characters(memory, address);
     write_word(target, memory, characters.as_slice())
@@ -192,7 +197,8 @@ fn write_key<T: Target>(target: &mut T, memory: &Memory, address: u32) -> Result
 /// Writes the number and the address of an entry, up to the quote before its word.
 #[tactic(auto, unfolding(crate::specs::DictionaryLines::entry_front, crate::specs::Numbers::address_digits))]
 fn write_front<T: Target>(target: &mut T, index: u16, address: u32) -> Result<(), Failed>
-    ensures { Gave T.taken T.failed (is_err result) target.old target.new (entry_front index address) }
+    ensures { Gave T.taken T.failed (is_err result) target.old target.new
+        (entry_front index address) }
 {
     let mut buffer = Buffer::new();
     let digits = hex_digits_of(address);
@@ -224,7 +230,8 @@ fn write_entry_at<T: Target>(
     address: u32,
 ) -> Result<(), Failed>
     requires { address < 4294967000 }
-    ensures { Gave T.taken T.failed (is_err result) target.old target.new (entry_text memory.now index address) }
+    ensures { Gave T.taken T.failed (is_err result) target.old target.new
+        (entry_text memory.now index address) }
 {
     write_front(target, index, address)?;
     write_key(target, memory, address)?;
@@ -240,7 +247,8 @@ fn write_entry<T: Target>(
 ) -> Result<(), Failed>
     requires stands { IsDictionaryOf memory.now dictionary.now }
     requires index { index < dictionary.now.entries }
-    ensures { Gave T.taken T.failed (is_err result) target.old target.new (entry_line memory.now dictionary.now index) }
+    ensures { Gave T.taken T.failed (is_err result) target.old target.new
+        (entry_line memory.now dictionary.now index) }
 {
     let address = start_of(memory, dictionary, index);
     write_entry_at(target, memory, index, address)
@@ -253,7 +261,9 @@ fn write_entries<T: Target>(
     dictionary: &Dictionary,
 ) -> Result<(), Failed>
     requires { IsDictionaryOf memory.now dictionary.now }
-    ensures { Gave T.taken T.failed (is_err result) target.old target.new (flat_map (entry_line memory.now dictionary.now) (range_with_len 0 dictionary.now.entries)) }
+    ensures { Gave T.taken T.failed (is_err result) target.old target.new
+        (flat_map (entry_line memory.now dictionary.now)
+        (range_with_len 0 dictionary.now.entries)) }
 {
     for index in 0..dictionary.entries {
         write_entry(target, memory, dictionary, index)?;
@@ -276,7 +286,8 @@ fn write_separator<T: Target>(
     index: u8,
 ) -> Result<(), Failed>
     requires { dictionary.now.address < 70000 }
-    ensures { Gave T.taken T.failed (is_err result) target.old target.new (separator_text memory.now dictionary.now index) }
+    ensures { Gave T.taken T.failed (is_err result) target.old target.new
+        (separator_text memory.now dictionary.now index) }
 {
     let code = byte_or_none(memory, dictionary.address + 1 + index as u32);
     write_code(target, memory, code as u16)
@@ -289,7 +300,8 @@ fn write_separators<T: Target>(
     dictionary: &Dictionary,
 ) -> Result<(), Failed>
     requires { dictionary.now.address < 70000 }
-    ensures { Gave T.taken T.failed (is_err result) target.old target.new (separators_text memory.now dictionary.now) }
+    ensures { Gave T.taken T.failed (is_err result) target.old target.new
+        (separators_text memory.now dictionary.now) }
 {
     for index in 0..dictionary.separators {
         write_separator(target, memory, dictionary, index)?;
@@ -304,7 +316,8 @@ fn write_separators_line<T: Target>(
     dictionary: &Dictionary,
 ) -> Result<(), Failed>
     requires { dictionary.now.address < 70000 }
-    ensures { Gave T.taken T.failed (is_err result) target.old target.new (separators_line memory.now dictionary.now) }
+    ensures { Gave T.taken T.failed (is_err result) target.old target.new
+        (separators_line memory.now dictionary.now) }
 {
     write_texts(target, &[b"separators \""])?;
     write_separators(target, memory, dictionary)?;
@@ -314,7 +327,8 @@ fn write_separators_line<T: Target>(
 /// Writes the line of a dictionary's size.
 #[tactic(auto, unfolding(crate::specs::DictionaryLines::size_line))]
 fn write_size_line<T: Target>(target: &mut T, dictionary: &Dictionary) -> Result<(), Failed>
-    ensures { Gave T.taken T.failed (is_err result) target.old target.new (size_line dictionary.now) }
+    ensures { Gave T.taken T.failed (is_err result) target.old target.new
+        (size_line dictionary.now) }
 {
     let mut counts = Buffer::new();
     let mut lengths = Buffer::new();
@@ -330,7 +344,8 @@ fn write_table<T: Target>(
     dictionary: &Dictionary,
 ) -> Result<(), Failed>
     requires { IsDictionaryOf memory.now dictionary.now }
-    ensures { Gave T.taken T.failed (is_err result) target.old target.new (table_lines memory.now dictionary.now) }
+    ensures { Gave T.taken T.failed (is_err result) target.old target.new
+        (table_lines memory.now dictionary.now) }
 {
     write_separators_line(target, memory, dictionary)?;
     write_size_line(target, dictionary)?;
@@ -350,7 +365,8 @@ fn write_fault_line<T: Target>(target: &mut T, fault: Fault) -> Result<(), Faile
 /// Writes the lines of the dictionary that the header names, or why there is none.
 #[tactic(auto, unfolding(crate::specs::DictionaryLines::dictionary_lines))]
 pub(crate) fn write_dictionary<T: Target>(target: &mut T, memory: &Memory) -> Result<(), Failed>
-    ensures { Gave T.taken T.failed (is_err result) target.old target.new (dictionary_lines memory.now) }
+    ensures { Gave T.taken T.failed (is_err result) target.old target.new
+        (dictionary_lines memory.now) }
 {
     let address = memory.header().dictionary;
     if address == 0 {

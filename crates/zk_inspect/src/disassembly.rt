@@ -25,7 +25,8 @@ use zk_term::target::{Failed, Target};
 /// Writes the text of an instruction, where it has one.
 #[tactic(auto, unfolding(crate::specs::Listing::text_text))]
 fn write_text<T: Target>(target: &mut T, memory: &Memory, text: Option<u32>) -> Result<(), Failed>
-    ensures { Gave T.taken T.failed (is_err result) target.old target.new (text_text memory.now text) }
+    ensures { Gave T.taken T.failed (is_err result) target.old target.new
+        (text_text memory.now text) }
 {
     match text {
         Some(address) => write_quoted(target, b" ", memory, address),
@@ -35,7 +36,8 @@ fn write_text<T: Target>(target: &mut T, memory: &Memory, text: Option<u32>) -> 
 
 /// Writes the name of an opcode.
 fn write_name<T: Target>(target: &mut T, memory: &Memory, opcode: Opcode) -> Result<(), Failed>
-    ensures { Gave T.taken T.failed (is_err result) target.old target.new (name_of memory.now.version opcode) }
+    ensures { Gave T.taken T.failed (is_err result) target.old target.new
+        (name_of memory.now.version opcode) }
 {
     let name = name(opcode, memory.version());
     write_texts(target, &[name.as_bytes()])
@@ -48,7 +50,8 @@ fn write_instruction<T: Target>(
     instr: &Instr,
 ) -> Result<(), Failed>
     requires { instr.now.next ≤ 2 ^ 20 }
-    ensures { Gave T.taken T.failed (is_err result) target.old target.new (instruction_text memory.now instr.now) }
+    ensures { Gave T.taken T.failed (is_err result) target.old target.new
+        (instruction_text memory.now instr.now) }
 {
     write_name(target, memory, instr.opcode)?;
     write_operands(memory, instr, target)?;
@@ -59,7 +62,8 @@ fn write_instruction<T: Target>(
 
 /// Writes what stands at an address: an instruction, or a question mark where there is none.
 fn write_found<T: Target>(target: &mut T, memory: &Memory, address: u32) -> Result<(), Failed>
-    ensures { Gave T.taken T.failed (is_err result) target.old target.new (found_text memory.now (instr_at memory.now address)) }
+    ensures { Gave T.taken T.failed (is_err result) target.old target.new
+        (found_text memory.now (instr_at memory.now address)) }
 {
     match decode(memory, address) {
         Ok(instr) => write_instruction(target, memory, &instr),
@@ -73,7 +77,8 @@ fn write_address_line<T: Target>(
     memory: &Memory,
     address: u32,
 ) -> Result<(), Failed>
-    ensures { Gave T.taken T.failed (is_err result) target.old target.new (address_line memory.now address) }
+    ensures { Gave T.taken T.failed (is_err result) target.old target.new
+        (address_line memory.now address) }
 {
     write_address(target, b"", b"", address)?;
     write_texts(target, &[b" "])?;
@@ -88,7 +93,8 @@ fn write_routine_line<T: Target>(
     memory: &Memory,
     routine: u32,
 ) -> Result<(), Failed>
-    ensures { Gave T.taken T.failed (is_err result) target.old target.new (routine_line memory.now routine) }
+    ensures { Gave T.taken T.failed (is_err result) target.old target.new
+        (routine_line memory.now routine) }
 {
     let count = local_count(memory, routine).unwrap_or(0) as u32;
     write_counted(target, b"routine ", routine, b" locals ", count, b"\n")
@@ -100,7 +106,8 @@ fn write_address_lines<T: Target>(
     memory: &Memory,
     addresses: &[u32],
 ) -> Result<(), Failed>
-    ensures { Gave T.taken T.failed (is_err result) target.old target.new (flat_map (address_line memory.now) addresses.now) }
+    ensures { Gave T.taken T.failed (is_err result) target.old target.new
+        (flat_map (address_line memory.now) addresses.now) }
 {
     for address in addresses {
         write_address_line(target, memory, *address)?;
@@ -114,7 +121,8 @@ fn write_routine_lines<T: Target>(
     memory: &Memory,
     routines: &[u32],
 ) -> Result<(), Failed>
-    ensures { Gave T.taken T.failed (is_err result) target.old target.new (flat_map (routine_line memory.now) routines.now) }
+    ensures { Gave T.taken T.failed (is_err result) target.old target.new
+        (flat_map (routine_line memory.now) routines.now) }
 {
     for routine in routines {
         write_routine_line(target, memory, *routine)?;
@@ -125,7 +133,8 @@ fn write_routine_lines<T: Target>(
 /// Writes the lines of a story's code.
 #[tactic(auto, unfolding(crate::specs::Listing::disassembly))]
 fn write_code<T: Target>(target: &mut T, memory: &Memory, code: &Code) -> Result<(), Failed>
-    ensures { Gave T.taken T.failed (is_err result) target.old target.new (disassembly memory.now code.now) }
+    ensures { Gave T.taken T.failed (is_err result) target.old target.new
+        (disassembly memory.now code.now) }
 {
     match write_address_lines(target, memory, code.addresses.as_slice()) {
         Ok(()) => write_routine_lines(target, memory, code.routines.as_slice()),
@@ -143,8 +152,10 @@ fn write_code<T: Target>(target: &mut T, memory: &Memory, code: &Code) -> Result
 /// `^` for a new line and `~` for a quote. The constant operand of `jump` is shown as the address that it leads to.
 pub fn disassemble<T: Target>(memory: &Memory, code: &Code, target: &mut T) -> Result<(), ListError>
     requires { IsCodeOf memory.now code.now }
-    ensures all { OnOk result (Appends (T.taken target.old) (T.taken target.new) (disassembly memory.now code.now)) }
-    ensures part { OnErr result (TookPart (T.taken target.old) (T.taken target.new) (disassembly memory.now code.now)) }
+    ensures all { OnOk result
+        (Appends (T.taken target.old) (T.taken target.new) (disassembly memory.now code.now)) }
+    ensures part { OnErr result
+        (TookPart (T.taken target.old) (T.taken target.new) (disassembly memory.now code.now)) }
     ensures failed { T.failed target.new ≡ (is_err result || T.failed target.old) }
     ensures refusal { IfErr result (λ e. e ≡ ListError.Write) }
 {

@@ -33,7 +33,7 @@ pub enum Number {
 }
 
 impl Number {
-    /// The number that reports show behind a `C`.
+    /// The number that reports show after a `C`.
     pub fn number(self) -> u8
         ensures { result ≡ finding_number self }
     {

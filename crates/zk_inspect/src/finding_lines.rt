@@ -38,7 +38,8 @@ fn write_finding<T: Target>(target: &mut T, finding: Finding) -> Result<(), Fail
 
 /// Writes the lines of findings.
 fn write_lines<T: Target>(target: &mut T, findings: &[Finding]) -> Result<(), Failed>
-    ensures { Gave T.taken T.failed (is_err result) target.old target.new (flat_map finding_line findings.now) }
+    ensures { Gave T.taken T.failed (is_err result) target.old target.new
+        (flat_map finding_line findings.now) }
 {
     for finding in findings {
         write_finding(target, *finding)?;
@@ -46,11 +47,13 @@ fn write_lines<T: Target>(target: &mut T, findings: &[Finding]) -> Result<(), Fa
     Ok(())
 }
 
-/// Writes a line for each finding: its number behind a `C`, its byte address of five hexadecimal digits at least, and what is
+/// Writes a line for each finding: its number after a `C`, its byte address of five hexadecimal digits at least, and what is
 /// wrong in words. Or, where a write fails, it writes a first part of that, and refuses.
 pub fn write_findings<T: Target>(findings: &[Finding], target: &mut T) -> Result<(), ListError>
-    ensures all { OnOk result (Appends (T.taken target.old) (T.taken target.new) (flat_map finding_line findings.now)) }
-    ensures part { OnErr result (TookPart (T.taken target.old) (T.taken target.new) (flat_map finding_line findings.now)) }
+    ensures all { OnOk result
+        (Appends (T.taken target.old) (T.taken target.new) (flat_map finding_line findings.now)) }
+    ensures part { OnErr result
+        (TookPart (T.taken target.old) (T.taken target.new) (flat_map finding_line findings.now)) }
     ensures failed { T.failed target.new ≡ (is_err result || T.failed target.old) }
     ensures refusal { IfErr result (λ e. e ≡ ListError.Write) }
 {

@@ -55,40 +55,44 @@ fn shown_serial(serial: [u8; 6]) -> [u8; 6]
     ]
 }
 
-/// Writes a word behind a name: its four digits.
+/// Writes a word after a name: its four digits.
 #[tactic(auto, unfolding(crate::specs::HeaderLines::value_text, crate::specs::Numbers::word_digits))]
 fn write_digits<T: Target>(target: &mut T, name: &[u8], word: u16) -> Result<(), Failed>
-    ensures { Gave T.taken T.failed (is_err result) target.old target.new (name.now ++ codes " " ++ value_text (Value.Word word)) }
+    ensures { Gave T.taken T.failed (is_err result) target.old target.new
+        (name.now ++ codes " " ++ value_text (Value.Word word)) }
 {
     let digits = hex_digits_of(word as u32);
     let shown = &digits[4..];
     write_texts(target, &[name, b" ", shown])
 }
 
-/// Writes a byte behind a name: its two digits.
+/// Writes a byte after a name: its two digits.
 #[tactic(auto, unfolding(crate::specs::HeaderLines::value_text, crate::specs::Numbers::byte_digits))]
 fn write_two_digits<T: Target>(target: &mut T, name: &[u8], byte: u8) -> Result<(), Failed>
-    ensures { Gave T.taken T.failed (is_err result) target.old target.new (name.now ++ codes " " ++ value_text (Value.Byte byte)) }
+    ensures { Gave T.taken T.failed (is_err result) target.old target.new
+        (name.now ++ codes " " ++ value_text (Value.Byte byte)) }
 {
     let digits = hex_digits_of(byte as u32);
     let shown = &digits[6..];
     write_texts(target, &[name, b" ", shown])
 }
 
-/// Writes a serial number behind a name.
+/// Writes a serial number after a name.
 #[tactic(auto, unfolding(crate::specs::HeaderLines::value_text))]
 fn write_serial<T: Target>(target: &mut T, name: &[u8], serial: [u8; 6]) -> Result<(), Failed>
-    ensures { Gave T.taken T.failed (is_err result) target.old target.new (name.now ++ codes " " ++ value_text (Value.Serial serial)) }
+    ensures { Gave T.taken T.failed (is_err result) target.old target.new
+        (name.now ++ codes " " ++ value_text (Value.Serial serial)) }
 {
     let digits = shown_serial(serial);
     let shown = &digits[..];
     write_texts(target, &[name, b" ", shown])
 }
 
-/// Writes a checksum behind a name, and whether it is right.
+/// Writes a checksum after a name, and whether it is right.
 #[tactic(auto, unfolding(crate::specs::HeaderLines::value_text, crate::specs::Numbers::word_digits))]
 fn write_sum<T: Target>(target: &mut T, name: &[u8], sum: u16, right: bool) -> Result<(), Failed>
-    ensures { Gave T.taken T.failed (is_err result) target.old target.new (name.now ++ codes " " ++ value_text (Value.Checksum sum right)) }
+    ensures { Gave T.taken T.failed (is_err result) target.old target.new
+        (name.now ++ codes " " ++ value_text (Value.Checksum sum right)) }
 {
     let digits = hex_digits_of(sum as u32);
     let shown = &digits[4..];
@@ -99,10 +103,11 @@ fn write_sum<T: Target>(target: &mut T, name: &[u8], sum: u16, right: bool) -> R
     }
 }
 
-/// Writes what a field says, behind its name.
+/// Writes what a field says, after its name.
 #[tactic(auto, unfolding(crate::specs::HeaderLines::value_text))]
 fn write_value<T: Target>(target: &mut T, name: &[u8], value: Value) -> Result<(), Failed>
-    ensures { Gave T.taken T.failed (is_err result) target.old target.new (name.now ++ codes " " ++ value_text value) }
+    ensures { Gave T.taken T.failed (is_err result) target.old target.new
+        (name.now ++ codes " " ++ value_text value) }
 {
     match value {
         Value::Number(number) => write_decimal(target, name, b" ", number),
@@ -116,7 +121,8 @@ fn write_value<T: Target>(target: &mut T, name: &[u8], value: Value) -> Result<(
 
 /// Writes the line of a field.
 fn write_field<T: Target>(target: &mut T, name: &[u8], value: Value) -> Result<(), Failed>
-    ensures { Gave T.taken T.failed (is_err result) target.old target.new (field_line name.now value) }
+    ensures { Gave T.taken T.failed (is_err result) target.old target.new
+        (field_line name.now value) }
 {
     match write_value(target, name, value) {
         Ok(()) => write_texts(target, &[b"\n"]),
@@ -126,7 +132,8 @@ fn write_field<T: Target>(target: &mut T, name: &[u8], value: Value) -> Result<(
 
 /// Writes the lines of fields.
 fn write_fields<T: Target>(target: &mut T, fields: &[Field<'_>]) -> Result<(), Failed>
-    ensures { Gave T.taken T.failed (is_err result) target.old target.new (flat_map (λ f. field_line f.name.now f.value) fields.now) }
+    ensures { Gave T.taken T.failed (is_err result) target.old target.new
+        (flat_map (λ f. field_line f.name.now f.value) fields.now) }
 {
     for field in fields {
         write_field(target, field.name, field.value)?;
@@ -137,7 +144,8 @@ fn write_fields<T: Target>(target: &mut T, fields: &[Field<'_>]) -> Result<(), F
 /// Writes the lines of the fields that every version has.
 #[tactic(auto, unfolding(crate::specs::HeaderLines::common_lines))]
 fn write_common_fields<T: Target>(target: &mut T, memory: &Memory) -> Result<(), Failed>
-    ensures { Gave T.taken T.failed (is_err result) target.old target.new (common_lines memory.now) }
+    ensures { Gave T.taken T.failed (is_err result) target.old target.new
+        (common_lines memory.now) }
 {
     let header = memory.header();
     let length = unpack(header.version, header.file_length);
@@ -236,7 +244,8 @@ fn write_late_fields<T: Target>(target: &mut T, memory: &Memory) -> Result<(), F
 /// Writes the lines of a header.
 #[tactic(auto, unfolding(crate::specs::HeaderLines::header_lines), using(crate::proofs::Outputs::writing_rules))]
 pub(crate) fn write_header<T: Target>(target: &mut T, memory: &Memory) -> Result<(), Failed>
-    ensures { Gave T.taken T.failed (is_err result) target.old target.new (header_lines memory.now) }
+    ensures { Gave T.taken T.failed (is_err result) target.old target.new
+        (header_lines memory.now) }
 {
     match write_common_fields(target, memory) {
         Ok(()) => write_late_fields(target, memory),

@@ -27,7 +27,9 @@ pub(crate) fn find_bad_dictionary(alloc: Global, memory: &Memory) -> Result<Addr
 /// The first entry, counted from 0, whose key does not come before the next one.
 fn find_fall(memory: &Memory, dictionary: Dictionary) -> Option<u16>
     requires { IsDictionaryOf memory.now dictionary }
-    ensures { MatchOption result ((i : ℕ) → Falls memory.now dictionary i → ⊥) (λ n. Falls memory.now dictionary n × ((i : ℕ) → i < n → Falls memory.now dictionary i → ⊥)) }
+    ensures { MatchOption result ((i : ℕ) → Falls memory.now dictionary i → ⊥)
+        (λ n. Falls memory.now dictionary n
+        × ((i : ℕ) → i < n → Falls memory.now dictionary i → ⊥)) }
 {
     for index in 0..dictionary.entries.saturating_sub(1) {
         if !dictionary.is_key_above(memory, index + 1, index) {
@@ -44,7 +46,8 @@ fn list_fall(
     dictionary: Dictionary,
 ) -> Result<Addresses, AllocError>
     requires named { (header_of memory.now.file).dictionary ≢ 0 }
-    requires stands { dictionary_at memory.now (header_of memory.now.file).dictionary ≡ Ok dictionary }
+    requires stands { dictionary_at memory.now (header_of memory.now.file).dictionary
+        ≡ Ok dictionary }
     requires whole { IsDictionaryOf memory.now dictionary }
     ensures { IfOk result (IsListOf (Finds memory.now Number.DictionaryOrder)) }
 {

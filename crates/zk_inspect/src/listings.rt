@@ -27,8 +27,10 @@ use zk_term::target::{Failed, Target};
 /// section 11.1); also the file's length, and whether the checksum is right. Addresses are byte addresses of five hexadecimal
 /// digits at least, counts are decimal. Or, where a write fails, it writes a first part of that, and refuses.
 pub fn header<T: Target>(memory: &Memory, target: &mut T) -> Result<(), ListError>
-    ensures all { OnOk result (Appends (T.taken target.old) (T.taken target.new) (header_lines memory.now)) }
-    ensures part { OnErr result (TookPart (T.taken target.old) (T.taken target.new) (header_lines memory.now)) }
+    ensures all { OnOk result
+        (Appends (T.taken target.old) (T.taken target.new) (header_lines memory.now)) }
+    ensures part { OnErr result
+        (TookPart (T.taken target.old) (T.taken target.new) (header_lines memory.now)) }
     ensures failed { T.failed target.new ≡ (is_err result || T.failed target.old) }
     ensures refusal { IfErr result (λ e. e ≡ ListError.Write) }
 {
@@ -42,8 +44,10 @@ pub fn header<T: Target>(memory: &Memory, target: &mut T) -> Result<(), ListErro
 /// address stay in the order abbreviations, globals, objects, dictionary, static, high, start (Standard, section 1.1). Or,
 /// where a write fails, it writes a first part of that, and refuses.
 pub fn map<T: Target>(memory: &Memory, target: &mut T) -> Result<(), ListError>
-    ensures all { OnOk result (Appends (T.taken target.old) (T.taken target.new) (map_lines memory.now)) }
-    ensures part { OnErr result (TookPart (T.taken target.old) (T.taken target.new) (map_lines memory.now)) }
+    ensures all { OnOk result
+        (Appends (T.taken target.old) (T.taken target.new) (map_lines memory.now)) }
+    ensures part { OnErr result
+        (TookPart (T.taken target.old) (T.taken target.new) (map_lines memory.now)) }
     ensures failed { T.failed target.new ≡ (is_err result || T.failed target.old) }
     ensures refusal { IfErr result (λ e. e ≡ ListError.Write) }
 {
@@ -57,8 +61,10 @@ pub fn map<T: Target>(memory: &Memory, target: &mut T) -> Result<(), ListError>
 /// where there is no text, and `! F13` where the text uses an abbreviation (Standard, section 3.3). Nothing is written where
 /// the header names no table of them. Or, where a write fails, it writes a first part of that, and refuses.
 pub fn abbreviations<T: Target>(memory: &Memory, target: &mut T) -> Result<(), ListError>
-    ensures all { OnOk result (Appends (T.taken target.old) (T.taken target.new) (abbreviation_lines memory.now)) }
-    ensures part { OnErr result (TookPart (T.taken target.old) (T.taken target.new) (abbreviation_lines memory.now)) }
+    ensures all { OnOk result
+        (Appends (T.taken target.old) (T.taken target.new) (abbreviation_lines memory.now)) }
+    ensures part { OnErr result
+        (TookPart (T.taken target.old) (T.taken target.new) (abbreviation_lines memory.now)) }
     ensures failed { T.failed target.new ≡ (is_err result || T.failed target.old) }
     ensures refusal { IfErr result (λ e. e ≡ ListError.Write) }
 {
@@ -73,8 +79,10 @@ pub fn abbreviations<T: Target>(memory: &Memory, target: &mut T) -> Result<(), L
 /// stand for nothing (Standard, section 13). Where there is no dictionary the line is `! F18`, and nothing is written where
 /// the header names none. Or, where a write fails, it writes a first part of that, and refuses.
 pub fn dictionary<T: Target>(memory: &Memory, target: &mut T) -> Result<(), ListError>
-    ensures all { OnOk result (Appends (T.taken target.old) (T.taken target.new) (dictionary_lines memory.now)) }
-    ensures part { OnErr result (TookPart (T.taken target.old) (T.taken target.new) (dictionary_lines memory.now)) }
+    ensures all { OnOk result
+        (Appends (T.taken target.old) (T.taken target.new) (dictionary_lines memory.now)) }
+    ensures part { OnErr result
+        (TookPart (T.taken target.old) (T.taken target.new) (dictionary_lines memory.now)) }
     ensures failed { T.failed target.new ≡ (is_err result || T.failed target.old) }
     ensures refusal { IfErr result (λ e. e ≡ ListError.Write) }
 {
@@ -86,7 +94,8 @@ pub fn dictionary<T: Target>(memory: &Memory, target: &mut T) -> Result<(), List
 
 /// Writes the lines of objects.
 fn write_all_objects<T: Target>(target: &mut T, memory: &Memory) -> Result<(), Failed>
-    ensures { GaveSome (AreObjectLines memory.now) T.taken T.failed (is_err result) target.old target.new }
+    ensures { GaveSome (AreObjectLines memory.now) T.taken T.failed (is_err result) target.old
+        target.new }
 {
     let count = count_objects(memory);
     write_objects(target, memory, count)
@@ -98,7 +107,8 @@ fn write_all_objects<T: Target>(target: &mut T, memory: &Memory) -> Result<(), F
 /// property table of each object before it; there are none where the header names no object table. Or, where a write fails,
 /// it writes a first part of that, and refuses.
 pub fn objects<T: Target>(memory: &Memory, target: &mut T) -> Result<(), ListError>
-    ensures lines { GaveSome (AreObjectLines memory.now) T.taken T.failed (is_err result) target.old target.new }
+    ensures lines { GaveSome (AreObjectLines memory.now) T.taken T.failed (is_err result) target.old
+        target.new }
     ensures refusal { IfErr result (λ e. e ≡ ListError.Write) }
 {
     match write_all_objects(target, memory) {
@@ -112,7 +122,8 @@ pub fn objects<T: Target>(memory: &Memory, target: &mut T) -> Result<(), ListErr
 /// a star in place of its name, and is not followed; nor is a link to an object that `objects` does not list. Or, where a write
 /// fails, it writes a first part of that, and refuses. It is `Memory` where there is no memory for a note on each object.
 pub fn tree<T: Target>(alloc: Global, memory: &Memory, target: &mut T) -> Result<(), ListError>
-    ensures { GaveSome (AreRows memory.now) T.taken T.failed (has_failed result) target.old target.new }
+    ensures { GaveSome (AreRows memory.now) T.taken T.failed (has_failed result) target.old
+        target.new }
 {
     let count = count_objects(memory);
     write_tree(alloc, memory, count, target)

@@ -21,10 +21,11 @@ use zk_tables::properties::{check_properties, list_address, name};
 use zk_tables::tree::{child, parent, sibling};
 use zk_term::target::{Failed, Target};
 
-/// Writes the name of an object behind a space: nothing between quotes where it has none.
+/// Writes the name of an object after a space: nothing between quotes where it has none.
 #[tactic(auto, unfolding(crate::specs::ObjectLines::name_text))]
 fn write_name<T: Target>(target: &mut T, memory: &Memory, object: u16) -> Result<(), Failed>
-    ensures { Gave T.taken T.failed (is_err result) target.old target.new (codes " " ++ name_text memory.now (name_of memory.now object)) }
+    ensures { Gave T.taken T.failed (is_err result) target.old target.new
+        (codes " " ++ name_text memory.now (name_of memory.now object)) }
 {
     match name(memory, object) {
         Ok(Some(address)) => write_quoted(target, b" ", memory, address),
@@ -33,14 +34,15 @@ fn write_name<T: Target>(target: &mut T, memory: &Memory, object: u16) -> Result
     }
 }
 
-/// Writes the number and the name of an object, behind a text.
+/// Writes the number and the name of an object, after a text.
 pub(crate) fn write_label<T: Target>(
     target: &mut T,
     before: &[u8],
     memory: &Memory,
     object: u16,
 ) -> Result<(), Failed>
-    ensures { Gave T.taken T.failed (is_err result) target.old target.new (before.now ++ label_text memory.now object) }
+    ensures { Gave T.taken T.failed (is_err result) target.old target.new
+        (before.now ++ label_text memory.now object) }
 {
     match write_decimal(target, before, b"", object as u32) {
         Ok(()) => write_name(target, memory, object),
@@ -61,7 +63,8 @@ pub(crate) fn number_or_none(link: Result<u16, Fault>) -> u16
 /// Writes the links of an object.
 #[tactic(auto, unfolding(crate::specs::ObjectLines::links_text))]
 fn write_links<T: Target>(target: &mut T, memory: &Memory, object: u16) -> Result<(), Failed>
-    ensures { Gave T.taken T.failed (is_err result) target.old target.new (links_text memory.now object) }
+    ensures { Gave T.taken T.failed (is_err result) target.old target.new
+        (links_text memory.now object) }
 {
     let mut parents = Buffer::new();
     let mut siblings = Buffer::new();
@@ -115,9 +118,10 @@ fn attributes_of(memory: &Memory, object: u16) -> ArrayVec<u16, 48>
     attributes
 }
 
-/// Writes numbers, each behind a comma.
+/// Writes numbers, each after a comma.
 fn write_further_numbers<T: Target>(target: &mut T, numbers: &[u16]) -> Result<(), Failed>
-    ensures { Gave T.taken T.failed (is_err result) target.old target.new (flat_map (λ n. codes "," ++ decimal n) numbers.now) }
+    ensures { Gave T.taken T.failed (is_err result) target.old target.new
+        (flat_map (λ n. codes "," ++ decimal n) numbers.now) }
 {
     for number in numbers {
         write_decimal(target, b",", b"", *number as u32)?;
@@ -125,9 +129,10 @@ fn write_further_numbers<T: Target>(target: &mut T, numbers: &[u16]) -> Result<(
     Ok(())
 }
 
-/// Writes numbers behind a text, with commas between them, or a hyphen where there are none.
+/// Writes numbers after a text, with commas between them, or a hyphen where there are none.
 fn write_numbers<T: Target>(target: &mut T, before: &[u8], numbers: &[u16]) -> Result<(), Failed>
-    ensures { Gave T.taken T.failed (is_err result) target.old target.new (before.now ++ separated decimal numbers.now) }
+    ensures { Gave T.taken T.failed (is_err result) target.old target.new
+        (before.now ++ separated decimal numbers.now) }
 {
     let [first, rest @ ..] = numbers else {
         return write_texts(target, &[before, b"-"]);
@@ -140,20 +145,22 @@ fn write_numbers<T: Target>(target: &mut T, before: &[u8], numbers: &[u16]) -> R
 
 /// Writes the attributes of an object.
 fn write_attributes<T: Target>(target: &mut T, memory: &Memory, object: u16) -> Result<(), Failed>
-    ensures { Gave T.taken T.failed (is_err result) target.old target.new (codes " attributes " ++ separated decimal (attributes_of memory.now object)) }
+    ensures { Gave T.taken T.failed (is_err result) target.old target.new
+        (codes " attributes " ++ separated decimal (attributes_of memory.now object)) }
 {
     let attributes = attributes_of(memory, object);
     write_numbers(target, b" attributes ", attributes.as_slice())
 }
 
-/// Writes a property behind a text: its number, and the length of its data.
+/// Writes a property after a text: its number, and the length of its data.
 #[tactic(auto, unfolding(crate::specs::ObjectLines::property_text))]
 fn write_property<T: Target>(
     target: &mut T,
     before: &[u8],
     property: Property,
 ) -> Result<(), Failed>
-    ensures { Gave T.taken T.failed (is_err result) target.old target.new (before.now ++ property_text property) }
+    ensures { Gave T.taken T.failed (is_err result) target.old target.new
+        (before.now ++ property_text property) }
 {
     let mut numbers = Buffer::new();
     let mut lengths = Buffer::new();
@@ -165,7 +172,7 @@ fn write_property<T: Target>(
     )
 }
 
-/// Writes the properties from a byte address on, each behind a comma, where there are so many at most.
+/// Writes the properties from a byte address on, each after a comma, where there are so many at most.
 fn write_further_properties<T: Target>(
     target: &mut T,
     memory: &Memory,
@@ -173,7 +180,9 @@ fn write_further_properties<T: Target>(
     most: u32,
 ) -> Result<(), Failed>
     requires { IsOk (properties_from memory.now most address) }
-    ensures { Gave T.taken T.failed (is_err result) target.old target.new (flat_map (λ p. codes "," ++ property_text p) (properties_or_none (properties_from memory.now most address))) }
+    ensures { Gave T.taken T.failed (is_err result) target.old target.new
+        (flat_map (λ p. codes "," ++ property_text p)
+        (properties_or_none (properties_from memory.now most address))) }
 {
     let mut at = address;
     for _i in 0..most {
@@ -189,7 +198,7 @@ fn write_further_properties<T: Target>(
     Ok(())
 }
 
-/// Writes the property list at a byte address behind a text, with commas between properties, or a hyphen where there are
+/// Writes the property list at a byte address after a text, with commas between properties, or a hyphen where there are
 /// none.
 fn write_property_list<T: Target>(
     target: &mut T,
@@ -198,7 +207,9 @@ fn write_property_list<T: Target>(
     address: u32,
 ) -> Result<(), Failed>
     requires { IsOk (properties_at memory.now address) }
-    ensures { Gave T.taken T.failed (is_err result) target.old target.new (before.now ++ separated property_text (properties_or_none (properties_at memory.now address))) }
+    ensures { Gave T.taken T.failed (is_err result) target.old target.new
+        (before.now
+        ++ separated property_text (properties_or_none (properties_at memory.now address))) }
 {
     match read_property(memory, address) {
         Ok(Some(property)) => match write_property(target, before, property) {
@@ -212,14 +223,15 @@ fn write_property_list<T: Target>(
     }
 }
 
-/// Writes the properties of an object behind a text, or why its property list is none.
+/// Writes the properties of an object after a text, or why its property list is none.
 fn write_properties<T: Target>(
     target: &mut T,
     before: &[u8],
     memory: &Memory,
     object: u16,
 ) -> Result<(), Failed>
-    ensures { Gave T.taken T.failed (is_err result) target.old target.new (before.now ++ properties_text (properties_of memory.now object)) }
+    ensures { Gave T.taken T.failed (is_err result) target.old target.new
+        (before.now ++ properties_text (properties_of memory.now object)) }
 {
     match list_address(memory, object) {
         Ok(address) => match check_properties(memory, object) {
@@ -232,7 +244,8 @@ fn write_properties<T: Target>(
 
 /// Writes the line of an object.
 fn write_object<T: Target>(target: &mut T, memory: &Memory, object: u16) -> Result<(), Failed>
-    ensures { Gave T.taken T.failed (is_err result) target.old target.new (object_line memory.now object) }
+    ensures { Gave T.taken T.failed (is_err result) target.old target.new
+        (object_line memory.now object) }
 {
     write_label(target, b"", memory, object)?;
     write_links(target, memory, object)?;
@@ -247,7 +260,8 @@ pub(crate) fn write_objects<T: Target>(
     memory: &Memory,
     count: u16,
 ) -> Result<(), Failed>
-    ensures { Gave T.taken T.failed (is_err result) target.old target.new (flat_map (object_line memory.now) (range_with_len 1 count)) }
+    ensures { Gave T.taken T.failed (is_err result) target.old target.new
+        (flat_map (object_line memory.now) (range_with_len 1 count)) }
 {
     for before in 0..count {
         write_object(target, memory, before + 1)?;

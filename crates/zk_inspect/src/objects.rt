@@ -32,7 +32,8 @@ fn lower_table(memory: &Memory, object: u16, lowest: u32) -> u32
 /// How many objects are listed: they are counted from 1 on, up to the first whose entry does not lie in data, or does not
 /// begin below the property table of each object before it. There are none where the header names no object table.
 pub(crate) fn count_objects(memory: &Memory) -> u16
-    ensures listed { (o entry : ℕ) → IsListed memory.now o entry ↔ ((o ≤ result) × (entry_of memory.now o ≡ Ok entry)) }
+    ensures listed { (o entry : ℕ)
+        → IsListed memory.now o entry ↔ ((o ≤ result) × (entry_of memory.now o ≡ Ok entry)) }
     ensures whole { (o : ℕ) → 0 < o → o ≤ result → IsOk (entry_of memory.now o) }
 {
     if memory.header().objects == 0 {
@@ -108,7 +109,7 @@ fn leads_past(memory: &Memory, count: u16, object: u16) -> bool
         || is_past(count, child(memory, object))
 }
 
-/// Whether the chain of an object's children repeats one: whether it goes on 65,536 siblings behind the first.
+/// Whether the chain of an object's children repeats one: whether it goes on 65,536 siblings after the first.
 fn has_bad_tree(memory: &Memory, objects: &Objects, object: u16) -> bool
     requires { AreObjects memory.now objects.now }
     ensures { result ≡ is_bad_tree (children_of memory.now object) }
@@ -158,7 +159,8 @@ fn add_object(
     requires few { before < 65535 }
     requires objects { AreObjects memory.now objects.now }
     requires before { IsListOf (IsAnswered memory.now objects.now.count question before) list.old }
-    ensures { OnOk result (IsListOf (IsAnswered memory.now objects.now.count question (before + 1)) list.new) }
+    ensures { OnOk result
+        (IsListOf (IsAnswered memory.now objects.now.count question (before + 1)) list.new) }
 {
     match entry_address(memory, before + 1) {
         Ok(entry) => {
@@ -180,7 +182,8 @@ pub(crate) fn list_objects(
     question: Question,
 ) -> Result<Addresses, AllocError>
     requires { AreObjects memory.now objects.now }
-    ensures { IfOk result (IsListOf (IsAnswered memory.now objects.now.count question objects.now.count)) }
+    ensures { IfOk result
+        (IsListOf (IsAnswered memory.now objects.now.count question objects.now.count)) }
 {
     let mut list = Addresses::new(alloc);
     for before in 0..objects.count {

@@ -15,10 +15,11 @@ use zk_code::ways::is_jump;
 use zk_mem::memory::Memory;
 use zk_term::target::{Failed, Target};
 
-/// Writes a variable behind a text.
+/// Writes a variable after a text.
 #[tactic(auto, unfolding(crate::specs::Listing::variable_text))]
 fn write_variable<T: Target>(target: &mut T, before: &[u8], number: u8) -> Result<(), Failed>
-    ensures { Gave T.taken T.failed (is_err result) target.old target.new (before.now ++ variable_text number) }
+    ensures { Gave T.taken T.failed (is_err result) target.old target.new
+        (before.now ++ variable_text number) }
 {
     if number == 0 {
         write_texts(target, &[before, b"sp"])
@@ -29,10 +30,11 @@ fn write_variable<T: Target>(target: &mut T, before: &[u8], number: u8) -> Resul
     }
 }
 
-/// Writes an operand behind a text.
+/// Writes an operand after a text.
 #[tactic(auto, unfolding(crate::specs::Listing::operand_text))]
 fn write_operand<T: Target>(target: &mut T, before: &[u8], operand: Operand) -> Result<(), Failed>
-    ensures { Gave T.taken T.failed (is_err result) target.old target.new (before.now ++ operand_text operand) }
+    ensures { Gave T.taken T.failed (is_err result) target.old target.new
+        (before.now ++ operand_text operand) }
 {
     match operand {
         Operand::Large(value) => write_word(target, before, value),
@@ -52,14 +54,15 @@ pub(crate) fn write_store<T: Target>(target: &mut T, store: Option<u8>) -> Resul
     }
 }
 
-/// Writes where a branch leads, behind a text.
+/// Writes where a branch leads, after a text.
 #[tactic(auto, unfolding(crate::specs::Listing::target_text))]
 fn write_destination<T: Target>(
     target: &mut T,
     before: &[u8],
     destination: Destination,
 ) -> Result<(), Failed>
-    ensures { Gave T.taken T.failed (is_err result) target.old target.new (before.now ++ target_text destination) }
+    ensures { Gave T.taken T.failed (is_err result) target.old target.new
+        (before.now ++ target_text destination) }
 {
     match destination {
         Destination::ReturnFalse => write_texts(target, &[before, b"rfalse"]),
@@ -99,9 +102,10 @@ fn names_variable(opcode: Opcode) -> bool
     }
 }
 
-/// Writes an operand that is the number of a variable, behind a space.
+/// Writes an operand that is the number of a variable, after a space.
 fn write_reference<T: Target>(target: &mut T, operand: Operand) -> Result<(), Failed>
-    ensures { Gave T.taken T.failed (is_err result) target.old target.new (32 ∷ reference_text operand (constant_of operand)) }
+    ensures { Gave T.taken T.failed (is_err result) target.old target.new
+        (32 ∷ reference_text operand (constant_of operand)) }
 {
     match operand.constant() {
         Some(number) => {
@@ -115,13 +119,14 @@ fn write_reference<T: Target>(target: &mut T, operand: Operand) -> Result<(), Fa
     }
 }
 
-/// Writes the operand of a jump behind a space.
+/// Writes the operand of a jump after a space.
 fn write_jump<T: Target>(
     target: &mut T,
     operand: Operand,
     destination: Option<u32>,
 ) -> Result<(), Failed>
-    ensures { Gave T.taken T.failed (is_err result) target.old target.new (32 ∷ jump_text operand destination) }
+    ensures { Gave T.taken T.failed (is_err result) target.old target.new
+        (32 ∷ jump_text operand destination) }
 {
     match destination {
         Some(address) => write_address(target, b" ", b"", address),
@@ -129,7 +134,7 @@ fn write_jump<T: Target>(
     }
 }
 
-/// Writes the first operand of an instruction behind a space.
+/// Writes the first operand of an instruction after a space.
 #[tactic(auto, unfolding(crate::specs::Listing::first_text))]
 fn write_first<T: Target>(
     memory: &Memory,
@@ -138,7 +143,8 @@ fn write_first<T: Target>(
     target: &mut T,
 ) -> Result<(), Failed>
     requires { instr.now.next ≤ 2 ^ 20 }
-    ensures { Gave T.taken T.failed (is_err result) target.old target.new (32 ∷ first_text memory.now instr.now operand) }
+    ensures { Gave T.taken T.failed (is_err result) target.old target.new
+        (32 ∷ first_text memory.now instr.now operand) }
 {
     if names_variable(instr.opcode) {
         write_reference(target, operand)
@@ -149,10 +155,11 @@ fn write_first<T: Target>(
     }
 }
 
-/// Writes the operands behind the first, each behind a space.
+/// Writes the operands after the first, each after a space.
 #[tactic(auto, using(crate::proofs::Outputs::writing_rules))]
 fn write_further<T: Target>(target: &mut T, operands: &[Operand]) -> Result<(), Failed>
-    ensures { Gave T.taken T.failed (is_err result) target.old target.new (flat_map further_text operands.now) }
+    ensures { Gave T.taken T.failed (is_err result) target.old target.new
+        (flat_map further_text operands.now) }
 {
     let [first, rest @ ..] = operands else {
         return Ok(());
@@ -163,7 +170,7 @@ fn write_further<T: Target>(target: &mut T, operands: &[Operand]) -> Result<(), 
     }
 }
 
-/// Writes the operands of an instruction, each behind a space.
+/// Writes the operands of an instruction, each after a space.
 #[tactic(auto, unfolding(crate::specs::Listing::operands_text), using(crate::proofs::Outputs::writing_rules))]
 pub(crate) fn write_operands<T: Target>(
     memory: &Memory,
@@ -171,7 +178,8 @@ pub(crate) fn write_operands<T: Target>(
     target: &mut T,
 ) -> Result<(), Failed>
     requires { instr.now.next ≤ 2 ^ 20 }
-    ensures { Gave T.taken T.failed (is_err result) target.old target.new (operands_text memory.now instr.now instr.now.operands) }
+    ensures { Gave T.taken T.failed (is_err result) target.old target.new
+        (operands_text memory.now instr.now instr.now.operands) }
 {
     match instr.operands.as_slice() {
         [] => Ok(()),

@@ -12,7 +12,7 @@ use zk_tables::lists::read_property;
 /// No list ends at or above this address.
 const LISTS_END: u32 = 66_100;
 
-/// Whether a property list begins at an address and lies in data, by those that begin behind it.
+/// Whether a property list begins at an address and lies in data, by those that begin after it.
 fn begins_list(memory: &Memory, address: u32, marks: &AddressSet) -> bool
     requires size { length marks.now ≡ 66100 }
     requires known { (a : ℕ) → address < a → IsMarked marks.now a ↔ HasList memory.now a }

@@ -39,8 +39,10 @@ impl<'a, T: Target> Quoting<'a, T> {
     /// Writes a character.
     #[tactic(auto, unfolding(crate::specs::Listing::quoted_bytes))]
     fn write_one(&mut self, c: char) -> Result<(), SinkFault>
-        ensures kept { (self.new.target.ghost_name ≡ self.old.target.ghost_name) × (self.new.extra.now ≡ self.old.extra.now) }
-        ensures text { Gave T.taken T.failed (is_err result) self.old.target.now self.new.target.now (quoted_bytes (c ∷ [])) }
+        ensures kept { (self.new.target.ghost_name ≡ self.old.target.ghost_name)
+            × (self.new.extra.now ≡ self.old.extra.now) }
+        ensures text { Gave T.taken T.failed (is_err result) self.old.target.now self.new.target.now
+            (quoted_bytes (c ∷ [])) }
     {
         match write_char(self.target, quoted(c)) {
             Ok(()) => Ok(()),
@@ -51,8 +53,10 @@ impl<'a, T: Target> Quoting<'a, T> {
     /// Writes two spaces.
     #[tactic(auto, unfolding(crate::specs::Listing::quoted_bytes))]
     fn write_two_spaces(&mut self) -> Result<(), SinkFault>
-        ensures kept { (self.new.target.ghost_name ≡ self.old.target.ghost_name) × (self.new.extra.now ≡ self.old.extra.now) }
-        ensures text { Gave T.taken T.failed (is_err result) self.old.target.now self.new.target.now (quoted_bytes (32 ∷ 32 ∷ [])) }
+        ensures kept { (self.new.target.ghost_name ≡ self.old.target.ghost_name)
+            × (self.new.extra.now ≡ self.old.extra.now) }
+        ensures text { Gave T.taken T.failed (is_err result) self.old.target.now self.new.target.now
+            (quoted_bytes (32 ∷ 32 ∷ [])) }
     {
         match write_all(self.target, b"  ") {
             Ok(()) => Ok(()),
@@ -67,9 +71,13 @@ impl<'a, T: Target> Sink for Quoting<'a, T> {
     ghost use Rattle.zk_inspect.specs.Quoted.{quoted_nothing, quoted_then, quoted_units};
     ghost use Rattle.zk_inspect.specs.Written.{Gave};
 
-    ghost gave = { λ a b us. (b.target.ghost_name ≡ a.target.ghost_name) × (b.extra.now ≡ a.extra.now) × Gave T.taken T.failed false a.target.now b.target.now (quoted_units a.extra.now us) };
+    ghost gave = { λ a b us. (b.target.ghost_name ≡ a.target.ghost_name)
+        × (b.extra.now ≡ a.extra.now)
+        × Gave T.taken T.failed false a.target.now b.target.now (quoted_units a.extra.now us) };
 
-    ghost refused = { λ a b us. (b.target.ghost_name ≡ a.target.ghost_name) × (b.extra.now ≡ a.extra.now) × Gave T.taken T.failed true a.target.now b.target.now (quoted_units a.extra.now us) };
+    ghost refused = { λ a b us. (b.target.ghost_name ≡ a.target.ghost_name)
+        × (b.extra.now ≡ a.extra.now)
+        × Gave T.taken T.failed true a.target.now b.target.now (quoted_units a.extra.now us) };
 
     fn put(&mut self, unit: Unit) -> Result<(), SinkFault> {
         match Shown::of(self.extra, unit) {
@@ -87,9 +95,19 @@ impl<'a, T: Target> Sink for Quoting<'a, T> {
 
     ghost nothing = { λ a. (refl, refl, quoted_nothing T.taken T.failed a.extra.now a.target.now) };
 
-    ghost twice = { λ a b c s t h k. (k.0 ∙ h.0, k.1 ∙ h.1, quoted_then T.taken T.failed false a.extra.now b.extra.now a.target.now b.target.now c.target.now s t h.1 h.2 k.2) };
+    ghost twice = { λ a b c s t h k. (
+      k.0 ∙ h.0,
+      k.1 ∙ h.1,
+      quoted_then T.taken T.failed false
+          a.extra.now b.extra.now a.target.now b.target.now c.target.now s t h.1 h.2 k.2,
+    ) };
 
-    ghost late = { λ a b c s t h k. (k.0 ∙ h.0, k.1 ∙ h.1, quoted_then T.taken T.failed true a.extra.now b.extra.now a.target.now b.target.now c.target.now s t h.1 h.2 k.2) };
+    ghost late = { λ a b c s t h k. (
+      k.0 ∙ h.0,
+      k.1 ∙ h.1,
+      quoted_then T.taken T.failed true
+          a.extra.now b.extra.now a.target.now b.target.now c.target.now s t h.1 h.2 k.2,
+    ) };
 }
 
 /// Gives a unit to a sink.
@@ -109,7 +127,8 @@ pub(crate) fn write_code<T: Target>(
     memory: &Memory,
     code: u16,
 ) -> Result<(), Failed>
-    ensures { Gave T.taken T.failed (is_err result) target.old target.new (quoted_units (own_characters memory.now) (Unit.Code code ∷ [])) }
+    ensures { Gave T.taken T.failed (is_err result) target.old target.new
+        (quoted_units (own_characters memory.now) (Unit.Code code ∷ [])) }
 {
     let extra = Extra::of(memory);
     let mut quoting = Quoting {
@@ -125,8 +144,10 @@ pub(crate) fn write_code<T: Target>(
 /// Gives a text that has a meaning to a sink.
 fn give_text<K: Sink>(sink: &mut K, memory: &Memory, address: u32) -> Result<(), SinkFault>
     requires { IsOk (text_units memory.now address) }
-    ensures ok { OnOk result (K.gave sink.old sink.new (units_or_none (text_units memory.now address))) }
-    ensures err { OnErr result (K.refused sink.old sink.new (units_or_none (text_units memory.now address))) }
+    ensures ok { OnOk result
+        (K.gave sink.old sink.new (units_or_none (text_units memory.now address))) }
+    ensures err { OnErr result
+        (K.refused sink.old sink.new (units_or_none (text_units memory.now address))) }
 {
     match print_text(memory, address, sink) {
         Ok(()) => Ok(()),
@@ -137,7 +158,8 @@ fn give_text<K: Sink>(sink: &mut K, memory: &Memory, address: u32) -> Result<(),
 /// Writes the units of a text that has a meaning, as they stand between quotes.
 fn write_units<T: Target>(target: &mut T, memory: &Memory, address: u32) -> Result<(), Failed>
     requires { IsOk (text_units memory.now address) }
-    ensures { Gave T.taken T.failed (is_err result) target.old target.new (quoted_units (own_characters memory.now) (units_or_none (text_units memory.now address))) }
+    ensures { Gave T.taken T.failed (is_err result) target.old target.new
+        (quoted_units (own_characters memory.now) (units_or_none (text_units memory.now address))) }
 {
     let extra = Extra::of(memory);
     let mut quoting = Quoting {
@@ -150,10 +172,12 @@ fn write_units<T: Target>(target: &mut T, memory: &Memory, address: u32) -> Resu
     }
 }
 
-/// Writes a text that has a meaning, up to the quote behind it.
+/// Writes a text that has a meaning, up to the quote after it.
 fn write_up_to_quote<T: Target>(target: &mut T, memory: &Memory, address: u32) -> Result<(), Failed>
     requires { IsOk (text_units memory.now address) }
-    ensures { Gave T.taken T.failed (is_err result) target.old target.new (quoted_units (own_characters memory.now) (units_or_none (text_units memory.now address)) ++ codes "\"") }
+    ensures { Gave T.taken T.failed (is_err result) target.old target.new
+        (quoted_units (own_characters memory.now) (units_or_none (text_units memory.now address))
+        ++ codes "\"") }
 {
     match write_units(target, memory, address) {
         Ok(()) => write_texts(target, &[b"\""]),
@@ -161,7 +185,7 @@ fn write_up_to_quote<T: Target>(target: &mut T, memory: &Memory, address: u32) -
     }
 }
 
-/// Writes a text that has a meaning between quotes, behind another text.
+/// Writes a text that has a meaning between quotes, after another text.
 pub(crate) fn write_meaning<T: Target>(
     target: &mut T,
     before: &[u8],
@@ -169,7 +193,8 @@ pub(crate) fn write_meaning<T: Target>(
     address: u32,
 ) -> Result<(), Failed>
     requires { IsOk (text_units memory.now address) }
-    ensures { Gave T.taken T.failed (is_err result) target.old target.new (before.now ++ units_text memory.now (text_units memory.now address)) }
+    ensures { Gave T.taken T.failed (is_err result) target.old target.new
+        (before.now ++ units_text memory.now (text_units memory.now address)) }
 {
     match write_texts(target, &[before, b"\""]) {
         Ok(()) => write_up_to_quote(target, memory, address),
@@ -177,14 +202,15 @@ pub(crate) fn write_meaning<T: Target>(
     }
 }
 
-/// Writes what a text prints between quotes, or why it has no meaning, behind another text.
+/// Writes what a text prints between quotes, or why it has no meaning, after another text.
 pub(crate) fn write_quoted<T: Target>(
     target: &mut T,
     before: &[u8],
     memory: &Memory,
     address: u32,
 ) -> Result<(), Failed>
-    ensures { Gave T.taken T.failed (is_err result) target.old target.new (before.now ++ units_text memory.now (text_units memory.now address)) }
+    ensures { Gave T.taken T.failed (is_err result) target.old target.new
+        (before.now ++ units_text memory.now (text_units memory.now address)) }
 {
     match check_text(memory, address) {
         Ok(_) => write_meaning(target, before, memory, address),

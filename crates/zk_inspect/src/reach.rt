@@ -63,7 +63,7 @@ impl Search {
         Ok(())
     }
 
-    /// What stands behind an instruction is reached, where the instruction goes on.
+    /// What stands after an instruction is reached, where the instruction goes on.
     fn follow_behind(
         &mut self,
         memory: &Memory,
@@ -75,7 +75,8 @@ impl Search {
         requires stands { IsInstruction memory.now address instr.now instr.now.next }
         ensures search { OnOk result (IsSearch memory.now self.new) }
         ensures grows { OnOk result (Grows self.old self.new) }
-        ensures found { OnOk result (goes_on instr.now.opcode ≡ true → IsMarked self.new.marks instr.now.next) }
+        ensures found { OnOk result
+            (goes_on instr.now.opcode ≡ true → IsMarked self.new.marks instr.now.next) }
     {
         if !goes_on(instr.opcode) {
             return Ok(());
@@ -95,7 +96,8 @@ impl Search {
         requires stands { IsInstruction memory.now address instr.now instr.now.next }
         ensures search { OnOk result (IsSearch memory.now self.new) }
         ensures grows { OnOk result (Grows self.old self.new) }
-        ensures found { OnOk result ((c : ℕ) → branch_address instr.now ≡ Some c → IsMarked self.new.marks c) }
+        ensures found { OnOk result
+            ((c : ℕ) → branch_address instr.now ≡ Some c → IsMarked self.new.marks c) }
     {
         match instr.branch_address() {
             Some(target) => self.find(memory, target),
@@ -116,7 +118,8 @@ impl Search {
         requires near { instr.now.next ≤ 2 ^ 20 }
         ensures search { OnOk result (IsSearch memory.now self.new) }
         ensures grows { OnOk result (Grows self.old self.new) }
-        ensures found { OnOk result ((c : ℕ) → jump_address memory.now instr.now ≡ Some c → IsMarked self.new.marks c) }
+        ensures found { OnOk result
+            ((c : ℕ) → jump_address memory.now instr.now ≡ Some c → IsMarked self.new.marks c) }
     {
         match instr.jump_address(memory) {
             Some(target) => self.find(memory, target),
@@ -138,7 +141,8 @@ impl Search {
         requires called { constant_call memory.now instr.now ≡ Some routine }
         ensures search { OnOk result (IsSearch memory.now self.new) }
         ensures grows { OnOk result (Grows self.old self.new) }
-        ensures found { OnOk result ((c : ℕ) → code_start memory.now routine ≡ Some c → IsMarked self.new.routines routine × IsMarked self.new.marks c) }
+        ensures found { OnOk result ((c : ℕ) → code_start memory.now routine ≡ Some c
+            → IsMarked self.new.routines routine × IsMarked self.new.marks c) }
     {
         let Some(start) = code_start(memory, routine) else {
             return Ok(());
@@ -160,7 +164,9 @@ impl Search {
         requires stands { IsInstruction memory.now address instr.now instr.now.next }
         ensures search { OnOk result (IsSearch memory.now self.new) }
         ensures grows { OnOk result (Grows self.old self.new) }
-        ensures found { OnOk result ((r c : ℕ) → constant_call memory.now instr.now ≡ Some r → code_start memory.now r ≡ Some c → IsMarked self.new.routines r × IsMarked self.new.marks c) }
+        ensures found { OnOk result ((r c : ℕ) → constant_call memory.now instr.now ≡ Some r
+            → code_start memory.now r ≡ Some c
+            → IsMarked self.new.routines r × IsMarked self.new.marks c) }
     {
         match instr.constant_call(memory) {
             Some(routine) => {
@@ -227,7 +233,7 @@ fn find_all(alloc: Global, memory: &Memory) -> Result<Search, AllocError>
 }
 
 /// The reachable code of a story: the addresses of its first instruction and, from each instruction there, of what
-/// stands behind it unless it returns, jumps, throws, quits or restarts, of where its branch or its jump by a constant leads
+/// stands after it unless it returns, jumps, throws, quits or restarts, of where its branch or its jump by a constant leads
 /// inside the story, and of the first instruction of a routine that it calls by a constant other than 0; and these routines
 /// (Z-Machine Standards Document 1.1, sections 4.7, 5 and 15). Code that only computed addresses lead to is not found.
 ///

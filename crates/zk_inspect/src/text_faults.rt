@@ -84,7 +84,8 @@ fn mark_failing(
 ) -> Result<AddressSet, AllocError>
     requires { AreTextMarks memory.now marks.now }
     ensures size { IfOk result (λ failing. length failing ≤ 2 ^ 20) }
-    ensures exact { IfOk result (λ failing. (a : ℕ) → IsMarked failing a ↔ text_fails memory.now marks.now kind a ≡ true) }
+    ensures exact { IfOk result
+        (λ failing. (a : ℕ) → IsMarked failing a ↔ text_fails memory.now marks.now kind a ≡ true) }
 {
     // no story is longer
     memory.len();

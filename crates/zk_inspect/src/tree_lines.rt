@@ -37,7 +37,8 @@ fn write_indent<T: Target>(target: &mut T, level: usize) -> Result<(), Failed>
 /// Writes an object as it stands in the tree, without the spaces before it.
 #[tactic(auto, unfolding(crate::specs::TreeLines::row_text))]
 fn write_object<T: Target>(target: &mut T, memory: &Memory, row: Row) -> Result<(), Failed>
-    ensures { Gave T.taken T.failed (is_err result) target.old target.new (row_text memory.now row) }
+    ensures { Gave T.taken T.failed (is_err result) target.old target.new
+        (row_text memory.now row) }
 {
     if row.again {
         write_number_again(target, row.object)
@@ -57,7 +58,8 @@ fn write_number_again<T: Target>(target: &mut T, object: u16) -> Result<(), Fail
 
 /// Writes a line of the tree.
 fn write_row<T: Target>(target: &mut T, memory: &Memory, row: Row) -> Result<(), Failed>
-    ensures { Gave T.taken T.failed (is_err result) target.old target.new (row_line memory.now row) }
+    ensures { Gave T.taken T.failed (is_err result) target.old target.new
+        (row_line memory.now row) }
 {
     write_indent(target, row.level)?;
     write_object(target, memory, row)?;
@@ -66,7 +68,8 @@ fn write_row<T: Target>(target: &mut T, memory: &Memory, row: Row) -> Result<(),
 
 /// Writes a line of the tree, or tells that a write failed.
 fn list_row<T: Target>(target: &mut T, memory: &Memory, row: Row) -> Result<(), ListError>
-    ensures { GaveSome (AreRows memory.now) T.taken T.failed (has_failed result) target.old target.new }
+    ensures { GaveSome (AreRows memory.now) T.taken T.failed (has_failed result) target.old
+        target.new }
 {
     match write_row(target, memory, row) {
         Ok(()) => Ok(()),
@@ -121,7 +124,8 @@ impl Walk {
     ) -> Result<Option<u16>, ListError>
         requires { self.old.count < length self.old.listed }
         ensures kept { OnOk result (self.new.count < length self.new.listed) }
-        ensures rows { GaveSome (AreRows memory.now) T.taken T.failed (has_failed result) target.old target.new }
+        ensures rows { GaveSome (AreRows memory.now) T.taken T.failed (has_failed result) target.old
+            target.new }
     {
         if object == 0 || object > self.count {
             return Ok(self.go_beside(memory));
@@ -158,7 +162,8 @@ impl Walk {
     ) -> Result<(), ListError>
         requires { self.old.count < length self.old.listed }
         ensures kept { OnOk result (self.new.count < length self.new.listed) }
-        ensures rows { GaveSome (AreRows memory.now) T.taken T.failed (has_failed result) target.old target.new }
+        ensures rows { GaveSome (AreRows memory.now) T.taken T.failed (has_failed result) target.old
+            target.new }
     {
         let mut next = Some(root);
         // each turn lists an object, or ends a chain of siblings that one has begun
@@ -189,7 +194,8 @@ fn list_root<T: Target>(
 ) -> Result<(), ListError>
     requires { walk.old.count < length walk.old.listed }
     ensures kept { OnOk result (walk.new.count < length walk.new.listed) }
-    ensures rows { GaveSome (AreRows memory.now) T.taken T.failed (has_failed result) target.old target.new }
+    ensures rows { GaveSome (AreRows memory.now) T.taken T.failed (has_failed result) target.old
+        target.new }
 {
     if !is_root(memory, object) {
         return Ok(());
@@ -208,7 +214,8 @@ fn list_trees<T: Target>(
     target: &mut T,
 ) -> Result<(), ListError>
     requires { walk.old.count < length walk.old.listed }
-    ensures { GaveSome (AreRows memory.now) T.taken T.failed (has_failed result) target.old target.new }
+    ensures { GaveSome (AreRows memory.now) T.taken T.failed (has_failed result) target.old
+        target.new }
 {
     for before in 0..count {
         match list_root(walk, memory, before + 1, target) {
@@ -226,7 +233,8 @@ pub(crate) fn write_tree<T: Target>(
     count: u16,
     target: &mut T,
 ) -> Result<(), ListError>
-    ensures { GaveSome (AreRows memory.now) T.taken T.failed (has_failed result) target.old target.new }
+    ensures { GaveSome (AreRows memory.now) T.taken T.failed (has_failed result) target.old
+        target.new }
 {
     let Ok(listed) = AddressSet::none(alloc, count as usize + 1) else {
         return Err(ListError::Memory);

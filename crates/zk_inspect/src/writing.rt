@@ -11,7 +11,8 @@ use zk_term::target::{Failed, Target, write_all};
 /// Writes texts one after another, up to a write that fails.
 #[tactic(auto, using(crate::proofs::Outputs::writing_rules))]
 pub(crate) fn write_texts<T: Target>(target: &mut T, texts: &[&[u8]]) -> Result<(), Failed>
-    ensures { Gave T.taken T.failed (is_err result) target.old target.new (concat (map (λ t. t.now) texts.now)) }
+    ensures { Gave T.taken T.failed (is_err result) target.old target.new
+        (concat (map (λ t. t.now) texts.now)) }
 {
     let [first, rest @ ..] = texts else {
         return Ok(());
@@ -66,7 +67,7 @@ pub(crate) fn zeros_before(address: u32) -> usize
     }
 }
 
-/// Writes an address behind two texts: by its hexadecimal digits, five at least.
+/// Writes an address after two texts: by its hexadecimal digits, five at least.
 #[tactic(auto, unfolding(crate::specs::Numbers::address_digits))]
 pub(crate) fn write_address<T: Target>(
     target: &mut T,
@@ -74,41 +75,45 @@ pub(crate) fn write_address<T: Target>(
     between: &[u8],
     address: u32,
 ) -> Result<(), Failed>
-    ensures { Gave T.taken T.failed (is_err result) target.old target.new (before.now ++ between.now ++ address_digits address) }
+    ensures { Gave T.taken T.failed (is_err result) target.old target.new
+        (before.now ++ between.now ++ address_digits address) }
 {
     let digits = hex_digits_of(address);
     let shown = &digits[zeros_before(address)..];
     write_texts(target, &[before, between, shown])
 }
 
-/// Writes a constant behind a text: a word by its four hexadecimal digits.
+/// Writes a constant after a text: a word by its four hexadecimal digits.
 #[tactic(auto, unfolding(crate::specs::Numbers::word_digits))]
 pub(crate) fn write_word<T: Target>(target: &mut T, before: &[u8], word: u16) -> Result<(), Failed>
-    ensures { Gave T.taken T.failed (is_err result) target.old target.new (before.now ++ codes "#" ++ word_digits word) }
+    ensures { Gave T.taken T.failed (is_err result) target.old target.new
+        (before.now ++ codes "#" ++ word_digits word) }
 {
     let digits = hex_digits_of(word as u32);
     let shown = &digits[4..];
     write_texts(target, &[before, b"#", shown])
 }
 
-/// Writes a constant behind a text: a byte by its two hexadecimal digits.
+/// Writes a constant after a text: a byte by its two hexadecimal digits.
 #[tactic(auto, unfolding(crate::specs::Numbers::byte_digits))]
 pub(crate) fn write_byte<T: Target>(target: &mut T, before: &[u8], byte: u8) -> Result<(), Failed>
-    ensures { Gave T.taken T.failed (is_err result) target.old target.new (before.now ++ codes "#" ++ byte_digits byte) }
+    ensures { Gave T.taken T.failed (is_err result) target.old target.new
+        (before.now ++ codes "#" ++ byte_digits byte) }
 {
     let digits = hex_digits_of(byte as u32);
     let shown = &digits[6..];
     write_texts(target, &[before, b"#", shown])
 }
 
-/// Writes a number behind two texts, by its decimal digits.
+/// Writes a number after two texts, by its decimal digits.
 pub(crate) fn write_decimal<T: Target>(
     target: &mut T,
     before: &[u8],
     between: &[u8],
     n: u32,
 ) -> Result<(), Failed>
-    ensures { Gave T.taken T.failed (is_err result) target.old target.new (before.now ++ between.now ++ decimal n) }
+    ensures { Gave T.taken T.failed (is_err result) target.old target.new
+        (before.now ++ between.now ++ decimal n) }
 {
     let mut buffer = Buffer::new();
     write_texts(target, &[before, between, buffer.format(n).as_bytes()])
@@ -124,7 +129,8 @@ pub(crate) fn write_counted<'a, T: Target>(
     n: u32,
     after: &'a [u8],
 ) -> Result<(), Failed>
-    ensures { Gave T.taken T.failed (is_err result) target.old target.new (before.now ++ address_digits address ++ between.now ++ decimal n ++ after.now) }
+    ensures { Gave T.taken T.failed (is_err result) target.old target.new
+        (before.now ++ address_digits address ++ between.now ++ decimal n ++ after.now) }
 {
     let mut buffer = Buffer::new();
     let digits = hex_digits_of(address);

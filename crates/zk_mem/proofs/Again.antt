@@ -88,7 +88,7 @@ fourth_twice bytes =
     ap (with_group screen_fields_4) standard
     ∙ all_stay (screen_fields_4 two) two (put_in ps one 0x1e, (put_in ps one 0x1f, (put_in ps one 0x20, (put_in ps one 0x21, (set_stands two 0x01 (slice_index one 0x01) 0b01010000 0b00010000 (put_in ps one 0x01), tt)))))
 
--- with the fields of version 5 behind them
+-- with the fields of version 5 after them
 late_twice : (undo_states : ℕ) (bytes : List ℕ) → with_group (screen_fields_5 undo_states) (with_group screen_fields_4 (with_values standard_fields (with_group (screen_fields_5 undo_states) (with_group screen_fields_4 (with_values standard_fields bytes)))))
     ≡ with_group (screen_fields_5 undo_states) (with_group screen_fields_4 (with_values standard_fields bytes))
 late_twice undo_states bytes =

@@ -1,4 +1,4 @@
--- Setting the header's fields leaves the length and the bytes behind the header alone.
+-- Setting the header's fields leaves the length and the bytes after the header alone.
 use Rattle.std.specs.Prelude.{slice_set, if◌then◌else◌}
 use Rattle.std.proofs.Common.{◌≡◌, ◌≤◌, ◌<◌, ◌∙◌, ℕ, Bool, true, false, List, [], ◌∷◌, length, drop, nat_lt, arith, refl, lit<}
 use Rattle.std.proofs.lemmas.List.{drop-set-lt}

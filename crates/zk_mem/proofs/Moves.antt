@@ -6,7 +6,7 @@ use Rattle.std.proofs.Math.Seq.{paste}
 use Rattle.zk_mem.specs.declared.header.Header.{Header}
 use Rattle.zk_mem.specs.Map.{IsWhole}
 
--- behind what was copied, bytes are as before
+-- after what was copied, bytes are as before
 behind : (bytes : List ℕ) (from to count base : ℕ) → from + count ≤ length bytes → to + count ≤ base → base ≤ length bytes → drop base (paste bytes to (drop from bytes) count) ≡ drop base bytes
 behind bytes from to count base inside dynamic within =
     let rest : to + count + (base - (to + count)) ≡ base = omega arith in

@@ -11,7 +11,7 @@ stated_length file = unit_length (header_of file).version * (header_of file).fil
 abbrev pub summed_end : List ℕ → ℕ
 summed_end file = if stated_length file == 0 then length file else min (stated_length file) (length file)
 
--- the bytes behind the header, up to there
+-- the bytes after the header, up to there
 abbrev pub summed_bytes : List ℕ → List ℕ
 summed_bytes file = take (summed_end file - 0x40) (drop 0x40 file)
 

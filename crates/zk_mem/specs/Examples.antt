@@ -265,7 +265,7 @@ MemoryStartsSo =
 
 -- ---- the checksum (section 11.1.6, and section 15, `verify`)
 
--- a file of a version that states a length in units and a sum, with these bytes behind the header
+-- a file of a version that states a length in units and a sum, with these bytes after the header
 abbrev pub summed : ℕ → ℕ → ℕ → List ℕ → List ℕ
 summed version length sum code =
     version ∷ [] ++ replicate 25 0 ++ 0 ∷ length ∷ sum / 256 ∷ sum % 256 ∷ [] ++ replicate 34 0 ++ code
@@ -274,7 +274,7 @@ summed version length sum code =
 abbrev pub six : List ℕ
 six = 0xbd ∷ 0xc4 ∷ 0xbb ∷ 0xbb ∷ 0xbb ∷ 0xba ∷ []
 
--- the bytes behind the header up to the stated length, which counts units of 2, 4 or 8 bytes; all where none is stated
+-- the bytes after the header up to the stated length, which counts units of 2, 4 or 8 bytes; all where none is stated
 -- or more than there is; none where it ends inside the header
 abbrev pub SumsGoToTheStatedLength : Type 0
 SumsGoToTheStatedLength =
@@ -330,7 +330,7 @@ SettlesSo =
       bytes = 9 ∷ 0x29 ∷ [] ++ replicate 15 9 ++ 10 ∷ [] ++ replicate 32 9 ++ 1 ∷ 1 ∷ [] ++ replicate 12 9;
     }
 
--- in version 5 the bits of what is not there are cleared behind that, and the bit of undo where no state is kept (section
+-- in version 5 the bits of what is not there are cleared after that, and the bit of undo where no state is kept (section
 -- 11.1)
 abbrev pub SettlesLaterVersions : Type 0
 SettlesLaterVersions =

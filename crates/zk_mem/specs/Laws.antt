@@ -50,7 +50,7 @@ TextLiesInside = (m : MemoryMap) (a : ℕ) (ws : List ℕ) → words_at m a ≡ 
     (1 ≤ length ws) × (a + 2 * length ws ≤ length m.bytes)
 
 -- what put bytes back leaves alone: all but bytes, their number where the new ones are as many, and those from an
--- address behind the header on; and of Flags 2 the bits 0 and 1 (section 6.1)
+-- address after the header on; and of Flags 2 the bits 0 and 1 (section 6.1)
 pub record IsAgain (old new : MemoryMap) (bytes : List ℕ) : Type 0 where
   pub version : new.version ≡ old.version
   pub static_base : new.static_base ≡ old.static_base
@@ -64,7 +64,7 @@ pub record IsAgain (old new : MemoryMap) (bytes : List ℕ) : Type 0 where
 abbrev pub PutsBack : Type 0
 PutsBack = (old : MemoryMap) (bytes : List ℕ) → IsAgain old (again old bytes) bytes
 
--- a restart behind a restart changes nothing (section 6.1.3)
+-- a restart after a restart changes nothing (section 6.1.3)
 abbrev pub RestartsOnce : Type 0
 RestartsOnce = (m : MemoryMap) → restarted (restarted m) ≡ restarted m
 

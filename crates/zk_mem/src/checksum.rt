@@ -32,7 +32,7 @@ fn end_of(file: &[u8], header: &Header) -> usize
     stated.min(file.len())
 }
 
-/// The sum of a file's bytes behind the header, up to the length that its header states, modulo 65,536
+/// The sum of a file's bytes after the header, up to the length that its header states, modulo 65,536
 /// (Standard, section 15, `verify`). It goes up to the file's end where no length is stated, or more
 /// than there is.
 #[tactic(auto, using(crate::proofs::Sums::sum_none, crate::proofs::Sums::sum_is))]

@@ -40,7 +40,13 @@ impl Model for Memory {
 
     ghost Value = { MemoryMap };
 
-    ghost view = { λ m. record { version = m.header.version; static_base = m.header.static_base; bytes = m.bytes.items; file = m.file.items; undo_states = m.undo_states } };
+    ghost view = { λ m. record {
+      version = m.header.version;
+      static_base = m.header.static_base;
+      bytes = m.bytes.items;
+      file = m.file.items;
+      undo_states = m.undo_states;
+    } };
 
     ghost invariant = { λ m. IsWhole m.header m.readable m.bytes.items m.file.items };
 }
@@ -74,7 +80,8 @@ fn set_screen_4(bytes: &mut Vec<u8>)
 
 fn set_screen_5(bytes: &mut Vec<u8>, undo_states: u8)
     requires { 64 ≤ length bytes.old.items }
-    ensures { bytes.new.items ≡ with_values (screen_fields_5 undo_states bytes.old.items) bytes.old.items }
+    ensures { bytes.new.items
+        ≡ with_values (screen_fields_5 undo_states bytes.old.items) bytes.old.items }
 {
     let (high, low) = (bytes[0x10], bytes[0x11]);
     let kept = if undo_states == 0 {
@@ -194,7 +201,8 @@ impl Memory {
     /// readable data, `ReadOnly` inside.
     #[tactic(auto, unfolding(crate::specs::Map::byte_put))]
     pub fn set_byte(&mut self, address: u32, value: u8) -> Result<(), Fault>
-        ensures { MatchResult result (λ _. byte_put self.old address value ≡ Ok self.new) (λ e. (byte_put self.old address value ≡ Err e) × (self.new ≡ self.old)) }
+        ensures { MatchResult result (λ _. byte_put self.old address value ≡ Ok self.new)
+            (λ e. (byte_put self.old address value ≡ Err e) × (self.new ≡ self.old)) }
     {
         if address >= self.header.static_base as u32 {
             return Err(refused(address, self.readable));
@@ -207,7 +215,8 @@ impl Memory {
     /// changes, and it is `BadAddress` outside readable data, `ReadOnly` inside.
     #[tactic(auto, unfolding(crate::specs::Map::word_put))]
     pub fn set_word(&mut self, address: u32, value: u16) -> Result<(), Fault>
-        ensures { MatchResult result (λ _. word_put self.old address value ≡ Ok self.new) (λ e. (word_put self.old address value ≡ Err e) × (self.new ≡ self.old)) }
+        ensures { MatchResult result (λ _. word_put self.old address value ≡ Ok self.new)
+            (λ e. (word_put self.old address value ≡ Err e) × (self.new ≡ self.old)) }
     {
         if address >= self.header.static_base as u32 - 1 {
             return Err(refused(address, self.readable - 1));
@@ -242,7 +251,8 @@ impl Memory {
     /// Turns bits of a byte of dynamic memory: those that are set in `bits`.
     pub fn flip(&mut self, address: u32, bits: u8)
         requires { address < self.old.static_base }
-        ensures { self.new ≡ with_byte self.old address (bit_xor (slice_index self.old.bytes address) bits) }
+        ensures { self.new
+            ≡ with_byte self.old address (bit_xor (slice_index self.old.bytes address) bits) }
     {
         self.bytes[address as usize] ^= bits;
     }
@@ -382,7 +392,7 @@ impl Memory {
         self.file.as_slice()
     }
 
-    /// The sum of the file's bytes behind the header, up to the length that its header states, modulo
+    /// The sum of the file's bytes after the header, up to the length that its header states, modulo
     /// 65,536 (Standard, section 15, `verify`). It goes up to the file's end where no length is stated,
     /// or more than there is.
     pub fn sum(&self) -> u16

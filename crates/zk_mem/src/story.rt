@@ -74,7 +74,8 @@ impl Story {
     /// memory is looked for last.
     pub fn open(alloc: Global, file: &[u8]) -> Result<Story, OpenError>
         ensures ok { IfOk result (λ s. (s ≡ file.now) × (refusal file.now ≡ None)) }
-        ensures err { IfErr result (λ e. (refusal file.now ≡ Some e) ⊎ ((e ≡ OpenError.OutOfMemory) × (refusal file.now ≡ None))) }
+        ensures err { IfErr result (λ e. (refusal file.now ≡ Some e)
+            ⊎ ((e ≡ OpenError.OutOfMemory) × (refusal file.now ≡ None))) }
     {
         if let Some(e) = refusal_of(file) {
             return Err(e);
@@ -104,7 +105,7 @@ impl Story {
         header_at_front(self.bytes.as_slice())
     }
 
-    /// Whether the stated length lies in the file, and the sum of its bytes behind the header is the one
+    /// Whether the stated length lies in the file, and the sum of its bytes after the header is the one
     /// that the header states (Standard, section 15, `verify`).
     #[tactic(auto, using(crate::proofs::Bounds::none_bounds))]
     pub fn checksum_ok(&self) -> bool

@@ -1,4 +1,4 @@
--- Chunks one behind the other: more fuel changes nothing.
+-- Chunks one after the other: more fuel changes nothing.
 use Rattle.std.specs.Prelude.{nat_lt, option_map, if◌then◌else◌, ◌||◌, codes, option_copied}
 use Rattle.std.specs.Option.{option_or}
 use Rattle.std.specs.Str.{bytes_eq}

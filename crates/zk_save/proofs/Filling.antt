@@ -76,7 +76,7 @@ pub rest_of : (o : Option (List Frame)) (f : Frame) (fs : List Frame) → then_r
 rest_of None f fs h = absurd cc
 rest_of (Some gs) f fs h = let e : fs ≡ f ∷ gs = cc in (gs, refl, e)
 
--- the frames behind the first of those that were read
+-- the frames after the first of those that were read
 pub behind : (bs rest : List ℕ) (f : Frame) (fs : List Frame) → Some (f, rest) ≡ first_of_frames bs → frames_rest bs ≡ Some fs → (gs : List Frame) × (frames_rest rest ≡ Some gs) × (fs ≡ f ∷ gs)
 behind bs rest f fs e h = rest_of (frames_rest rest) f fs (sym (frames_step bs (f, rest) (sym e)) ∙ h)
 

@@ -1,4 +1,4 @@
--- Frames one behind the other, and how many there are.
+-- Frames one after the other, and how many there are.
 use Rattle.std.specs.Prelude.{nat_lt, option_map, slice_index, if◌then◌else◌, ◌||◌}
 use Rattle.std.specs.Str.{bytes_eq}
 use Rattle.std.proofs.Common.{◌≡◌, ◌∙◌, ℕ, zero, suc, ◌+◌, ◌*◌, ◌/◌, ◌%◌, ◌<◌, ◌≤◌, Bool, true, false, List, [], ◌∷◌, length, take, drop, Option, Some, None, refl, ap, sym, arith, length-drop}
@@ -63,7 +63,7 @@ frames_stop (b ∷ bs) lt h = rw h refl
 
 -- ---- how many there are
 
--- so many frames and words, and those behind them
+-- so many frames and words, and those after them
 abbrev pub sizes_after : ℕ → ℕ → List Frame → ℕ × ℕ
 sizes_after n w fs = (n + length fs, w + sizes_of fs)
 

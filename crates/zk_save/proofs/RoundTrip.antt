@@ -98,7 +98,7 @@ length_last_2 : (r : ℕ) → length (last_pair r) ≤ 2
 length_last_2 zero = omega arith
 length_last_2 (suc r) = omega arith
 
--- a run and the byte behind it
+-- a run and the byte after it
 length_zeros : (z : ℕ) → 2 * length (spelled (Zeros z)) ≤ 3 * z + 1
 unfolding spelled
 length_zeros z = omega (arith, length-append (pairs (z / 256)) (last_pair (z % 256)), length_pairs (z / 256), length_last (z % 256), length_last_2 (z % 256))

@@ -64,7 +64,7 @@ first_of_four a b d e n content tail rest long h =
     in
     rw (not_below (length bs) 8 (omega (arith, all)), number_4 n, not_below (length bs) (8 + n) (omega (arith, all, long)), behind, take_at content tail n long) refl
 
--- a chunk and what stands behind its content
+-- a chunk and what stands after its content
 pub cut_again : (c : Chunk) (tail rest : List ℕ) → length c.name ≡ 4 → drop (length c.content % 2) tail ≡ rest → first_chunk (c.name ++ (bytes_4 (length c.content) ++ (c.content ++ tail))) ≡ Some (c, rest)
 cut_again c tail rest long h = by c.name c.content long h
   where

@@ -12,7 +12,7 @@ use Rattle.zk_save.specs.States.{WholeState, KeptState, UndoStates, whole_state,
 use Rattle.zk_save.proofs.Packs.{length-xored}
 use Rattle.zk_save.proofs.RoundTrip.{turns_back, comes_back}
 
--- behind the end of the first list nothing counts
+-- after the end of the first list nothing counts
 xored_front : (bytes file : List ℕ) → xored bytes file ≡ xored bytes (take (length bytes) file)
 unfolding xored
 xored_front [] [] = refl
@@ -20,7 +20,7 @@ xored_front [] (f ∷ fs) = refl
 xored_front (b ∷ bs) [] = refl
 xored_front (b ∷ bs) (f ∷ fs) = ap (λ (l : List ℕ). bit_xor b f ∷ l) (xored_front bs fs)
 
--- behind the end of the second list everything stays
+-- after the end of the second list everything stays
 xored_back : (file ds : List ℕ) → length ds ≤ length file → xored file ds ≡ xored (take (length ds) file) ds ++ drop (length ds) file
 unfolding xored
 xored_back file [] h = refl

@@ -15,13 +15,13 @@ use Rattle.zk_save.specs.declared.parts.Found.{Found}
 use Rattle.zk_save.specs.declared.parts.Parts as Cut
 use Rattle.zk_save.specs.declared.checks.Sizes.{Sizes}
 
--- what is still written behind so many zeros that wait
+-- what is still written after so many zeros that wait
 unfoldable pub packed_after : ℕ → List ℕ → List ℕ
 packed_after z [] = []
 packed_after z (zero ∷ xs) = packed_after (z + 1) xs
 packed_after z (suc b ∷ xs) = spelled (Zeros z) ++ suc b ∷ packed_after 0 xs
 
--- what packed bytes give, perhaps behind a zero
+-- what packed bytes give, perhaps after a zero
 unfoldable pub given_after : Bool → List ℕ → Option (List ℕ)
 given_after false cs = given cs
 given_after true [] = None
@@ -41,11 +41,11 @@ chunk_cut c = chunk_seen c.name.now c.content.now
 abbrev pub frame_seen : List ℕ → List ℕ → ℕ → Option ℕ → ℕ → Frame
 frame_seen locals words place result supplied = record { locals = words_of locals; words = words_of words; place = place; result = result; supplied = supplied }
 
--- a frame that the code has cut off, and what stands behind it
+-- a frame that the code has cut off, and what stands after it
 abbrev pub frame_cut : FrameBytes → Frame × List ℕ
 frame_cut f = (frame_seen f.locals.now f.words.now f.place f.result f.supplied, f.rest.now)
 
--- the first frame as it is written, and what stands behind it
+-- the first frame as it is written, and what stands after it
 abbrev pub first_written : List ℕ → Option (Frame × List ℕ)
 first_written bs = if bytes_eq (take 6 bs) (0 ∷ 0 ∷ 0 ∷ 0 ∷ 0 ∷ 0 ∷ []) then first_of_frames bs else None
 
@@ -60,7 +60,7 @@ abbrev pub first_of : {A : Type 0} → Option A → Option A → Option A
 first_of {A} None o = o
 first_of {A} (Some x) o = Some x
 
--- what is found in chunks behind others
+-- what is found in chunks after others
 unfoldable pub noted : Noted → List Chunk → Noted
 noted n cs = record {
   story = first_of n.story (content_of (codes "IFhd") cs);
@@ -80,7 +80,7 @@ found_seen f = record { story = option_copied f.story; memory = option_map chunk
 abbrev pub parts_cut : Cut.Parts → Parts
 parts_cut p = record { story = p.story.now; memory = chunk_cut p.memory; stack = p.stack.now }
 
--- the frames behind the first one
+-- the frames after the first one
 abbrev pub frames_rest : List ℕ → Option (List Frame)
 frames_rest bs = frames_up_to (length bs) bs
 
@@ -97,7 +97,7 @@ abbrev pub room : ℕ → ℕ → Option (List ℕ) → Bool
 room most at None = false
 room most at (Some xs) = nat_le (at + length xs) most
 
--- the frames that were read find room behind those that there are
+-- the frames that were read find room after those that there are
 pub record FindRoom (o : Option (List Frame)) (s : FrameList) : Type 0 where
   pub frames : List Frame
   pub read : o ≡ Some frames

@@ -23,7 +23,7 @@ RunsAreCut =
     × (runs_of (7 ∷ []) ≡ Byte 7 ∷ [])
     × (without_last_zeros (0 ∷ 5 ∷ 0 ∷ 0 ∷ []) ≡ 0 ∷ 5 ∷ [])
 
--- a zero and how many come behind it, at most 255; zeros at the end are dropped (Quetzal 1.4, section 3)
+-- a zero and how many come after it, at most 255; zeros at the end are dropped (Quetzal 1.4, section 3)
 abbrev pub BytesArePacked : Type 0
 BytesArePacked =
     (packed (0 ∷ 0 ∷ 5 ∷ 0 ∷ []) ≡ 0x00 ∷ 0x01 ∷ 0x05 ∷ [])
@@ -47,7 +47,7 @@ BytesAreUnpacked =
     × (unpacked 2 [] ≡ Some (0 ∷ 0 ∷ []))
     × (unpacked 256 (0x00 ∷ 0xff ∷ []) ≡ Some (replicate 256 0))
 
--- a difference turns the bits that are set in it, and leaves bytes behind its end (Quetzal 1.4, section 3)
+-- a difference turns the bits that are set in it, and leaves bytes after its end (Quetzal 1.4, section 3)
 abbrev pub DifferencesAreTurned : Type 0
 DifferencesAreTurned =
     (xored (0b0110 ∷ 9 ∷ 9 ∷ []) (0b0011 ∷ 0 ∷ []) ≡ 0b0101 ∷ 9 ∷ 9 ∷ [])
@@ -159,7 +159,7 @@ head name size = name ++ 0 ∷ 0 ∷ 0 ∷ size ∷ []
 abbrev pub chunk : List ℕ → List ℕ → Chunk
 chunk name content = record { name = name; content = content }
 
--- behind an odd length stands one byte, whatever it is, which may be missing at the end; bytes that are too few for a chunk,
+-- after an odd length stands one byte, whatever it is, which may be missing at the end; bytes that are too few for a chunk,
 -- or a chunk that passes the end, refuse all
 abbrev pub ChunksAreRead : Type 0
 ChunksAreRead =
@@ -261,7 +261,7 @@ loaded_from file = loaded memory_of_story file
 abbrev pub game_state : WholeState
 game_state = record { dynamic = 3 ∷ 0x20 ∷ 0 ∷ []; frames = record { locals = []; words = []; place = 0; result = None; supplied = 0 } ∷ []; place = 65 }
 
--- chunks come in any order, and bytes behind the form don't count; of two reasons to refuse the earlier one is told
+-- chunks come in any order, and bytes after the form don't count; of two reasons to refuse the earlier one is told
 abbrev pub GamesAreLoaded : Type 0
 GamesAreLoaded =
     (loaded_from (form_with 54 (story_chunk 7 ++ memory_chunk_of 0x20 ++ stack_chunk 0)) ≡ Ok game_state)

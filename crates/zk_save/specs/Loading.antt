@@ -25,11 +25,11 @@ loaded_by {A} {B} (Err e) f = Err e
 
 -- ---- the form (Quetzal 1.4, sections 2 and 8)
 
--- the bytes of the chunks in a form of so many bytes behind its length, the first four of which say that it is a saved game
+-- the bytes of the chunks in a form of so many bytes after its length, the first four of which say that it is a saved game
 abbrev pub form_of : ℕ → List ℕ → Result (List ℕ) RestoreError
 form_of n file = if nat_lt n 4 || nat_lt (length file) (8 + n) then Err Truncated else Ok (bytes_behind 12 (n - 4) file)
 
--- the bytes of a saved game's chunks; what stands behind the form does not count
+-- the bytes of a saved game's chunks; what stands after the form does not count
 unfoldable pub form_in : List ℕ → Result (List ℕ) RestoreError
 form_in file =
     if nat_lt (length file) 12 then Err Truncated

@@ -35,7 +35,7 @@ without_last_zeros [] = []
 without_last_zeros (zero ∷ xs) = zero_before (without_last_zeros xs)
 without_last_zeros (suc b ∷ xs) = suc b ∷ without_last_zeros xs
 
--- a pair for some zeros, up to 256: a zero, and how many come behind it
+-- a pair for some zeros, up to 256: a zero, and how many come after it
 abbrev pub pair : ℕ → List ℕ
 pair n = 0 ∷ (n - 1) ∷ []
 
@@ -67,7 +67,7 @@ BeginsOtherwise [] = Unit {0}
 BeginsOtherwise (Zeros n ∷ rs) = ⊥
 BeginsOtherwise (Byte b ∷ rs) = Unit {0}
 
--- runs that can't be longer: each has something, no zero stands alone, and no zeros stand behind zeros
+-- runs that can't be longer: each has something, no zero stands alone, and no zeros stand after zeros
 unfoldable pub AreLongest : List Run → Type 0
 AreLongest [] = Unit {0}
 AreLongest (Zeros n ∷ rs) = (0 < n) × BeginsOtherwise rs × AreLongest rs

@@ -27,7 +27,7 @@ pub record Chunk : Type 0 where
   pub name : List ℕ
   pub content : List ℕ
 
--- a zero behind content of an odd length (Quetzal 1.4, section 8)
+-- a zero after content of an odd length (Quetzal 1.4, section 8)
 abbrev pub padding : ℕ → List ℕ
 padding n = if n % 2 == 0 then [] else 0 ∷ []
 
@@ -35,7 +35,7 @@ padding n = if n % 2 == 0 then [] else 0 ∷ []
 unfoldable pub chunk_bytes : Chunk → List ℕ
 chunk_bytes c = c.name ++ bytes_4 (length c.content) ++ c.content ++ padding (length c.content)
 
--- chunks in a form of saved games, one behind the other (Quetzal 1.4, sections 2 and 8)
+-- chunks in a form of saved games, one after the other (Quetzal 1.4, sections 2 and 8)
 unfoldable pub form_bytes : List Chunk → List ℕ
 form_bytes cs = chunk_bytes (record { name = codes "FORM"; content = codes "IFZS" ++ flat_map chunk_bytes cs })
 
@@ -52,7 +52,7 @@ story_content file place = bytes_2 (header_of file).release ++ (header_of file).
 
 -- ---- frames (Quetzal 1.4, section 4)
 
--- words, one behind the other
+-- words, one after the other
 abbrev pub words_bytes : List ℕ → List ℕ
 words_bytes ws = flat_map bytes_2 ws
 
@@ -66,7 +66,7 @@ abbrev pub variable_of : Option ℕ → ℕ
 variable_of None = 0
 variable_of (Some v) = v
 
--- the evaluation stack of a frame is counted behind its head, and stands behind its local variables (Quetzal 1.4,
+-- the evaluation stack of a frame is counted after its head, and stands after its local variables (Quetzal 1.4,
 -- section 4)
 abbrev pub with_stack : List ℕ → Frame → List ℕ
 with_stack head f = head ++ bytes_2 (length f.words) ++ words_bytes f.locals ++ words_bytes f.words

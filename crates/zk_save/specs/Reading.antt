@@ -9,14 +9,14 @@ abbrev pub found_then : {A B : Type 0} → Option A → (A → Option B) → Opt
 found_then {A} {B} None f = None
 found_then {A} {B} (Some x) f = f x
 
--- what was found first, before what is found behind it, if that is found
+-- what was found first, before what is found after it, if that is found
 abbrev pub then_rest : {A : Type 0} → A → Option (List A) → Option (List A)
 then_rest {A} x None = None
 then_rest {A} x (Some xs) = Some (x ∷ xs)
 
 -- ---- numbers
 
--- the number that bytes spell behind others, high byte first
+-- the number that bytes spell after others, high byte first
 unfoldable pub number_behind : ℕ → List ℕ → ℕ
 number_behind n [] = n
 number_behind n (b ∷ bs) = number_behind (256 * n + b) bs
@@ -25,7 +25,7 @@ number_behind n (b ∷ bs) = number_behind (256 * n + b) bs
 abbrev pub number_of : List ℕ → ℕ
 number_of bs = number_behind 0 bs
 
--- so many bytes, behind so many others
+-- so many bytes, after so many others
 abbrev pub bytes_behind : ℕ → ℕ → List ℕ → List ℕ
 bytes_behind start n bs = take n (drop start bs)
 
@@ -37,7 +37,7 @@ words_of (b ∷ c ∷ bs) = (256 * b + c) ∷ words_of bs
 
 -- ---- chunks (Quetzal 1.4, section 8)
 
--- the chunk that bytes begin with, where its content has a length, and what stands behind it and the byte that makes an
+-- the chunk that bytes begin with, where its content has a length, and what stands after it and the byte that makes an
 -- odd length even; at the end that byte may be missing
 abbrev pub chunk_of : ℕ → List ℕ → Option (Chunk × List ℕ)
 chunk_of n bs =
@@ -48,13 +48,13 @@ chunk_of n bs =
 unfoldable pub first_chunk : List ℕ → Option (Chunk × List ℕ)
 first_chunk bs = if nat_lt (length bs) 8 then None else chunk_of (number_of (bytes_behind 4 4 bs)) bs
 
--- the chunks that bytes spell one behind the other, at most so many
+-- the chunks that bytes spell one after the other, at most so many
 unfoldable pub chunks_up_to : ℕ → List ℕ → Option (List Chunk)
 chunks_up_to n [] = Some []
 chunks_up_to zero (b ∷ bs) = None
 chunks_up_to (suc n) (b ∷ bs) = found_then (first_chunk (b ∷ bs)) (λ c. then_rest c.0 (chunks_up_to n c.1))
 
--- the chunks that bytes spell one behind the other, none where one passes the end; there are fewer than bytes
+-- the chunks that bytes spell one after the other, none where one passes the end; there are fewer than bytes
 unfoldable pub chunks_in : List ℕ → Option (List Chunk)
 chunks_in bs = chunks_up_to (length bs) bs
 
@@ -74,8 +74,8 @@ arguments_in (suc n) bits = if bits % 2 == 0 then 0 else 1 + arguments_in n (bit
 abbrev pub result_in : ℕ → ℕ → Option ℕ
 result_in flags variable = if flags / 16 % 2 == 0 then Some variable else None
 
--- the frame whose head bytes begin with, where it has so many local variables and so many words behind these, and what
--- stands behind it
+-- the frame whose head bytes begin with, where it has so many local variables and so many words after these, and what
+-- stands after it
 abbrev pub frame_of : ℕ → ℕ → List ℕ → Option (Frame × List ℕ)
 frame_of locals words bs =
     if nat_lt (length bs) (8 + 2 * locals + 2 * words) then None
@@ -100,7 +100,7 @@ first_of_frames bs =
     if nat_lt (length bs) 8 || nat_lt 31 (slice_index bs 3) || nat_lt 127 (slice_index bs 5) then None
     else frame_of (slice_index bs 3 % 16) (word_count bs) bs
 
--- the routines' frames that bytes spell one behind the other, at most so many
+-- the routines' frames that bytes spell one after the other, at most so many
 unfoldable pub frames_up_to : ℕ → List ℕ → Option (List Frame)
 frames_up_to n [] = Some []
 frames_up_to zero (b ∷ bs) = None

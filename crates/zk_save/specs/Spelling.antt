@@ -12,7 +12,7 @@ HasName c = length c.name ≡ 4
 abbrev pub IsByte : ℕ → Type 0
 IsByte b = b < 256
 
--- behind content of an odd length stands one byte, whatever it is, which may be missing at the very end
+-- after content of an odd length stands one byte, whatever it is, which may be missing at the very end
 abbrev pub IsPad : ℕ → List ℕ → List ℕ → Type 0
 IsPad n pad rest = (length pad ≡ n % 2) ⊎ ((pad ≡ []) × (rest ≡ []))
 

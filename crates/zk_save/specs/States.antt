@@ -34,7 +34,7 @@ whole_state file k = record { dynamic = xored (take (length k.difference) file) 
 unfoldable pub states_in : List ℕ → UndoStates → List WholeState
 states_in file u = map (whole_state file) u.states
 
--- the dynamic memory of a state is put back, with the file's bytes behind it
+-- the dynamic memory of a state is put back, with the file's bytes after it
 abbrev pub memory_back : WholeState → MemoryMap → MemoryMap
 memory_back w m = again m (w.dynamic ++ drop (length w.dynamic) m.file)
 

@@ -14,7 +14,7 @@ given (zero ∷ []) = None
 given (zero ∷ n ∷ cs) = before (replicate (n + 1) 0) (given cs)
 given (suc b ∷ cs) = before (suc b ∷ []) (given cs)
 
--- so many bytes, with zeros behind these; none where they are more
+-- so many bytes, with zeros after these; none where they are more
 abbrev pub filled : ℕ → Option (List ℕ) → Option (List ℕ)
 filled n None = None
 filled n (Some xs) = if nat_le (length xs) n then Some (xs ++ replicate (n - length xs) 0) else None

@@ -16,7 +16,8 @@ use zk_mem::memory::Memory;
 /// Whether a saved game has the release and the serial number of a header.
 fn has_release(header: &Header, story: &[u8]) -> bool
     requires { 13 ≤ length story.now }
-    ensures { result ≡ (bytes_eq (take 2 story.now) (bytes_2 header.now.release) && bytes_eq (bytes_behind 2 6 story.now) header.now.serial) }
+    ensures { result ≡ (bytes_eq (take 2 story.now) (bytes_2 header.now.release) && bytes_eq
+        (bytes_behind 2 6 story.now) header.now.serial) }
 {
     let bytes = [(header.release >> 8) as u8, (header.release & 0xff) as u8];
     let release = &story[..2] == bytes.as_slice();
@@ -85,7 +86,8 @@ pub(crate) fn memory_fits(memory: &Memory, chunk: &ChunkView) -> bool
 /// The first frame, whose first six bytes are zeros, since it stands outside of all routines.
 pub(crate) fn first_frame(stack: &[u8]) -> Option<FrameBytes<'_>>
     ensures value { option_map frame_cut result ≡ first_written stack.now }
-    ensures len { IfSome result (λ f. length f.locals.now + length f.words.now + length f.rest.now + 8 ≡ length stack.now) }
+    ensures len { IfSome result
+        (λ f. length f.locals.now + length f.words.now + length f.rest.now + 8 ≡ length stack.now) }
 {
     if stack.len() < 8 {
         return None;

@@ -11,7 +11,7 @@ ghost use Rattle.zk_save.specs.Spelling.{ReadsWhatIsSpelled, ReadsAllThatIsSpell
 use zk_mem::memory::Memory;
 use zk_state::frames::Frames;
 
-/// Packed bytes are cut into runs that can't be longer, which can be done in one way alone, behind the last
+/// Packed bytes are cut into runs that can't be longer, which can be done in one way alone, after the last
 /// byte that is no zero.
 pub fn runs_are_longest()
     ensures cuts_into_longest { CutsIntoLongest }
@@ -39,7 +39,8 @@ fn has_six(serial: &[u8; 6])
 
 /// What was saved is loaded again: the same dynamic memory, frames and place.
 pub fn saved_is_loaded(memory: &Memory, frames: &Frames)
-    ensures { (place : ℕ) → IsLoadedAgain memory.now frames.now place (saved memory.now frames.now place) }
+    ensures { (place : ℕ)
+        → IsLoadedAgain memory.now frames.now place (saved memory.now frames.now place) }
 {
     let header = memory.header();
     has_six(&header.serial);

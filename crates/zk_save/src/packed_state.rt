@@ -41,8 +41,10 @@ impl PackedState {
         frames: &Frames,
         place: u32,
     ) -> Result<PackedState, AllocError>
-        ensures state { IfOk result (λ k. whole_state memory.now.file k ≡ state_of memory.now frames.now place) }
-        ensures is_of { IfOk result (IsOf memory.now.static_base frames.now.most_frames frames.now.most_words) }
+        ensures state { IfOk result
+            (λ k. whole_state memory.now.file k ≡ state_of memory.now frames.now place) }
+        ensures is_of { IfOk result
+            (IsOf memory.now.static_base frames.now.most_frames frames.now.most_words) }
     {
         frames.is_bounded();
         let dynamic = memory.dynamic();
@@ -58,11 +60,15 @@ impl PackedState {
 
     /// Puts the state's memory and frames in the place of these, and tells where the run goes on.
     pub(crate) fn put_back(&self, memory: &mut Memory, frames: &mut Frames) -> u32
-        requires { IsOf memory.old.static_base frames.old.most_frames frames.old.most_words self.now }
-        ensures state { (others : List WholeState) → gone_back (whole_state memory.old.file self.now ∷ others) memory.old frames.old ≡ Some (memory.new, frames.new, result, others) }
+        requires { IsOf memory.old.static_base frames.old.most_frames frames.old.most_words
+            self.now }
+        ensures state { (others : List WholeState) → gone_back
+            (whole_state memory.old.file self.now ∷ others) memory.old frames.old
+            ≡ Some (memory.new, frames.new, result, others) }
         ensures base { memory.new.static_base ≡ memory.old.static_base }
         ensures bounds { bounds_of frames.new ≡ bounds_of frames.old }
-        ensures story { (memory.new.file ≡ memory.old.file) × (memory.new.undo_states ≡ memory.old.undo_states) }
+        ensures story { (memory.new.file ≡ memory.old.file)
+            × (memory.new.undo_states ≡ memory.old.undo_states) }
     {
         let _ = memory.dynamic();
         let flags = memory.flags();

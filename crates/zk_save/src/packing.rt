@@ -12,7 +12,7 @@ use zk_mem::memory::Memory;
 /// So many bytes are looked at together, since most of memory is as the file has it.
 const BLOCK: usize = 64;
 
-/// Writes so many zeros: pairs of a zero and how many come behind it, of 256 zeros as long as these fit.
+/// Writes so many zeros: pairs of a zero and how many come after it, of 256 zeros as long as these fit.
 #[tactic(auto, using(crate::proofs::Packs::pairs_start, crate::proofs::Packs::pairs_step, crate::proofs::Packs::zeros_rest, crate::proofs::Packs::zeros_even))]
 fn put_zeros(out: &mut Vec<u8>, zeros: usize) -> Result<(), AllocError>
     ensures { OnOk result (out.new.items ≡ out.old.items ++ spelled (Zeros zeros)) }
@@ -29,11 +29,12 @@ fn put_zeros(out: &mut Vec<u8>, zeros: usize) -> Result<(), AllocError>
     Ok(())
 }
 
-/// Takes a byte behind so many zeros that wait, and tells how many wait then. A zero is counted; another
-/// byte is written behind those that waited.
+/// Takes a byte after so many zeros that wait, and tells how many wait then. A zero is counted; another
+/// byte is written after those that waited.
 fn put_byte(out: &mut Vec<u8>, zeros: usize, byte: u8) -> Result<usize, AllocError>
     requires { zeros < 2 ^ 63 }
-    ensures value { IfOk result (λ z. (rest : List ℕ) → out.new.items ++ packed_after z rest ≡ out.old.items ++ packed_after zeros (byte ∷ rest)) }
+    ensures value { IfOk result (λ z. (rest : List ℕ) → out.new.items ++ packed_after z rest
+        ≡ out.old.items ++ packed_after zeros (byte ∷ rest)) }
     ensures few { IfOk result (λ z. z ≤ zeros + 1) }
 {
     if byte == 0 {
@@ -45,7 +46,7 @@ fn put_byte(out: &mut Vec<u8>, zeros: usize, byte: u8) -> Result<usize, AllocErr
 }
 
 /// Bytes, packed: without the zeros at their end, each other run of zeros in pairs of a zero and how many
-/// come behind it, at most 255, and each other byte as it is (Quetzal 1.4, section 3).
+/// come after it, at most 255, and each other byte as it is (Quetzal 1.4, section 3).
 pub fn pack(alloc: Global, bytes: &[u8]) -> Result<Vec<u8>, AllocError>
     ensures value { IfOk result (λ v. v.items ≡ packed bytes.now) }
     ensures short { IfOk result (λ v. 2 * length v.items ≤ 3 * length bytes.now) }
@@ -70,7 +71,7 @@ fn is_alike(bytes: &[u8], file: &[u8], start: usize) -> bool
     turned == 0
 }
 
-/// Takes what bytes from one index up to another differ in from those of a file, behind so many zeros that wait, and
+/// Takes what bytes from one index up to another differ in from those of a file, after so many zeros that wait, and
 /// tells how many wait then.
 fn put_part(
     out: &mut Vec<u8>,
@@ -80,9 +81,12 @@ fn put_part(
     start: usize,
     end: usize,
 ) -> Result<usize, AllocError>
-    requires inside { (start ≤ end) × (end ≤ length bytes.now) × (length bytes.now ≤ length file.now) }
+    requires inside { (start ≤ end) × (end ≤ length bytes.now)
+        × (length bytes.now ≤ length file.now) }
     requires few { zeros ≤ start }
-    ensures value { IfOk result (λ z. out.new.items ++ packed_after z (drop end (xored bytes.now file.now)) ≡ out.old.items ++ packed_after zeros (drop start (xored bytes.now file.now))) }
+    ensures value { IfOk result (λ z. out.new.items
+        ++ packed_after z (drop end (xored bytes.now file.now))
+        ≡ out.old.items ++ packed_after zeros (drop start (xored bytes.now file.now))) }
     ensures few { IfOk result (λ z. z ≤ end) }
 {
     let mut zeros = zeros;
@@ -119,9 +123,12 @@ pub(crate) fn pack_difference(
 
 /// Turns the bytes of dynamic memory by a difference, which is packed.
 pub(crate) fn turn(packed: &[u8], memory: &mut Memory)
-    ensures turned { (ds : List ℕ) → unpacked (length ds) packed.now ≡ Some ds → length ds ≡ memory.old.static_base → memory.new ≡ with_bytes memory.old (xored memory.old.bytes ds) }
+    ensures turned { (ds : List ℕ) → unpacked (length ds) packed.now ≡ Some ds
+        → length ds ≡ memory.old.static_base
+        → memory.new ≡ with_bytes memory.old (xored memory.old.bytes ds) }
     ensures base { memory.new.static_base ≡ memory.old.static_base }
-    ensures story { (memory.new.file ≡ memory.old.file) × (memory.new.undo_states ≡ memory.old.undo_states) }
+    ensures story { (memory.new.file ≡ memory.old.file)
+        × (memory.new.undo_states ≡ memory.old.undo_states) }
 {
     let end = memory.dynamic().len();
     let mut at: usize = 0;

@@ -14,7 +14,8 @@ use crate::restore::RestoreError;
 /// Whether a file says that it is a saved game.
 fn says_saved_game(file: &[u8]) -> bool
     requires { 12 ≤ length file.now }
-    ensures { result ≡ (bytes_eq (take 4 file.now) (codes "FORM") && bytes_eq (bytes_behind 8 4 file.now) (codes "IFZS")) }
+    ensures { result ≡ (bytes_eq (take 4 file.now) (codes "FORM") && bytes_eq
+        (bytes_behind 8 4 file.now) (codes "IFZS")) }
 {
     let form = &file[..4] == b"FORM".as_slice();
     let kind = &file[8..12] == b"IFZS".as_slice();
@@ -23,7 +24,8 @@ fn says_saved_game(file: &[u8]) -> bool
 
 /// The bytes of the chunks in a saved game's form (Quetzal 1.4, sections 2 and 8).
 pub(crate) fn form(file: &[u8]) -> Result<&[u8], RestoreError>
-    ensures { MatchResult result (λ form. form_in file.now ≡ Ok form.now) (λ e. form_in file.now ≡ Err e) }
+    ensures { MatchResult result (λ form. form_in file.now ≡ Ok form.now)
+        (λ e. form_in file.now ≡ Err e) }
 {
     if file.len() < 12 {
         return Err(RestoreError::Truncated);
@@ -58,7 +60,8 @@ fn is_memory(name: &[u8]) -> bool
 
 /// Notes a chunk where it is the first of its kind.
 fn note<'a>(found: Found<'a>, chunk: ChunkView<'a>) -> Found<'a>
-    ensures { (cs : List Chunk) → noted (found_seen result) cs ≡ noted (found_seen found.entry) (chunk_cut chunk.entry ∷ cs) }
+    ensures { (cs : List Chunk) → noted (found_seen result) cs
+        ≡ noted (found_seen found.entry) (chunk_cut chunk.entry ∷ cs) }
 {
     if chunk.name == b"IFhd".as_slice() {
         return Found {
@@ -113,7 +116,8 @@ pub(crate) struct Parts<'a> {
 /// The parts in a form; none where a chunk passes its end, where a part is missing, or where the first
 /// `IFhd` has fewer than 13 bytes.
 pub(crate) fn parts_in(form: &[u8]) -> Option<Parts<'_>>
-    ensures value { or_refuse Truncated (option_map parts_cut result) ≡ loaded_by (or_refuse Truncated (chunks_in form.now)) parts_of }
+    ensures value { or_refuse Truncated (option_map parts_cut result)
+        ≡ loaded_by (or_refuse Truncated (chunks_in form.now)) parts_of }
     ensures story { IfSome result (λ p. 13 ≤ length p.story.now) }
 {
     let Some(found) = find(form) else {

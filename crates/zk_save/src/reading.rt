@@ -19,7 +19,7 @@ pub(crate) fn number(bytes: &[u8]) -> u32
     number
 }
 
-/// A chunk, and what stands behind it.
+/// A chunk, and what stands after it.
 #[derive(Clone, Copy, Drop)]
 pub(crate) struct ChunkView<'a> {
     pub name: &'a [u8],
@@ -48,7 +48,7 @@ pub(crate) fn chunk_at_front(bytes: &[u8]) -> Option<ChunkView<'_>>
     })
 }
 
-/// A frame as it is written, and what stands behind it.
+/// A frame as it is written, and what stands after it.
 #[derive(Clone, Copy, Drop)]
 pub(crate) struct FrameBytes<'a> {
     pub locals: &'a [u8],
@@ -84,7 +84,8 @@ fn result_variable(flags: u8, variable: u8) -> Option<u8>
 /// meaning.
 pub(crate) fn frame_at_front(bytes: &[u8]) -> Option<FrameBytes<'_>>
     ensures value { option_map frame_cut result ≡ first_of_frames bytes.now }
-    ensures len { IfSome result (λ f. length f.locals.now + length f.words.now + length f.rest.now + 8 ≡ length bytes.now) }
+    ensures len { IfSome result
+        (λ f. length f.locals.now + length f.words.now + length f.rest.now + 8 ≡ length bytes.now) }
     ensures locals { IfSome result (λ f. length f.locals.now ≤ 30) }
     ensures place { IfSome result (λ f. f.place < 2 ^ 24) }
     ensures supplied { IfSome result (λ f. f.supplied ≤ 7) }

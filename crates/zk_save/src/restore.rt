@@ -88,7 +88,7 @@ fn checked<'a>(file: &'a [u8], memory: &Memory, frames: &Frames) -> Result<Parts
 /// fields that an interpreter sets are set again (Standard, section 6.1.2). No memory is asked for.
 ///
 /// The chunks may come in any order; the first of each name counts, and of `CMem` and `UMem` the first of
-/// both. Other chunks, and bytes behind the form, are passed over.
+/// both. Other chunks, and bytes after the form, are passed over.
 ///
 /// Nothing changes where the file is refused. The refusals, in the order in which they are looked for:
 /// `Truncated` where the file has fewer than 12 bytes; `NotQuetzal` where it is no form of the kind `IFZS`;
@@ -102,10 +102,12 @@ fn checked<'a>(file: &'a [u8], memory: &Memory, frames: &Frames) -> Result<Parts
 pub fn restore(file: &[u8], memory: &mut Memory, frames: &mut Frames) -> Result<u32, RestoreError>
     ensures value { MatchResult result
         (λ place. restored file.now memory.old frames.old ≡ Ok (memory.new, frames.new, place))
-        (λ e. (restored file.now memory.old frames.old ≡ Err e) × (memory.new ≡ memory.old) × (frames.new ≡ frames.old)) }
+        (λ e. (restored file.now memory.old frames.old ≡ Err e) × (memory.new ≡ memory.old)
+        × (frames.new ≡ frames.old)) }
     ensures place { IfOk result (λ place. place < 2 ^ 24) }
     ensures base { memory.new.static_base ≡ memory.old.static_base }
-    ensures story { (memory.new.file ≡ memory.old.file) × (memory.new.undo_states ≡ memory.old.undo_states) }
+    ensures story { (memory.new.file ≡ memory.old.file)
+        × (memory.new.undo_states ≡ memory.old.undo_states) }
     ensures bounds { bounds_of frames.new ≡ bounds_of frames.old }
 {
     let parts = checked(file, memory, frames)?;

@@ -59,7 +59,8 @@ fn put_words(out: &mut Vec<u8>, words: &[u16]) -> Result<(), AllocError>
 #[tactic(auto, unfolding(crate::specs::Quetzal::chunk_bytes))]
 fn put_chunk(out: &mut Vec<u8>, name: &[u8], content: &[u8]) -> Result<(), AllocError>
     requires { length content.now < 2 ^ 32 }
-    ensures { OnOk result (out.new.items ≡ out.old.items ++ chunk_bytes (record { name = name.now; content = content.now })) }
+    ensures { OnOk result (out.new.items
+        ≡ out.old.items ++ chunk_bytes (record { name = name.now; content = content.now })) }
 {
     out.extend_from_slice(name)?;
     put_4(out, content.len() as u32)?;
@@ -73,7 +74,8 @@ fn put_chunk(out: &mut Vec<u8>, name: &[u8], content: &[u8]) -> Result<(), Alloc
 /// Writes how many words a frame's evaluation stack has, its local variables and these words.
 fn put_stack(out: &mut Vec<u8>, frame: &FrameView) -> Result<(), AllocError>
     requires { length frame.now.words.now ≤ 65535 }
-    ensures { OnOk result (out.new.items ≡ out.old.items ++ bytes_2 (length frame.now.words.now) ++ words_bytes frame.now.locals.now ++ words_bytes frame.now.words.now) }
+    ensures { OnOk result (out.new.items ≡ out.old.items ++ bytes_2 (length frame.now.words.now)
+        ++ words_bytes frame.now.locals.now ++ words_bytes frame.now.words.now) }
 {
     put_2(out, frame.words.len() as u16)?;
     put_words(out, frame.locals)?;
@@ -105,9 +107,22 @@ fn variable_byte(store: Option<u8>) -> u8
 /// Writes a frame (Quetzal 1.4, section 4).
 #[tactic(auto, unfolding(crate::specs::Quetzal::frame_bytes))]
 fn put_frame(out: &mut Vec<u8>, frame: &FrameView) -> Result<(), AllocError>
-    requires is_frame { IsFrame (record { locals = frame.now.locals.now; words = frame.now.words.now; place = frame.now.place; result = frame.now.result; supplied = frame.now.supplied }) }
+    requires is_frame { IsFrame (record {
+      locals = frame.now.locals.now;
+      words = frame.now.words.now;
+      place = frame.now.place;
+      result = frame.now.result;
+      supplied = frame.now.supplied;
+    }) }
     requires words { length frame.now.words.now ≤ 65535 }
-    ensures { OnOk result (out.new.items ≡ out.old.items ++ frame_bytes (record { locals = frame.now.locals.now; words = frame.now.words.now; place = frame.now.place; result = frame.now.result; supplied = frame.now.supplied })) }
+    ensures { OnOk result (out.new.items ≡ out.old.items ++ frame_bytes
+        (record {
+          locals = frame.now.locals.now;
+          words = frame.now.words.now;
+          place = frame.now.place;
+          result = frame.now.result;
+          supplied = frame.now.supplied;
+        })) }
 {
     put_3(out, frame.place)?;
     out.push(flags_byte(frame.result, frame.locals.len() as u8))?;
@@ -121,7 +136,14 @@ fn put_frame(out: &mut Vec<u8>, frame: &FrameView) -> Result<(), AllocError>
 #[tactic(auto, unfolding(crate::specs::Quetzal::first_bytes))]
 fn put_first(out: &mut Vec<u8>, frame: &FrameView) -> Result<(), AllocError>
     requires { length frame.now.words.now ≤ 65535 }
-    ensures { OnOk result (out.new.items ≡ out.old.items ++ first_bytes (record { locals = frame.now.locals.now; words = frame.now.words.now; place = frame.now.place; result = frame.now.result; supplied = frame.now.supplied })) }
+    ensures { OnOk result (out.new.items ≡ out.old.items ++ first_bytes
+        (record {
+          locals = frame.now.locals.now;
+          words = frame.now.words.now;
+          place = frame.now.place;
+          result = frame.now.result;
+          supplied = frame.now.supplied;
+        })) }
 {
     out.extend_from_slice(&[0, 0, 0, 0, 0, 0])?;
     put_stack(out, frame)?;
@@ -132,9 +154,11 @@ fn put_first(out: &mut Vec<u8>, frame: &FrameView) -> Result<(), AllocError>
 #[tactic(auto, using(crate::proofs::Saves::stack_start, crate::proofs::Saves::stack_step, crate::proofs::Saves::stack_end))]
 fn stack_of(alloc: Global, frames: &Frames) -> Result<Vec<u8>, AllocError>
     ensures value { IfOk result (λ v. v.items ≡ stack_content (reverse (frames_of frames.now))) }
-    ensures len { IfOk result (λ v. length v.items ≤ 8 * frames.now.most_frames + 2 * total_of frames.now) }
+    ensures len { IfOk result
+        (λ v. length v.items ≤ 8 * frames.now.most_frames + 2 * total_of frames.now) }
     ensures few { total_of frames.now ≤ 65535 }
-    ensures frames { (frames.now.most_frames ≤ 65535) × (total_of frames.now ≤ frames.now.most_words) }
+    ensures frames { (frames.now.most_frames ≤ 65535)
+        × (total_of frames.now ≤ frames.now.most_words) }
 {
     let _ = frames.words();
     let depth = frames.depth();
@@ -178,7 +202,8 @@ fn story_of(alloc: Global, memory: &Memory, place: u32) -> Result<Vec<u8>, Alloc
 /// that is shorter (Quetzal 1.4, section 3).
 #[tactic(auto, unfolding(crate::specs::Quetzal::memory_part))]
 fn put_memory(alloc: Global, out: &mut Vec<u8>, memory: &Memory) -> Result<(), AllocError>
-    ensures value { OnOk result (out.new.items ≡ out.old.items ++ chunk_bytes (memory_part memory.now)) }
+    ensures value { OnOk result
+        (out.new.items ≡ out.old.items ++ chunk_bytes (memory_part memory.now)) }
     ensures short { length (memory_part memory.now).content ≤ memory.now.static_base }
     ensures small { memory.now.static_base < 65536 }
 {
@@ -203,7 +228,8 @@ pub fn save(
 ) -> Result<Vec<u8>, AllocError>
     requires { place < 2 ^ 24 }
     ensures value { IfOk result (λ v. v.items ≡ saved memory.now frames.now place) }
-    ensures len { IfOk result (λ v. length v.items ≤ 51 + memory.now.static_base + 8 * frames.now.most_frames + 2 * frames.now.most_words) }
+    ensures len { IfOk result (λ v. length v.items ≤ 51 + memory.now.static_base
+        + 8 * frames.now.most_frames + 2 * frames.now.most_words) }
     ensures short { OnOk result (length (memory_part memory.now).content ≤ memory.now.static_base) }
 {
     let story = story_of(alloc, memory, place)?;

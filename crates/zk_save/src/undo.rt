@@ -78,11 +78,14 @@ impl Undo {
     /// there are too many. Where none is wanted, nothing changes, and no memory is asked for. Where there is
     /// no memory, all states stay.
     pub fn put(&mut self, memory: &Memory, frames: &Frames, place: u32) -> Result<(), AllocError>
-        ensures ok { OnOk result (states_in memory.now.file self.new ≡ take self.old.most (state_of memory.now frames.now place ∷ states_in memory.now.file self.old)) }
+        ensures ok { OnOk result (states_in memory.now.file self.new
+            ≡ take self.old.most
+            (state_of memory.now frames.now place ∷ states_in memory.now.file self.old)) }
         ensures err { OnErr result (self.new ≡ self.old) }
         ensures none { self.old.most ≡ 0 → IsOk result × (self.new ≡ self.old) }
         ensures most { self.new.most ≡ self.old.most }
-        ensures are_of { AreOf memory.now frames.now self.old → AreOf memory.now frames.now self.new }
+        ensures are_of { AreOf memory.now frames.now self.old
+            → AreOf memory.now frames.now self.new }
     {
         let alloc = self.alloc;
         let ring = match &mut self.ring {
@@ -96,7 +99,8 @@ impl Undo {
 
     /// The newest state, which is no longer kept.
     fn pop(&mut self) -> Option<PackedState>
-        ensures { MatchOption result ((self.old.states ≡ []) × (self.new ≡ self.old)) (λ k. self.old ≡ record { states = k ∷ self.new.states; most = self.new.most }) }
+        ensures { MatchOption result ((self.old.states ≡ []) × (self.new ≡ self.old))
+            (λ k. self.old ≡ record { states = k ∷ self.new.states; most = self.new.most }) }
     {
         let ring = match &mut self.ring {
             Some(ring) => ring,
@@ -113,12 +117,15 @@ impl Undo {
     /// the same story and bounds.
     pub fn take(&mut self, memory: &mut Memory, frames: &mut Frames) -> Option<u32>
         requires { AreOf memory.old frames.old self.old }
-        ensures value { MatchOption result
-            ((gone_back (states_in memory.old.file self.old) memory.old frames.old ≡ None) × (self.new ≡ self.old) × (memory.new ≡ memory.old) × (frames.new ≡ frames.old))
-            (λ place. gone_back (states_in memory.old.file self.old) memory.old frames.old ≡ Some (memory.new, frames.new, place, states_in memory.old.file self.new)) }
+        ensures value { MatchOption result ((gone_back (states_in memory.old.file self.old)
+            memory.old frames.old ≡ None) × (self.new ≡ self.old)
+            × (memory.new ≡ memory.old) × (frames.new ≡ frames.old))
+            (λ place. gone_back (states_in memory.old.file self.old) memory.old frames.old
+            ≡ Some (memory.new, frames.new, place, states_in memory.old.file self.new)) }
         ensures most { self.new.most ≡ self.old.most }
         ensures are_of { AreOf memory.new frames.new self.new }
-        ensures story { (memory.new.file ≡ memory.old.file) × (memory.new.undo_states ≡ memory.old.undo_states) }
+        ensures story { (memory.new.file ≡ memory.old.file)
+            × (memory.new.undo_states ≡ memory.old.undo_states) }
     {
         match self.pop() {
             Some(kept) => Some(kept.put_back(memory, frames)),

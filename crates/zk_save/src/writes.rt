@@ -16,7 +16,8 @@ use zk_state::frames::Frames;
 /// Writes bytes over dynamic memory.
 fn put_bytes(memory: &mut Memory, bytes: &[u8])
     requires { length bytes.now ≡ memory.old.static_base }
-    ensures { memory.new ≡ with_bytes memory.old (bytes.now ++ drop (length bytes.now) memory.old.bytes) }
+    ensures { memory.new
+        ≡ with_bytes memory.old (bytes.now ++ drop (length bytes.now) memory.old.bytes) }
 {
     let _ = memory.dynamic();
     memory.len();
@@ -29,7 +30,8 @@ fn put_bytes(memory: &mut Memory, bytes: &[u8])
 /// header's fields that an interpreter sets are set again (Standard, section 6.1.2).
 pub(crate) fn put_memory(memory: &mut Memory, chunk: &ChunkView)
     requires { is_some (dynamic_in memory.old (chunk_cut chunk.now)) ≡ true }
-    ensures { (dynamic : List ℕ) → dynamic_in memory.old (chunk_cut chunk.now) ≡ Some dynamic → memory.new ≡ again memory.old (dynamic ++ drop (length dynamic) memory.old.file) }
+    ensures { (dynamic : List ℕ) → dynamic_in memory.old (chunk_cut chunk.now) ≡ Some dynamic
+        → memory.new ≡ again memory.old (dynamic ++ drop (length dynamic) memory.old.file) }
 {
     let _ = memory.dynamic();
     let flags = memory.flags();
@@ -72,8 +74,14 @@ fn put_frame(frames: &mut Frames, frame: &FrameBytes)
     requires place { frame.now.place < 2 ^ 24 }
     requires supplied { frame.now.supplied ≤ 7 }
     requires few_frames { length (frames_of frames.old) + 1 ≤ frames.old.most_frames }
-    requires few_words { total_of frames.old + (length frame.now.locals.now / 2 + length frame.now.words.now / 2) ≤ frames.old.most_words }
-    ensures { frames.new ≡ record frames.old { current = frame_seen frame.now.locals.now frame.now.words.now frame.now.place frame.now.result frame.now.supplied; callers = frames_of frames.old } }
+    requires few_words { total_of frames.old
+        + (length frame.now.locals.now / 2 + length frame.now.words.now / 2)
+        ≤ frames.old.most_words }
+    ensures { frames.new ≡ record frames.old {
+      current = frame_seen frame.now.locals.now
+          frame.now.words.now frame.now.place frame.now.result frame.now.supplied;
+      callers = frames_of frames.old;
+    } }
 {
     let words = words_at_front(frame.locals);
     let locals = &words[..frame.locals.len() / 2];
@@ -84,7 +92,8 @@ fn put_frame(frames: &mut Frames, frame: &FrameBytes)
 /// Puts the frames that bytes spell above the others, for which there is room.
 fn put_rest(frames: &mut Frames, bytes: &[u8])
     requires { FindRoom (frames_rest bytes.now) frames.old }
-    ensures { (fs : List Frame) → frames_rest bytes.now ≡ Some fs → frames.new ≡ with_frames frames.old (reverse fs ++ frames_of frames.old) }
+    ensures { (fs : List Frame) → frames_rest bytes.now ≡ Some fs
+        → frames.new ≡ with_frames frames.old (reverse fs ++ frames_of frames.old) }
 {
     let mut rest = bytes;
     while !rest.is_empty() {
@@ -99,7 +108,8 @@ fn put_rest(frames: &mut Frames, bytes: &[u8])
 /// Puts the frames of a saved game in the place of all, within the bounds.
 pub(crate) fn put_stack(frames: &mut Frames, stack: &[u8])
     requires { FindPlace (frames_read stack.now) frames.old }
-    ensures { (fs : List Frame) → frames_read stack.now ≡ Some fs → frames.new ≡ with_frames frames.old (reverse fs) }
+    ensures { (fs : List Frame) → frames_read stack.now ≡ Some fs
+        → frames.new ≡ with_frames frames.old (reverse fs) }
 {
     let Some(first) = first_frame(stack) else {
         return;

@@ -21,7 +21,7 @@ alone locals words = frames_with (frame locals words 70 (Some 2)) []
 
 -- ---- the evaluation stack (section 6.3)
 
--- the newest word is the last: it is pushed behind the others, and pulled first (section 6.3)
+-- the newest word is the last: it is pushed after the others, and pulled first (section 6.3)
 abbrev pub LastInFirstOut : Type 0
 LastInFirstOut =
     (pushed (alone [] (44 ∷ 55 ∷ [])) 9 ≡ Ok (alone [] (44 ∷ 55 ∷ 9 ∷ [])))

@@ -13,7 +13,7 @@ pub record RecordList : Type 0 where
   pub current : FrameRecord
   pub most : ℕ
 
--- the record behind those of all callers
+-- the record after those of all callers
 abbrev pub current_of : Inside → FrameRecord
 current_of r = slice_index_or r.all.items r.depth first_record
 

@@ -73,7 +73,7 @@ pub struct FrameView<'a> {
     pub supplied: u8,
 }
 
-/// The record of a number, where the current one comes behind those of its callers.
+/// The record of a number, where the current one comes after those of its callers.
 fn record_at(callers: &[FrameRecord], current: FrameRecord, at: usize) -> FrameRecord
     requires { at ≤ length callers.now }
     ensures { result ≡ slice_index_or (callers.now ++ current ∷ []) at current }
@@ -88,7 +88,8 @@ fn record_at(callers: &[FrameRecord], current: FrameRecord, at: usize) -> FrameR
 /// Where the words of a frame end: where those of the next one begin, and at the top for the current one.
 fn end_of(callers: &[FrameRecord], current: FrameRecord, top: usize, at: usize) -> usize
     requires { at ≤ length callers.now }
-    ensures { result ≡ (if at == length callers.now then top else (slice_index_or (callers.now ++ current ∷ []) (at + 1) current).base) }
+    ensures { result ≡ (if at == length callers.now then top
+        else (slice_index_or (callers.now ++ current ∷ []) (at + 1) current).base) }
 {
     if at == callers.len() {
         top
@@ -104,7 +105,13 @@ fn view_of<'a>(words: &'a [u16], own: FrameRecord, end: usize) -> FrameView<'a>
     requires stack_base { own.stack_base ≤ end }
     requires end { end ≤ length words.now }
     ensures words { length result.words.now ≤ end }
-    ensures value { frame_of own (take end words.now) ≡ record { locals = result.locals.now; words = result.words.now; place = result.place; result = result.result; supplied = result.supplied } }
+    ensures value { frame_of own (take end words.now) ≡ record {
+      locals = result.locals.now;
+      words = result.words.now;
+      place = result.place;
+      result = result.result;
+      supplied = result.supplied;
+    } }
 {
     FrameView {
         locals: &words[own.base as usize..own.stack_base as usize],
@@ -119,7 +126,8 @@ fn view_of<'a>(words: &'a [u16], own: FrameRecord, end: usize) -> FrameView<'a>
 #[inline(always)]
 fn copy_words(words: &mut Vec<u16>, at: usize, from: &[u16])
     requires { at + length from.now ≤ length words.old.items }
-    ensures front { take (at + length from.now) words.new.items ≡ take at words.old.items ++ from.now }
+    ensures front { take (at + length from.now) words.new.items
+        ≡ take at words.old.items ++ from.now }
     ensures len { length words.new.items ≡ length words.old.items }
 {
     for k in 0..from.len() {
@@ -132,7 +140,8 @@ fn copy_words(words: &mut Vec<u16>, at: usize, from: &[u16])
 #[tactic(auto, using(crate::proofs::Calls::fill_step, crate::proofs::Calls::fill_end, crate::proofs::Calls::filled_length))]
 fn fill_words(words: &mut Vec<u16>, at: usize, count: usize, from: &[u16])
     requires { at + count ≤ length words.old.items }
-    ensures front { take (at + count) words.new.items ≡ take at words.old.items ++ filled count from.now }
+    ensures front { take (at + count) words.new.items
+        ≡ take at words.old.items ++ filled count from.now }
     ensures len { length words.new.items ≡ length words.old.items }
 {
     for k in 0..count {
@@ -186,8 +195,21 @@ impl Frames {
     /// The frame of a number, where the first has number 0.
     pub fn frame(&self, number: u16) -> FrameView<'_>
         requires { number ≤ length self.now.callers }
-        ensures value { slice_get (reverse (frames_of self.now)) number ≡ Some (record { locals = result.locals.now; words = result.words.now; place = result.place; result = result.result; supplied = result.supplied }) }
-        ensures is_frame { IsFrame (record { locals = result.locals.now; words = result.words.now; place = result.place; result = result.result; supplied = result.supplied }) }
+        ensures value { slice_get (reverse (frames_of self.now)) number
+            ≡ Some (record {
+              locals = result.locals.now;
+              words = result.words.now;
+              place = result.place;
+              result = result.result;
+              supplied = result.supplied;
+            }) }
+        ensures is_frame { IsFrame (record {
+          locals = result.locals.now;
+          words = result.words.now;
+          place = result.place;
+          result = result.result;
+          supplied = result.supplied;
+        }) }
         ensures words { length result.words.now ≤ 65535 }
     {
         let at = number as usize;
@@ -221,7 +243,8 @@ impl Frames {
 
     /// Whether there may be as many frames and words as a copy has.
     pub fn can_hold(&self, copy: &FramesCopy) -> bool
-        ensures { result ≡ (nat_le (length copy.now) self.now.most_frames && nat_le (sizes_of copy.now) self.now.most_words) }
+        ensures { result ≡ (nat_le (length copy.now) self.now.most_frames && nat_le
+            (sizes_of copy.now) self.now.most_words) }
     {
         copy.callers.len() < self.most_frames && copy.words.len() <= self.most_words
     }

@@ -26,7 +26,7 @@ pub(crate) const FIRST: FrameRecord = FrameRecord {
     supplied: 0,
 };
 
-/// The record of the current frame, behind those of its callers with the newest last, at most so many together. All
+/// The record of the current frame, after those of its callers with the newest last, at most so many together. All
 /// room is taken once, so that a call stores its own record and copies none.
 #[derive(Drop)]
 pub(crate) struct Records {
@@ -70,7 +70,8 @@ impl Records {
     /// The record of the first frame alone.
     pub(crate) fn new(alloc: Global, most: usize) -> Result<Records, AllocError>
         requires { 1 ≤ most }
-        ensures { IfOk result (λ r. r ≡ record { callers = []; current = first_record; most = most }) }
+        ensures { IfOk result
+            (λ r. r ≡ record { callers = []; current = first_record; most = most }) }
     {
         let all = room_for(alloc, most)?;
         Ok(Records {
@@ -132,7 +133,8 @@ impl Records {
     #[inline(always)]
     pub(crate) fn begin(&mut self, frame: FrameRecord)
         requires { length self.old.callers + 1 < self.old.most }
-        ensures { self.new ≡ record self.old { callers = self.old.callers ++ self.old.current ∷ []; current = frame } }
+        ensures { self.new ≡ record self.old
+            { callers = self.old.callers ++ self.old.current ∷ []; current = frame } }
     {
         self.depth += 1;
         self.all[self.depth] = frame;
@@ -156,7 +158,8 @@ impl Records {
     /// Puts others in the place of all. There may be as many.
     pub(crate) fn put(&mut self, callers: &[FrameRecord], current: FrameRecord)
         requires { length callers.now < self.old.most }
-        ensures { self.new ≡ record { callers = callers.now; current = current; most = self.old.most } }
+        ensures { self.new
+            ≡ record { callers = callers.now; current = current; most = self.old.most } }
     {
         copy_records(&mut self.all, callers);
         self.depth = callers.len();

@@ -111,7 +111,7 @@ CodesAreStored =
 abbrev pub LinesBegin : Type 0
 LinesBegin = (ends_line true [] ≡ true) × (ends_line false [] ≡ false) × (ends_line true (65 ∷ []) ≡ false) × (ends_line false (65 ∷ 10 ∷ []) ≡ true) × (ends_line true (10 ∷ 65 ∷ []) ≡ false)
 
--- while a table is open it alone gets the text, behind what it has (section 7.1.2.1)
+-- while a table is open it alone gets the text, after what it has (section 7.1.2.1)
 abbrev pub OpenTablesTakeText : Type 0
 OpenTablesTakeText =
     routed (flags_of 1) (streaming (flags_of 1) (streams true (table 13 3 ∷ table 2 0 ∷ []))) (Code 65)

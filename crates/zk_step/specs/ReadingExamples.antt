@@ -26,7 +26,7 @@ static_from base m = record m { static_base = base }
 abbrev pub with_dictionary_at : ℕ → MemoryMap → MemoryMap
 with_dictionary_at place m = record m { file = 0 ∷ 0 ∷ 0 ∷ 0 ∷ 0 ∷ 0 ∷ 0 ∷ 0 ∷ 0 ∷ place ∷ [] }
 
--- up to version 4: letters from byte 1 on, and a zero behind them, over what was there; byte 0, here at 2, is 4, and
+-- up to version 4: letters from byte 1 on, and a zero after them, over what was there; byte 0, here at 2, is 4, and
 -- there is room for three letters (section 15, `sread`)
 abbrev pub EarlyLinesEndWithAZero : Type 0
 EarlyLinesEndWithAZero =
@@ -50,7 +50,7 @@ LaterLinesAreCounted =
     × (later_line_put (memory_of 5 (9 ∷ 0 ∷ 99 ∷ 99 ∷ 99 ∷ [])) 0 (codes "Go") ≡ Ok (memory_of 5 (9 ∷ 2 ∷ codes "go" ++ 99 ∷ [])))
     × (later_line_put (memory_of 8 (1 ∷ 0 ∷ 99 ∷ 99 ∷ [])) 0 (codes "go") ≡ Ok (memory_of 8 (1 ∷ 1 ∷ 103 ∷ 99 ∷ [])))
 
--- a line goes on behind the letters that are there: `go` becomes `gonor` where there is room for five, and `got` where
+-- a line goes on after the letters that are there: `go` becomes `gonor` where there is room for five, and `got` where
 -- there is room for three (section 15, `aread`)
 abbrev pub LaterLinesGoOn : Type 0
 LaterLinesGoOn =
@@ -66,7 +66,7 @@ FullBuffersStay =
     × (later_line_put (static_from 0 (memory_of 5 (1 ∷ 3 ∷ 9 ∷ 9 ∷ 9 ∷ 9 ∷ []))) 0 (codes "X") ≡ Ok (static_from 0 (memory_of 5 (1 ∷ 3 ∷ 9 ∷ 9 ∷ 9 ∷ 9 ∷ []))))
     × (later_line_put (static_from 0 (memory_of 5 (0 ∷ 1 ∷ 9 ∷ []))) 0 [] ≡ Ok (static_from 0 (memory_of 5 (0 ∷ 1 ∷ 9 ∷ []))))
 
--- in every other case the count is stored, also where it does not change: of an empty line, behind letters or none,
+-- in every other case the count is stored, also where it does not change: of an empty line, after letters or none,
 -- and where there is room for none (section 15, `aread`)
 abbrev pub CountsAreStored : Type 0
 CountsAreStored =
@@ -136,7 +136,7 @@ EarlyLinesAreDivided =
     × (line_put (early_buffers 4 (0x32 ∷ 0x85 ∷ 0x14 ∷ 0xa5 ∷ 0x94 ∷ 0xa5 ∷ []) (9 ∷ 9 ∷ 9 ∷ []) (1 ∷ 9 ∷ 9 ∷ 9 ∷ 9 ∷ 9 ∷ [])) 0 4 (codes "GO")
     ≡ Ok (early_buffers 4 (0x32 ∷ 0x85 ∷ 0x14 ∷ 0xa5 ∷ 0x94 ∷ 0xa5 ∷ []) (103 ∷ 111 ∷ 0 ∷ []) (1 ∷ 1 ∷ 0 ∷ 14 ∷ 2 ∷ 1 ∷ [])))
 
--- version 5: a whole line, one that goes on behind a letter, none in a full buffer, whose letters are divided all the
+-- version 5: a whole line, one that goes on after a letter, none in a full buffer, whose letters are divided all the
 -- same, and one that the dictionary does not have (section 15, `aread`)
 abbrev pub LaterLinesAreDivided : Type 0
 LaterLinesAreDivided =
@@ -256,7 +256,7 @@ LinesGiveThirteen =
     × (line_answered (reader (memory_of 5 (3 ∷ 0 ∷ 9 ∷ 9 ∷ 9 ∷ [])) 11) (read_into 2) 0 0 (codes "Go") ≡ Err NoSuchLocal)
     × (line_answered (reader (memory_of 5 (3 ∷ 0 ∷ 9 ∷ 9 ∷ 9 ∷ [])) 11) (read_into 2) 5 0 (codes "Go") ≡ Err BadAddress)
 
--- the first global variable stands at 4, in the text buffer at 3: 13 is stored behind the line (section 15, `aread`)
+-- the first global variable stands at 4, in the text buffer at 3: 13 is stored after the line (section 15, `aread`)
 abbrev pub LinesBeforeTheirResult : Type 0
 LinesBeforeTheirResult =
     line_answered (reader (memory_of 5 (0 ∷ 0 ∷ 0 ∷ 4 ∷ 0 ∷ 9 ∷ 9 ∷ 9 ∷ [])) 11) (read_into 16) 3 0 (codes "Go") ≡ Ok (reader (memory_of 5 (0 ∷ 0 ∷ 0 ∷ 4 ∷ 0 ∷ 13 ∷ 111 ∷ 9 ∷ [])) 11, At 9)

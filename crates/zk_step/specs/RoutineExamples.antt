@@ -17,11 +17,11 @@ use Rattle.zk_step.specs.Examples.{memory_of, sixteen, routine_with, caller_with
 
 -- ---- routines (sections 5, 6.3, 6.4 and 15)
 
--- from address 4 on a routine of so many local variables, and behind their count the words 0x0102 and 0x0304
+-- from address 4 on a routine of so many local variables, and after their count the words 0x0102 and 0x0304
 abbrev pub with_header : ℕ → List ℕ
 with_header count = 0 ∷ 0 ∷ 0 ∷ 0 ∷ count ∷ 1 ∷ 2 ∷ 3 ∷ 4 ∷ []
 
--- in version 3 the initial values stand behind the count; in version 5 they are 0 (section 5.2.1)
+-- in version 3 the initial values stand after the count; in version 5 they are 0 (section 5.2.1)
 abbrev pub RoutinesBeginByVersion : Type 0
 RoutinesBeginByVersion =
     (routine_at (memory_of 3 (with_header 2)) 4 ≡ Ok (record { locals = 0x0102 ∷ 0x0304 ∷ []; start = 9 }))
@@ -43,7 +43,7 @@ ArgumentsComeFirst =
     × (with_arguments (5 ∷ []) (1 ∷ 2 ∷ []) ≡ 1 ∷ [])
     × (with_arguments [] (1 ∷ 2 ∷ []) ≡ [])
 
--- a call of packed address 2 in version 3, which is 4, with one argument: it goes on behind the header, and will
+-- a call of packed address 2 in version 3, which is 4, with one argument: it goes on after the header, and will
 -- return to address 9 and give its result to local variable 1 (section 6.4)
 abbrev pub CallsARoutine : Type 0
 CallsARoutine =
@@ -179,7 +179,7 @@ Quits =
     (control Quit [] ≡ ends ending.Quit)
     × (finished (in_routine [] []) (instruction (opcode.Control Quit) [] None None) [] ending.Quit ≡ Ok (in_routine [] [], End))
 
--- a call passes so many of the operands behind the first (section 6.4)
+-- a call passes so many of the operands after the first (section 6.4)
 abbrev pub PassesTheOperandsBehind : Type 0
 PassesTheOperandsBehind =
     finished (working (memory_of 5 (with_header 2)) (routine_with [] [] None) []) (instruction opcode.Push [] None None) (1 ∷ 7 ∷ 8 ∷ []) (ending.Call 1 1)

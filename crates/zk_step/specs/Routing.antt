@@ -82,7 +82,7 @@ unfoldable pub stored_all : ExtraTable → List text.Unit → List ℕ
 stored_all t [] = []
 stored_all t (u ∷ us) = stored t u ++ stored_all t us
 
--- the newest table gets codes behind those that it has, all of them known before the first is stored
+-- the newest table gets codes after those that it has, all of them known before the first is stored
 abbrev pub table_filled : GameState → OpenTable → List ℕ → Result GameState Fault
 table_filled w t codes =
     bytes_put w.memory (t.address + 2 + t.count) codes >>= λ m.

@@ -56,7 +56,7 @@ TablesAreNotSaved =
     × (saving Restore no_memory (8 ∷ 4 ∷ 16 ∷ []) ≡ gives 0)
     × (saving Restore no_memory (0 ∷ []) ≡ gives 0)
 
--- a file of version 3 and of 33 units of 2 bytes, whose header has this checksum; the bytes behind the header are 0x41
+-- a file of version 3 and of 33 units of 2 bytes, whose header has this checksum; the bytes after the header are 0x41
 -- and 0xff, and their sum is 0x140
 abbrev pub file_with_sum : ℕ → ℕ → List ℕ
 file_with_sum high low = 3 ∷ replicate 26 0 ++ 33 ∷ high ∷ low ∷ replicate 34 0 ++ 0x41 ∷ 0xff ∷ []
@@ -186,8 +186,8 @@ back_at version a b = working (memory_of version (0 ∷ 0 ∷ a ∷ b ∷ replic
 abbrev pub back_in_caller : ℕ → ℕ → ℕ → GameState
 back_in_caller a b value = working (memory_of 3 (0 ∷ 0 ∷ a ∷ b ∷ replicate 6 0)) (caller_with (value ∷ 62 ∷ []) (63 ∷ [])) []
 
--- in version 3 a branch on true is taken: by 5 or 4 from the address behind it, less 2, and by -2; one on false is not,
--- and what stands behind it follows (sections 4.7 and 15, `save`)
+-- in version 3 a branch on true is taken: by 5 or 4 from the address after it, less 2, and by -2; one on false is not,
+-- and what stands after it follows (sections 4.7 and 15, `save`)
 abbrev pub BranchesAreTaken : Type 0
 BranchesAreTaken =
     (resumed (back_at 3 0xc5 0) 2 ≡ Ok (back_at 3 0xc5 0, At 6))
@@ -212,7 +212,7 @@ BranchesMissTheStory =
     × (resumed (working (memory_of 3 (0 ∷ 0 ∷ 0x80 ∷ [])) (routine_with [] [] None) []) 2 ≡ Err BadTarget)
     × (resumed (working (memory_of 3 (0 ∷ 0 ∷ 0xc5 ∷ [])) (routine_with [] [] None) []) 3 ≡ Err BadTarget)
 
--- from version 4 on 2 is stored where the byte says, and what stands behind it follows (section 15, `save`)
+-- from version 4 on 2 is stored where the byte says, and what stands after it follows (section 15, `save`)
 abbrev pub TwoIsStored : Type 0
 TwoIsStored =
     (resumed (back_at 4 1 0) 2 ≡ Ok (record (back_at 4 1 0) { frames = (in_routine (2 ∷ 6 ∷ []) (44 ∷ [])).frames }, At 3))

@@ -14,7 +14,7 @@ use Rattle.zk_tables.specs.Parsing.{tokenised}
 abbrev pub taken_letters : MemoryMap → ℕ → List ℕ → List ℕ
 taken_letters m room line = map (lower_code (own_characters m)) (take room line)
 
--- letters are stored from an address on, and a zero behind them
+-- letters are stored from an address on, and a zero after them
 abbrev pub ended_by_zero : MemoryMap → ℕ → List ℕ → Result MemoryMap Fault
 ended_by_zero m a letters = bytes_put m a letters >>= λ n. byte_put n (a + length letters) 0
 
@@ -23,7 +23,7 @@ ended_by_zero m a letters = bytes_put m a letters >>= λ n. byte_put n (a + leng
 unfoldable pub early_line_put : MemoryMap → ℕ → List ℕ → Result MemoryMap Fault
 early_line_put m text line = byte_at m text >>= λ size. ended_by_zero m (text + 1) (taken_letters m (size - 1) line)
 
--- letters are stored behind those that are there, and then in byte 1 how many they are
+-- letters are stored after those that are there, and then in byte 1 how many they are
 abbrev pub counted_letters : MemoryMap → ℕ → ℕ → List ℕ → Result MemoryMap Fault
 counted_letters m text count letters = bytes_put m (text + 2 + count) letters >>= λ n. byte_put n (text + 1) (count + length letters)
 
@@ -32,7 +32,7 @@ abbrev pub is_filled : ℕ → ℕ → Bool
 is_filled size count = nat_lt 0 count && nat_le size count
 
 -- from version 5 on byte 0 says how many letters there may be, and byte 1 how many there are; the letters begin at
--- byte 2. A line goes on behind those; where they fill the buffer it stays as it is.
+-- byte 2. A line goes on after those; where they fill the buffer it stays as it is.
 unfoldable pub later_line_put : MemoryMap → ℕ → List ℕ → Result MemoryMap Fault
 later_line_put m text line = do
   size ← byte_at m text
@@ -60,7 +60,7 @@ line_put m text parse line =
 abbrev pub early_kept : ℕ → List ℕ → List ℕ
 early_kept size line = take (size - 1) line
 
--- and from version 5 on, behind those that are there
+-- and from version 5 on, after those that are there
 abbrev pub later_kept : ℕ → ℕ → List ℕ → List ℕ
 later_kept size count line = if is_filled size count then [] else take (size - count) line
 

@@ -61,8 +61,8 @@ pub fn call_routine(
 ) -> Result<u32, Refusal>
     requires near { i.now.next ≤ 2 ^ 20 }
     requires few { length arguments.now ≤ 7 }
-    ensures value { MatchResult result
-        (λ start. limited_next (called game.old i.now routine arguments.now) ≡ Ok (game.new, At start))
+    ensures value { MatchResult result (λ start. limited_next
+        (called game.old i.now routine arguments.now) ≡ Ok (game.new, At start))
         (λ e. limited_next (called game.old i.now routine arguments.now) ≡ Err e) }
     ensures bounds { bounds_of game.new.frames ≡ bounds_of game.old.frames }
 {

@@ -36,7 +36,8 @@ fn effect_by(
     ensures value { MatchResult result
         (λ e. effect_by opcode game.old text values.now ≡ Ok (game.new, e))
         (λ f. effect_by opcode game.old text values.now ≡ Err f) }
-    ensures ready { IfOk result (λ e. IsPrintable game.old.memory game.new.memory e.output e.ending) }
+    ensures ready { IfOk result
+        (λ e. IsPrintable game.old.memory game.new.memory e.output e.ending) }
     ensures bounds { bounds_of game.new.frames ≡ bounds_of game.old.frames }
 {
     match opcode {
@@ -77,7 +78,8 @@ fn effect_by(
 pub fn effect(game: &mut GameState, i: &Instr, values: &Values) -> Result<Effect, Refusal>
     ensures ok { IfOk result (λ e. effect_of game.old i.now values.now ≡ Ok (game.new, e)) }
     ensures err { IfErr result (λ r. Refuses r (effect_of game.old i.now values.now)) }
-    ensures ready { IfOk result (λ e. IsPrintable game.old.memory game.new.memory e.output e.ending) }
+    ensures ready { IfOk result
+        (λ e. IsPrintable game.old.memory game.new.memory e.output e.ending) }
     ensures bounds { bounds_of game.new.frames ≡ bounds_of game.old.frames }
 {
     match i.opcode {

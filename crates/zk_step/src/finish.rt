@@ -99,8 +99,8 @@ pub(crate) fn go_to(
     value: Option<u16>,
     place: u32,
 ) -> Result<u32, Refusal>
-    ensures value { MatchResult result
-        (λ at. limited_next (gone game.old variable value (Continuation.To place)) ≡ Ok (game.new, At at))
+    ensures value { MatchResult result (λ at. limited_next
+        (gone game.old variable value (Continuation.To place)) ≡ Ok (game.new, At at))
         (λ e. limited_next (gone game.old variable value (Continuation.To place)) ≡ Err e) }
     ensures bounds { bounds_of game.new.frames ≡ bounds_of game.old.frames }
 {
@@ -152,9 +152,12 @@ fn go_on(
 /// Jumps by an offset from an instruction: where to.
 fn jump(game: &mut GameState, i: &Instr, offset: u16) -> Result<u32, Refusal>
     requires { i.now.next ≤ 2 ^ 20 }
-    ensures value { MatchResult result
-        (λ at. limited_next (led game.old (continuation_of (jump_target (length game.old.memory.bytes) i.now.next offset))) ≡ Ok (game.new, At at))
-        (λ e. limited_next (led game.old (continuation_of (jump_target (length game.old.memory.bytes) i.now.next offset))) ≡ Err e) }
+    ensures value { MatchResult result (λ at. limited_next (led game.old
+        (continuation_of
+        (jump_target (length game.old.memory.bytes) i.now.next offset)))
+        ≡ Ok (game.new, At at)) (λ e. limited_next (led game.old
+        (continuation_of
+        (jump_target (length game.old.memory.bytes) i.now.next offset))) ≡ Err e) }
     ensures bounds { bounds_of game.new.frames ≡ bounds_of game.old.frames }
 {
     let continuation = continuation_of(jump_target(game.memory.len(), i.next, offset));
@@ -216,8 +219,10 @@ pub fn check_finish(
     ending: Ending,
 ) -> Result<(), Refusal>
     requires { IsPlainEnd ending }
-    ensures ok { OnOk result ((b : Bool) → IsOk (limited_next (finished (with_line_start b game.now) i.now values.now ending))) }
-    ensures err { IfErr result (λ e. (b : Bool) → limited_next (finished (with_line_start b game.now) i.now values.now ending) ≡ Err e) }
+    ensures ok { OnOk result ((b : Bool)
+        → IsOk (limited_next (finished (with_line_start b game.now) i.now values.now ending))) }
+    ensures err { IfErr result (λ e. (b : Bool) → limited_next
+        (finished (with_line_start b game.now) i.now values.now ending) ≡ Err e) }
 {
     match ending {
         Ending::Return(_) => match check_return(game) {

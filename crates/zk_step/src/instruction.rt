@@ -29,7 +29,8 @@ pub struct Begun {
 pub fn begin(game: &mut GameState, i: &Instr) -> Result<Begun, Refusal>
     ensures ok { IfOk result (λ b. HasBegun game.old i.now game.new b.values b.effect) }
     ensures err { IfErr result (λ e. limited_move (carried_out game.old i.now) ≡ Err e) }
-    ensures ready { IfOk result (λ b. IsPrintable game.old.memory game.new.memory b.effect.output b.effect.ending) }
+    ensures ready { IfOk result
+        (λ b. IsPrintable game.old.memory game.new.memory b.effect.output b.effect.ending) }
     ensures bounds { bounds_of game.new.frames ≡ bounds_of game.old.frames }
 {
     let values = match read_operands(game, &i.operands) {
@@ -46,8 +47,12 @@ pub fn begin(game: &mut GameState, i: &Instr) -> Result<Begun, Refusal>
 /// wherever the screen's last line then ends, and nothing changes.
 pub fn check(game: &GameState, i: &Instr, begun: &Begun) -> Result<(), Refusal>
     requires { IsPlainEnd begun.now.effect.ending }
-    ensures ok { OnOk result ((b : Bool) → IsOk (limited_next (finished (with_line_start b game.now) i.now begun.now.values begun.now.effect.ending))) }
-    ensures err { IfErr result (λ e. (b : Bool) → limited_next (finished (with_line_start b game.now) i.now begun.now.values begun.now.effect.ending) ≡ Err e) }
+    ensures ok { OnOk result ((b : Bool) → IsOk (limited_next
+        (finished (with_line_start b game.now) i.now begun.now.values
+        begun.now.effect.ending))) }
+    ensures err { IfErr result (λ e. (b : Bool) → limited_next
+        (finished (with_line_start b game.now) i.now begun.now.values
+        begun.now.effect.ending) ≡ Err e) }
 {
     check_finish(game, i, &begun.values, begun.effect.ending)
 }
@@ -55,9 +60,10 @@ pub fn check(game: &GameState, i: &Instr, begun: &Begun) -> Result<(), Refusal>
 /// Stores an instruction's result and finds where the machine goes on.
 pub fn finish(game: &mut GameState, i: &Instr, begun: &Begun) -> Result<Next, Refusal>
     requires { i.now.next ≤ 2 ^ 20 }
-    ensures value { MatchResult result
-        (λ n. limited_next (finished game.old i.now begun.now.values begun.now.effect.ending) ≡ Ok (game.new, n))
-        (λ e. limited_next (finished game.old i.now begun.now.values begun.now.effect.ending) ≡ Err e) }
+    ensures value { MatchResult result (λ n. limited_next
+        (finished game.old i.now begun.now.values begun.now.effect.ending)
+        ≡ Ok (game.new, n)) (λ e. limited_next
+        (finished game.old i.now begun.now.values begun.now.effect.ending) ≡ Err e) }
     ensures bounds { bounds_of game.new.frames ≡ bounds_of game.old.frames }
 {
     finish_ending(game, i, &begun.values, begun.effect.ending)

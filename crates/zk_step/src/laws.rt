@@ -33,7 +33,7 @@ pub fn effects_stay()
     ensures { EffectsStay }
 {}
 
-/// A line that is stored changes no byte beside those of its text buffer behind the first, which says how many
+/// A line that is stored changes no byte beside those of its text buffer after the first, which says how many
 /// letters there is room for.
 pub fn lines_change_text_buffers()
     ensures { LinesChangeTextBuffers }

@@ -22,8 +22,8 @@ use zk_mem::fault::Fault;
 #[tactic(auto, unfolding(crate::specs::Routines::routine_effect))]
 pub fn yield_of(opcode: Opcode, game: &mut GameState, values: &[u16]) -> Result<Yield, Fault>
     requires { IsQuiet opcode }
-    ensures value { MatchResult result
-        (λ y. (text : Option ℕ) → effect_by opcode game.old text values.now ≡ Ok (game.new, ends_with y))
+    ensures value { MatchResult result (λ y. (text : Option ℕ)
+        → effect_by opcode game.old text values.now ≡ Ok (game.new, ends_with y))
         (λ f. (text : Option ℕ) → effect_by opcode game.old text values.now ≡ Err f) }
     ensures bounds { bounds_of game.new.frames ≡ bounds_of game.old.frames }
 {

@@ -62,8 +62,10 @@ pub fn throw_value(game: &mut GameState, value: u16, frame: u16) -> Result<u32, 
 /// Whether a value can be returned from the current routine to its caller; the refusals are those of
 /// `return_value`.
 pub fn check_return(game: &GameState) -> Result<(), Refusal>
-    ensures ok { OnOk result ((value : ℕ) (b : Bool) → IsOk (limited_next (returned (with_line_start b game.now) value))) }
-    ensures err { IfErr result (λ e. (value : ℕ) (b : Bool) → limited_next (returned (with_line_start b game.now) value) ≡ Err e) }
+    ensures ok { OnOk result ((value : ℕ) (b : Bool)
+        → IsOk (limited_next (returned (with_line_start b game.now) value))) }
+    ensures err { IfErr result (λ e. (value : ℕ) (b : Bool)
+        → limited_next (returned (with_line_start b game.now) value) ≡ Err e) }
 {
     let variable = match game.frames.check_return() {
         Ok(variable) => variable,

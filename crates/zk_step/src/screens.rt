@@ -60,7 +60,8 @@ fn or_first(number: u16) -> u16
 
 /// Moves the cursor, where the upper window is selected.
 fn set_cursor(windows: &mut Windows, row: u16, column: u16)
-    ensures { windows.new ≡ in_upper windows.old.selected (cursor_set (or_first row) (or_first column)) windows.old }
+    ensures { windows.new
+        ≡ in_upper windows.old.selected (cursor_set (or_first row) (or_first column)) windows.old }
 {
     match windows.selected() {
         Window::Lower => {}
@@ -70,7 +71,8 @@ fn set_cursor(windows: &mut Windows, row: u16, column: u16)
 
 /// Stores the row and the column of the cursor in two words.
 fn store_cursor(memory: &mut Memory, address: u16, windows: &Windows) -> Result<(), Fault>
-    ensures { MatchResult result (λ _. cursor_stored memory.old address windows.now ≡ Ok memory.new) (λ e. cursor_stored memory.old address windows.now ≡ Err e) }
+    ensures { MatchResult result (λ _. cursor_stored memory.old address windows.now ≡ Ok memory.new)
+        (λ e. cursor_stored memory.old address windows.now ≡ Err e) }
 {
     let (row, column) = windows.cursor();
     memory.set_word(address as u32, row)?;
@@ -82,7 +84,8 @@ fn show_status(game: &GameState) -> Result<Effect, Fault>
     ensures value { MatchResult result
         (λ e. status_by game.now.view game.now ≡ Ok (game.now, e))
         (λ f. status_by game.now.view game.now ≡ Err f) }
-    ensures ready { IfOk result (λ e. IsPrintable game.now.memory game.now.memory e.output e.ending) }
+    ensures ready { IfOk result
+        (λ e. IsPrintable game.now.memory game.now.memory e.output e.ending) }
 {
     match game.view {
         View::Plain => Ok(Effect::goes_on()),
@@ -108,7 +111,8 @@ pub fn windows_effect(
     ensures value { MatchResult result
         (λ e. window_effect operation game.old values.now ≡ Ok (game.new, e))
         (λ f. window_effect operation game.old values.now ≡ Err f) }
-    ensures ready { IfOk result (λ e. IsPrintable game.old.memory game.new.memory e.output e.ending) }
+    ensures ready { IfOk result
+        (λ e. IsPrintable game.old.memory game.new.memory e.output e.ending) }
     ensures bounds { bounds_of game.new.frames ≡ bounds_of game.old.frames }
 {
     let first = values.first();

@@ -15,7 +15,8 @@ const FLAGS_2: u32 = 0x11;
 
 /// Turns stream 2 on or off.
 fn set_transcript(game: &mut GameState, on: bool) -> Result<(), Fault>
-    ensures value { MatchResult result (λ _. transcript_set on game.old ≡ Ok game.new) (λ e. transcript_set on game.old ≡ Err e) }
+    ensures value { MatchResult result (λ _. transcript_set on game.old ≡ Ok game.new)
+        (λ e. transcript_set on game.old ≡ Err e) }
     ensures bounds { bounds_of game.new.frames ≡ bounds_of game.old.frames }
 {
     let flags = game.memory.byte(FLAGS_2)?;
@@ -29,7 +30,8 @@ fn set_transcript(game: &mut GameState, on: bool) -> Result<(), Fault>
 
 /// Opens a table of stream 3. Where 16 are open it is `StreamDepth`, else without an address `BadAddress`.
 fn open_table(game: &mut GameState, address: Option<u16>) -> Result<(), Fault>
-    ensures value { MatchResult result (λ _. table_opened game.old address ≡ Ok game.new) (λ e. table_opened game.old address ≡ Err e) }
+    ensures value { MatchResult result (λ _. table_opened game.old address ≡ Ok game.new)
+        (λ e. table_opened game.old address ≡ Err e) }
     ensures bounds { bounds_of game.new.frames ≡ bounds_of game.old.frames }
 {
     match address {
@@ -44,7 +46,9 @@ fn open_table(game: &mut GameState, address: Option<u16>) -> Result<(), Fault>
 /// Closes the newest table of stream 3, whose first word then says how many codes it got. Where none is open
 /// nothing happens.
 fn close_table(game: &mut GameState) -> Result<(), Fault>
-    ensures value { MatchResult result (λ _. table_closed game.old (newest_of game.old.streams.tables) ≡ Ok game.new) (λ e. table_closed game.old (newest_of game.old.streams.tables) ≡ Err e) }
+    ensures value { MatchResult result
+        (λ _. table_closed game.old (newest_of game.old.streams.tables) ≡ Ok game.new)
+        (λ e. table_closed game.old (newest_of game.old.streams.tables) ≡ Err e) }
     ensures bounds { bounds_of game.new.frames ≡ bounds_of game.old.frames }
 {
     match game.streams.newest() {
@@ -60,7 +64,8 @@ fn close_table(game: &mut GameState) -> Result<(), Fault>
 /// Selects a stream, or deselects it by its negative number.
 #[tactic(auto, unfolding(crate::specs::Selecting::stream_selected))]
 fn select_stream(game: &mut GameState, values: &Values) -> Result<(), Fault>
-    ensures value { MatchResult result (λ _. stream_selected game.old values.now ≡ Ok game.new) (λ e. stream_selected game.old values.now ≡ Err e) }
+    ensures value { MatchResult result (λ _. stream_selected game.old values.now ≡ Ok game.new)
+        (λ e. stream_selected game.old values.now ≡ Err e) }
     ensures bounds { bounds_of game.new.frames ≡ bounds_of game.old.frames }
 {
     match values.first() {
@@ -83,7 +88,9 @@ fn select_stream(game: &mut GameState, values: &Values) -> Result<(), Fault>
 /// What opcodes of streams change.
 #[tactic(auto, unfolding(crate::specs::Selecting::stream_changed))]
 pub fn change_stream(operation: Stream, game: &mut GameState, values: &Values) -> Result<(), Fault>
-    ensures value { MatchResult result (λ _. stream_changed operation game.old values.now ≡ Ok game.new) (λ e. stream_changed operation game.old values.now ≡ Err e) }
+    ensures value { MatchResult result
+        (λ _. stream_changed operation game.old values.now ≡ Ok game.new)
+        (λ e. stream_changed operation game.old values.now ≡ Err e) }
     ensures bounds { bounds_of game.new.frames ≡ bounds_of game.old.frames }
 {
     match operation {

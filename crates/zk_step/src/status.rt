@@ -24,7 +24,8 @@ pub struct StatusLine {
 
 /// Whether an object's short name can be shown.
 fn check_name(memory: &Memory, name: Option<u32>) -> Result<(), Fault>
-    ensures { MatchResult result (λ _. IsOk (named memory.now name)) (λ e. named memory.now name ≡ Err e) }
+    ensures { MatchResult result (λ _. IsOk (named memory.now name))
+        (λ e. named memory.now name ≡ Err e) }
 {
     match name {
         None => Ok(()),

@@ -72,7 +72,8 @@ impl Streams {
     /// Opens a table, or answers `StreamDepth` where 16 are open.
     #[tactic(auto, unfolding(crate::specs::Streams::opened))]
     pub fn open(&mut self, address: u16) -> Result<(), Fault>
-        ensures { MatchResult result (λ _. opened self.old address ≡ Ok self.new) (λ e. opened self.old address ≡ Err e) }
+        ensures { MatchResult result (λ _. opened self.old address ≡ Ok self.new)
+            (λ e. opened self.old address ≡ Err e) }
     {
         if let Some(covered) = self.newest {
             if self.below.is_full() {

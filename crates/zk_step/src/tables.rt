@@ -14,7 +14,7 @@ use zk_arrays::scanning::scan_table;
 use zk_code::opcode::Table;
 use zk_mem::fault::Fault;
 
-/// The form of a table that is searched where none is given: words one behind the other.
+/// The form of a table that is searched where none is given: words one after the other.
 const WORDS: u16 = 0x82;
 
 /// The rectangle that operands name: of one row, unless a height is given, with no bytes skipped, unless it is said how
@@ -51,7 +51,8 @@ pub fn tables_effect(
     ensures value { MatchResult result
         (λ e. table_effect operation game.old values.now ≡ Ok (game.new, e))
         (λ f. table_effect operation game.old values.now ≡ Err f) }
-    ensures ready { IfOk result (λ e. IsPrintable game.old.memory game.new.memory e.output e.ending) }
+    ensures ready { IfOk result
+        (λ e. IsPrintable game.old.memory game.new.memory e.output e.ending) }
     ensures bounds { bounds_of game.new.frames ≡ bounds_of game.old.frames }
 {
     match operation {

@@ -28,10 +28,11 @@ fn take_letters(memory: &Memory, room: u8, line: &[u8]) -> ArrayVec<u8, 255>
     letters
 }
 
-/// Stores a line up to version 4: letters from byte 1 on, and a zero behind them.
+/// Stores a line up to version 4: letters from byte 1 on, and a zero after them.
 #[tactic(auto, unfolding(crate::specs::TextBuffers::early_line_put))]
 fn put_early_line(memory: &mut Memory, text: u16, line: &[u8]) -> Result<(), Fault>
-    ensures { MatchResult result (λ _. early_line_put memory.old text line.now ≡ Ok memory.new) (λ e. early_line_put memory.old text line.now ≡ Err e) }
+    ensures { MatchResult result (λ _. early_line_put memory.old text line.now ≡ Ok memory.new)
+        (λ e. early_line_put memory.old text line.now ≡ Err e) }
 {
     let text = text as u32;
     let size = memory.byte(text)?;
@@ -47,10 +48,11 @@ fn is_filled(size: u8, count: u8) -> bool
     count > 0 && size <= count
 }
 
-/// Stores a line from version 5 on: letters behind those that are there, and in byte 1 how many they are.
+/// Stores a line from version 5 on: letters after those that are there, and in byte 1 how many they are.
 #[tactic(auto, unfolding(crate::specs::TextBuffers::later_line_put))]
 fn put_later_line(memory: &mut Memory, text: u16, line: &[u8]) -> Result<(), Fault>
-    ensures { MatchResult result (λ _. later_line_put memory.old text line.now ≡ Ok memory.new) (λ e. later_line_put memory.old text line.now ≡ Err e) }
+    ensures { MatchResult result (λ _. later_line_put memory.old text line.now ≡ Ok memory.new)
+        (λ e. later_line_put memory.old text line.now ≡ Err e) }
 {
     let text = text as u32;
     let size = memory.byte(text)?;
@@ -75,7 +77,9 @@ pub fn divide(
     leaves_unknown: bool,
 ) -> Result<(), Fault>
     requires words { AreWordsOf (fixed_parts memory.old) words.now }
-    ensures { MatchResult result (λ _. divided memory.old text parse dictionary leaves_unknown ≡ Ok memory.new) (λ e. divided memory.old text parse dictionary leaves_unknown ≡ Err e) }
+    ensures { MatchResult result
+        (λ _. divided memory.old text parse dictionary leaves_unknown ≡ Ok memory.new)
+        (λ e. divided memory.old text parse dictionary leaves_unknown ≡ Err e) }
 {
     let dictionary = words.dictionary_at(memory, dictionary)?;
     tokenise(
@@ -97,7 +101,8 @@ pub fn put_line(
     line: &[u8],
 ) -> Result<(), Fault>
     requires words { AreWordsOf (fixed_parts memory.old) words.now }
-    ensures { MatchResult result (λ _. line_put memory.old text parse line.now ≡ Ok memory.new) (λ e. line_put memory.old text parse line.now ≡ Err e) }
+    ensures { MatchResult result (λ _. line_put memory.old text parse line.now ≡ Ok memory.new)
+        (λ e. line_put memory.old text parse line.now ≡ Err e) }
 {
     if memory.version() < 5 {
         put_early_line(memory, text, line)?;
@@ -133,7 +138,8 @@ fn later_letters(line: &[u8], size: u8, count: u8) -> &[u8]
 /// the buffer's first bytes can't be read.
 #[tactic(auto, unfolding(crate::specs::TextBuffers::kept_of))]
 pub fn kept_letters<'a>(memory: &Memory, text: u16, line: &'a [u8]) -> Result<&'a [u8], Fault>
-    ensures value { MatchResult result (λ kept. kept_of memory.now text line.now ≡ Ok kept.now) (λ f. kept_of memory.now text line.now ≡ Err f) }
+    ensures value { MatchResult result (λ kept. kept_of memory.now text line.now ≡ Ok kept.now)
+        (λ f. kept_of memory.now text line.now ≡ Err f) }
 {
     let text = text as u32;
     let size = memory.byte(text)?;

@@ -115,7 +115,8 @@ impl Values {
 
 #[tactic(auto, unfolding(crate::specs::Variables::operand_read))]
 fn read_operand(game: &mut GameState, operand: Operand) -> Result<u16, Fault>
-    ensures value { MatchResult result (λ x. operand_read game.old operand ≡ Ok (game.new, x)) (λ e. operand_read game.old operand ≡ Err e) }
+    ensures value { MatchResult result (λ x. operand_read game.old operand ≡ Ok (game.new, x))
+        (λ e. operand_read game.old operand ≡ Err e) }
     ensures bounds { bounds_of game.new.frames ≡ bounds_of game.old.frames }
 {
     match operand {
@@ -127,7 +128,8 @@ fn read_operand(game: &mut GameState, operand: Operand) -> Result<u16, Fault>
 
 /// The values of operands, first to last.
 pub fn read_operands(game: &mut GameState, operands: &Operands) -> Result<Values, Fault>
-    ensures value { MatchResult result (λ v. operands_read game.old operands.now ≡ Ok (game.new, v)) (λ e. operands_read game.old operands.now ≡ Err e) }
+    ensures value { MatchResult result (λ v. operands_read game.old operands.now ≡ Ok (game.new, v))
+        (λ e. operands_read game.old operands.now ≡ Err e) }
     ensures bounds { bounds_of game.new.frames ≡ bounds_of game.old.frames }
 {
     let _few = operands.len();

@@ -19,8 +19,8 @@ use zk_text::key::key;
 #[tactic(auto, using(crate::proofs::Keys::seen_none, crate::proofs::Keys::seen_first, crate::proofs::Keys::seen_past))]
 fn read_letters(memory: &Memory, address: u32, count: u16) -> Result<ArrayVec<u8, 9>, Fault>
     requires { address < 132000 }
-    ensures { MatchResult result
-        (λ v. (letters : List ℕ) × (letters_counted memory.now address count ≡ Ok letters) × (v.items ≡ take 9 letters))
+    ensures { MatchResult result (λ v. (letters : List ℕ)
+        × (letters_counted memory.now address count ≡ Ok letters) × (v.items ≡ take 9 letters))
         (λ e. letters_counted memory.now address count ≡ Err e) }
 {
     let mut letters = ArrayVec::new();

@@ -45,7 +45,7 @@ pub chain_full_bad : (m : MemoryMap) (n i x : ℕ) (e : Fault) → n ≤ i → x
 unfolding chain_from
 chain_full_bad m n i x e le ne h = let none : n - i ≡ zero = omega arith in rw (none, zero_test x ne, h) refl
 
--- how many objects a chain has, behind so many that were met
+-- how many objects a chain has, after so many that were met
 abbrev pub after_them : ℕ → Result (List ℕ) Fault → Result ℕ Fault
 after_them n (Ok xs) = Ok (n + length xs)
 after_them n (Err e) = Err e

@@ -11,7 +11,7 @@ use Rattle.zk_tables.specs.declared.dictionary.Dictionary.{Dictionary}
 use Rattle.zk_tables.specs.Dictionaries.{key_length, magnitude, dictionary_byte, dictionary_word, dictionary_by, dictionary_at, IsDictionaryOf, parts_at, bytes_from, keys_from, begins_with, has_key, found_from, entry_start}
 use Rattle.zk_tables.proofs.Steps.{bind_ok}
 
--- what stands behind a byte that is there
+-- what stands after a byte that is there
 pub drop_some : (xs : List ℕ) (i x : ℕ) → slice_get xs i ≡ Some x → drop i xs ≡ x ∷ drop (suc i) xs
 drop_some [] i x h = absurd cc
 drop_some (y ∷ ys) zero x h = let same : y ≡ x = cc in rw same refl

@@ -163,7 +163,7 @@ key_lengths m d i j = length_bytes m (entry_start d i) (key_length m.version) �
 
 -- ---- halves
 
--- the entries before one are below a key, and those behind the ones that are left are not
+-- the entries before one are below a key, and those after the ones that are left are not
 pub record Between (m : MemoryMap) (d : Dictionary) (key : List ℕ) (first left : ℕ) : Type 0 where
   pub before : (j : ℕ) → j < first → is_above key (entry_key m d j) ≡ true
   pub behind : (j : ℕ) → first + left ≤ j → j < d.entries → is_above key (entry_key m d j) ≡ false
@@ -173,7 +173,7 @@ doubled : ℕ → ℕ
 doubled zero = 1
 doubled (suc n) = doubled n + doubled n
 
--- the entries behind the middle
+-- the entries after the middle
 upper : (m : MemoryMap) (d : Dictionary) (key : List ℕ) (first left half : ℕ) → IsOrdered m d → half < left → Between m d key first left → is_above key (entry_key m d (first + half)) ≡ true → Between m d key (first + half + 1) (left - (half + 1))
 upper m d key first left half o below b t = record {
   before = λ j early. above_both key (entry_key m d (first + half)) (entry_key m d j) (key_lengths m d j (first + half)) t (ordered_keys m d o j (first + half) (omega (arith, early)) (let i = b.inside in omega (arith, i, below)));

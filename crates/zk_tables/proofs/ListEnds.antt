@@ -52,7 +52,7 @@ list_fails m a first e h k = list_read m a first h ∙ k
 pub list_goes_on : (m : MemoryMap) (a first end : ℕ) → list_byte m a ≡ Ok first → (at : EndsAt m a first end) → property_at m a ≡ Ok (Some at.property)
 list_goes_on m a first end h at = list_read m a first h ∙ at.read
 
--- behind each property less of data is left
+-- after each property less of data is left
 pub less_left : (m : MemoryMap) (a first end : ℕ) → list_byte m a ≡ Ok first → EndsAt m a first end → readable_end m - end < readable_end m - a
 less_left m a first end h at =
     let inside = list_byte_below m a first h in

@@ -20,7 +20,7 @@ pub list_byte_below : (m : MemoryMap) (a x : ℕ) → list_byte m a ≡ Ok x →
 unfolding list_byte
 list_byte_below m a x h = ltb-true a (readable_end m) (byte_below (nat_lt a (readable_end m)) _ x h)
 
--- a property ends behind where it begins
+-- a property ends after where it begins
 pub property_onward : (m : MemoryMap) (a : ℕ) (p : Property) → property_at m a ≡ Ok (Some p) → a < p.address + p.length
 unfolding property_at property_by
 property_onward m a p h =
@@ -36,7 +36,7 @@ property_onward m a p h =
       ]
     ]
 
--- behind data no property is read
+-- after data no property is read
 property_behind : (m : MemoryMap) (a : ℕ) → readable_end m ≤ a → property_at m a ≡ Err BadProperty
 unfolding property_at list_byte
 property_behind m a h = let t : nat_lt a (readable_end m) ≡ false = grind (arith, nat_tests) in rw t refl
@@ -58,7 +58,7 @@ one_more : (m : MemoryMap) (n a : ℕ) → readable_end m ≤ n → properties_f
 unfolding properties_from
 one_more m n a enough = same_list m n (suc n) a (omega arith) (omega arith)
 
--- the first property, and the list behind it
+-- the first property, and the list after it
 pub list_unrolled : (m : MemoryMap) (a : ℕ) → properties_at m a ≡ (property_at m a >>= λ p. with_rest p (λ b. properties_at m b))
 unfolding properties_at
 list_unrolled m a = one_more m (readable_end m) a (omega arith)

@@ -26,7 +26,7 @@ stands_behind m a (x ∷ xs) ys c h =
     let e : a + length (x ∷ xs) ≡ a + 1 + length xs = omega arith in
     rw e (stands_behind m (a + 1) xs ys c h.1)
 
--- a byte of data, and those behind it
+-- a byte of data, and those after it
 byte_front : (m : MemoryMap) (a x : ℕ) → byte_at m a ≡ Ok x → drop a m.bytes ≡ x ∷ drop (a + 1) m.bytes
 unfolding byte_at
 byte_front m a x h = elim (chosen (nat_lt a (readable_end m)) _ _ _ h) [

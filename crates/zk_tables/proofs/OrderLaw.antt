@@ -47,7 +47,7 @@ unfolding do_not_fall
 fall_behind k [] h = refl
 fall_behind k (l ∷ ks) h = (fall_parts k l ks h).1
 
--- what all keep to, those behind some keep to
+-- what all keep to, those after some keep to
 rest_all : (n : ℕ) (xs ys : List (List ℕ)) → AllByRecursion (λ k. length k ≡ n) (xs ++ ys) → AllByRecursion (λ k. length k ≡ n) ys
 rest_all n [] ys all = all
 rest_all n (x ∷ xs) ys all = rest_all n xs ys all.1

@@ -146,7 +146,7 @@ pub record IsPathBy (m : MemoryMap) (q : Place) (xs : List ℕ) : Type 0 where
   pub link : link_at m q ≡ Ok first
   pub path : IsPath m first xs 0
 
--- where the link that named the object names its sibling, the path goes on behind the object
+-- where the link that named the object names its sibling, the path goes on after the object
 pub path_without : (m n : MemoryMap) (o x next : ℕ) (q : Place) (xs : List ℕ) (place : Place) → o ≢ 0 → KeepsSiblings m n o
     → link_at m (sibling_of o) ≡ Ok next → link_at n place ≡ Ok next → ((w : ℕ) → w ≢ o → link_at m q ≡ Ok w → link_at n q ≡ Ok w)
     → link_at m q ≡ Ok x → IsPath m x xs 0 → IsDistinct eqb xs → naming_in q xs o ≡ Ok place → IsPathBy n q (without o xs)

@@ -28,7 +28,7 @@ memory_of version bytes = record {
 
 -- ---- the table (sections 12.2 and 12.3)
 
--- up to version 3 the first entry stands behind 31 default words, at 66, and each has 9 bytes (sections 12.2 and
+-- up to version 3 the first entry stands after 31 default words, at 66, and each has 9 bytes (sections 12.2 and
 -- 12.3.1)
 abbrev pub EarlyEntriesHaveNineBytes : Type 0
 EarlyEntriesHaveNineBytes =
@@ -38,7 +38,7 @@ EarlyEntriesHaveNineBytes =
     × (entry_of (memory_of 3 (replicate 93 0)) 0 ≡ Err BadObject)
     × (entries (memory_of 3 (replicate 93 0)) ≡ 3)
 
--- from version 4 on it stands behind 63 default words, at 130, and each has 14 bytes (sections 12.2 and 12.3.2)
+-- from version 4 on it stands after 63 default words, at 130, and each has 14 bytes (sections 12.2 and 12.3.2)
 abbrev pub LateEntriesHaveFourteenBytes : Type 0
 LateEntriesHaveFourteenBytes =
     (entry_of (memory_of 4 (replicate 158 0)) 1 ≡ Ok 130)
@@ -55,11 +55,11 @@ EarlyObjectsAreBytes =
 
 -- ---- attributes (sections 12.3.1 and 12.3.2)
 
--- object 1 of version 3 with these attribute bytes; a byte 0x80 stands behind them
+-- object 1 of version 3 with these attribute bytes; a byte 0x80 stands after them
 abbrev pub early_attributes : List ℕ → MemoryMap
 early_attributes bytes = memory_of 3 (replicate 66 0 ++ bytes ++ 0x80 ∷ 0 ∷ 0 ∷ 0 ∷ 0 ∷ [])
 
--- object 1 of version 5 with these attribute bytes; a byte 0x80 stands behind them
+-- object 1 of version 5 with these attribute bytes; a byte 0x80 stands after them
 abbrev pub late_attributes : List ℕ → MemoryMap
 late_attributes bytes = memory_of 5 (replicate 130 0 ++ bytes ++ 0x80 ∷ 0 ∷ 0 ∷ 0 ∷ 0 ∷ 0 ∷ 0 ∷ 0 ∷ [])
 
@@ -174,7 +174,7 @@ ObjectZeroStaysOut = (inserted family 4 0 ≡ Ok family) × (inserted family 0 4
 
 -- ---- properties (sections 12.2 and 12.4)
 
--- version 3: object 1 has its property table at 75, with a name of one word, and behind it from 78 on these properties
+-- version 3: object 1 has its property table at 75, with a name of one word, and after it from 78 on these properties
 abbrev pub early_properties : List ℕ → MemoryMap
 early_properties list =
     memory_of 3 (replicate 16 0 ++ 7 ∷ 8 ∷ [] ++ replicate 46 0 ++ 3 ∷ 1 ∷ [] ++ replicate 7 0 ++ 0 ∷ 75 ∷ 1 ∷ 0x98 ∷ 0xe8 ∷ [] ++ list)
@@ -183,7 +183,7 @@ early_properties list =
 abbrev pub three_early : MemoryMap
 three_early = early_properties (5 ∷ 0x2a ∷ 35 ∷ 1 ∷ 2 ∷ 98 ∷ 9 ∷ 8 ∷ 7 ∷ 6 ∷ 0 ∷ [])
 
--- version 5: object 1 has its property table at 144, with an empty name, and behind it from 145 on: property 5 of one
+-- version 5: object 1 has its property table at 144, with an empty name, and after it from 145 on: property 5 of one
 -- byte at 146, property 6 of two bytes at 148, property 3 of four bytes at 152 and property 2 of 64 bytes at 158
 abbrev pub four_late : MemoryMap
 four_late =
@@ -212,7 +212,7 @@ ValuesOfProperties =
     × (property_value four_late 1 6 ≡ Ok 0x0102)
     × (property_value four_late 1 3 ≡ Ok 0x0908)
 
--- where the data begins: behind one size byte, or two from version 4 on; 0 where there is none (sections 12.4.1 and
+-- where the data begins: after one size byte, or two from version 4 on; 0 where there is none (sections 12.4.1 and
 -- 12.4.2)
 abbrev pub AddressesOfProperties : Type 0
 AddressesOfProperties =
@@ -257,7 +257,7 @@ ValuesArePut =
     × (property_put three_early 1 3 0x1234 ≡ Ok (early_properties (5 ∷ 0x2a ∷ 35 ∷ 0x12 ∷ 0x34 ∷ 98 ∷ 9 ∷ 8 ∷ 7 ∷ 6 ∷ 0 ∷ [])))
     × (property_put three_early 1 4 0x1234 ≡ Err BadProperty)
 
--- a name begins behind the count of its words, and an empty one is none (section 12.4)
+-- a name begins after the count of its words, and an empty one is none (section 12.4)
 abbrev pub NamesBehindTheirCount : Type 0
 NamesBehindTheirCount = (name_of three_early 1 ≡ Ok (Some 76)) × (name_of four_late 1 ≡ Ok None) × (name_of three_early 0 ≡ Ok None)
 
@@ -345,7 +345,7 @@ abbrev pub one_and_two : ℕ → ℕ → List ℕ
 one_and_two high low = 0 ∷ 4 ∷ high ∷ low ∷ 0x65 ∷ 0xaa ∷ 0x80 ∷ 0xa5 ∷ 0x64 ∷ 0xd0 ∷ 0xa8 ∷ 0xa5 ∷ 0x64 ∷ 0xd0 ∷ 0xa8 ∷ 0xa5 ∷ []
 
 -- halves are allowed where nothing of the table can be written, its count is not negative and no key is above the one
--- after it; what is behind the keys does not count, which are 4 bytes up to version 3 and 6 from version 4 on (sections
+-- after it; what is after the keys does not count, which are 4 bytes up to version 3 and 6 from version 4 on (sections
 -- 13.2 to 13.5)
 abbrev pub HalvesAreAllowed : Type 0
 HalvesAreAllowed =
@@ -372,7 +372,7 @@ FirstEntriesAreFoundByHalves =
     × (found_in (dictionary_from 3 64 (one_and_two 0 3)) (at_64 4 3 true false) (0x64 ∷ 0xd0 ∷ 0xa8 ∷ 0xa5 ∷ []) ≡ 0x48)
     × (found_in (dictionary_from 3 64 (one_and_two 0xff 0xfd)) (at_64 4 3 false false) (0x64 ∷ 0xd0 ∷ 0xa8 ∷ 0xa5 ∷ []) ≡ 0x48)
 
--- how many keys are compared: behind the last entry there is none to come to
+-- how many keys are compared: after the last entry there is none to come to
 abbrev pub ComparisonsAreCounted : Type 0
 ComparisonsAreCounted =
     (compared_by_halves (dictionary_from 3 64 two_and_one) (at_64 4 3 true true) (0x64 ∷ 0xd0 ∷ 0xa8 ∷ 0xa5 ∷ []) ≡ 3)

@@ -15,7 +15,7 @@ pub record Place : Type 0 where
   pub compared : ℕ
 
 -- at most so many more times, of the entries that are left, from one on, the one in the middle is compared with the
--- key: where it is below the key those behind it are left, else those before it
+-- key: where it is below the key those after it are left, else those before it
 unfoldable pub halved : MemoryMap → Dictionary → List ℕ → ℕ → ℕ → ℕ → ℕ → Place
 halved m d key zero compared first left = record { entry = first; compared = compared }
 halved m d key (suc more) compared first left =
@@ -51,7 +51,7 @@ compared_by_halves m d key = if length key == key_length m.version then compared
 
 -- ---- laws
 
--- a key is above another: behind a front that both have, its byte is greater
+-- a key is above another: after a front that both have, its byte is greater
 pub record IsAbove (key other : List ℕ) : Type 0 where
   pub front : List ℕ
   pub high : ℕ

@@ -22,7 +22,7 @@ layout_of version = if nat_lt version 4 then early_layout else late_layout
 abbrev pub default_words_start : MemoryMap → ℕ
 default_words_start m = (header_of m.file).objects
 
--- behind them stand the entries, from object 1 on (section 12.3)
+-- after them stand the entries, from object 1 on (section 12.3)
 abbrev pub first_entry : Layout → ℕ → ℕ
 first_entry layout table = table + 2 * layout.default_words
 

@@ -72,6 +72,6 @@ tokenised m text parse d leaves_unknown = letters_of m text >>= λ letters. word
 
 -- ---- what may change
 
--- nothing but a parse buffer has changed, behind its first byte, which says how many words it has room for
+-- nothing but a parse buffer has changed, after its first byte, which says how many words it has room for
 abbrev pub ChangesParseBuffer : MemoryMap → MemoryMap → ℕ → Type 0
 ChangesParseBuffer m n parse = ((most : ℕ) → byte_at m parse ≡ Ok most → IsSameBut m n (parse + 1) (parse + 2 + 4 * most)) × ((e : Fault) → byte_at m parse ≡ Err e → n ≡ m)

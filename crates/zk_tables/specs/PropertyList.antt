@@ -32,7 +32,7 @@ IsWithin v Early p = (v < 4) × (p.number < 32) × (1 ≤ p.length) × (p.length
 IsWithin v One p = (4 ≤ v) × (p.number < 64) × (1 ≤ p.length) × (p.length ≤ 2)
 IsWithin v (Two x y) p = (4 ≤ v) × (p.number < 64) × (1 ≤ p.length) × (p.length ≤ 64) × (x < 2)
 
--- at a stand the size bytes of a property, which a byte 0 does not begin, and its data behind them
+-- at a stand the size bytes of a property, which a byte 0 does not begin, and its data after them
 pub record IsProperty (m : MemoryMap) (a : ℕ) (p : Property) : Type 0 where
   pub spelling : Spelling
   pub within : IsWithin m.version spelling p
@@ -89,7 +89,7 @@ pub record EndsAt (m : MemoryMap) (a first end : ℕ) : Type 0 where
   pub number : property.number ≡ number_in m.version first
   pub behind : property.address + property.length ≡ end
 
--- a property and those behind it, where the list has not ended
+-- a property and those after it, where the list has not ended
 abbrev pub with_rest : Option Property → (ℕ → Result (List Property) Fault) → Result (List Property) Fault
 with_rest None rest = Ok []
 with_rest (Some p) rest = rest (p.address + p.length) >>= λ ps. Ok (p ∷ ps)

@@ -35,7 +35,7 @@ pub record IsAlone (separators text : List ℕ) (t : Token) : Type 0 where
 abbrev pub IsToken : List ℕ → List ℕ → Token → Type 0
 IsToken separators text t = IsRun separators text t ⊎ IsAlone separators text t
 
--- each begins before those behind it
+-- each begins before those after it
 unfoldable pub Rises : List Token → Type 0
 Rises [] = Unit {0}
 Rises (t ∷ ts) = AllByRecursion (λ u. t.position < u.position) ts × Rises ts

@@ -40,7 +40,8 @@ pub fn attribute(memory: &Memory, object: u16, number: u16) -> Result<bool, Faul
 /// outside dynamic memory, also if the attribute is as wanted. A refusal changes nothing.
 #[tactic(auto, unfolding(crate::specs::Attributes::attribute_put))]
 pub fn set_attribute(memory: &mut Memory, object: u16, number: u16, on: bool) -> Result<(), Fault>
-    ensures { MatchResult result (λ _. attribute_put memory.old object number on ≡ Ok memory.new) (λ e. (attribute_put memory.old object number on ≡ Err e) × (memory.new ≡ memory.old)) }
+    ensures { MatchResult result (λ _. attribute_put memory.old object number on ≡ Ok memory.new)
+        (λ e. (attribute_put memory.old object number on ≡ Err e) × (memory.new ≡ memory.old)) }
 {
     if object == 0 {
         return Ok(());

@@ -81,7 +81,8 @@ fn byte_or_zero(memory: &Memory, address: u32) -> u8
 fn key_falls(memory: &Memory, first: u32, second: u32) -> bool
     requires first { first < 4294967000 }
     requires second { second < 4294967000 }
-    ensures { result ≡ is_above (bytes_from memory.now first (key_length memory.now.version)) (bytes_from memory.now second (key_length memory.now.version)) }
+    ensures { result ≡ is_above (bytes_from memory.now first (key_length memory.now.version))
+        (bytes_from memory.now second (key_length memory.now.version)) }
 {
     let length = key_bytes(memory) as u32;
     for i in 0..length {
@@ -208,7 +209,8 @@ impl Dictionary {
         requires stands { IsDictionaryOf memory.now self.now }
         requires index { index < self.now.entries }
         requires other { other < self.now.entries }
-        ensures { result ≡ is_above (entry_key memory.now self.now index) (entry_key memory.now self.now other) }
+        ensures { result
+            ≡ is_above (entry_key memory.now self.now index) (entry_key memory.now self.now other) }
     {
         let start = self.start_of(memory, index);
         let other_start = self.start_of(memory, other);

@@ -93,7 +93,7 @@ pub fn look_ups_are_first()
     ensures { LookUpsAreFirst }
 {}
 
-/// Keys of one length do not fall from one to the next just where none is above a later one: behind a front
+/// Keys of one length do not fall from one to the next just where none is above a later one: after a front
 /// that both have, its byte is nowhere the greater.
 pub fn keys_are_in_order()
     ensures { KeysAreInOrder }

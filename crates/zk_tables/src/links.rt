@@ -119,7 +119,8 @@ fn read_number(memory: &Memory, address: u32) -> Result<u16, Fault>
 #[inline(always)]
 #[tactic(auto, unfolding(crate::specs::Links::number_put))]
 fn write_number(memory: &mut Memory, address: u32, object: u16) -> Result<(), Fault>
-    ensures { MatchResult result (λ _. number_put memory.old address object ≡ Ok memory.new) (λ e. (number_put memory.old address object ≡ Err e) × (memory.new ≡ memory.old)) }
+    ensures { MatchResult result (λ _. number_put memory.old address object ≡ Ok memory.new)
+        (λ e. (number_put memory.old address object ≡ Err e) × (memory.new ≡ memory.old)) }
 {
     if layout_for(memory).link_bytes == 1 {
         memory.set_byte(address, (object % 256) as u8)
@@ -144,7 +145,8 @@ pub(crate) fn read_link(memory: &Memory, place: Place) -> Result<u16, Fault>
 /// Makes a link name an object.
 #[tactic(auto, unfolding(crate::specs::Links::link_put))]
 pub(crate) fn write_link(memory: &mut Memory, place: Place, object: u16) -> Result<(), Fault>
-    ensures { MatchResult result (λ _. link_put memory.old place object ≡ Ok memory.new) (λ e. (link_put memory.old place object ≡ Err e) × (memory.new ≡ memory.old)) }
+    ensures { MatchResult result (λ _. link_put memory.old place object ≡ Ok memory.new)
+        (λ e. (link_put memory.old place object ≡ Err e) × (memory.new ≡ memory.old)) }
 {
     let address = address(memory, place)?;
     write_number(memory, address, object)
@@ -215,7 +217,8 @@ impl Links {
     pub fn link(&mut self, memory: &Memory, object: u16, first: bool) -> Result<u16, Fault>
         requires { self.old ≤ 4200000000 }
         ensures value { result ≡ link_at memory.now (walked_link object first) }
-        ensures counted { MatchResult result (λ _. self.new ≡ self.old + 1) (λ _. self.new ≡ self.old) }
+        ensures counted { MatchResult result (λ _. self.new ≡ self.old + 1)
+            (λ _. self.new ≡ self.old) }
     {
         let place = walked(object, first);
         let named = read_link(memory, place)?;

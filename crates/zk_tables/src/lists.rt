@@ -100,7 +100,7 @@ fn number_in(version: u8, first: u8) -> u8
     if version < 4 { first % 32 } else { first % 64 }
 }
 
-/// The address behind the property whose first size byte stands at an address. It is found without the property, as lists
+/// The address after the property whose first size byte stands at an address. It is found without the property, as lists
 /// are walked often.
 #[inline(always)]
 #[tactic(auto, unfolding(crate::specs::PropertyList::property_by))]
@@ -108,7 +108,8 @@ fn end_of(memory: &Memory, version: u8, address: u32, first: u8) -> Result<u32, 
     requires version { version ≡ memory.now.version }
     requires near { address < 65536 }
     requires more { first ≡ 0 → ⊥ }
-    ensures { MatchResult result (EndsAt memory.now address first) (λ e. property_by memory.now address first ≡ Err e) }
+    ensures { MatchResult result (EndsAt memory.now address first)
+        (λ e. property_by memory.now address first ≡ Err e) }
 {
     if version < 4 {
         return Ok(address + 2 + (first / 32) as u32);
@@ -122,7 +123,8 @@ fn end_of(memory: &Memory, version: u8, address: u32, first: u8) -> Result<u32, 
 
 /// Whether a list goes on from an address to its end.
 pub(crate) fn check_list(memory: &Memory, address: u32) -> Result<(), Fault>
-    ensures { MatchResult result (λ _. IsOk (properties_at memory.now address)) (λ e. properties_at memory.now address ≡ Err e) }
+    ensures { MatchResult result (λ _. IsOk (properties_at memory.now address))
+        (λ e. properties_at memory.now address ≡ Err e) }
 {
     let version = memory.version();
     let mut at = address;

@@ -12,15 +12,19 @@ use zk_mem::fault::Fault;
 use zk_mem::memory::Memory;
 
 fn store_byte(memory: &mut Memory, address: u32, value: u8) -> Result<(), Fault>
-    ensures value { MatchResult result (λ _. byte_put memory.old address value ≡ Ok memory.new) (λ e. byte_put memory.old address value ≡ Err e) }
-    ensures beside { (low : ℕ) (high : ℕ) → low ≤ address → address < high → IsSameBut memory.old memory.new low high }
+    ensures value { MatchResult result (λ _. byte_put memory.old address value ≡ Ok memory.new)
+        (λ e. byte_put memory.old address value ≡ Err e) }
+    ensures beside { (low : ℕ) (high : ℕ) → low ≤ address → address < high
+        → IsSameBut memory.old memory.new low high }
 {
     memory.set_byte(address, value)
 }
 
 fn store_word(memory: &mut Memory, address: u32, value: u16) -> Result<(), Fault>
-    ensures value { MatchResult result (λ _. word_put memory.old address value ≡ Ok memory.new) (λ e. word_put memory.old address value ≡ Err e) }
-    ensures beside { (low : ℕ) (high : ℕ) → low ≤ address → address + 1 < high → IsSameBut memory.old memory.new low high }
+    ensures value { MatchResult result (λ _. word_put memory.old address value ≡ Ok memory.new)
+        (λ e. word_put memory.old address value ≡ Err e) }
+    ensures beside { (low : ℕ) (high : ℕ) → low ≤ address → address + 1 < high
+        → IsSameBut memory.old memory.new low high }
 {
     memory.set_word(address, value)
 }
@@ -34,8 +38,11 @@ fn put_block(
     word: Word,
 ) -> Result<(), Fault>
     requires { address < 100000 }
-    ensures value { MatchResult result (λ _. block_put memory.old address leaves_unknown word ≡ Ok memory.new) (λ e. block_put memory.old address leaves_unknown word ≡ Err e) }
-    ensures beside { (low : ℕ) (high : ℕ) → low ≤ address → address + 4 ≤ high → IsSameBut memory.old memory.new low high }
+    ensures value { MatchResult result
+        (λ _. block_put memory.old address leaves_unknown word ≡ Ok memory.new)
+        (λ e. block_put memory.old address leaves_unknown word ≡ Err e) }
+    ensures beside { (low : ℕ) (high : ℕ) → low ≤ address → address + 4 ≤ high
+        → IsSameBut memory.old memory.new low high }
 {
     if leaves_unknown && word.entry == 0 {
         return Ok(());
@@ -55,8 +62,11 @@ fn put_blocks(
 ) -> Result<(), Fault>
     requires address { address < 90000 }
     requires some { length words.now ≤ 255 }
-    ensures value { MatchResult result (λ _. blocks_put memory.old address leaves_unknown words.now ≡ Ok memory.new) (λ e. blocks_put memory.old address leaves_unknown words.now ≡ Err e) }
-    ensures beside { (low : ℕ) (high : ℕ) → low ≤ address → address + 4 * length words.now ≤ high → IsSameBut memory.old memory.new low high }
+    ensures value { MatchResult result
+        (λ _. blocks_put memory.old address leaves_unknown words.now ≡ Ok memory.new)
+        (λ e. blocks_put memory.old address leaves_unknown words.now ≡ Err e) }
+    ensures beside { (low : ℕ) (high : ℕ) → low ≤ address → address + 4 * length words.now ≤ high
+        → IsSameBut memory.old memory.new low high }
 {
     for i in 0..words.len() {
         put_block(memory, address + 4 * i as u32, leaves_unknown, words[i])?;
@@ -81,7 +91,9 @@ fn put_words(
     words: &[Word],
 ) -> Result<(), Fault>
     requires some { length words.now ≤ 255 }
-    ensures value { MatchResult result (λ _. words_put memory.old parse leaves_unknown words.now ≡ Ok memory.new) (λ e. words_put memory.old parse leaves_unknown words.now ≡ Err e) }
+    ensures value { MatchResult result
+        (λ _. words_put memory.old parse leaves_unknown words.now ≡ Ok memory.new)
+        (λ e. words_put memory.old parse leaves_unknown words.now ≡ Err e) }
     ensures beside { ChangesParseBuffer memory.old memory.new parse }
 {
     if parse >= 0x10000 {
@@ -108,7 +120,9 @@ pub fn tokenise(
     leaves_unknown: bool,
 ) -> Result<(), Fault>
     requires stands { IsDictionaryOf memory.old dictionary.now }
-    ensures value { MatchResult result (λ _. tokenised memory.old text parse dictionary.now leaves_unknown ≡ Ok memory.new) (λ e. tokenised memory.old text parse dictionary.now leaves_unknown ≡ Err e) }
+    ensures value { MatchResult result
+        (λ _. tokenised memory.old text parse dictionary.now leaves_unknown ≡ Ok memory.new)
+        (λ e. tokenised memory.old text parse dictionary.now leaves_unknown ≡ Err e) }
     ensures beside { ChangesParseBuffer memory.old memory.new parse }
 {
     let letters = read_letters(memory, text)?;

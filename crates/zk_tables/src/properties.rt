@@ -53,7 +53,7 @@ pub fn table_address(memory: &Memory, object: u16) -> Result<u16, Fault>
     }
 }
 
-/// The byte address of the property list of an object, which stands behind its short name (Standard, section 12.4).
+/// The byte address of the property list of an object, which stands after its short name (Standard, section 12.4).
 ///
 /// `BadObject` where the object has no entry in data, `BadProperty` where the first byte of its property table does not
 /// lie in data.
@@ -73,7 +73,8 @@ pub fn list_address(memory: &Memory, object: u16) -> Result<u32, Fault>
 /// property table, does not lie in data.
 #[tactic(auto, unfolding(crate::specs::Properties::properties_of))]
 pub fn check_properties(memory: &Memory, object: u16) -> Result<(), Fault>
-    ensures value { MatchResult result (λ _. IsOk (properties_of memory.now object)) (λ e. properties_of memory.now object ≡ Err e) }
+    ensures value { MatchResult result (λ _. IsOk (properties_of memory.now object))
+        (λ e. properties_of memory.now object ≡ Err e) }
     ensures walked { OnOk result (HasShortList memory.now object) }
 {
     memory.has_bytes();
@@ -120,7 +121,8 @@ fn value(memory: &Memory, number: u16, property: Option<Property>) -> Result<u16
 }
 
 fn set_value(memory: &mut Memory, value: u16, property: Option<Property>) -> Result<(), Fault>
-    ensures { MatchResult result (λ _. value_put_in memory.old value property ≡ Ok memory.new) (λ e. (value_put_in memory.old value property ≡ Err e) × (memory.new ≡ memory.old)) }
+    ensures { MatchResult result (λ _. value_put_in memory.old value property ≡ Ok memory.new)
+        (λ e. (value_put_in memory.old value property ≡ Err e) × (memory.new ≡ memory.old)) }
 {
     match property {
         None => Err(Fault::BadProperty),
@@ -204,7 +206,9 @@ pub fn next_property(memory: &Memory, object: u16, number: u16) -> Result<u16, F
 /// `ReadOnly` where the value lies outside dynamic memory. A refusal changes nothing.
 #[tactic(auto, unfolding(crate::specs::Properties::property_put), using(crate::proofs::ShortLists::walked_by))]
 pub fn put_property(memory: &mut Memory, object: u16, number: u16, value: u16) -> Result<(), Fault>
-    ensures value { MatchResult result (λ _. property_put memory.old object number value ≡ Ok memory.new) (λ e. (property_put memory.old object number value ≡ Err e) × (memory.new ≡ memory.old)) }
+    ensures value { MatchResult result
+        (λ _. property_put memory.old object number value ≡ Ok memory.new)
+        (λ e. (property_put memory.old object number value ≡ Err e) × (memory.new ≡ memory.old)) }
     ensures walked { OnOk result (object ≢ 0 → HasShortList memory.old object) }
 {
     if object == 0 {

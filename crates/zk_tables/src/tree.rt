@@ -74,7 +74,9 @@ fn naming_link(memory: &Memory, object: u16, links: &mut Links) -> Result<Option
 /// Whether an object may be removed, and the link that names it then.
 fn check_removal(memory: &Memory, object: u16, links: &mut Links) -> Result<Option<Place>, Fault>
     requires { links.old ≤ 4000000000 }
-    ensures value { MatchResult result (λ place. (naming_of memory.now object ≡ Ok place) × IsOk (removed memory.now object)) (λ e. removed memory.now object ≡ Err e) }
+    ensures value { MatchResult result
+        (λ place. (naming_of memory.now object ≡ Ok place) × IsOk (removed memory.now object))
+        (λ e. removed memory.now object ≡ Err e) }
     ensures few { CountsUpTo links.old links.new (entries memory.now + 1) }
 {
     let Some(place) = naming_link(memory, object, links)? else {
@@ -93,7 +95,8 @@ fn unlink(
     links: &mut Links,
 ) -> Result<(), Fault>
     requires { links.old ≤ 4100000000 }
-    ensures value { MatchResult result (λ _. unlinked_where memory.old object place ≡ Ok memory.new) (λ e. unlinked_where memory.old object place ≡ Err e) }
+    ensures value { MatchResult result (λ _. unlinked_where memory.old object place ≡ Ok memory.new)
+        (λ e. unlinked_where memory.old object place ≡ Err e) }
     ensures few { CountsUpTo links.old links.new 1 }
 {
     let Some(place) = place else {
@@ -114,7 +117,8 @@ fn link_first(
     links: &mut Links,
 ) -> Result<(), Fault>
     requires { links.old ≤ 4100000000 }
-    ensures value { MatchResult result (λ _. linked memory.old object destination ≡ Ok memory.new) (λ e. linked memory.old object destination ≡ Err e) }
+    ensures value { MatchResult result (λ _. linked memory.old object destination ≡ Ok memory.new)
+        (λ e. linked memory.old object destination ≡ Err e) }
     ensures few { CountsUpTo links.old links.new 1 }
 {
     let next = links.link(memory, destination, true)?;
@@ -132,7 +136,8 @@ fn link_first(
 /// it count.
 pub fn remove(memory: &mut Memory, object: u16, links: &mut Links) -> Result<(), Fault>
     requires { links.old ≤ 4000000000 }
-    ensures value { MatchResult result (λ _. removed memory.old object ≡ Ok memory.new) (λ e. (removed memory.old object ≡ Err e) × (memory.new ≡ memory.old)) }
+    ensures value { MatchResult result (λ _. removed memory.old object ≡ Ok memory.new)
+        (λ e. (removed memory.old object ≡ Err e) × (memory.new ≡ memory.old)) }
     ensures few { CountsUpTo links.old links.new (entries memory.old + 2) }
 {
     let place = check_removal(memory, object, links)?;
@@ -151,7 +156,8 @@ pub fn insert(
     links: &mut Links,
 ) -> Result<(), Fault>
     requires { links.old ≤ 4000000000 }
-    ensures value { MatchResult result (λ _. inserted memory.old object destination ≡ Ok memory.new) (λ e. (inserted memory.old object destination ≡ Err e) × (memory.new ≡ memory.old)) }
+    ensures value { MatchResult result (λ _. inserted memory.old object destination ≡ Ok memory.new)
+        (λ e. (inserted memory.old object destination ≡ Err e) × (memory.new ≡ memory.old)) }
     ensures few { CountsUpTo links.old links.new (entries memory.old + 3) }
 {
     if object == 0 || destination == 0 {

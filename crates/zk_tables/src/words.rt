@@ -25,7 +25,8 @@ pub struct Word {
 #[tactic(auto, using(crate::proofs::Dividing::after_none, crate::proofs::Dividing::counted_on, crate::proofs::Dividing::counted_faults, crate::proofs::Dividing::counted_ends))]
 fn read_counted(memory: &Memory, address: u32, count: u8) -> Result<ArrayVec<u8, 255>, Fault>
     requires { address < 70000 }
-    ensures { MatchResult result (λ v. letters_counted memory.now address count ≡ Ok v.items) (λ e. letters_counted memory.now address count ≡ Err e) }
+    ensures { MatchResult result (λ v. letters_counted memory.now address count ≡ Ok v.items)
+        (λ e. letters_counted memory.now address count ≡ Err e) }
 {
     let mut letters = ArrayVec::new();
     for i in 0..count as u32 {
@@ -41,7 +42,8 @@ fn read_counted(memory: &Memory, address: u32, count: u8) -> Result<ArrayVec<u8,
 #[tactic(auto, using(crate::proofs::Dividing::after_none, crate::proofs::Dividing::zero_on, crate::proofs::Dividing::zero_here, crate::proofs::Dividing::zero_faults, crate::proofs::Dividing::zero_ends))]
 fn read_to_zero(memory: &Memory, address: u32) -> Result<ArrayVec<u8, 255>, Fault>
     requires { address < 70000 }
-    ensures { MatchResult result (λ v. letters_to_zero memory.now address 254 ≡ Ok v.items) (λ e. letters_to_zero memory.now address 254 ≡ Err e) }
+    ensures { MatchResult result (λ v. letters_to_zero memory.now address 254 ≡ Ok v.items)
+        (λ e. letters_to_zero memory.now address 254 ≡ Err e) }
 {
     let mut letters = ArrayVec::new();
     for i in 0..254u32 {
@@ -57,7 +59,8 @@ fn read_to_zero(memory: &Memory, address: u32) -> Result<ArrayVec<u8, 255>, Faul
 /// The letters of a text buffer.
 #[tactic(auto, unfolding(crate::specs::Parsing::letters_of), using(crate::proofs::Storing::letters_past))]
 pub(crate) fn read_letters(memory: &Memory, text: u32) -> Result<ArrayVec<u8, 255>, Fault>
-    ensures { MatchResult result (λ v. letters_of memory.now text ≡ Ok v.items) (λ e. letters_of memory.now text ≡ Err e) }
+    ensures { MatchResult result (λ v. letters_of memory.now text ≡ Ok v.items)
+        (λ e. letters_of memory.now text ≡ Err e) }
 {
     if text >= 0x10000 {
         return Err(Fault::BadAddress);
@@ -102,7 +105,7 @@ fn word_of(memory: &Memory, dictionary: &Dictionary, letters: &[u8], token: Toke
     }
 }
 
-/// Puts the word of a token, where there is one, behind others.
+/// Puts the word of a token, where there is one, after others.
 fn put_word(
     words: &mut ArrayVec<Word, 255>,
     memory: &Memory,
@@ -113,7 +116,8 @@ fn put_word(
     requires stands { IsDictionaryOf memory.now dictionary.now }
     requires within { IfSome token (λ t. t.position + t.length ≤ length letters.now) }
     requires room { length words.old.items ≤ 254 }
-    ensures value { words.new.items ≡ words.old.items ++ words_for memory.now dictionary.now letters.now token }
+    ensures value { words.new.items
+        ≡ words.old.items ++ words_for memory.now dictionary.now letters.now token }
     ensures room { length words.new.items ≤ length words.old.items + 1 }
 {
     if let Some(token) = token {

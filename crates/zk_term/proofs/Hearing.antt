@@ -16,7 +16,7 @@ split_last : (line : List ℕ) → IsPlain line → slice_split is_new_line line
 split_last [] h = refl
 split_last (b ∷ line) h = rw (split_last line h.1, h.0) refl
 
--- a first part and those behind it
+-- a first part and those after it
 pub record Parts (bytes : List ℕ) : Type 0 where
   pub first : List ℕ
   pub more : List (List ℕ)

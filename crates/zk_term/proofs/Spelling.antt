@@ -169,7 +169,7 @@ pub stray_on : (b : ℕ) (bytes : List ℕ) → character_length (b ∷ bytes) �
 unfolding characters_past characters_of
 stray_on b bytes e = rw (e, chars-nil) refl
 
--- what bytes begin with, and the characters behind it
+-- what bytes begin with, and the characters after it
 pub record Steps (bytes : List ℕ) (x : Option ℕ) : Type 0 where
   pub now : characters_of bytes ≡ x ∷ characters_of (drop (character_step x) bytes)
   pub some : 0 < character_step x

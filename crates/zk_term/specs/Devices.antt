@@ -18,6 +18,10 @@ pub record Device : Type 0 where
   pub taken : Option (List ℕ)
   pub failed : Bool
 
+-- a device, by what it tells of itself
+abbrev pub device : {D : Type 0} → (D → Option (List ℕ)) → (D → Bool) → D → Device
+device {D} taken failed d = record { taken = taken d; failed = failed d }
+
 -- a device that was given some bytes took a first part: all where no write has failed by now, and none
 -- where one had failed before
 pub record Took (old new : Device) (bytes : List ℕ) : Type 0 where
@@ -46,7 +50,7 @@ pub record Sender : Type 0 where
   pub waiting : List ℕ
   pub failed : Bool
 
--- bytes were sent to a device: behind those that waited before, it took a first part of all, and while no write has failed
+-- bytes were sent to a device: after those that waited before, it took a first part of all, and while no write has failed
 -- the others wait; none, where a write had failed before
 pub record Sent (old new : Sender) (bytes : List ℕ) : Type 0 where
   pub part : List ℕ

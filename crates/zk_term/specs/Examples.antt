@@ -67,7 +67,7 @@ LongLines =
 abbrev pub lines_heard : List (List ℕ) → Heard
 lines_heard lines = record { lines = lines; over = over.End }
 
--- a new line ends a line, and what is behind the last one is a line too where it has a byte
+-- a new line ends a line, and what is after the last one is a line too where it has a byte
 abbrev pub NewLinesEndLines : Type 0
 NewLinesEndLines =
     (heard [] ≡ lines_heard [])
@@ -87,7 +87,7 @@ ReturnsBeforeNewLines =
     × (heard (97 ∷ 10 ∷ 13 ∷ 98 ∷ 10 ∷ []) ≡ lines_heard ((97 ∷ []) ∷ (13 ∷ 98 ∷ []) ∷ []))
     × (heard (97 ∷ 13 ∷ []) ≡ lines_heard ((97 ∷ 13 ∷ []) ∷ []))
 
--- 65,535 bytes are a line, with a new line behind them or none; 65,536 are too many, and a line before them stands
+-- 65,535 bytes are a line, with a new line after them or none; 65,536 are too many, and a line before them stands
 abbrev pub TooManyBytes : Type 0
 TooManyBytes =
     (heard (replicate 65535 97 ++ 10 ∷ []) ≡ lines_heard (replicate 65535 97 ∷ []))

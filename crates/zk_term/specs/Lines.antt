@@ -11,7 +11,7 @@ use Rattle.zk_term.specs.declared.lines.Input.TheVariants as input
 use Rattle.zk_term.specs.Characters.{line_codes}
 use Rattle.zk_term.specs.Devices.{HasJust}
 
--- what can be read of an input: its lines, and how it is over behind them
+-- what can be read of an input: its lines, and how it is over after them
 pub record Heard : Type 0 where
   pub lines : List (List ℕ)
   pub over : Over
@@ -30,7 +30,7 @@ while_short [] = []
 while_short (part ∷ parts) = if is_short part then part ∷ while_short parts else []
 
 -- The lines in the parts between new lines: an empty last part is no line, and a part before a new line loses a
--- return at its end. A part that is not short can't be read, nor can what is behind it.
+-- return at its end. A part that is not short can't be read, nor can what is after it.
 abbrev pub heard_in : List (List ℕ) → Heard
 heard_in parts =
     if list_all is_short parts
@@ -41,7 +41,7 @@ heard_in parts =
 unfoldable pub heard : List ℕ → Heard
 heard bytes = heard_in (slice_split is_new_line bytes)
 
--- a line and what can be read behind it
+-- a line and what can be read after it
 abbrev pub behind : List ℕ → Heard → Heard
 behind line h = record { lines = line ∷ h.lines; over = h.over }
 

@@ -8,7 +8,7 @@ use Rattle.zk_term.specs.Windows.{Windows, first_windows, split, window_selected
 abbrev pub HasNoNewLine : List ℕ → Type 0
 HasNoNewLine cs = AllByRecursion (λ c. c ≢ 10) cs
 
--- The characters stand in consecutive cells from where the cursor was, which has come behind them, and nothing else is
+-- The characters stand in consecutive cells from where the cursor was, which has come after them, and nothing else is
 -- changed (section 8.7.2).
 pub record StandInARow (cs : List ℕ) (old new : Windows) : Type 0 where
   pub here : (k : ℕ) → k < length cs → new.cells.at old.row (old.column + k) ≡ slice_index cs k
@@ -34,7 +34,7 @@ abbrev pub PrintsKeepTheRowsBelow : Type 0
 PrintsKeepTheRowsBelow =
     (cs : List ℕ) (w : Windows) (row column : ℕ) → w.height < row → (printed cs w).cells.at row column ≡ w.cells.at row column
 
--- characters are printed one after another: a text behind another is printed where that has left the cursor
+-- characters are printed one after another: a text after another is printed where that has left the cursor
 abbrev pub PrintsFollowOneAnother : Type 0
 PrintsFollowOneAnother = (cs ds : List ℕ) (w : Windows) → printed (cs ++ ds) w ≡ printed ds (printed cs w)
 

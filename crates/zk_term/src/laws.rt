@@ -27,7 +27,7 @@ pub fn characters_stand_in_a_row()
 {}
 
 /// What is printed in the upper window changes neither its height nor the selected window, nor a row below the
-/// height; and a text behind another goes on where that one ends.
+/// height; and a text after another goes on where that one ends.
 pub fn prints_keep_the_rest()
     ensures split { PrintsKeepTheSplit }
     ensures rows { PrintsKeepTheRowsBelow }

@@ -61,7 +61,8 @@ impl Model for Lines {
 
     ghost Value = { Reading };
 
-    ghost view = { λ l. record { ahead = take (l.end - l.start) (drop l.start l.buffer); over = l.over } };
+    ghost view = { λ l. record
+        { ahead = take (l.end - l.start) (drop l.start l.buffer); over = l.over } };
 
     ghost invariant = { λ l. (l.start ≤ l.end) × (l.end ≤ 1024) };
 }
@@ -168,9 +169,11 @@ impl Lines {
     fn fill<S: Source>(&mut self, source: &mut S) -> Result<(), Over>
         requires { self.old.ahead ≡ [] }
         ensures room { IfOk result (λ _. 0 < length self.new.ahead) }
-        ensures bytes { GivesEach (λ _. []) self.old (S.left source.old) self.new (S.left source.new) result }
+        ensures bytes { GivesEach (λ _. []) self.old (S.left source.old) self.new
+            (S.left source.new) result }
         ensures over { self.new.over ≡ self.old.over }
-        ensures goes { GoesBy (ReadFailed S.fails S.failed source.new self.new) (HasJust S.ends source.new) (S.failed source.new ≡ S.failed source.old) result }
+        ensures goes { GoesBy (ReadFailed S.fails S.failed source.new self.new)
+            (HasJust S.ends source.new) (S.failed source.new ≡ S.failed source.old) result }
     {
         match source.read(&mut self.buffer) {
             Ok(0) => Err(Over::End),
@@ -198,9 +201,11 @@ impl Lines {
     /// The next byte of the input.
     #[tactic(auto, using(crate::proofs::Taking::gives_ahead, crate::proofs::Taking::gives_then))]
     fn next_byte<S: Source>(&mut self, source: &mut S) -> Result<u8, Over>
-        ensures bytes { GivesEach (λ b. b ∷ []) self.old (S.left source.old) self.new (S.left source.new) result }
+        ensures bytes { GivesEach (λ b. b ∷ []) self.old (S.left source.old) self.new
+            (S.left source.new) result }
         ensures over { self.new.over ≡ self.old.over }
-        ensures goes { GoesBy (ReadFailed S.fails S.failed source.new self.new) (HasJust S.ends source.new) (S.failed source.new ≡ S.failed source.old) result }
+        ensures goes { GoesBy (ReadFailed S.fails S.failed source.new self.new)
+            (HasJust S.ends source.new) (S.failed source.new ≡ S.failed source.old) result }
     {
         if self.start == self.end {
             self.fill(source)?;
@@ -213,11 +218,15 @@ impl Lines {
     #[tactic(auto, using(crate::proofs::Taking::taken_on, crate::proofs::Taking::taken_line, crate::proofs::Taking::taken_last, crate::proofs::Taking::taken_end, crate::proofs::Taking::taken_failed, crate::proofs::Taking::taken_long))]
     fn take_line<S: Source>(&mut self, source: &mut S) -> Result<ArrayVec<u8, KEPT>, Over>
         requires { self.old.over ≡ None }
-        ensures heard { GivesLine self.old (S.left source.old) self.new (S.left source.new) (ReadFailed S.fails S.failed source.new self.new) (S.failed source.new ≡ S.failed source.old) result }
+        ensures heard { GivesLine self.old (S.left source.old) self.new (S.left source.new)
+            (ReadFailed S.fails S.failed source.new self.new)
+            (S.failed source.new ≡ S.failed source.old) result }
         ensures over { OnOk result ((self.new.over ≡ None) ⊎ (self.new.over ≡ Some Over.End)) }
         ensures none { OnErr result (self.new.over ≡ None) }
         ensures ends { self.new.over ≡ Some Over.End → HasJust S.ends source.new }
-        ensures goes { GoesBy (ReadFailed S.fails S.failed source.new self.new ⊎ (S.failed source.new ≡ S.failed source.old)) (HasJust S.ends source.new) (S.failed source.new ≡ S.failed source.old) result }
+        ensures goes { GoesBy (ReadFailed S.fails S.failed source.new self.new
+            ⊎ (S.failed source.new ≡ S.failed source.old)) (HasJust S.ends source.new)
+            (S.failed source.new ≡ S.failed source.old) result }
     {
         let mut line = ArrayVec::new();
         for taken in 0..TOO_LONG {
@@ -244,7 +253,7 @@ impl Lines {
     /// So an input without bytes has no line, and one of a new line alone has an empty one.
     ///
     /// The bytes are read as UTF-8. Each character gives one code, by `extra`, and so does each byte that
-    /// belongs to none. A tab gives a space, and what has no code a question mark. What is behind the
+    /// belongs to none. A tab gives a space, and what has no code a question mark. What is after the
     /// 255th code of a line is dropped.
     ///
     /// `End` says that the last read gave no bytes. `Failed` says that the last read failed, and what had come
@@ -254,12 +263,19 @@ impl Lines {
     ///
     /// `Lines` reads ahead of the line that it answers: it is to be given the same source each time.
     pub fn line<S: Source>(&mut self, source: &mut S, extra: &Extra) -> Input
-        ensures over { (o : Over) → self.old.over ≡ Some o → (result ≡ over_input o) × (self.new ≡ self.old) × (source.new ≡ source.old) }
-        ensures heard { (bytes : List ℕ) → self.old.over ≡ None → S.left source.old ≡ Some bytes → (later : List ℕ) × (S.left source.new ≡ Some later) × Hears extra.now (self.old.ahead ++ bytes) (self.new.ahead ++ later) self.new.over (ReadFailed S.fails S.failed source.new self.new) (S.failed source.new ≡ S.failed source.old) result }
+        ensures over { (o : Over) → self.old.over ≡ Some o
+            → (result ≡ over_input o) × (self.new ≡ self.old) × (source.new ≡ source.old) }
+        ensures heard { (bytes : List ℕ) → self.old.over ≡ None → S.left source.old ≡ Some bytes
+            → (later : List ℕ) × (S.left source.new ≡ Some later)
+            × Hears extra.now (self.old.ahead ++ bytes) (self.new.ahead ++ later) self.new.over
+            (ReadFailed S.fails S.failed source.new self.new)
+            (S.failed source.new ≡ S.failed source.old) result }
         ensures next { self.old.over ≡ None → IsOverAfter result self.new.over }
         ensures codes { HasInputCodes result }
-        ensures failed { FailsAlone (ReadFailed S.fails S.failed source.new self.new) (S.failed source.new ≡ S.failed source.old) result }
-        ensures ends { self.old.over ≡ None → self.new.over ≡ Some Over.End → HasJust S.ends source.new }
+        ensures failed { FailsAlone (ReadFailed S.fails S.failed source.new self.new)
+            (S.failed source.new ≡ S.failed source.old) result }
+        ensures ends { self.old.over ≡ None → self.new.over ≡ Some Over.End
+            → HasJust S.ends source.new }
     {
         if let Some(over) = self.over {
             return over.input();

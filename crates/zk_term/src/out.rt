@@ -54,7 +54,8 @@ impl Out {
     /// Adds the UTF-8 of a character to the bytes that wait. Where there is no room for it these go out first, or
     /// where a write fails a first part of them. `Failed` says that the last write failed.
     pub fn put<T: Target>(&mut self, target: &mut T, c: char) -> Result<(), Failed>
-        ensures all { OnOk result (PassedOn (T.taken target.old) (T.taken target.new) (self.old ++ encode_utf8 c) self.new) }
+        ensures all { OnOk result (PassedOn (T.taken target.old) (T.taken target.new)
+            (self.old ++ encode_utf8 c) self.new) }
         ensures part { OnErr result (TookPart (T.taken target.old) (T.taken target.new) self.old) }
         ensures failed { T.failed target.new ≡ (is_err result || T.failed target.old) }
         ensures fails { OnErr result (HasJust T.fails target.new) }

@@ -51,7 +51,8 @@ pub fn write_all<T: Target>(target: &mut T, bytes: &[u8]) -> Result<(), Failed>
 /// Writes a character as UTF-8, or where a write fails a first part of its bytes. `Failed` says that the last write failed.
 pub fn write_char<T: Target>(target: &mut T, c: char) -> Result<(), Failed>
     ensures all { OnOk result (Appends (T.taken target.old) (T.taken target.new) (encode_utf8 c)) }
-    ensures part { OnErr result (TookPart (T.taken target.old) (T.taken target.new) (encode_utf8 c)) }
+    ensures part { OnErr result
+        (TookPart (T.taken target.old) (T.taken target.new) (encode_utf8 c)) }
     ensures failed { T.failed target.new ≡ (is_err result || T.failed target.old) }
     ensures fails { OnErr result (HasJust T.fails target.new) }
 {

@@ -60,7 +60,8 @@ fn spaces(alloc: Global, count: usize) -> Result<Vec<char>, AllocError>
 /// Empties cells from one place up to another, which is none of them.
 fn empty(cells: &mut Vec<char>, from: usize, to: usize)
     ensures len { length cells.new.items ≡ length cells.old.items }
-    ensures value { (k : ℕ) → k < length cells.old.items → slice_index cells.new.items k ≡ (if nat_le from k && nat_lt k to then 32 else slice_index cells.old.items k) }
+    ensures value { (k : ℕ) → k < length cells.old.items → slice_index cells.new.items k
+        ≡ (if nat_le from k && nat_lt k to then 32 else slice_index cells.old.items k) }
 {
     let end = to.min(cells.len());
     for k in from..end {
@@ -71,7 +72,8 @@ fn empty(cells: &mut Vec<char>, from: usize, to: usize)
 /// Empties the rows up to a height.
 fn empty_shown(cells: &mut Vec<char>, height: u8)
     ensures len { length cells.new.items ≡ length cells.old.items }
-    ensures value { (k : ℕ) → k < length cells.old.items → slice_index cells.new.items k ≡ (if nat_le 0 k && nat_lt k (height * 80) then 32 else slice_index cells.old.items k) }
+    ensures value { (k : ℕ) → k < length cells.old.items → slice_index cells.new.items k
+        ≡ (if nat_le 0 k && nat_lt k (height * 80) then 32 else slice_index cells.old.items k) }
 {
     empty(cells, 0, height as usize * COLUMNS);
 }
@@ -122,7 +124,8 @@ impl Windows {
 
     /// Shows so many rows, and empties those past them, in version 3 all.
     fn set_height(&mut self, version: u8, height: u8)
-        ensures { self.new ≡ record self.old { cells = emptied (past version height) self.old.cells; height = height } }
+        ensures { self.new ≡ record self.old
+            { cells = emptied (past version height) self.old.cells; height = height } }
     {
         let from = if version == 3 {
             0

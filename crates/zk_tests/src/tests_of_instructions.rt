@@ -87,7 +87,7 @@ pub(crate) fn instruction(alloc: Global, row: &Row, operands: u8) -> Result<Vec<
     Ok(code)
 }
 
-/// The address behind the instruction at an address, and why there is none, by what is known of where texts end.
+/// The address after the instruction at an address, and why there is none, by what is known of where texts end.
 fn behind(alloc: Global, memory: &Memory, address: u32) -> Result<Result<u32, Fault>, Fail> {
     let ends = TextEnds::find(alloc, memory)?;
     match decode_by(memory, &ends, address) {

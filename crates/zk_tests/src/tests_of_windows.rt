@@ -39,7 +39,7 @@ pub(crate) fn make(windows: &mut Windows, call: Call) {
     }
 }
 
-/// The rows that are shown after these calls, each with a bar behind it, then the selected window as a letter
+/// The rows that are shown after these calls, each with a bar after it, then the selected window as a letter
 /// and the cursor.
 pub(crate) fn after(alloc: Global, calls: &[Call]) -> Result<String, Fail> {
     let mut windows = Windows::new(alloc)?;

@@ -69,7 +69,7 @@ rest_of m zs r a b c d e f g u held.ShiftToA2 = f
 rest_of m zs r a b c d e f g u held.Escape = g
 rest_of m zs r a b c d e f g u (held.UpperHalf high) = u high
 
--- behind the last word
+-- after the last word
 pub nothing_behind : (m : MemoryMap) (h : Pending) → None ≡ fault_behind m h []
 unfolding z_characters
 nothing_behind m h = sym (ap fault_of (held_ends m (abbreviation m) h))

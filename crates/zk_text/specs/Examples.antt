@@ -25,7 +25,7 @@ memory_by file bytes = record { version = 5; static_base = 0; bytes = bytes; fil
 
 -- ---- alphabets (sections 3.2 and 3.5)
 
--- the first and last letters of A0 and A1; of A2 the new line, the digits and the signs behind them (section 3.5.3)
+-- the first and last letters of A0 and A1; of A2 the new line, the digits and the signs after them (section 3.5.3)
 abbrev pub StandardLetters : Type 0
 StandardLetters =
     (map (letter_of (memory_of 3 []) A0) (6 ∷ 7 ∷ 31 ∷ []) ≡ codes "abz")

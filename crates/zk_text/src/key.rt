@@ -41,8 +41,8 @@ fn put_character(characters: &mut ArrayVec<u8, 9>, most: usize, character: u8)
     requires room { length characters.old.items ≤ most }
     requires nine { most ≤ 9 }
     ensures room { length characters.new.items ≤ most }
-    ensures next { (rest : List ℕ) →
-        take most (characters.new.items ++ rest) ≡ take most (characters.old.items ++ character ∷ rest) }
+    ensures next { (rest : List ℕ) → take most (characters.new.items ++ rest)
+        ≡ take most (characters.old.items ++ character ∷ rest) }
 {
     if characters.len() < most {
         characters.push(character);
@@ -61,8 +61,8 @@ fn put_letter(
     requires room { length characters.old.items ≤ most }
     requires nine { most ≤ 9 }
     ensures room { length characters.new.items ≤ most }
-    ensures next { (rest : List ℕ) →
-        take most (characters.new.items ++ rest) ≡ take most (characters.old.items ++ (spelling memory.now code ++ rest)) }
+    ensures next { (rest : List ℕ) → take most (characters.new.items ++ rest)
+        ≡ take most (characters.old.items ++ (spelling memory.now code ++ rest)) }
 {
     if code == 32 {
         put_character(characters, most, 0);

@@ -57,8 +57,8 @@ fn begin(character: u8) -> (Pending, Option<Piece>)
 #[tactic(auto, unfolding(crate::specs::Pieces::pieces_past))]
 #[inline(always)]
 pub(crate) fn advance(held: Pending, character: u8) -> (Pending, Option<Piece>)
-    ensures { (zs : List ℕ) →
-        pieces (held_back held ++ character ∷ zs) ≡ piece_before result.1 (pieces (held_back result.0 ++ zs)) }
+    ensures { (zs : List ℕ) → pieces (held_back held ++ character ∷ zs)
+        ≡ piece_before result.1 (pieces (held_back result.0 ++ zs)) }
 {
     match held {
         Pending::Nothing => begin(character),

@@ -74,7 +74,8 @@ fn pass(
     character: u8,
 ) -> (Pending, Option<Fault>)
     requires { AreFaults memory.now faults.now }
-    ensures { (zs : List ℕ) → fault_behind memory.now held (character ∷ zs) ≡ first_of result.1 (fault_behind memory.now result.0 zs) }
+    ensures { (zs : List ℕ) → fault_behind memory.now held (character ∷ zs)
+        ≡ first_of result.1 (fault_behind memory.now result.0 zs) }
 {
     let (next, piece) = advance(held, character);
     (next, piece_fault(memory, faults, piece))
@@ -94,7 +95,7 @@ struct Rest {
 }
 
 impl Rest {
-    /// Behind the last word.
+    /// After the last word.
     fn none() -> Rest
         ensures { (m : MemoryMap) → IsRestOf m [] result }
     {
@@ -127,7 +128,7 @@ impl Rest {
     }
 }
 
-/// The fault of a Z-character, by what is held back before it, and of the rest behind it.
+/// The fault of a Z-character, by what is held back before it, and of the rest after it.
 #[inline(always)]
 fn fault_before(
     memory: &Memory,
@@ -137,7 +138,8 @@ fn fault_before(
     rest: &Rest,
 ) -> Option<Fault>
     requires { AreFaults memory.now faults.now }
-    ensures { (zs : List ℕ) → IsRestOf memory.now zs rest.now → result ≡ fault_behind memory.now held (character ∷ zs) }
+    ensures { (zs : List ℕ) → IsRestOf memory.now zs rest.now
+        → result ≡ fault_behind memory.now held (character ∷ zs) }
 {
     let (next, fault) = pass(memory, faults, held, character);
     if fault.is_some() {
@@ -146,10 +148,11 @@ fn fault_before(
     rest.kept_for(next)
 }
 
-/// What is known of a Z-character and the rest behind it.
+/// What is known of a Z-character and the rest after it.
 fn rest_before(memory: &Memory, faults: &[Option<Fault>], character: u8, rest: &Rest) -> Rest
     requires { AreFaults memory.now faults.now }
-    ensures { (zs : List ℕ) → IsRestOf memory.now zs rest.now → IsRestOf memory.now (character ∷ zs) result }
+    ensures { (zs : List ℕ) → IsRestOf memory.now zs rest.now
+        → IsRestOf memory.now (character ∷ zs) result }
 {
     Rest {
         nothing: fault_before(memory, faults, Pending::Nothing, character, rest),
@@ -164,11 +167,12 @@ fn rest_before(memory: &Memory, faults: &[Option<Fault>], character: u8, rest: &
     }
 }
 
-/// What is known of a word and the rest behind it.
+/// What is known of a word and the rest after it.
 #[tactic(auto, unfolding(crate::specs::Words::z_characters))]
 fn word_before(memory: &Memory, faults: &[Option<Fault>], word: u16, rest: &Rest) -> Rest
     requires { AreFaults memory.now faults.now }
-    ensures { (ws : List ℕ) → IsRestOf memory.now (z_characters ws) rest.now → IsRestOf memory.now (z_characters (word ∷ ws)) result }
+    ensures { (ws : List ℕ) → IsRestOf memory.now (z_characters ws) rest.now
+        → IsRestOf memory.now (z_characters (word ∷ ws)) result }
 {
     let third = rest_before(memory, faults, (word % 32) as u8, rest);
     let second = rest_before(memory, faults, (word / 32 % 32) as u8, &third);
@@ -210,7 +214,8 @@ pub struct Sweep {
 impl Sweep {
     /// A sweep at any address past the story's end. Refused for want of memory alone.
     pub fn begin(alloc: Global, memory: &Memory) -> Result<Sweep, AllocError>
-        ensures { IfOk result (λ sweep. (a : ℕ) → length memory.now.bytes ≤ a → IsSweptTo memory.now a sweep) }
+        ensures { IfOk result
+            (λ sweep. (a : ℕ) → length memory.now.bytes ≤ a → IsSweptTo memory.now a sweep) }
     {
         let faults = list_faults(alloc, memory)?;
         Ok(Sweep {

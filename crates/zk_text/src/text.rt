@@ -61,7 +61,8 @@ pub fn check_text(memory: &Memory, address: u32) -> Result<u32, Fault>
 /// text has at most half as many words as the story has bytes.
 #[tactic(auto, unfolding(zk_mem::specs::Words::text_end_at), using(crate::proofs::ShortTexts::short_text))]
 pub fn check_abbreviation(memory: &Memory, address: u32) -> Result<(), Fault>
-    ensures meaning { MatchResult result (λ _. IsOk (meaning_at no_abbreviation memory.now address)) (λ e. meaning_at no_abbreviation memory.now address ≡ Err e) }
+    ensures meaning { MatchResult result (λ _. IsOk (meaning_at no_abbreviation memory.now address))
+        (λ e. meaning_at no_abbreviation memory.now address ≡ Err e) }
     ensures short { OnOk result (HasShortText memory.now address) }
 {
     memory.text_end(address).ok_or(Fault::TextPastEnd)?;

@@ -37,8 +37,8 @@ pub(crate) trait Abbreviations {
         sink: &mut S,
     ) -> Result<(), Trouble>
         requires { alphabet.table ≡ alphabet_table memory.now }
-        ensures { Walked (trouble_of result) (S.gave sink.old sink.new) (S.refused sink.old sink.new)
-            (stands memory.now number) };
+        ensures { Walked (trouble_of result) (S.gave sink.old sink.new)
+            (S.refused sink.old sink.new) (stands memory.now number) };
 }
 
 /// Inside an abbreviation, where none is allowed.

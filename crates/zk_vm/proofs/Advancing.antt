@@ -89,7 +89,7 @@ sound_moved m n i x t is runs limits free steps reads undo same told bounds =
     sound_now m n is limits free steps (rw reads is.reads) (ap (λ (u : UndoStates). u.most) undo) bounds
     (λ e. story_stays n m.game are (has.memory ∙ ap (λ (l : Limits). l.undo) (sym limits)) cache (carried_fixed m.game i n.game x t told) bounds)
 
--- ---- what is asked of a machine, from the state before and from the one behind the instruction
+-- ---- what is asked of a machine, from the state before and from the one after the instruction
 
 goes_moved : (s : State) (w : GameState) (undo : List WholeState) (r : Result (GameState × Next) Fault) → goes_to (record s { game = w }) undo r ≡ goes_to s undo r
 goes_moved s w undo (Ok (v, At p)) = refl
@@ -119,7 +119,7 @@ led_moved s i w Keeps e away =
 led_moved s i w Resumes e away = back_moved s i w (gone_back s.undo w.memory w.frames)
 led_moved s i w End e away = refl
 
--- from the state behind it the step leads to the same
+-- from the state after it the step leads to the same
 pub step_moved : (m : Inside) (i : Instr) (w : GameState) (n : Next) (t : Texts) → instr_at m.game.memory m.place ≡ Ok i → limited_move (carried_out m.game i) ≡ Ok (w, (n, t)) → t ≡ no_text → ((p : ℕ) → n ≡ At p → ⊥)
     → step (state_seen m) ≡ led_to (state_seen (record m { game = w })) i w no_text n
 step_moved m i w n t h told quiet away =
@@ -194,7 +194,7 @@ resumes_silent s i w = back_silent s i w (gone_back s.undo w.memory w.frames)
 
 -- ---- the ways of a step
 
--- it goes on as the state behind the instruction does
+-- it goes on as the state after the instruction does
 pub stepped : {S : Type 0} (shows : S → S → List ℕ → List ℕ → Type 0) (a b : S) (m : Inside) (new : Session) (i : Instr) (w : GameState) (n : Next) (t : Texts) (answer : Result (Unit {0}) Halt) → instr_at m.game.memory m.place ≡ Ok i
     → limited_move (carried_out m.game i) ≡ Ok (w, (n, t)) → t ≡ no_text → ((p : ℕ) → n ≡ At p → ⊥)
     → Settles (seen (record m { game = w })) new answer (led_to (state_seen (record m { game = w })) i w no_text n)

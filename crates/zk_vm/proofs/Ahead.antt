@@ -44,7 +44,7 @@ stride_step s v q stride =
       shows = ap (text_of s) at.0 ∙ ap (λ (r : Result FrameList Refusal). text_within r no_text) at.1.1;
     }
 
--- a segment goes on behind them
+-- a segment goes on after them
 segment_step : (k : ℕ) (s t : State) → state_after s (step s) ≡ t → verdict_of s (step s) ≡ GoesOn → text_of s (step s) ≡ no_text → segment (suc k) s ≡ segment k t
 unfolding segment
 segment_step k s t after goes shows = rw (goes, shows, after) refl
@@ -80,7 +80,7 @@ left_ahead old new ahead few =
     ∙ segment_ahead ahead.steps (new.limits.steps - new.state.steps) _ _ _ _ ahead.quiet_steps old.state refl refl
     ∙ ap (segment (new.limits.steps - new.state.steps)) state
 
--- a machine that comes to keep a state behind them came to keep it before
+-- a machine that comes to keep a state after them came to keep it before
 abbrev moved : Session → ℕ → GameState → ℕ → Session
 moved s n w place = record s { state = behind_strides s.state n w place }
 
@@ -100,7 +100,7 @@ pub comes_ahead : (old new : Session) (ahead : GoesAhead old new) → old.stoppe
 comes_ahead old new ahead runs silent text taken comes =
     comes_behind ahead.steps _ _ _ _ ahead.quiet_steps old refl refl runs silent text taken (subst (λ (s : Session). ComesToKeepAt s text taken) ahead.there comes)
 
--- an instruction that is refused behind them
+-- an instruction that is refused after them
 refused_step : (s : State) (r : Refusal) → IsRefused s.game s.place r → (verdict_of s (step s) ≡ StopsBy (stop_by s.place r)) × (text_of s (step s) ≡ no_text)
 refused_step s r refused =
     let parts = err_step s refused.instruction (carried_out s.game refused.instruction) r refused.refused in
@@ -134,7 +134,7 @@ halts_ahead {S} shows first now old mid new h stops end text silence =
       last_shown shows first now now _ _ _ parts.1 silence text,
     )
 
--- ---- a machine behind them
+-- ---- a machine after them
 
 pub strides_fixed : (n : ℕ) (w end : GameState) (place last : ℕ) → QuietSteps n w place end last → fixed_parts end.memory ≡ fixed_parts w.memory
 strides_fixed _ _ _ _ _ none = refl

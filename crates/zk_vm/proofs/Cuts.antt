@@ -1,4 +1,4 @@
--- Runs that stop by a limit, behind answers.
+-- Runs that stop by a limit, after answers.
 use Rattle.std.proofs.Common.{◌≡◌, ◌∙◌, ◌+◌, ◌-◌, ℕ, suc, List, [], ◌∷◌, ◌++◌, Option, Some, None, Result, Ok, Err, refl, ap, arith}
 use Rattle.zk_state.specs.declared.refusal.Limit.TheVariants.{Steps}
 use Rattle.zk_step.specs.Routing.{Texts, on_script, text_joined}
@@ -20,7 +20,7 @@ use Rattle.zk_vm.proofs.Within.{given_stopped}
 not_both : (x : Option Stop) (stop : Stop) → x ≡ None → x ≡ Some stop → ⊥
 not_both x stop h e = absurd cc
 
--- a machine that runs behind its answers waited for each
+-- a machine that runs after its answers waited for each
 outcome_at : (answers more : List Answer) (stop : Stop) (s : Session) → (given_all answers s).stopped ≡ None → outcome (answers ++ more) stop s ≡ shown_before (shown_up_to answers s) (outcome more stop (given_all answers s))
 unfolding given_all shown_up_to
 outcome_at [] more stop s runs = refl

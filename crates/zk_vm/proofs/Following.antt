@@ -22,7 +22,7 @@ pub record Follows {S : Type 0} (shows : S → S → List ℕ → List ℕ → T
   pub left : s ≡ record old { state = s.state }
   pub silent : s.state.due ≡ []
 
--- it still is behind steps that were made in silence
+-- it still is after steps that were made in silence
 pub follows_ahead : {S : Type 0} (shows : S → S → List ℕ → List ℕ → Type 0) (first now : S) (old s mid : Session) → Follows shows first now old s → s.stopped ≡ None → GoesAhead s mid → mid.state.steps ≤ mid.limits.steps
     → Follows shows first now old mid
 follows_ahead {S} shows first now old s mid on runs ahead few =
@@ -36,7 +36,7 @@ follows_ahead {S} shows first now old s mid on runs ahead few =
       silent = ap (λ (m : Session). m.state.due) ahead.there ∙ on.silent;
     }
 
--- it still is behind a step
+-- it still is after a step
 pub follows_step : {S : Type 0} (shows : S → S → List ℕ → List ℕ → Type 0) (twice : (a b c : S) (s t u v : List ℕ) → shows a b s u → shows b c t v → shows a c (s ++ t) (u ++ v)) (first now next : S) (old s new : Session) → Follows shows first now old s → s.stopped ≡ None
     → s.state.steps < s.limits.steps → new.state.steps ≡ s.state.steps + 1 → new.state.due ≡ s.state.due → IsStep s new (Ok tt) (λ t. shows now next t.screen t.script) → Follows shows first next old new
 follows_step {S} shows twice first now next old s new on runs room counted due stepped =
@@ -65,7 +65,7 @@ follows_step {S} shows twice first now next old s new on runs room counted due s
       silent = still;
     }
 
--- it ends at an instruction that is refused behind steps that were made in silence
+-- it ends at an instruction that is refused after steps that were made in silence
 pub follows_stop : {S : Type 0} (shows : S → S → List ℕ → List ℕ → Type 0) (first now : S) (old s new : Session) (h : Halt) → Follows shows first now old s → StopsAhead s new h → shows now now [] [] → IsHalted old new h (λ t. shows first now t.screen t.script)
 follows_stop {S} shows first now old s new h on stops silence = halts_ahead shows first now old s new h stops on.end on.text silence
 

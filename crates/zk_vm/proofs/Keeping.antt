@@ -32,7 +32,7 @@ use Rattle.zk_vm.proofs.Sounds.{running, same_most, back_fixed, story_stays, sou
 abbrev pub seen : Inside → Session
 seen m = record { state = state_seen m; limits = m.limits; waiting = m.waiting; stopped = m.stopped }
 
--- a machine behind an instruction that was finished
+-- a machine after an instruction that was finished
 abbrev pub behind : Inside → GameState → ℕ → ℕ → Option Stop → UndoStates → Inside
 behind m w place steps stopped undo = record m { game = w; place = place; steps = steps; stopped = stopped; undo = undo }
 

@@ -203,7 +203,7 @@ turn_left_by held keeps before after m s new answer unwritten Shown (Some stop) 
 abbrev pub AreTexts : Texts → Texts → Texts → Texts → Type 0
 AreTexts first second a b = (a ≡ first) × (b ≡ second)
 
--- a turn behind an answer of a slot
+-- a turn after an answer of a slot
 turn_behind : {K : Type 0} (held : K → Option (Option (List ℕ))) (keeps : K → List ℕ → Option Bool) (before mid after : K) (s new : Session) (answer : Result Event Stop) (unwritten : Bool) (a : Answer) (first second : Texts)
     → IsSlotAnswer held keeps before mid (ran s) a → IsTurn (AreSlotAnswers held keeps unwritten mid after (given (ran s) a)) (given (ran s) a) new answer unwritten (AreTexts first second)
     → IsTurn (AreSlotAnswers held keeps unwritten before after s) s new answer unwritten (AreTexts (text_joined (segment_of s).text first) second)
@@ -229,7 +229,7 @@ same_text a b c = rw (append_assoc a.screen b.screen c.screen, append_assoc a.sc
 pub no_text_behind : (t : Texts) → text_joined t no_text ≡ t
 no_text_behind t = rw (append-nil t.screen, append-nil t.script) refl
 
--- a text was shown, and a turn from here on is, behind it, the whole turn
+-- a text was shown, and a turn from here on is, after it, the whole turn
 pub record TurnSoFar {K : Type 0} (held : K → Option (Option (List ℕ))) (keeps : K → List ℕ → Option Bool) (start now : Session) (slot0 slot1 : K) (screen0 screen1 script0 script1 : Option (List ℕ)) : Type 0 where
   pub text : Texts
   pub screen : Shows (record { taken = screen0; failed = false }) (record { taken = screen1; failed = false }) text.screen
@@ -375,7 +375,7 @@ fewer_steps x (Some stop) before mid after most most' e f h k counted = absurd c
 
 -- ---- the outcome of what is left of a run
 
--- an outcome behind some text
+-- an outcome after some text
 abbrev pub shown_before : Texts → Outcome → Outcome
 shown_before t o = record { stop = o.stop; text = text_joined t o.text }
 
@@ -587,7 +587,7 @@ turn_asked held keeps before after now mid a b screen0 screen1 script0 script1 e
 
 -- ---- what was played so far
 
--- a text was shown, and what a play has from here on makes, behind it, what the whole play has
+-- a text was shown, and what a play has from here on makes, after it, what the whole play has
 pub record SoFar (Whole Rest : Outcome → Type 0) (screen0 screen1 script0 script1 : Option (List ℕ)) : Type 0 where
   pub text : Texts
   pub screen : Shows (record { taken = screen0; failed = false }) (record { taken = screen1; failed = false }) text.screen
@@ -611,7 +611,7 @@ so_far_on Whole Rest Then screen0 screen1 screen2 script0 script1 script2 first 
   rest = λ o p. subst Whole (ap (shown_before s.text) (same_shown first second o) ∙ same_shown s.text (text_joined first second) o) (s.rest (shown_before first (shown_before second o)) (on o p));
 }
 
--- what is answered behind a turn and a line
+-- what is answered after a turn and a line
 pub on_answered : {K : Type 0} (held : K → Option (Option (List ℕ))) (keeps : K → List ℕ → Option Bool) {R : Type 0} (ends fails : R → R → Type 0) (failed : R → Bool) (start mid_reader last : R) (unwritten : Bool) (before after : K) (Whole : Outcome → Type 0) (now mid next : Session) (a b : Bool) (screen0 screen1 screen2 script0 script1 script2 : Option (List ℕ)) (codes : List ℕ)
     → Asked held keeps before after now mid a b screen1 screen2 script1 script2 → AllByRecursion (λ c. is_input_code c ≡ true) codes → IsLeftAs next (given mid (Typed codes)) (given mid (Typed codes)).stopped
     → SoFar Whole (IsAnswered ends fails failed start last unwritten now) screen0 screen1 script0 script1 → SoFar Whole (IsAnswered ends fails failed mid_reader last unwritten next) screen0 screen2 script0 script2
@@ -623,7 +623,7 @@ on_answered held keeps ends fails failed start mid_reader last unwritten before 
     (λ o p. answered_slots held keeps false ends fails failed start last unwritten t.answers before after now t.gives _
     (answered_one ends fails failed start mid_reader last unwritten (Typed codes) end w.0 w.1 typed (λ n. absurd n) o (answered_left_by ends fails failed mid_reader last unwritten next (given (ran end) (Typed codes)) _ refl left_here o p)))
 
--- what is played behind a turn and a line
+-- what is played after a turn and a line
 pub on_played : {K : Type 0} (held : K → Option (Option (List ℕ))) (keeps : K → List ℕ → Option Bool) (before mid_slot after : K) (Whole : Outcome → Type 0) (bytes next_bytes later : List ℕ) (how : Option Over) (failed unwritten : Bool) (now mid next : Session) (a b : Bool) (screen0 screen1 screen2 script0 script1 script2 : Option (List ℕ)) (line codes : List ℕ)
     → Asked held keeps before mid_slot now mid a b screen1 screen2 script1 script2 → IsNextLine bytes next_bytes line how → (how ≡ Some End → failed ≡ false) → codes ≡ codes_read mid line → IsLeftAs next (given mid (Typed codes)) (given mid (Typed codes)).stopped
     → SoFar Whole (IsPlayed held keeps before after bytes later failed unwritten now) screen0 screen1 script0 script1 → SoFar Whole (IsPlayed held keeps mid_slot after next_bytes later failed unwritten next) screen0 screen2 script0 script2

@@ -99,7 +99,7 @@ IsHalted old new answer Shown =
 
 -- ---- steps that are made in silence
 
--- a state behind so many of them
+-- a state after so many of them
 abbrev pub behind_strides : State → ℕ → GameState → ℕ → State
 behind_strides s n w place = record s { game = w; place = place; steps = s.steps + n }
 
@@ -109,7 +109,7 @@ pub record GoesAhead (old new : Session) : Type 0 where
   pub quiet_steps : QuietSteps steps old.state.game old.state.place new.state.game new.state.place
   pub there : new ≡ record old { state = behind_strides old.state steps new.state.game new.state.place }
 
--- the instruction behind them is refused
+-- the instruction after them is refused
 pub record StopsAhead (old new : Session) (answer : Halt) : Type 0 where
   pub steps : ℕ
   pub place : ℕ

@@ -114,7 +114,7 @@ abbrev pub FrameLimitsOnlyCutRuns : Type 0
 FrameLimitsOnlyCutRuns = (answers : List Answer) (end : Stop) (f w : ℕ) (s : Session) → s.state.game.frames.most_frames ≤ f → s.state.game.frames.most_words ≤ w
     → IsNoFrameStop (outcome answers end s).stop → outcome answers end (session_in f w s) ≡ outcome answers end s
 
--- how a machine's run stops by a limit, behind the answers that it got: at the step that is one too many, at the first step
+-- how a machine's run stops by a limit, after the answers that it got: at the step that is one too many, at the first step
 -- that passes a limit, or at the instruction whose answer does; it has shown all up to there
 pub record LimitsCut (answers : List Answer) (s : Session) : Type 0 where
   pub steps : (more : List Answer) (stop : Stop) (end : State) (text : Texts)

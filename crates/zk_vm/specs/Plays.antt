@@ -54,7 +54,7 @@ IsSlotAnswer {K} held keeps before after s (GameKept false) =
 IsSlotAnswer {K} held keeps before after s (File file) =
     (event_waited s.waiting ≡ Some event.Restore) × IfSome (held before) (λ f. file ≡ f) × (held after ≡ held before)
 
--- a slot behind its last answer: as it was, or with the saved game that it had, where there was no memory for one; it is not
+-- a slot after its last answer: as it was, or with the saved game that it had, where there was no memory for one; it is not
 -- asked where a write has failed
 abbrev pub IsLastSlot : {K : Type 0} → (K → Option (Option (List ℕ))) → Bool → K → K → Session → Type 0
 IsLastSlot {K} held unwritten before after s = (after ≡ before) ⊎ ((unwritten ≡ false) × AsksForFile (ran s) × (held after ≡ held before))
@@ -116,7 +116,7 @@ pub record TookTexts (screen0 screen1 script0 script1 : Option (List ℕ)) (unwr
   pub script_second : Shows (record { taken = script; failed = false }) (record { taken = script1; failed = unwritten }) second.script
 
 -- A machine has run up to a read or its stop, and got the answers of a slot on its way. It has shown one text up to the
--- last answer, and one behind it.
+-- last answer, and one after it.
 pub record IsTurn (Gives : List Answer → Type 0) (old new : Session) (answer : Result Event Stop) (unwritten : Bool) (Shown : Texts → Texts → Type 0) : Type 0 where
   pub answers : List Answer
   pub gives : Gives answers
@@ -138,7 +138,7 @@ stop_waiting (Some event.Save) over = Memory
 stop_waiting (Some event.Restore) over = Memory
 stop_waiting _ over = stop_behind over
 
--- an outcome of a machine's run on answers, behind which it finds none; or on its way from the last answer there was no
+-- an outcome of a machine's run on answers, after which it finds none; or on its way from the last answer there was no
 -- memory for a state that is to be kept
 abbrev pub IsOutcomeOn : List Answer → Over → Type 0 → Session → Outcome → Type 0
 IsOutcomeOn answers over IsLast s o =
@@ -161,7 +161,7 @@ abbrev pub IsNoLine : Answer → Type 0
 IsNoLine (Typed codes) = ⊥
 IsNoLine _ = Unit {0}
 
--- where a machine waits for a line behind its last answer, and all was written, the last read found none
+-- where a machine waits for a line after its last answer, and all was written, the last read found none
 abbrev pub IsLastRead : {R : Type 0} → (R → R → Type 0) → (R → R → Type 0) → (R → Bool) → R → Bool → Over → Session → Type 0
 IsLastRead {R} ends fails failed after unwritten over s = unwritten ≡ false → AsksForLine (ran s) → FoundNoLine ends fails failed after over
 
@@ -176,7 +176,7 @@ IsAnswered {R} ends fails failed before after unwritten s o =
     (answers : List Answer) × ((over : Over) × (AllByRecursion CanBeGiven answers × (IsLeftAlone before after unwritten answers s
     × IsOutcomeOn answers over (IsLastRead ends fails failed after unwritten over (given_all answers s)) s o)))
 
--- the answers of lines and of a slot, in the order in which a machine waits for them, and the lines left behind them
+-- the answers of lines and of a slot, in the order in which a machine waits for them, and the lines left after them
 unfoldable pub ArePlayed : {K : Type 0} → (K → Option (Option (List ℕ))) → (K → List ℕ → Option Bool) → Bool → K → K → List (List ℕ) → List (List ℕ) → Session → List Answer → Type 0
 ArePlayed {K} held keeps unwritten before after lines left s [] = IsLastSlot held unwritten before after s × (left ≡ lines)
 ArePlayed {K} held keeps unwritten before after lines left s (Typed codes ∷ answers) =
@@ -185,7 +185,7 @@ ArePlayed {K} held keeps unwritten before after lines left s (Typed codes ∷ an
 ArePlayed {K} held keeps unwritten before after lines left s (a ∷ answers) =
     (mid : K) × (IsSlotAnswer held keeps before mid (ran s) a × ArePlayed held keeps unwritten mid after lines left (given (ran s) a) answers)
 
--- behind its last answer a machine waits for no line that there is, unless a write has failed
+-- after its last answer a machine waits for no line that there is, unless a write has failed
 abbrev pub IsLastAnswered : Bool → List (List ℕ) → Session → Type 0
 IsLastAnswered unwritten left s = unwritten ≡ false → AsksForLine (ran s) → left ≡ []
 

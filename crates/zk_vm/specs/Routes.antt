@@ -11,7 +11,7 @@ use Rattle.zk_step.specs.Finish.{finished}
 use Rattle.zk_step.specs.Limited.{limited_next}
 use Rattle.zk_step.specs.Routing.{Texts, no_text, routed, text_routed}
 
--- an instruction is finished behind its route
+-- an instruction is finished after its route
 abbrev pub finished_after : Result (GameState × Texts) Fault → Instr → List ℕ → Ending → Result (GameState × Next) Fault
 finished_after r i vs ending = r >>= λ x. finished x.0 i vs ending
 

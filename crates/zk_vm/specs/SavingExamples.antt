@@ -69,7 +69,7 @@ RestoresAreAnswered =
 abbrev pub past_reads : Session → Session
 past_reads s = record s { state = record s.state { reads = 16777216 } }
 
--- reads alone are limited: behind the most of them a `save` waits still
+-- reads alone are limited: after the most of them a `save` waits still
 abbrev pub SavesWaitPastTheMostReads : Type 0
 SavesWaitPastTheMostReads =
     event_waited (ran (past_reads (starts (asks 0) (keeping 0 4)))).waiting ≡ Some event.Save

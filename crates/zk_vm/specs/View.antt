@@ -12,7 +12,7 @@ use Rattle.zk_step.specs.declared.game_state.GameState.{GameState}
 use Rattle.zk_step.specs.Routing.{Texts, no_text, on_screen, fresh_line, with_line_start}
 use Rattle.zk_step.specs.Status.{status_units}
 
--- so many rows of the upper window, from a row on, each on a line behind a bar and a space
+-- so many rows of the upper window, from a row on, each on a line after a bar and a space
 unfoldable pub rows_shown : Windows → ℕ → ℕ → List ℕ
 rows_shown w row zero = []
 rows_shown w row (suc n) = (124 ∷ 32 ∷ row_text w row ++ 10 ∷ []) ++ rows_shown w (row + 1) n
@@ -21,7 +21,7 @@ rows_shown w row (suc n) = (124 ∷ 32 ∷ row_text w row ++ 10 ∷ []) ++ rows_
 abbrev pub status_shown : MemoryMap → Result (List ℕ) Fault
 status_shown m = if m.version == 3 then (status_units m >>= λ units. Ok (shown_all (own_characters m) units ++ 10 ∷ [])) else Ok []
 
--- lines on the screen, where there are some, behind a new line unless the last character was one
+-- lines on the screen, where there are some, after a new line unless the last character was one
 unfoldable pub lines_shown : GameState → List ℕ → GameState × Texts
 lines_shown w [] = (w, no_text)
 lines_shown w (c ∷ cs) = (with_line_start true w, on_screen (fresh_line w.at_line_start ++ c ∷ cs))

@@ -20,7 +20,13 @@ pub struct Console<'a, S, T> {
 
 impl<'a, S, T> Console<'a, S, T> {
     pub fn new(screen: &'a mut S, script: &'a mut T) -> Console<'a, S, T>
-        ensures { result ≡ record { screen = screen.entry; script = script.entry; to_screen = []; to_script = []; failed = false } }
+        ensures { result ≡ record {
+          screen = screen.entry;
+          script = script.entry;
+          to_screen = [];
+          to_script = [];
+          failed = false;
+        } }
     {
         Console {
             screen,
@@ -44,10 +50,22 @@ impl<'a, S: Target, T: Target> Console<'a, S, T> {
     pub fn finish(&mut self)
         ensures screen { self.new.screen.ghost_name ≡ self.old.screen.ghost_name }
         ensures script { self.new.script.ghost_name ≡ self.old.script.ghost_name }
-        ensures written { Written
-            (record { screen = S.taken self.old.screen.now; to_screen = self.old.to_screen; script = T.taken self.old.script.now; to_script = self.old.to_script; failed = self.old.failed; either = S.failed self.old.screen.now || T.failed self.old.script.now })
-            (record { screen = S.taken self.new.screen.now; to_screen = self.new.to_screen; script = T.taken self.new.script.now; to_script = self.new.to_script; failed = self.new.failed; either = S.failed self.new.screen.now || T.failed self.new.script.now })
-            [] [] }
+        ensures written { Written (record {
+          screen = S.taken self.old.screen.now;
+          to_screen = self.old.to_screen;
+          script = T.taken self.old.script.now;
+          to_script = self.old.to_script;
+          failed = self.old.failed;
+          either = S.failed self.old.screen.now || T.failed self.old.script.now;
+        })
+            (record {
+              screen = S.taken self.new.screen.now;
+              to_screen = self.new.to_screen;
+              script = T.taken self.new.script.now;
+              to_script = self.new.to_script;
+              failed = self.new.failed;
+              either = S.failed self.new.screen.now || T.failed self.new.script.now;
+            }) [] [] }
         ensures no_text { self.new.failed ≡ false → self.new.to_screen ≡ [] }
         ensures no_script { self.new.failed ≡ false → self.new.to_script ≡ [] }
     {
@@ -74,11 +92,23 @@ impl<'a, S: Target, T: Target> Screen for Console<'a, S, T> {
     ghost use Rattle.zk_vm.specs.Consoles.{Written, written_nothing, written_twice};
 
     ghost shows = { λ a b s t. (b.screen.ghost_name ≡ a.screen.ghost_name)
-        × (b.script.ghost_name ≡ a.script.ghost_name)
-        × Written
-        (record { screen = S.taken a.screen.now; to_screen = a.to_screen; script = T.taken a.script.now; to_script = a.to_script; failed = a.failed; either = S.failed a.screen.now || T.failed a.script.now })
-        (record { screen = S.taken b.screen.now; to_screen = b.to_screen; script = T.taken b.script.now; to_script = b.to_script; failed = b.failed; either = S.failed b.screen.now || T.failed b.script.now })
-        s t };
+        × (b.script.ghost_name ≡ a.script.ghost_name) × Written
+        (record {
+          screen = S.taken a.screen.now;
+          to_screen = a.to_screen;
+          script = T.taken a.script.now;
+          to_script = a.to_script;
+          failed = a.failed;
+          either = S.failed a.screen.now || T.failed a.script.now;
+        })
+        (record {
+          screen = S.taken b.screen.now;
+          to_screen = b.to_screen;
+          script = T.taken b.script.now;
+          to_script = b.to_script;
+          failed = b.failed;
+          either = S.failed b.screen.now || T.failed b.script.now;
+        }) s t };
 
     fn text(&mut self, c: char) {
         if self.failed {
@@ -102,5 +132,9 @@ impl<'a, S: Target, T: Target> Screen for Console<'a, S, T> {
 
     ghost nothing = { λ a. (refl, refl, written_nothing _) };
 
-    ghost twice = { λ a b c s t u v h k. (k.0 ∙ h.0, k.1 ∙ h.1, written_twice _ _ _ s t u v h.2 k.2) };
+    ghost twice = { λ a b c s t u v h k. (
+      k.0 ∙ h.0,
+      k.1 ∙ h.1,
+      written_twice _ _ _ s t u v h.2 k.2,
+    ) };
 }

@@ -22,7 +22,8 @@ use zk_text::unit::Unit;
 /// Gives ZSCII codes to a sink.
 pub fn give_codes<K: Sink>(sink: &mut K, codes: &[u8]) -> Result<(), SinkFault>
     ensures ok { OnOk result (K.gave sink.old sink.new (code_units codes.now)) }
-    ensures err { OnErr result ((more : List Unit) → K.refused sink.old sink.new (code_units codes.now ++ more)) }
+    ensures err { OnErr result
+        ((more : List Unit) → K.refused sink.old sink.new (code_units codes.now ++ more)) }
 {
     for code in codes {
         sink.put(Unit::Code(*code as u16))?;
@@ -32,8 +33,10 @@ pub fn give_codes<K: Sink>(sink: &mut K, codes: &[u8]) -> Result<(), SinkFault>
 
 /// Gives a signed number to a sink.
 pub fn give_number<K: Sink>(sink: &mut K, word: u16) -> Result<(), SinkFault>
-    ensures ok { OnOk result (K.gave sink.old sink.new (code_units (signed_decimal (cast_signed w16 word)))) }
-    ensures err { OnErr result ((more : List Unit) → K.refused sink.old sink.new (code_units (signed_decimal (cast_signed w16 word)) ++ more)) }
+    ensures ok { OnOk result
+        (K.gave sink.old sink.new (code_units (signed_decimal (cast_signed w16 word)))) }
+    ensures err { OnErr result ((more : List Unit) → K.refused sink.old sink.new
+        (code_units (signed_decimal (cast_signed w16 word)) ++ more)) }
 {
     let mut buffer = Buffer::new();
     give_codes(sink, buffer.format(word.cast_signed()).as_bytes())
@@ -43,7 +46,8 @@ pub fn give_number<K: Sink>(sink: &mut K, word: u16) -> Result<(), SinkFault>
 pub fn give_text<K: Sink>(sink: &mut K, memory: &Memory, a: u32) -> Result<(), SinkFault>
     requires { IsOk (text_units memory.now a) }
     ensures ok { OnOk result (K.gave sink.old sink.new (units_or_none (text_units memory.now a))) }
-    ensures err { OnErr result (K.refused sink.old sink.new (units_or_none (text_units memory.now a))) }
+    ensures err { OnErr result
+        (K.refused sink.old sink.new (units_or_none (text_units memory.now a))) }
 {
     match print_text(memory, a, sink) {
         Ok(()) => Ok(()),
@@ -55,7 +59,8 @@ pub fn give_text<K: Sink>(sink: &mut K, memory: &Memory, a: u32) -> Result<(), S
 #[tactic(auto, unfolding(zk_step::specs::Printing::units_of))]
 pub fn give_output<K: Sink>(memory: &Memory, output: Output, sink: &mut K) -> Result<(), SinkFault>
     requires ready { IsReady memory.now output }
-    requires longer { (a b : K) (us more : List Unit) → K.refused a b us → K.refused a b (us ++ more) }
+    requires longer { (a b : K) (us more : List Unit) → K.refused a b us
+        → K.refused a b (us ++ more) }
     ensures ok { OnOk result (K.gave sink.old sink.new (units_of memory.now output)) }
     ensures err { OnErr result (K.refused sink.old sink.new (units_of memory.now output)) }
 {
@@ -76,8 +81,10 @@ pub fn give_output<K: Sink>(memory: &Memory, output: Output, sink: &mut K) -> Re
 /// Gives the rows of a rectangle to a sink.
 fn give_rows<K: Sink>(sink: &mut K, memory: &Memory, rectangle: Rectangle) -> Result<(), SinkFault>
     requires { IsOk (rows_of memory.now rectangle) }
-    ensures ok { OnOk result (K.gave sink.old sink.new (joined_rows (rows_or_none (rows_of memory.now rectangle)))) }
-    ensures err { OnErr result (K.refused sink.old sink.new (joined_rows (rows_or_none (rows_of memory.now rectangle)))) }
+    ensures ok { OnOk result
+        (K.gave sink.old sink.new (joined_rows (rows_or_none (rows_of memory.now rectangle)))) }
+    ensures err { OnErr result
+        (K.refused sink.old sink.new (joined_rows (rows_or_none (rows_of memory.now rectangle)))) }
 {
     match give_rectangle(memory, rectangle, sink) {
         Ok(()) => Ok(()),
@@ -147,7 +154,8 @@ fn give_figures<K: Sink>(sink: &mut K, time: bool, a: u16, b: u16)
 fn give_name<K: Sink>(sink: &mut K, memory: &Memory, name: Option<u32>)
     requires sure { (a b : K) (us : List Unit) → K.refused a b us → ⊥ }
     requires ready { IsOk (named memory.now name) }
-    ensures { (units : List Unit) → named memory.now name ≡ Ok units → K.gave sink.old sink.new units }
+    ensures { (units : List Unit) → named memory.now name ≡ Ok units
+        → K.gave sink.old sink.new units }
 {
     match name {
         None => {}
@@ -162,7 +170,8 @@ fn give_name<K: Sink>(sink: &mut K, memory: &Memory, name: Option<u32>)
 pub fn give_status<K: Sink>(memory: &Memory, line: StatusLine, sink: &mut K)
     requires sure { (a b : K) (us : List Unit) → K.refused a b us → ⊥ }
     requires ready { IsOk (named memory.now line.name) }
-    ensures { (units : List Unit) → named memory.now line.name ≡ Ok units → K.gave sink.old sink.new (line_units units line.is_time line.first line.second) }
+    ensures { (units : List Unit) → named memory.now line.name ≡ Ok units
+        → K.gave sink.old sink.new (line_units units line.is_time line.first line.second) }
 {
     give_all(sink, b"[");
     give_name(sink, memory, line.name);

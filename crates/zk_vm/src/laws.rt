@@ -39,7 +39,7 @@ pub fn frame_limits_only_cut_runs()
     ensures { FrameLimitsOnlyCutRuns }
 {}
 
-/// A run stops at the first step or answer that passes a limit, by that limit, also behind other answers.
+/// A run stops at the first step or answer that passes a limit, by that limit, also after other answers.
 pub fn limits_cut_runs()
     ensures { LimitsCutRuns }
 {}

@@ -83,7 +83,8 @@ impl Model for Machine {
 
     ghost coded = { Prim.hlevel (coded.codes, play.the_row.coded) };
 
-    ghost view = { λ m. record { state = state_seen m; limits = m.limits; waiting = m.waiting; stopped = m.stopped } };
+    ghost view = { λ m. record
+        { state = state_seen m; limits = m.limits; waiting = m.waiting; stopped = m.stopped } };
 
     ghost invariant = { IsSound };
 }
@@ -174,7 +175,8 @@ impl Machine {
         requires near { i.next ≤ 2 ^ 20 }
         requires inside { self.old.state.place < i.next }
         requires fetched { instr_at self.old.state.game.memory self.old.state.place ≡ Ok i }
-        ensures step { IsStep self.old self.new result (λ t. S.shows screen.old screen.new t.screen t.script) }
+        ensures step { IsStep self.old self.new result
+            (λ t. S.shows screen.old screen.new t.screen t.script) }
         ensures counted { OnOk result (self.new.state.steps ≡ self.old.state.steps + 1) }
         ensures silent { OnOk result (self.new.state.due ≡ self.old.state.due) }
         ensures reads { self.new.state.reads ≡ self.old.state.reads }
@@ -203,7 +205,9 @@ impl Machine {
         requires runs { self.old.stopped ≡ None }
         requires near { i.now.next ≤ 2 ^ 20 }
         requires inside { self.old.state.place < i.now.next }
-        ensures step { Settles self.old self.new result (led_to self.old.state i.now self.old.state.game no_text Next.Keeps) ⊎ LacksMemory self.old self.new result }
+        ensures step { Settles self.old self.new result
+            (led_to self.old.state i.now self.old.state.game no_text Next.Keeps)
+            ⊎ LacksMemory self.old self.new result }
         ensures counted { OnOk result (self.new.state.steps ≡ self.old.state.steps + 1) }
         ensures silent { OnOk result (self.new.state.due ≡ self.old.state.due) }
         ensures reads { self.new.state.reads ≡ self.old.state.reads }
@@ -231,7 +235,8 @@ impl Machine {
         requires free { self.old.waiting ≡ None }
         requires runs { self.old.stopped ≡ None }
         requires near { i.now.next ≤ 2 ^ 20 }
-        ensures step { Settles self.old self.new result (led_to self.old.state i.now self.old.state.game no_text Next.Resumes) }
+        ensures step { Settles self.old self.new result
+            (led_to self.old.state i.now self.old.state.game no_text Next.Resumes) }
         ensures counted { OnOk result (self.new.state.steps ≡ self.old.state.steps + 1) }
         ensures silent { OnOk result (self.new.state.due ≡ self.old.state.due) }
         ensures reads { self.new.state.reads ≡ self.old.state.reads }
@@ -250,7 +255,7 @@ impl Machine {
         }
     }
 
-    /// Waits for an answer: for a read behind the view.
+    /// Waits for an answer: for a read after the view.
     fn wait_for<S: Screen>(
         &mut self,
         wait: Wait,
@@ -263,8 +268,13 @@ impl Machine {
         requires silent { self.old.state.due ≡ [] }
         requires near { instruction.next ≤ 2 ^ 20 }
         requires inside { self.old.state.place < instruction.next }
-        ensures step { Settles self.old self.new result (led_to self.old.state instruction self.old.state.game no_text (Next.Waits wait)) }
-        ensures text { S.shows screen.old screen.new (text_of self.old.state (led_to self.old.state instruction self.old.state.game no_text (Next.Waits wait))).screen (text_of self.old.state (led_to self.old.state instruction self.old.state.game no_text (Next.Waits wait))).script }
+        ensures step { Settles self.old self.new result
+            (led_to self.old.state instruction self.old.state.game no_text (Next.Waits wait)) }
+        ensures text { S.shows screen.old screen.new (text_of self.old.state
+            (led_to self.old.state instruction self.old.state.game no_text
+            (Next.Waits wait))).screen (text_of self.old.state
+            (led_to self.old.state instruction self.old.state.game no_text
+            (Next.Waits wait))).script }
         ensures waits { OnOk result ⊥ }
         ensures reads { self.new.state.reads ≡ self.old.state.reads }
         ensures more { self.old.state.steps ≤ self.new.state.steps }
@@ -291,8 +301,13 @@ impl Machine {
         requires near { instruction.next ≤ 2 ^ 20 }
         requires inside { self.old.state.place < instruction.next }
         requires read { is_read wait ≡ true }
-        ensures step { Settles self.old self.new result (led_to self.old.state instruction self.old.state.game no_text (Next.Waits wait)) }
-        ensures text { S.shows screen.old screen.new (text_of self.old.state (led_to self.old.state instruction self.old.state.game no_text (Next.Waits wait))).screen (text_of self.old.state (led_to self.old.state instruction self.old.state.game no_text (Next.Waits wait))).script }
+        ensures step { Settles self.old self.new result
+            (led_to self.old.state instruction self.old.state.game no_text (Next.Waits wait)) }
+        ensures text { S.shows screen.old screen.new (text_of self.old.state
+            (led_to self.old.state instruction self.old.state.game no_text
+            (Next.Waits wait))).screen (text_of self.old.state
+            (led_to self.old.state instruction self.old.state.game no_text
+            (Next.Waits wait))).script }
         ensures waits { OnOk result ⊥ }
         ensures reads { self.new.state.reads ≡ self.old.state.reads }
         ensures more { self.old.state.steps ≤ self.new.state.steps }
@@ -316,7 +331,8 @@ impl Machine {
         requires free { self.old.waiting ≡ None }
         requires runs { self.old.stopped ≡ None }
         requires silent { self.old.state.due ≡ [] }
-        ensures step { IsStep self.old self.new result (λ t. S.shows screen.old screen.new t.screen t.script) }
+        ensures step { IsStep self.old self.new result
+            (λ t. S.shows screen.old screen.new t.screen t.script) }
         ensures counted { OnOk result (self.new.state.steps ≡ self.old.state.steps + 1) }
         ensures silent { OnOk result (self.new.state.due ≡ self.old.state.due) }
         ensures reads { self.new.state.reads ≡ self.old.state.reads }
@@ -353,7 +369,8 @@ impl Machine {
         requires free { self.old.waiting ≡ None }
         requires runs { self.old.stopped ≡ None }
         requires silent { self.old.state.due ≡ [] }
-        ensures run { IsHalted self.old self.new result (λ t. S.shows screen.old screen.new t.screen t.script) }
+        ensures run { IsHalted self.old self.new result
+            (λ t. S.shows screen.old screen.new t.screen t.script) }
         ensures reads { self.new.state.reads ≡ self.old.state.reads }
         ensures more { self.old.state.steps ≤ self.new.state.steps }
         ensures limits { self.new.limits ≡ self.old.limits }
@@ -380,12 +397,15 @@ impl Machine {
     /// answer, and the states that were kept stand. It is not waiting.
     pub fn run<S: Screen>(&mut self, screen: &mut S) -> Result<Event, Stop>
         requires { self.old.waiting ≡ None }
-        ensures run { IsRun self.old self.new result (λ t. S.shows screen.old screen.new t.screen t.script) }
+        ensures run { IsRun self.old self.new result
+            (λ t. S.shows screen.old screen.new t.screen t.script) }
         ensures free { OnErr result (self.new.waiting ≡ None) }
         ensures asks { IfOk result (λ event. event_waited self.new.waiting ≡ Some event) }
-        ensures reads { IfOk result (λ event. is_read_event event ≡ true → self.new.state.reads < 16777216) }
+        ensures reads { IfOk result
+            (λ event. is_read_event event ≡ true → self.new.state.reads < 16777216) }
         ensures same_reads { OnOk result (self.new.state.reads ≡ self.old.state.reads) }
-        ensures steps { OnOk result ((self.old.state.steps ≤ self.new.state.steps) × (self.new.state.steps < self.new.limits.steps)) }
+        ensures steps { OnOk result ((self.old.state.steps ≤ self.new.state.steps)
+            × (self.new.state.steps < self.new.limits.steps)) }
         ensures runs { OnOk result (self.new.stopped ≡ None) }
         ensures limits { self.new.limits ≡ self.old.limits }
         ensures frames { IsBounded self.new.state.game.frames }
@@ -427,9 +447,11 @@ impl Machine {
         requires waits { event_waited self.old.waiting ≡ Some Event.Line }
         requires few { length codes.now ≤ 255 }
         requires typed { AllByRecursion (λ c. is_input_code c ≡ true) codes.now }
-        ensures left { IsLeftAs self.new (given self.old (Typed codes.now)) (given self.old (Typed codes.now)).stopped }
+        ensures left { IsLeftAs self.new (given self.old (Typed codes.now))
+            (given self.old (Typed codes.now)).stopped }
         ensures free { self.new.waiting ≡ None }
-        ensures counted { self.new.stopped ≡ None → self.new.state.reads ≡ self.old.state.reads + 1 }
+        ensures counted { self.new.stopped ≡ None
+            → self.new.state.reads ≡ self.old.state.reads + 1 }
         ensures limits { self.new.limits ≡ self.old.limits }
         ensures within { IsWithin self.new.limits self.new.state }
     {
@@ -452,9 +474,11 @@ impl Machine {
     pub fn answer_char(&mut self, code: u8)
         requires waits { event_waited self.old.waiting ≡ Some Event.Char }
         requires typed { (code ≡ 13) ⊎ (is_input_code code ≡ true) }
-        ensures left { IsLeftAs self.new (given self.old (Typed (code ∷ []))) (given self.old (Typed (code ∷ []))).stopped }
+        ensures left { IsLeftAs self.new (given self.old (Typed (code ∷ [])))
+            (given self.old (Typed (code ∷ []))).stopped }
         ensures free { self.new.waiting ≡ None }
-        ensures counted { self.new.stopped ≡ None → self.new.state.reads ≡ self.old.state.reads + 1 }
+        ensures counted { self.new.stopped ≡ None
+            → self.new.state.reads ≡ self.old.state.reads + 1 }
         ensures limits { self.new.limits ≡ self.old.limits }
         ensures within { IsWithin self.new.limits self.new.state }
     {
@@ -474,7 +498,8 @@ impl Machine {
     pub fn image(&self, alloc: Global) -> Result<Vec<u8>, AllocError>
         requires waits { event_waited self.now.waiting ≡ Some Event.Save }
         ensures value { IfOk result (λ v. v.items ≡ image_of self.now) }
-        ensures len { IfOk result (λ v. length v.items ≤ 51 + self.now.state.game.memory.static_base + 8 * self.now.limits.frames + 2 * self.now.limits.words) }
+        ensures len { IfOk result (λ v. length v.items ≤ 51 + self.now.state.game.memory.static_base
+            + 8 * self.now.limits.frames + 2 * self.now.limits.words) }
     {
         let next = match &self.waiting {
             Some(waiting) => waiting.instruction.next,
@@ -488,9 +513,11 @@ impl Machine {
     /// or a limit comes from the next `run`. The machine waits for it to be kept.
     pub fn answer_save(&mut self, kept: bool)
         requires waits { event_waited self.old.waiting ≡ Some Event.Save }
-        ensures left { IsLeftAs self.new (given self.old (GameKept kept)) (given self.old (GameKept kept)).stopped }
+        ensures left { IsLeftAs self.new (given self.old (GameKept kept))
+            (given self.old (GameKept kept)).stopped }
         ensures free { self.new.waiting ≡ None }
-        ensures counted { self.new.stopped ≡ None → self.new.state.steps ≡ self.old.state.steps + 1 }
+        ensures counted { self.new.stopped ≡ None
+            → self.new.state.steps ≡ self.old.state.steps + 1 }
         ensures reads { self.new.stopped ≡ None → self.new.state.reads ≡ self.old.state.reads }
         ensures limits { self.new.limits ≡ self.old.limits }
         ensures within { IsWithin self.new.limits self.new.state }
@@ -514,9 +541,11 @@ impl Machine {
     /// a limit comes from the next `run`. The machine waits for a saved game.
     pub fn answer_restore(&mut self, file: Option<&[u8]>)
         requires waits { event_waited self.old.waiting ≡ Some Event.Restore }
-        ensures left { IsLeftAs self.new (given self.old (File (option_copied file.entry))) (given self.old (File (option_copied file.entry))).stopped }
+        ensures left { IsLeftAs self.new (given self.old (File (option_copied file.entry)))
+            (given self.old (File (option_copied file.entry))).stopped }
         ensures free { self.new.waiting ≡ None }
-        ensures counted { self.new.stopped ≡ None → self.new.state.steps ≡ self.old.state.steps + 1 }
+        ensures counted { self.new.stopped ≡ None
+            → self.new.state.steps ≡ self.old.state.steps + 1 }
         ensures reads { self.new.stopped ≡ None → self.new.state.reads ≡ self.old.state.reads }
         ensures limits { self.new.limits ≡ self.old.limits }
         ensures within { IsWithin self.new.limits self.new.state }
@@ -593,7 +622,7 @@ fn truth_word(truth: bool) -> u16
     if truth { 1 } else { 0 }
 }
 
-/// Where a run goes on from a state that is saved at a place, by an instruction with `next` behind it: its branch
+/// Where a run goes on from a state that is saved at a place, by an instruction with `next` after it: its branch
 /// in version 3, its store byte from version 4 on (Quetzal 1.4, section 5).
 fn place_of_save(version: u8, place: u32, next: u32) -> u32
     requires place { place < 2 ^ 20 }

@@ -33,12 +33,17 @@ fn serve<K: SaveSlot>(
 ) -> Result<(), Stop>
     requires waits { event_waited machine.old.waiting ≡ Some event }
     requires file { is_read_event event ≡ false }
-    ensures served { OnOk result (IsServed K.held K.keeps slot.old slot.new machine.old machine.new) }
+    ensures served { OnOk result
+        (IsServed K.held K.keeps slot.old slot.new machine.old machine.new) }
     ensures free { machine.new.waiting ≡ None }
-    ensures counted { OnOk result (machine.new.stopped ≡ None → machine.new.state.steps ≡ machine.old.state.steps + 1) }
-    ensures reads { OnOk result (machine.new.stopped ≡ None → machine.new.state.reads ≡ machine.old.state.reads) }
+    ensures counted { OnOk result
+        (machine.new.stopped ≡ None → machine.new.state.steps ≡ machine.old.state.steps + 1) }
+    ensures reads { OnOk result
+        (machine.new.stopped ≡ None → machine.new.state.reads ≡ machine.old.state.reads) }
     ensures limits { machine.new.limits ≡ machine.old.limits }
-    ensures unserved { IfErr result (λ stop. (stop ≡ Stop.Memory) × AsksForFile machine.old × (machine.new ≡ with_stop machine.old Stop.Memory) × (K.held slot.new ≡ K.held slot.old)) }
+    ensures unserved { IfErr result (λ stop. (stop ≡ Stop.Memory) × AsksForFile machine.old
+        × (machine.new ≡ with_stop machine.old Stop.Memory)
+        × (K.held slot.new ≡ K.held slot.old)) }
 {
     let served = match event {
         Event::Save => keep(alloc, slot, machine),
@@ -57,12 +62,16 @@ fn serve<K: SaveSlot>(
 /// Has a slot keep the saved game that waits for it.
 fn keep<K: SaveSlot>(alloc: Global, slot: &mut K, machine: &mut Machine) -> Result<(), AllocError>
     requires waits { event_waited machine.old.waiting ≡ Some Event.Save }
-    ensures served { OnOk result (IsServed K.held K.keeps slot.old slot.new machine.old machine.new) }
+    ensures served { OnOk result
+        (IsServed K.held K.keeps slot.old slot.new machine.old machine.new) }
     ensures free { OnOk result (machine.new.waiting ≡ None) }
-    ensures counted { OnOk result (machine.new.stopped ≡ None → machine.new.state.steps ≡ machine.old.state.steps + 1) }
-    ensures reads { OnOk result (machine.new.stopped ≡ None → machine.new.state.reads ≡ machine.old.state.reads) }
+    ensures counted { OnOk result
+        (machine.new.stopped ≡ None → machine.new.state.steps ≡ machine.old.state.steps + 1) }
+    ensures reads { OnOk result
+        (machine.new.stopped ≡ None → machine.new.state.reads ≡ machine.old.state.reads) }
     ensures limits { machine.new.limits ≡ machine.old.limits }
-    ensures unserved { OnErr result ((machine.new ≡ machine.old) × (K.held slot.new ≡ K.held slot.old)) }
+    ensures unserved { OnErr result
+        ((machine.new ≡ machine.old) × (K.held slot.new ≡ K.held slot.old)) }
 {
     let file = machine.image(alloc)?;
     let kept = slot.put(file.as_slice());
@@ -73,12 +82,16 @@ fn keep<K: SaveSlot>(alloc: Global, slot: &mut K, machine: &mut Machine) -> Resu
 /// Restores the saved game that a slot has.
 fn bring<K: SaveSlot>(alloc: Global, slot: &mut K, machine: &mut Machine) -> Result<(), AllocError>
     requires waits { event_waited machine.old.waiting ≡ Some Event.Restore }
-    ensures served { OnOk result (IsServed K.held K.keeps slot.old slot.new machine.old machine.new) }
+    ensures served { OnOk result
+        (IsServed K.held K.keeps slot.old slot.new machine.old machine.new) }
     ensures free { OnOk result (machine.new.waiting ≡ None) }
-    ensures counted { OnOk result (machine.new.stopped ≡ None → machine.new.state.steps ≡ machine.old.state.steps + 1) }
-    ensures reads { OnOk result (machine.new.stopped ≡ None → machine.new.state.reads ≡ machine.old.state.reads) }
+    ensures counted { OnOk result
+        (machine.new.stopped ≡ None → machine.new.state.steps ≡ machine.old.state.steps + 1) }
+    ensures reads { OnOk result
+        (machine.new.stopped ≡ None → machine.new.state.reads ≡ machine.old.state.reads) }
     ensures limits { machine.new.limits ≡ machine.old.limits }
-    ensures unserved { OnErr result ((machine.new ≡ machine.old) × (K.held slot.new ≡ K.held slot.old)) }
+    ensures unserved { OnErr result
+        ((machine.new ≡ machine.old) × (K.held slot.new ≡ K.held slot.old)) }
 {
     match slot.get(alloc)? {
         Some(file) => machine.answer_restore(Some(file.as_slice())),
@@ -97,14 +110,25 @@ fn run_on<S: Target, T: Target>(
     requires free { machine.old.waiting ≡ None }
     requires screen_works { S.failed screen.old ≡ false }
     requires script_works { T.failed script.old ≡ false }
-    ensures run { IsRunOn machine.old machine.new result (S.failed screen.new || T.failed script.new)
-        (λ t. Shows (record { taken = S.taken screen.old; failed = false }) (record { taken = S.taken screen.new; failed = S.failed screen.new || T.failed script.new }) t.screen
-        × Shows (record { taken = T.taken script.old; failed = false }) (record { taken = T.taken script.new; failed = S.failed screen.new || T.failed script.new }) t.script) }
+    ensures run { IsRunOn machine.old machine.new result
+        (S.failed screen.new || T.failed script.new) (λ t. Shows
+        (record { taken = S.taken screen.old; failed = false })
+        (record {
+          taken = S.taken screen.new;
+          failed = S.failed screen.new || T.failed script.new;
+        }) t.screen
+        × Shows (record { taken = T.taken script.old; failed = false })
+        (record {
+          taken = T.taken script.new;
+          failed = S.failed screen.new || T.failed script.new;
+        }) t.script) }
     ensures free_again { OnErr result (machine.new.waiting ≡ None) }
     ensures asks { IfOk result (λ event. event_waited machine.new.waiting ≡ Some event) }
-    ensures reads { IfOk result (λ event. is_read_event event ≡ true → machine.new.state.reads < 16777216) }
+    ensures reads { IfOk result
+        (λ event. is_read_event event ≡ true → machine.new.state.reads < 16777216) }
     ensures same_reads { OnOk result (machine.new.state.reads ≡ machine.old.state.reads) }
-    ensures steps { OnOk result ((machine.old.state.steps ≤ machine.new.state.steps) × (machine.new.state.steps < machine.new.limits.steps)) }
+    ensures steps { OnOk result ((machine.old.state.steps ≤ machine.new.state.steps)
+        × (machine.new.state.steps < machine.new.limits.steps)) }
     ensures runs { OnOk result (machine.new.stopped ≡ None) }
     ensures limits { machine.new.limits ≡ machine.old.limits }
     ensures within { IsWithin machine.new.limits machine.new.state }
@@ -134,10 +158,14 @@ pub fn turn<S: Target, T: Target, K: SaveSlot>(
     requires free { machine.old.waiting ≡ None }
     requires screen_works { S.failed screen.old ≡ false }
     requires script_works { T.failed script.old ≡ false }
-    ensures turn { IsTurn (AreSlotAnswers K.held K.keeps (S.failed screen.new || T.failed script.new) slot.old slot.new machine.old) machine.old machine.new result (S.failed screen.new || T.failed script.new)
-        (TookTexts (S.taken screen.old) (S.taken screen.new) (T.taken script.old) (T.taken script.new) (S.failed screen.new || T.failed script.new)) }
+    ensures turn { IsTurn (AreSlotAnswers K.held K.keeps
+        (S.failed screen.new || T.failed script.new) slot.old slot.new machine.old) machine.old
+        machine.new result (S.failed screen.new || T.failed script.new)
+        (TookTexts (S.taken screen.old) (S.taken screen.new) (T.taken script.old)
+        (T.taken script.new) (S.failed screen.new || T.failed script.new)) }
     ensures free_again { OnErr result (machine.new.waiting ≡ None) }
-    ensures asks { IfOk result (λ event. (event_waited machine.new.waiting ≡ Some event) × (is_read_event event ≡ true)) }
+    ensures asks { IfOk result
+        (λ event. (event_waited machine.new.waiting ≡ Some event) × (is_read_event event ≡ true)) }
     ensures reads { OnOk result (machine.new.state.reads < 16777216) }
     ensures same_reads { OnOk result (machine.new.state.reads ≡ machine.old.state.reads) }
     ensures runs { OnOk result (machine.new.stopped ≡ None) }
@@ -159,12 +187,20 @@ pub fn turn<S: Target, T: Target, K: SaveSlot>(
 
 /// The next line, by the extra characters in force.
 fn next_line<R: Source>(lines: &mut Lines, reader: &mut R, machine: &Machine) -> Input
-    ensures over { (o : Over) → lines.old.over ≡ Some o → (result ≡ over_input o) × (lines.new ≡ lines.old) × (reader.new ≡ reader.old) }
-    ensures heard { (bytes : List ℕ) → lines.old.over ≡ None → R.left reader.old ≡ Some bytes → (later : List ℕ) × (R.left reader.new ≡ Some later) × Hears (own_characters machine.now.state.game.memory) (lines.old.ahead ++ bytes) (lines.new.ahead ++ later) lines.new.over (ReadFailed R.fails R.failed reader.new lines.new) (R.failed reader.new ≡ R.failed reader.old) result }
+    ensures over { (o : Over) → lines.old.over ≡ Some o
+        → (result ≡ over_input o) × (lines.new ≡ lines.old) × (reader.new ≡ reader.old) }
+    ensures heard { (bytes : List ℕ) → lines.old.over ≡ None → R.left reader.old ≡ Some bytes
+        → (later : List ℕ) × (R.left reader.new ≡ Some later)
+        × Hears (own_characters machine.now.state.game.memory) (lines.old.ahead ++ bytes)
+        (lines.new.ahead ++ later) lines.new.over
+        (ReadFailed R.fails R.failed reader.new lines.new)
+        (R.failed reader.new ≡ R.failed reader.old) result }
     ensures next { lines.old.over ≡ None → IsOverAfter result lines.new.over }
     ensures codes { HasInputCodes result }
-    ensures failed { FailsAlone (ReadFailed R.fails R.failed reader.new lines.new) (R.failed reader.new ≡ R.failed reader.old) result }
-    ensures ends { lines.old.over ≡ None → lines.new.over ≡ Some Over.End → HasJust R.ends reader.new }
+    ensures failed { FailsAlone (ReadFailed R.fails R.failed reader.new lines.new)
+        (R.failed reader.new ≡ R.failed reader.old) result }
+    ensures ends { lines.old.over ≡ None → lines.new.over ≡ Some Over.End
+        → HasJust R.ends reader.new }
 {
     lines.line(reader, &Extra::of(machine.memory()))
 }
@@ -187,9 +223,11 @@ fn answer(machine: &mut Machine, event: Event, codes: &[u8])
     requires reads { is_read_event event ≡ true }
     requires few { length codes.now ≤ 255 }
     requires typed { AllByRecursion (λ c. is_input_code c ≡ true) codes.now }
-    ensures left { IsLeftAs machine.new (given machine.old (Typed codes.now)) (given machine.old (Typed codes.now)).stopped }
+    ensures left { IsLeftAs machine.new (given machine.old (Typed codes.now))
+        (given machine.old (Typed codes.now)).stopped }
     ensures free { machine.new.waiting ≡ None }
-    ensures counted { machine.new.stopped ≡ None → machine.new.state.reads ≡ machine.old.state.reads + 1 }
+    ensures counted { machine.new.stopped ≡ None
+        → machine.new.state.reads ≡ machine.old.state.reads + 1 }
     ensures limits { machine.new.limits ≡ machine.old.limits }
 {
     match event {
@@ -226,8 +264,16 @@ pub fn play<R: Source, S: Target, T: Target, K: SaveSlot>(
     requires reader_works { R.failed reader.old ≡ false }
     requires screen_works { S.failed screen.old ≡ false }
     requires script_works { T.failed script.old ≡ false }
-    ensures played { (bytes : List ℕ) → R.left reader.old ≡ Some bytes → (later : List ℕ) × (R.left reader.new ≡ Some later) × IsPlay (IsPlayed K.held K.keeps slot.old slot.new bytes later (R.failed reader.new) (S.failed screen.new || T.failed script.new) machine.old) result (S.failed screen.new || T.failed script.new) (S.taken screen.old) (S.taken screen.new) (T.taken script.old) (T.taken script.new) }
-    ensures answered { IsPlay (IsAnswered R.ends R.fails R.failed reader.old reader.new (S.failed screen.new || T.failed script.new) machine.old) result (S.failed screen.new || T.failed script.new) (S.taken screen.old) (S.taken screen.new) (T.taken script.old) (T.taken script.new) }
+    ensures played { (bytes : List ℕ) → R.left reader.old ≡ Some bytes
+        → (later : List ℕ) × (R.left reader.new ≡ Some later)
+        × IsPlay (IsPlayed K.held K.keeps slot.old slot.new bytes later (R.failed reader.new)
+        (S.failed screen.new || T.failed script.new) machine.old) result
+        (S.failed screen.new || T.failed script.new) (S.taken screen.old)
+        (S.taken screen.new) (T.taken script.old) (T.taken script.new) }
+    ensures answered { IsPlay (IsAnswered R.ends R.fails R.failed reader.old reader.new
+        (S.failed screen.new || T.failed script.new) machine.old) result
+        (S.failed screen.new || T.failed script.new) (S.taken screen.old) (S.taken screen.new)
+        (T.taken script.old) (T.taken script.new) }
     ensures read_failed { R.failed reader.new ≡ true → result ≡ Stop.Read }
     ensures stopped { machine.new.stopped ≡ Some result }
     ensures limits { machine.new.limits ≡ machine.old.limits }

@@ -35,9 +35,12 @@ impl<'a, S: Screen> Printer<'a, S> {
     /// Shows a character on the screen, if it is on.
     #[tactic(auto, unfolding(zk_step::specs::Routing::ends_line))]
     fn show_on_screen(&mut self, c: char)
-        ensures kept { (self.new.screen.ghost_name ≡ self.old.screen.ghost_name) × (self.new.extra.now ≡ self.old.extra.now) × (self.new.selected ≡ self.old.selected) }
-        ensures start { self.new.at_line_start ≡ ends_line self.old.at_line_start (shown_if self.old.selected.screen (c ∷ [])) }
-        ensures shown { S.shows self.old.screen.now self.new.screen.now (shown_if self.old.selected.screen (c ∷ [])) [] }
+        ensures kept { (self.new.screen.ghost_name ≡ self.old.screen.ghost_name)
+            × (self.new.extra.now ≡ self.old.extra.now) × (self.new.selected ≡ self.old.selected) }
+        ensures start { self.new.at_line_start
+            ≡ ends_line self.old.at_line_start (shown_if self.old.selected.screen (c ∷ [])) }
+        ensures shown { S.shows self.old.screen.now self.new.screen.now
+            (shown_if self.old.selected.screen (c ∷ [])) [] }
     {
         match self.selected.screen {
             false => {}
@@ -50,9 +53,11 @@ impl<'a, S: Screen> Printer<'a, S> {
 
     /// Adds a character to the transcript, if it is on.
     fn show_in_script(&mut self, c: char)
-        ensures kept { (self.new.screen.ghost_name ≡ self.old.screen.ghost_name) × (self.new.extra.now ≡ self.old.extra.now) × (self.new.selected ≡ self.old.selected) }
+        ensures kept { (self.new.screen.ghost_name ≡ self.old.screen.ghost_name)
+            × (self.new.extra.now ≡ self.old.extra.now) × (self.new.selected ≡ self.old.selected) }
         ensures start { self.new.at_line_start ≡ self.old.at_line_start }
-        ensures shown { S.shows self.old.screen.now self.new.screen.now [] (shown_if self.old.selected.script (c ∷ [])) }
+        ensures shown { S.shows self.old.screen.now self.new.screen.now []
+            (shown_if self.old.selected.script (c ∷ [])) }
     {
         match self.selected.script {
             false => {}
@@ -62,9 +67,13 @@ impl<'a, S: Screen> Printer<'a, S> {
 
     /// Shows a character on the streams that are on.
     fn show(&mut self, c: char)
-        ensures kept { (self.new.screen.ghost_name ≡ self.old.screen.ghost_name) × (self.new.extra.now ≡ self.old.extra.now) × (self.new.selected ≡ self.old.selected) }
-        ensures start { self.new.at_line_start ≡ ends_line self.old.at_line_start (shown_if self.old.selected.screen (c ∷ [])) }
-        ensures shown { S.shows self.old.screen.now self.new.screen.now (shown_if self.old.selected.screen (c ∷ [])) (shown_if self.old.selected.script (c ∷ [])) }
+        ensures kept { (self.new.screen.ghost_name ≡ self.old.screen.ghost_name)
+            × (self.new.extra.now ≡ self.old.extra.now) × (self.new.selected ≡ self.old.selected) }
+        ensures start { self.new.at_line_start
+            ≡ ends_line self.old.at_line_start (shown_if self.old.selected.screen (c ∷ [])) }
+        ensures shown { S.shows self.old.screen.now self.new.screen.now
+            (shown_if self.old.selected.screen (c ∷ []))
+            (shown_if self.old.selected.script (c ∷ [])) }
     {
         self.show_on_screen(c);
         self.show_in_script(c);
@@ -76,7 +85,10 @@ impl<'a, S: Screen> Sink for Printer<'a, S> {
     ghost use Rattle.std.proofs.Common.{◌∙◌};
     ghost use Rattle.zk_vm.specs.Printed.{Printed, printed_twice, printed_nothing};
 
-    ghost gave = { λ a b us. (b.screen.ghost_name ≡ a.screen.ghost_name) × (b.extra.now ≡ a.extra.now) × (b.selected ≡ a.selected) × Printed S.shows a.extra.now a.selected a.screen.now b.screen.now a.at_line_start b.at_line_start us };
+    ghost gave = { λ a b us. (b.screen.ghost_name ≡ a.screen.ghost_name)
+        × (b.extra.now ≡ a.extra.now) × (b.selected ≡ a.selected)
+        × Printed S.shows a.extra.now a.selected a.screen.now b.screen.now a.at_line_start
+        b.at_line_start us };
 
     ghost refused = { λ a b us. ⊥ };
 
@@ -95,9 +107,22 @@ impl<'a, S: Screen> Sink for Printer<'a, S> {
         }
     }
 
-    ghost nothing = { λ a. (refl, refl, refl, printed_nothing S.shows a.extra.now a.selected a.screen.now a.at_line_start (S.nothing a.screen.now)) };
+    ghost nothing = { λ a. (
+      refl,
+      refl,
+      refl,
+      printed_nothing S.shows a.extra.now a.selected
+          a.screen.now a.at_line_start (S.nothing a.screen.now),
+    ) };
 
-    ghost twice = { λ a b c s t h k. (k.0 ∙ h.0, k.1 ∙ h.1, k.2 ∙ h.2, printed_twice S.shows S.twice a.extra.now b.extra.now a.selected b.selected a.screen.now b.screen.now c.screen.now a.at_line_start b.at_line_start c.at_line_start s t h.1 h.2 h.3 k.3) };
+    ghost twice = { λ a b c s t h k. (
+      k.0 ∙ h.0,
+      k.1 ∙ h.1,
+      k.2 ∙ h.2,
+      printed_twice S.shows S.twice a.extra.now b.extra.now a.selected b.selected a.screen.now
+          b.screen.now c.screen.now a.at_line_start b.at_line_start c.at_line_start s t h.1 h.2
+          h.3 k.3,
+    ) };
 
     ghost late = { λ a b c s t h k. k };
 }
@@ -116,7 +141,9 @@ impl<'a> Sink for WindowPrinter<'a> {
     ghost use Rattle.zk_term.specs.Windows.{printed};
     ghost use Rattle.zk_vm.specs.Printed.{upper_twice, upper_nothing};
 
-    ghost gave = { λ a b us. (b.windows.ghost_name ≡ a.windows.ghost_name) × (b.extra.now ≡ a.extra.now) × (b.windows.now ≡ printed (shown_all a.extra.now us) a.windows.now) };
+    ghost gave = { λ a b us. (b.windows.ghost_name ≡ a.windows.ghost_name)
+        × (b.extra.now ≡ a.extra.now)
+        × (b.windows.now ≡ printed (shown_all a.extra.now us) a.windows.now) };
 
     ghost refused = { λ a b us. ⊥ };
 
@@ -137,7 +164,12 @@ impl<'a> Sink for WindowPrinter<'a> {
 
     ghost nothing = { λ a. (refl, refl, upper_nothing a.extra.now a.windows.now) };
 
-    ghost twice = { λ a b c s t h k. (k.0 ∙ h.0, k.1 ∙ h.1, upper_twice a.extra.now b.extra.now a.windows.now b.windows.now c.windows.now s t h.1 h.2 k.2) };
+    ghost twice = { λ a b c s t h k. (
+      k.0 ∙ h.0,
+      k.1 ∙ h.1,
+      upper_twice a.extra.now b.extra.now
+          a.windows.now b.windows.now c.windows.now s t h.1 h.2 k.2,
+    ) };
 
     ghost late = { λ a b c s t h k. k };
 }
@@ -188,9 +220,11 @@ impl<'a> Sink for Collector<'a> {
     ghost use Rattle.zk_step.specs.Routing.{stored_all};
     ghost use Rattle.zk_vm.specs.Printed.{FirstPart, stored_twice, stored_nothing, stored_late};
 
-    ghost gave = { λ a b us. (b.codes.ghost_name ≡ a.codes.ghost_name) × (b.extra.now ≡ a.extra.now) × (b.codes.now ≡ a.codes.now ++ stored_all a.extra.now us) };
+    ghost gave = { λ a b us. (b.codes.ghost_name ≡ a.codes.ghost_name) × (b.extra.now ≡ a.extra.now)
+        × (b.codes.now ≡ a.codes.now ++ stored_all a.extra.now us) };
 
-    ghost refused = { λ a b us. (b.codes.ghost_name ≡ a.codes.ghost_name) × FirstPart b.codes.now (a.codes.now ++ stored_all a.extra.now us) };
+    ghost refused = { λ a b us. (b.codes.ghost_name ≡ a.codes.ghost_name)
+        × FirstPart b.codes.now (a.codes.now ++ stored_all a.extra.now us) };
 
     #[inline(always)]
     fn put(&mut self, unit: Unit) -> Result<(), SinkFault> {
@@ -205,7 +239,14 @@ impl<'a> Sink for Collector<'a> {
 
     ghost nothing = { λ a. (refl, refl, stored_nothing a.extra.now a.codes.now) };
 
-    ghost twice = { λ a b c s t h k. (k.0 ∙ h.0, k.1 ∙ h.1, stored_twice a.extra.now b.extra.now a.codes.now b.codes.now c.codes.now s t h.1 h.2 k.2) };
+    ghost twice = { λ a b c s t h k. (
+      k.0 ∙ h.0,
+      k.1 ∙ h.1,
+      stored_twice a.extra.now b.extra.now a.codes.now b.codes.now c.codes.now s t h.1 h.2 k.2,
+    ) };
 
-    ghost late = { λ a b c s t h k. (k.0 ∙ h.0, stored_late a.extra.now b.extra.now a.codes.now b.codes.now c.codes.now s t h.1 h.2 k.1) };
+    ghost late = { λ a b c s t h k. (
+      k.0 ∙ h.0,
+      stored_late a.extra.now b.extra.now a.codes.now b.codes.now c.codes.now s t h.1 h.2 k.1,
+    ) };
 }

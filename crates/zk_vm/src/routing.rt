@@ -35,7 +35,8 @@ use zk_text::extra::Extra;
 /// Collects the codes that a table gets, as many as there is room for.
 fn collect(memory: &Memory, output: Output, codes: &mut Codes)
     requires { IsReady memory.now output }
-    ensures { Collected codes.new (stored_all (own_characters memory.now) (units_of memory.now output)) }
+    ensures { Collected codes.new
+        (stored_all (own_characters memory.now) (units_of memory.now output)) }
 {
     codes.clear();
     let extra = Extra::of(memory);
@@ -59,9 +60,11 @@ fn fill_table(
 ) -> Result<(), Fault>
     requires ready { IsReady game.old.memory output }
     requires newest { newest_of game.old.streams.tables ≡ Some table }
-    ensures value { MatchResult result
-        (λ _. table_filled game.old table (stored_all (own_characters game.old.memory) (units_of game.old.memory output)) ≡ Ok game.new)
-        (λ e. table_filled game.old table (stored_all (own_characters game.old.memory) (units_of game.old.memory output)) ≡ Err e) }
+    ensures value { MatchResult result (λ _. table_filled game.old table
+        (stored_all (own_characters game.old.memory) (units_of game.old.memory output))
+        ≡ Ok game.new) (λ e. table_filled game.old table
+        (stored_all (own_characters game.old.memory) (units_of game.old.memory output))
+        ≡ Err e) }
     ensures bounds { bounds_of game.new.frames ≡ bounds_of game.old.frames }
 {
     collect(&game.memory, output, codes);
@@ -89,8 +92,11 @@ pub fn is_script_on(memory: &Memory) -> bool
 /// Shows what is printed on the screen and in the transcript, while they are on.
 fn show_text<S: Screen>(game: &mut GameState, output: Output, screen: &mut S)
     requires ready { IsReady game.old.memory output }
-    ensures state { game.new ≡ (streamed game.old.memory game.old (characters_of game.old.memory output)).0 }
-    ensures text { S.shows screen.old screen.new (streamed game.old.memory game.old (characters_of game.old.memory output)).1.screen (streamed game.old.memory game.old (characters_of game.old.memory output)).1.script }
+    ensures state { game.new
+        ≡ (streamed game.old.memory game.old (characters_of game.old.memory output)).0 }
+    ensures text { S.shows screen.old screen.new
+        (streamed game.old.memory game.old (characters_of game.old.memory output)).1.screen
+        (streamed game.old.memory game.old (characters_of game.old.memory output)).1.script }
 {
     let extra = Extra::of(&game.memory);
     let mut printer = Printer {
@@ -112,7 +118,9 @@ fn show_text<S: Screen>(game: &mut GameState, output: Output, screen: &mut S)
 fn show_status<S: Screen>(game: &mut GameState, screen: &mut S)
     requires { IsOk (status_units game.old.memory) }
     ensures state { game.new ≡ with_line_start true game.old }
-    ensures text { S.shows screen.old screen.new (text_routed (status_shown game.old.memory game.old (status_units game.old.memory))).screen [] }
+    ensures text { S.shows screen.old screen.new
+        (text_routed (status_shown game.old.memory game.old (status_units game.old.memory))).screen
+        [] }
 {
     start_line(screen, game.at_line_start);
     show_status_line(&game.memory, screen);
@@ -123,7 +131,9 @@ fn show_status<S: Screen>(game: &mut GameState, screen: &mut S)
 fn print_row(windows: &mut Windows, memory: &Memory, rectangle: Rectangle, row: u16)
     requires stands { IsOk (rows_of memory.now rectangle) }
     requires within { row < rectangle.height }
-    ensures { (codes : List ℕ) → row_at memory.now rectangle row ≡ Ok codes → windows.new ≡ printed (shown_all (own_characters memory.now) (row_units codes)) windows.old }
+    ensures { (codes : List ℕ) → row_at memory.now rectangle row ≡ Ok codes
+        → windows.new
+        ≡ printed (shown_all (own_characters memory.now) (row_units codes)) windows.old }
 {
     let extra = Extra::of(memory);
     let mut printer = WindowPrinter {
@@ -140,7 +150,9 @@ fn print_row(windows: &mut Windows, memory: &Memory, rectangle: Rectangle, row: 
 fn print_row_if(windows: &mut Windows, memory: &Memory, rectangle: Rectangle, row: u16, on: bool)
     requires stands { IsOk (rows_of memory.now rectangle) }
     requires within { row < rectangle.height }
-    ensures { (codes : List ℕ) → row_at memory.now rectangle row ≡ Ok codes → windows.new ≡ printed_if on (shown_all (own_characters memory.now) (row_units codes)) windows.old }
+    ensures { (codes : List ℕ) → row_at memory.now rectangle row ≡ Ok codes
+        → windows.new
+        ≡ printed_if on (shown_all (own_characters memory.now) (row_units codes)) windows.old }
 {
     if on {
         print_row(windows, memory, rectangle, row);
@@ -152,7 +164,8 @@ fn print_row_if(windows: &mut Windows, memory: &Memory, rectangle: Rectangle, ro
 /// the cursor alone moves, from row to row.
 fn print_rows(windows: &mut Windows, memory: &Memory, rectangle: Rectangle, on: bool)
     requires { IsOk (rows_of memory.now rectangle) }
-    ensures { windows.new ≡ rectangle_printed on (own_characters memory.now) (rows_or_none (rows_of memory.now rectangle)) windows.old }
+    ensures { windows.new ≡ rectangle_printed on (own_characters memory.now)
+        (rows_or_none (rows_of memory.now rectangle)) windows.old }
 {
     if rectangle.height == 0 {
         return;
@@ -208,11 +221,16 @@ fn route_text<S: Screen>(
 ) -> Result<(), Refusal>
     requires ready { IsReady game.old.memory output }
     requires plain { IsPlainEnd begun.now.effect.ending }
-    ensures value { MatchResult result
-        (λ _. IsRoutedBy (routed_by (newest_of game.old.streams.tables) game.old.memory game.old output) game.new i.now begun.now.values begun.now.effect.ending)
-        (λ e. limited_next (finished_after (routed_by (newest_of game.old.streams.tables) game.old.memory game.old output) i.now begun.now.values begun.now.effect.ending) ≡ Err e) }
-    ensures text { MatchResult result
-        (λ _. S.shows screen.old screen.new (text_routed (routed_by (newest_of game.old.streams.tables) game.old.memory game.old output)).screen (text_routed (routed_by (newest_of game.old.streams.tables) game.old.memory game.old output)).script)
+    ensures value { MatchResult result (λ _. IsRoutedBy
+        (routed_by (newest_of game.old.streams.tables) game.old.memory game.old output) game.new
+        i.now begun.now.values begun.now.effect.ending) (λ e. limited_next
+        (finished_after
+        (routed_by (newest_of game.old.streams.tables) game.old.memory game.old output)
+        i.now begun.now.values begun.now.effect.ending) ≡ Err e) }
+    ensures text { MatchResult result (λ _. S.shows screen.old screen.new
+        (text_routed (routed_by (newest_of game.old.streams.tables) game.old.memory game.old
+        output)).screen (text_routed (routed_by (newest_of game.old.streams.tables)
+        game.old.memory game.old output)).script)
         (λ _. S.shows screen.old screen.new [] []) }
     ensures bounds { bounds_of game.new.frames ≡ bounds_of game.old.frames }
 {
@@ -246,12 +264,15 @@ pub fn route<S: Screen>(
     codes: &mut Codes,
     screen: &mut S,
 ) -> Result<(), Refusal>
-    requires { IsPrintable game.old.memory game.old.memory begun.now.effect.output begun.now.effect.ending }
+    requires { IsPrintable game.old.memory game.old.memory begun.now.effect.output
+        begun.now.effect.ending }
     ensures value { MatchResult result
         (λ _. IsRouted game.old game.new i.now begun.now.values begun.now.effect)
-        (λ e. limited_next (finished_after (routed game.old.memory game.old begun.now.effect.output) i.now begun.now.values begun.now.effect.ending) ≡ Err e) }
-    ensures text { MatchResult result
-        (λ _. S.shows screen.old screen.new (text_routed (routed game.old.memory game.old begun.now.effect.output)).screen (text_routed (routed game.old.memory game.old begun.now.effect.output)).script)
+        (λ e. limited_next (finished_after (routed game.old.memory game.old begun.now.effect.output)
+        i.now begun.now.values begun.now.effect.ending) ≡ Err e) }
+    ensures text { MatchResult result (λ _. S.shows screen.old screen.new
+        (text_routed (routed game.old.memory game.old begun.now.effect.output)).screen
+        (text_routed (routed game.old.memory game.old begun.now.effect.output)).script)
         (λ _. S.shows screen.old screen.new [] []) }
     ensures bounds { bounds_of game.new.frames ≡ bounds_of game.old.frames }
 {

@@ -19,5 +19,6 @@ pub trait Screen {
 
     ghost nothing: { (a : Self) → shows a a [] [] };
 
-    ghost twice: { (a b c : Self) (s t u v : List ℕ) → shows a b s u → shows b c t v → shows a c (s ++ t) (u ++ v) };
+    ghost twice: { (a b c : Self) (s t u v : List ℕ) → shows a b s u → shows b c t v
+        → shows a c (s ++ t) (u ++ v) };
 }

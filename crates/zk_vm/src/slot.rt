@@ -24,7 +24,8 @@ pub trait SaveSlot {
     /// The file that is kept, where there is one. It stays, also where there is no memory for a copy.
     fn get(&mut self, alloc: Global) -> Result<Option<Vec<u8>>, AllocError>
         ensures stays { held self.new ≡ held self.old }
-        ensures found { IfOk result (λ r. IfSome (held self.old) (λ f. option_map (λ v. v.items) r ≡ f)) };
+        ensures found { IfOk result
+            (λ r. IfSome (held self.old) (λ f. option_map (λ v. v.items) r ≡ f)) };
 }
 
 /// A slot that keeps nothing and has nothing.

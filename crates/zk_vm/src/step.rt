@@ -25,12 +25,15 @@ pub fn carry_out<S: Screen>(
     screen: &mut S,
 ) -> Result<Next, Refusal>
     requires { i.now.next ≤ 2 ^ 20 }
-    ensures value { MatchResult result
-        (λ n. limited_move (carried_out game.old i.now) ≡ Ok (game.new, (n, text_in (limited_move (carried_out game.old i.now)))))
+    ensures value { MatchResult result (λ n. limited_move (carried_out game.old i.now)
+        ≡ Ok (game.new, (n, text_in (limited_move (carried_out game.old i.now)))))
         (λ e. limited_move (carried_out game.old i.now) ≡ Err e) }
-    ensures quiet { IfOk result (λ n. IsQuiet n (text_in (limited_move (carried_out game.old i.now)))) }
+    ensures quiet { IfOk result
+        (λ n. IsQuiet n (text_in (limited_move (carried_out game.old i.now)))) }
     ensures bounds { bounds_of game.new.frames ≡ bounds_of game.old.frames }
-    ensures text { S.shows screen.old screen.new (text_in (limited_move (carried_out game.old i.now))).screen (text_in (limited_move (carried_out game.old i.now))).script }
+    ensures text { S.shows screen.old screen.new
+        (text_in (limited_move (carried_out game.old i.now))).screen
+        (text_in (limited_move (carried_out game.old i.now))).script }
 {
     let begun = match begin(game, i) {
         Ok(begun) => begun,

@@ -64,7 +64,8 @@ fn show_line(memory: &Memory, text: u16, codes: &[u8]) -> ArrayVec<char, 511>
 /// What the transcript gets of a line, where it is on and no table of stream 3 is open.
 pub fn transcribe(game: &GameState, text: u16, codes: &[u8]) -> ArrayVec<char, 511>
     requires { length codes.now ≤ 255 }
-    ensures { result.items ≡ (if is_transcribed game.now then line_shown game.now.memory text codes.now else []) }
+    ensures { result.items
+        ≡ (if is_transcribed game.now then line_shown game.now.memory text codes.now else []) }
 {
     if is_script_on(&game.memory) && game.streams.newest().is_none() {
         show_line(&game.memory, text, codes)

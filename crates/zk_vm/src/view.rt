@@ -36,7 +36,9 @@ pub fn start_line<S: Screen>(screen: &mut S, at_line_start: bool)
 /// Shows the status line and a new line.
 pub fn show_status_line<S: Screen>(memory: &Memory, screen: &mut S)
     requires { IsOk (status_units memory.now) }
-    ensures { (units : List Unit) → status_units memory.now ≡ Ok units → S.shows screen.old screen.new (shown_all (own_characters memory.now) units ++ 10 ∷ []) [] }
+    ensures { (units : List Unit) → status_units memory.now ≡ Ok units
+        → S.shows screen.old screen.new (shown_all (own_characters memory.now) units ++ 10 ∷ [])
+        [] }
 {
     let Ok(line) = status_line(memory) else {
         unreachable!()
@@ -67,7 +69,7 @@ fn show_characters<S: Screen>(screen: &mut S, characters: &[char])
     }
 }
 
-/// Shows a row of the upper window on a line, behind a bar and a space.
+/// Shows a row of the upper window on a line, after a bar and a space.
 fn show_row<S: Screen>(screen: &mut S, windows: &Windows, row: u8)
     requires { 1 ≤ row }
     ensures { S.shows screen.old screen.new (124 ∷ 32 ∷ row_text windows.now row ++ 10 ∷ []) [] }
@@ -112,7 +114,8 @@ pub fn check_view(game: &GameState) -> Result<(), Fault>
 pub fn show_view<S: Screen>(game: &mut GameState, screen: &mut S)
     requires { IsOk (viewed game.old) }
     ensures state { viewed game.old ≡ Ok (game.new, text_routed (viewed game.old)) }
-    ensures text { S.shows screen.old screen.new (text_routed (viewed game.old)).screen (text_routed (viewed game.old)).script }
+    ensures text { S.shows screen.old screen.new (text_routed (viewed game.old)).screen
+        (text_routed (viewed game.old)).script }
     ensures bounds { bounds_of game.new.frames ≡ bounds_of game.old.frames }
 {
     match game.view {
@@ -125,8 +128,11 @@ pub fn show_view<S: Screen>(game: &mut GameState, screen: &mut S)
 fn show_status_and_rows<S: Screen>(game: &mut GameState, screen: &mut S)
     requires third { (game.old.memory.version == 3) ≡ true }
     requires ready { IsOk (status_units game.old.memory) }
-    ensures state { viewed_by view.Upper game.old ≡ Ok (game.new, text_routed (viewed_by view.Upper game.old)) }
-    ensures text { S.shows screen.old screen.new (text_routed (viewed_by view.Upper game.old)).screen (text_routed (viewed_by view.Upper game.old)).script }
+    ensures state { viewed_by view.Upper game.old
+        ≡ Ok (game.new, text_routed (viewed_by view.Upper game.old)) }
+    ensures text { S.shows screen.old screen.new
+        (text_routed (viewed_by view.Upper game.old)).screen
+        (text_routed (viewed_by view.Upper game.old)).script }
     ensures bounds { bounds_of game.new.frames ≡ bounds_of game.old.frames }
 {
     start_line(screen, game.at_line_start);
@@ -138,8 +144,11 @@ fn show_status_and_rows<S: Screen>(game: &mut GameState, screen: &mut S)
 /// Shows the rows of the upper window, in other versions.
 fn show_rows_alone<S: Screen>(game: &mut GameState, screen: &mut S)
     requires { (game.old.memory.version == 3) ≡ false }
-    ensures state { viewed_by view.Upper game.old ≡ Ok (game.new, text_routed (viewed_by view.Upper game.old)) }
-    ensures text { S.shows screen.old screen.new (text_routed (viewed_by view.Upper game.old)).screen (text_routed (viewed_by view.Upper game.old)).script }
+    ensures state { viewed_by view.Upper game.old
+        ≡ Ok (game.new, text_routed (viewed_by view.Upper game.old)) }
+    ensures text { S.shows screen.old screen.new
+        (text_routed (viewed_by view.Upper game.old)).screen
+        (text_routed (viewed_by view.Upper game.old)).script }
     ensures bounds { bounds_of game.new.frames ≡ bounds_of game.old.frames }
 {
     if game.windows.height() == 0 {
@@ -153,8 +162,11 @@ fn show_rows_alone<S: Screen>(game: &mut GameState, screen: &mut S)
 /// Shows the status line in version 3, and the rows of the upper window.
 fn show_lines<S: Screen>(game: &mut GameState, screen: &mut S)
     requires { IsOk (viewed_by view.Upper game.old) }
-    ensures state { viewed_by view.Upper game.old ≡ Ok (game.new, text_routed (viewed_by view.Upper game.old)) }
-    ensures text { S.shows screen.old screen.new (text_routed (viewed_by view.Upper game.old)).screen (text_routed (viewed_by view.Upper game.old)).script }
+    ensures state { viewed_by view.Upper game.old
+        ≡ Ok (game.new, text_routed (viewed_by view.Upper game.old)) }
+    ensures text { S.shows screen.old screen.new
+        (text_routed (viewed_by view.Upper game.old)).screen
+        (text_routed (viewed_by view.Upper game.old)).script }
     ensures bounds { bounds_of game.new.frames ≡ bounds_of game.old.frames }
 {
     if game.memory.version() == 3 {

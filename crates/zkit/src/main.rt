@@ -139,7 +139,8 @@ fn tell_unwritten(rt: &HostRuntime, failure: &io::Error) -> u8
 /// Shows help, the version or what is wrong with the words, and answers the program's status: 4 where help can't be
 /// written.
 fn tell_usage(rt: &HostRuntime, error: &Error) -> u8
-    ensures { (result ≡ usage_status (kind_of error.now)) ⊎ ((result ≡ 4) × (usage_status (kind_of error.now) ≡ 0)) }
+    ensures { (result ≡ usage_status (kind_of error.now))
+        ⊎ ((result ≡ 4) × (usage_status (kind_of error.now) ≡ 0)) }
 {
     if error.kind() == ErrorKind::OutOfMemory {
         return out_of_memory(rt);

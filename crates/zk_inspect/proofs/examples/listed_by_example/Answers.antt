@@ -42,7 +42,7 @@ returns-clause-entries_below_tables c = (
   record { tabled = λ e. cc; stands = refl; below = third_below },
 )
 
--- an entry that begins at a table before it, or behind that
+-- an entry that begins at a table before it, or after that
 at_table : (a table entry : ℕ) → found a ≡ Ok entry → entry < table → table < a + 1 → ⊥
 at_table a table entry e lt ge = let same : a ≡ entry = cc in omega (arith, same)
 

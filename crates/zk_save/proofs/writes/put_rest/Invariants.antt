@@ -5,7 +5,7 @@ use Rattle.zk_save.specs.Counted.{frames_rest, FindRoom}
 use Rattle.zk_save.proofs.Filling.{Left}
 use Rattle.zk_save.proofs.writes.put_rest.Given as goal
 
--- what is left finds room, and makes the whole behind what there is
+-- what is left finds room, and makes the whole after what there is
 abbrev pub invariant-loop-rest : goal.invariant-loop-rest
 invariant-loop-rest l = record {
   room : FindRoom (frames_rest l.rest) l.frames;
