@@ -4,3 +4,4 @@ pub mod Playing
 pub mod Status
 pub mod Listing
 pub mod Verdict
+pub mod SaveFiles

@@ -1,74 +1,106 @@
 -- How a file is played.
-use Rattle.std.specs.Prelude.{◌≡◌, ◌⊎◌, ◌||◌, ℕ, Bool, true, List, take, Option, Some, None, IfSome}
+use Rattle.std.specs.Prelude.{◌≡◌, ◌⊎◌, ◌||◌, ℕ, Bool, true, false, List, take, Option, Some, None, IfSome, Result, Ok, Err}
 use Rattle.zk_mem.specs.Story.{refusal}
-use Rattle.zk_term.specs.Devices.{Device}
+use Rattle.zk_term.specs.Devices.{Device, device}
 use Rattle.zk_vm.specs.declared.stop.Stop.{Stop}
 use Rattle.zk_vm.specs.declared.stop.Stop.TheVariants.{Memory, Read}
 use Rattle.zk_vm.specs.Outcome.{Outcome, Session, begun}
-use Rattle.zk_vm.specs.Plays.{IsPlay}
+use Rattle.zk_vm.specs.Plays.{IsPlay, IsPlayed, IsAnswered}
 use Rattle.zk_command.specs.LastLine.{TookExplained, last_line}
 use Rattle.zk_command.specs.Status.{exit_status}
 use Rattle.zk_command.specs.declared.exit.Exit.{Exit}
 use Rattle.zk_command.specs.declared.exit.Exit.TheVariants.{Unread, Refused, Stopped, Found}
+use Rattle.zk_command.specs.declared.playing.Devices.{Devices}
 use Rattle.zk_command.specs.declared.settings.Settings.{Settings}
 
 -- what is read of a file: all of its bytes, or one byte more than the longest story has
 abbrev pub bytes_read : List ℕ → List ℕ
 bytes_read file = take 524289 file
 
--- what a player has typed and what of it was not read, where that is told, and whether a read has failed
-pub record Player : Type 0 where
-  pub typed : Option (List ℕ)
-  pub left : Option (List ℕ)
-  pub unread : Bool
-
+-- the devices of a play, by what they tell of themselves: what was typed and not read yet, and whether a read has failed;
 -- the screen, and what the transcript goes to
-pub record Outputs : Type 0 where
+pub record Told : Type 0 where
+  pub typed : Option (List ℕ)
+  pub unread : Bool
   pub screen : Device
   pub script : Device
 
--- what is played on some answers, perhaps with a failed write, from a machine on
-abbrev pub Answers : Type 1
-Answers = Bool → Session → Outcome → Type 0
+-- What became of the devices of a play: what it may have been played on where a write has failed or not, by answers, and by
+-- the bytes of an input of which some are left; and what the devices told before it and after it.
+pub record Play : Type 1 where
+  pub answered : Bool → Session → Outcome → Type 0
+  pub played : List ℕ → List ℕ → Bool → Bool → Session → Outcome → Type 0
+  pub old : Told
+  pub new : Told
 
--- what is played on the bytes of an input, of which some are left, perhaps with a failed read or a failed write, from a
--- machine on
-abbrev pub Outcomes : Type 1
-Outcomes = List ℕ → List ℕ → Bool → Bool → Session → Outcome → Type 0
+abbrev pub told : {I S T K : Type 0} → (I → Option (List ℕ)) → (I → Bool) → (S → Option (List ℕ)) → (S → Bool) → (T → Option (List ℕ)) → (T → Bool) → Devices I S T K → Told
+told {I} {S} {T} {K} left unread seen screen_failed written script_failed d = record {
+  typed = left d.input;
+  unread = unread d.input;
+  screen = device seen screen_failed d.screen;
+  script = device written script_failed d.script;
+}
+
+-- a play on devices, by what an input, a screen, a script and a slot for saved games tell
+abbrev pub play_on : {I S T K : Type 0} → (I → Option (List ℕ)) → (I → Bool) → (I → I → Type 0) → (I → I → Type 0) → (S → Option (List ℕ)) → (S → Bool) → (T → Option (List ℕ)) → (T → Bool)
+    → (K → Option (Option (List ℕ))) → (K → List ℕ → Option Bool) → Devices I S T K → Devices I S T K → Play
+play_on {I} {S} {T} {K} left unread ends fails seen screen_failed written script_failed held keeps old new = record {
+  answered = IsAnswered ends fails unread old.input new.input;
+  played = IsPlayed held keeps old.slot new.slot;
+  old = told left unread seen screen_failed written script_failed old;
+  new = told left unread seen screen_failed written script_failed new;
+}
+
+-- no device has failed
+pub record Work {I S T K : Type 0} (unread : I → Bool) (screen_failed : S → Bool) (script_failed : T → Bool) (d : Devices I S T K) : Type 0 where
+  pub input : unread d.input ≡ false
+  pub screen : screen_failed d.screen ≡ false
+  pub script : script_failed d.script ≡ false
 
 -- A machine was played up to its stop: on some answers, and where it is told what was typed, on its lines and on saved
 -- games. The screen and the script got their texts of the outcome, or first parts of them where a write to one of them
 -- failed.
-pub record IsPlayedBy (Answered : Answers) (Played : Outcomes) (player : Player) (machine : Session) (old new : Outputs) (stop : Stop) : Type 0 where
-  pub answered : IsPlay (Answered (new.screen.failed || new.script.failed) machine) stop (new.screen.failed || new.script.failed) old.screen.taken new.screen.taken old.script.taken new.script.taken
-  pub played : (bytes : List ℕ) → player.typed ≡ Some bytes → (later : List ℕ) × (player.left ≡ Some later)
-      × IsPlay (Played bytes later player.unread (new.screen.failed || new.script.failed) machine) stop (new.screen.failed || new.script.failed) old.screen.taken new.screen.taken old.script.taken new.script.taken
-  pub unread : player.unread ≡ true → stop ≡ Read
+pub record IsPlayedBy (p : Play) (machine : Session) (stop : Stop) : Type 0 where
+  pub answered : IsPlay (p.answered (p.new.screen.failed || p.new.script.failed) machine) stop (p.new.screen.failed || p.new.script.failed) p.old.screen.taken p.new.screen.taken p.old.script.taken p.new.script.taken
+  pub played : (bytes : List ℕ) → p.old.typed ≡ Some bytes → (later : List ℕ) × (p.new.typed ≡ Some later)
+      × IsPlay (p.played bytes later p.new.unread (p.new.screen.failed || p.new.script.failed) machine) stop (p.new.screen.failed || p.new.script.failed) p.old.screen.taken p.new.screen.taken p.old.script.taken p.new.script.taken
+  pub unread : p.new.unread ≡ true → stop ≡ Read
 
--- there was no memory to start a story, and the screen and the script got nothing
-pub record LacksMemory (old new : Outputs) (stop : Stop) : Type 0 where
-  pub stopped : stop ≡ Memory
-  pub same : new ≡ old
+-- the screen and the script got nothing
+pub record GotNothing (p : Play) : Type 0 where
+  pub screen : p.new.screen ≡ p.old.screen
+  pub script : p.new.script ≡ p.old.script
 
 -- a story was played with its seed, limits and view, or there was no memory to start it
-abbrev pub IsRun : Answers → Outcomes → Player → List ℕ → Settings → Outputs → Outputs → Stop → Type 0
-IsRun Answered Played player story settings old new stop = IsPlayedBy Answered Played player (begun story settings.seed settings.limits settings.view) old new stop ⊎ LacksMemory old new stop
+abbrev pub IsRun : Play → List ℕ → Settings → Stop → Type 0
+IsRun p story settings stop = IsPlayedBy p (begun story settings.seed settings.limits settings.view) stop ⊎ ((stop ≡ Memory) × GotNothing p)
 
--- bytes end a play: they are refused and the screen and the script get nothing, or they are a story that is run
-abbrev pub EndsBy : Answers → Outcomes → Player → List ℕ → Settings → Outputs → Outputs → Exit → Type 0
-EndsBy Answered Played player bytes settings old new (Unread e) = ⊥
-EndsBy Answered Played player bytes settings old new (Refused e) = (refusal bytes ≡ Some e) × (new ≡ old)
-EndsBy Answered Played player bytes settings old new (Stopped stop) = (refusal bytes ≡ None) × IsRun Answered Played player bytes settings old new stop
-EndsBy Answered Played player bytes settings old new Found = ⊥
+-- a story's run ends the program
+abbrev pub EndsRun : Play → List ℕ → Settings → Exit → Type 0
+EndsRun p story settings (Stopped stop) = IsRun p story settings stop
+EndsRun p story settings exit = ⊥
 
--- a reader's bytes, where it tells them, end a play; or it can't be read, and the screen and the script get nothing
-abbrev pub EndsFrom : Answers → Outcomes → Player → Option (List ℕ) → Settings → Outputs → Outputs → Exit → Type 0
-EndsFrom Answered Played player file settings old new (Unread e) = new ≡ old
-EndsFrom Answered Played player file settings old new exit = (bytes : List ℕ) × IfSome file (λ all. bytes ≡ bytes_read all) × EndsBy Answered Played player bytes settings old new exit
+-- bytes were read of a file whose bytes may be known
+abbrev pub AreRead : Option (List ℕ) → List ℕ → Type 0
+AreRead file bytes = IfSome file (λ all. bytes ≡ bytes_read all)
 
--- a reader's story was played by a player, with a screen, a script and a device for errors before and after it, and with the program's status
-pub record IsPlayedFrom (Answered : Answers) (Played : Outcomes) (player : Player) (file : Option (List ℕ)) (settings : Settings) (old new : Outputs) (errors_old errors_new : Device) (status : ℕ) : Type 0 where
-  pub exit : Exit
-  pub ends : EndsFrom Answered Played player file settings old new exit
+-- a reader's bytes, where it tells them, are a story that has ended so; or nothing was done, since they are refused or it
+-- can't be read
+abbrev pub EndsBy : Option (List ℕ) → Type 0 → (List ℕ → Exit → Type 0) → Exit → Type 0
+EndsBy file Nothing Ended (Unread e) = Nothing
+EndsBy file Nothing Ended (Refused e) = (bytes : List ℕ) × AreRead file bytes × (refusal bytes ≡ Some e) × Nothing
+EndsBy file Nothing Ended exit = (bytes : List ℕ) × AreRead file bytes × (refusal bytes ≡ None) × Ended bytes exit
+
+-- a reader's bytes end a play
+abbrev pub EndsPlay : Play → Option (List ℕ) → Settings → Exit → Type 0
+EndsPlay p file settings exit = EndsBy file (GotNothing p) (λ story. EndsRun p story settings) exit
+
+-- how a program ends was told a device for errors, and is its status
+pub record IsReported (exit : Exit) (old new : Device) (status : ℕ) : Type 0 where
   pub status_is : status ≡ exit_status exit
-  pub lines : TookExplained exit (last_line exit) errors_old errors_new
+  pub lines : TookExplained exit (last_line exit) old new
+
+-- a reader's story was opened, or it is refused or can't be read
+abbrev pub IsOpened : Option (List ℕ) → Result (List ℕ) Exit → Type 0
+IsOpened file (Ok story) = AreRead file story × (refusal story ≡ None)
+IsOpened file (Err exit) = EndsBy file (Unit {0}) (λ story ended. ⊥) exit

@@ -7,7 +7,7 @@ pub mod choice;
 pub mod exit;
 mod gathered;
 pub mod listing;
-pub mod missing;
+mod opening;
 pub mod playing;
 mod reason;
 pub mod report;

@@ -5,15 +5,17 @@ ghost use Rattle.zk_mem.specs.Fresh.{fresh};
 ghost use Rattle.zk_mem.specs.Map.{MemoryMap};
 ghost use Rattle.zk_mem.specs.Story.{refusal};
 ghost use Rattle.zk_term.specs.Devices.{device};
-ghost use Rattle.zk_command.specs.Listing.{EndsListing, EndsListingFrom, IsListed, IsListedFrom, Tells};
+ghost use Rattle.zk_command.specs.Listing.{EndsListing, IsListed, Tells};
+ghost use Rattle.zk_command.specs.Playing.{IsReported};
 ghost use Rattle.zk_command.specs.Verdict.{IsStart};
+ghost use Rattle.zk_command.specs.declared.exit.Exit.{Exit};
 ghost use Rattle.zk_command.specs.declared.listing.Listing.{Listing};
 ghost use Rattle.zk_command.specs.declared.listing.Listing.TheVariants as listing;
 
-use crate::about::{About, Looks};
+use crate::about::About;
 use crate::exit::Exit;
 use crate::gathered::Gathered;
-use crate::playing::read_story;
+use crate::opening::open_story;
 use crate::report::report_listing;
 use crate::verdict::verdict;
 use std::alloc::Global;
@@ -225,37 +227,19 @@ fn list_story<S: Target>(alloc: Global, story: Story, listing: Listing, screen: 
     }
 }
 
-/// Lists the bytes of a file, if they are a story.
-pub fn list_bytes<S: Target>(
-    alloc: Global,
-    bytes: Vec<u8>,
-    listing: Listing,
-    screen: &mut S,
-) -> Exit
-    ensures { EndsListing listing bytes.items result }
-{
-    match Story::of(bytes) {
-        Err(error) => Exit::Refused(error),
-        Ok(story) => list_story(alloc, story, listing, screen),
-    }
-}
-
-/// Lists the story that a reader gives, and notes what its bytes look like.
-pub fn list_from<R: Read + Drop, S: Target>(
+/// Lists the story that a reader gives.
+pub fn list_file<R: Read + Drop, S: Target>(
     alloc: Global,
     reader: R,
     about: &About,
     listing: Listing,
     screen: &mut S,
 ) -> Exit
-    ensures { EndsListingFrom listing (R.remaining reader) result }
+    ensures { EndsListing listing (R.remaining reader) result }
 {
-    match read_story(alloc, reader) {
-        Err(error) => Exit::Unread(error),
-        Ok(bytes) => {
-            about.looks.set(Looks::of(bytes.as_slice()));
-            list_bytes(alloc, bytes, listing, screen)
-        }
+    match open_story(alloc, reader, about) {
+        Err(exit) => exit,
+        Ok(story) => list_story(alloc, story, listing, screen),
     }
 }
 
@@ -269,9 +253,9 @@ pub fn list_and_report<R: Read + Drop, S: Target, E: Target>(
     errors: &mut E,
 ) -> u8
     requires { E.failed errors.old ≡ false }
-    ensures { IsListedFrom listing (R.remaining reader) (device E.taken E.failed errors.old)
-        (device E.taken E.failed errors.new) result }
+    ensures { (exit : Exit) × EndsListing listing (R.remaining reader) exit
+        × IsReported exit (device E.taken E.failed errors.old) (device E.taken E.failed errors.new) result }
 {
-    let exit = list_from(alloc, reader, about, listing, screen);
+    let exit = list_file(alloc, reader, about, listing, screen);
     report_listing(alloc, &exit, about, errors)
 }

@@ -1,18 +1,20 @@
-// A story, from the bytes of its file to the screen.
+// A story, from its file to its devices.
 
-ghost use Rattle.std.specs.Prelude.{◌≡◌, ◌++◌, false, IfOk, OnOk, IfSome, None};
+ghost use Rattle.std.specs.Prelude.{◌≡◌, false, None};
+ghost use Rattle.zk_mem.specs.Story.{refusal};
 ghost use Rattle.zk_term.specs.Devices.{device};
 ghost use Rattle.zk_vm.specs.Bounds.{AreInRange};
-ghost use Rattle.zk_vm.specs.Plays.{IsAnswered, IsPlayed};
-ghost use Rattle.zk_command.specs.Playing.{EndsBy, EndsFrom, IsPlayedBy, IsPlayedFrom, IsRun, bytes_read};
+ghost use Rattle.zk_command.specs.Playing.{EndsPlay, IsPlayedBy, IsReported, IsRun, Work, play_on};
+ghost use Rattle.zk_command.specs.declared.exit.Exit.{Exit};
 
-use crate::about::{About, Looks};
+use crate::about::About;
 use crate::astray::Astray;
 use crate::exit::Exit;
+use crate::opening::open_story;
 use crate::report::report;
 use crate::settings::Settings;
 use std::alloc::Global;
-use std::io::{self, ErrorKind, Read};
+use std::io::Read;
 use zk_mem::fault::Fault;
 use zk_mem::story::Story;
 use zk_term::source::Source;
@@ -22,73 +24,16 @@ use zk_vm::play::play;
 use zk_vm::slot::SaveSlot;
 use zk_vm::stop::Stop;
 
-/// One byte past the greatest length of a story: a longer file is too long by what is read of it.
-const MOST_BYTES: u64 = 524_289;
-
-/// So many bytes of a file are read at a time.
-const PIECE: usize = 4_096;
-
-/// Puts what a reader gives after other bytes, piece by piece: room for all of it would have to be cleared before it is
-/// read into.
-fn read_pieces<R: Read>(reader: &mut R, bytes: &mut Vec<u8>) -> io::Result<()>
-    ensures { OnOk result
-        (IfSome (R.remaining reader.old) (λ xs. bytes.new.items ≡ bytes.old.items ++ xs)) }
-{
-    let mut piece = [0; PIECE];
-    // each read gives a byte or more, until the last
-    for _k in 0..u64::MAX {
-        match reader.read(&mut piece) {
-            Ok(0) => return Ok(()),
-            Ok(count) => bytes.extend_from_slice(&piece[..count])?,
-            Err(error) => {
-                if error.kind() != ErrorKind::Interrupted {
-                    return Err(error);
-                }
-            }
-        }
-    }
-    Err(ErrorKind::Interrupted.into())
-}
-
-/// The bytes of a story's file, as many as a story may have and one more.
-pub fn read_story<R: Read + Drop>(alloc: Global, reader: R) -> io::Result<Vec<u8>>
-    ensures { IfOk result (λ v. IfSome (R.remaining reader) (λ file. v.items ≡ bytes_read file)) }
-{
-    // room for the longest, of which as much is used as there are bytes
-    let mut bytes = Vec::with_capacity(alloc, MOST_BYTES as usize)?;
-    read_pieces(&mut reader.take(MOST_BYTES), &mut bytes)?;
-    Ok(bytes)
-}
-
-/// Plays a machine up to its stop. First the script is given no bytes, so that a file is made of it before the run.
-fn play_machine<I: Source, S: Target, T: Target, K: SaveSlot>(
-    alloc: Global,
-    machine: &mut Machine,
-    input: &mut I,
-    screen: &mut S,
-    script: &mut T,
-    slot: &mut K,
-) -> Stop
-    requires free { machine.old.waiting ≡ None }
-    requires input_works { I.failed input.old ≡ false }
-    requires works { S.failed screen.old ≡ false }
-    requires script_works { T.failed script.old ≡ false }
-    ensures { IsPlayedBy (IsAnswered I.ends I.fails I.failed input.old input.new)
-        (IsPlayed K.held K.keeps slot.old slot.new)
-        (record { typed = I.left input.old; left = I.left input.new; unread = I.failed input.new })
-        machine.old (record {
-          screen = device S.taken S.failed screen.old;
-          script = device T.taken T.failed script.old;
-        })
-        (record {
-          screen = device S.taken S.failed screen.new;
-          script = device T.taken T.failed script.new;
-        }) result }
-{
-    match script.write(&[]) {
-        Err(Failed) => Stop::Write,
-        Ok(_) => play(alloc, input, screen, script, slot, machine),
-    }
+/// The devices that a story is played on.
+#[derive(Drop)]
+pub struct Devices<I, S, T, K> {
+    /// Its lines answer the story's reads.
+    pub input: I,
+    pub screen: S,
+    /// What the transcript goes to.
+    pub script: T,
+    /// Keeps the saved game.
+    pub slot: K,
 }
 
 /// Notes where a bad target leads that has stopped a machine.
@@ -98,145 +43,88 @@ fn note_target(about: &About, machine: &Machine, stop: &Stop) {
     }
 }
 
+/// Plays a machine up to its stop. First the script is given no bytes, so that a file is made of it before the run.
+fn play_machine<I: Source, S: Target, T: Target, K: SaveSlot>(
+    alloc: Global,
+    machine: &mut Machine,
+    devices: &mut Devices<I, S, T, K>,
+) -> Stop
+    requires free { machine.old.waiting ≡ None }
+    requires works { Work I.failed S.failed T.failed devices.old }
+    ensures { IsPlayedBy (play_on I.left I.failed I.ends I.fails S.taken S.failed T.taken T.failed
+        K.held K.keeps devices.old devices.new) machine.old result }
+{
+    match devices.script.write(&[]) {
+        Err(Failed) => Stop::Write,
+        Ok(_) => play(
+            alloc,
+            &mut devices.input,
+            &mut devices.screen,
+            &mut devices.script,
+            &mut devices.slot,
+            machine,
+        ),
+    }
+}
+
 /// Plays a story up to its stop.
 fn play_story<I: Source, S: Target, T: Target, K: SaveSlot>(
     alloc: Global,
     story: Story,
     about: &About,
     settings: Settings,
-    input: &mut I,
-    screen: &mut S,
-    script: &mut T,
-    slot: &mut K,
+    devices: &mut Devices<I, S, T, K>,
 ) -> Stop
     requires in_range { AreInRange settings.limits }
-    requires input_works { I.failed input.old ≡ false }
-    requires works { S.failed screen.old ≡ false }
-    requires script_works { T.failed script.old ≡ false }
-    ensures { IsRun (IsAnswered I.ends I.fails I.failed input.old input.new)
-        (IsPlayed K.held K.keeps slot.old slot.new)
-        (record { typed = I.left input.old; left = I.left input.new; unread = I.failed input.new })
-        story settings (record {
-          screen = device S.taken S.failed screen.old;
-          script = device T.taken T.failed script.old;
-        })
-        (record {
-          screen = device S.taken S.failed screen.new;
-          script = device T.taken T.failed script.new;
-        }) result }
+    requires works { Work I.failed S.failed T.failed devices.old }
+    ensures { IsRun (play_on I.left I.failed I.ends I.fails S.taken S.failed T.taken T.failed
+        K.held K.keeps devices.old devices.new) story settings result }
 {
     match Machine::start(alloc, story, settings.seed, settings.limits, settings.view) {
         Err(_) => Stop::Memory,
         Ok(mut machine) => {
-            let stop = play_machine(alloc, &mut machine, input, screen, script, slot);
+            let stop = play_machine(alloc, &mut machine, devices);
             note_target(about, &machine, &stop);
             stop
         }
     }
 }
 
-/// Plays the bytes of a file, if they are a story.
-pub fn play_bytes<I: Source, S: Target, T: Target, K: SaveSlot>(
-    alloc: Global,
-    bytes: Vec<u8>,
-    about: &About,
-    settings: Settings,
-    input: &mut I,
-    screen: &mut S,
-    script: &mut T,
-    slot: &mut K,
-) -> Exit
-    requires in_range { AreInRange settings.limits }
-    requires input_works { I.failed input.old ≡ false }
-    requires works { S.failed screen.old ≡ false }
-    requires script_works { T.failed script.old ≡ false }
-    ensures { EndsBy (IsAnswered I.ends I.fails I.failed input.old input.new)
-        (IsPlayed K.held K.keeps slot.old slot.new)
-        (record { typed = I.left input.old; left = I.left input.new; unread = I.failed input.new })
-        bytes.items settings (record {
-          screen = device S.taken S.failed screen.old;
-          script = device T.taken T.failed script.old;
-        })
-        (record {
-          screen = device S.taken S.failed screen.new;
-          script = device T.taken T.failed script.new;
-        }) result }
-{
-    match Story::of(bytes) {
-        Err(error) => Exit::Refused(error),
-        Ok(story) => Exit::Stopped(play_story(
-            alloc, story, about, settings, input, screen, script, slot,
-        )),
-    }
-}
-
-/// Plays the story that a reader gives, and notes what its bytes look like.
-pub fn play_from<R: Read + Drop, I: Source, S: Target, T: Target, K: SaveSlot>(
+/// Plays the story that a reader gives: the lines of the input answer its reads, and the slot keeps its saved game.
+pub fn play_file<R: Read + Drop, I: Source, S: Target, T: Target, K: SaveSlot>(
     alloc: Global,
     reader: R,
     about: &About,
     settings: Settings,
-    input: &mut I,
-    screen: &mut S,
-    script: &mut T,
-    slot: &mut K,
+    devices: &mut Devices<I, S, T, K>,
 ) -> Exit
     requires in_range { AreInRange settings.limits }
-    requires input_works { I.failed input.old ≡ false }
-    requires works { S.failed screen.old ≡ false }
-    requires script_works { T.failed script.old ≡ false }
-    ensures { EndsFrom (IsAnswered I.ends I.fails I.failed input.old input.new)
-        (IsPlayed K.held K.keeps slot.old slot.new)
-        (record { typed = I.left input.old; left = I.left input.new; unread = I.failed input.new })
-        (R.remaining reader) settings (record {
-          screen = device S.taken S.failed screen.old;
-          script = device T.taken T.failed script.old;
-        })
-        (record {
-          screen = device S.taken S.failed screen.new;
-          script = device T.taken T.failed script.new;
-        }) result }
+    requires works { Work I.failed S.failed T.failed devices.old }
+    ensures { EndsPlay (play_on I.left I.failed I.ends I.fails S.taken S.failed T.taken T.failed
+        K.held K.keeps devices.old devices.new) (R.remaining reader) settings result }
 {
-    match read_story(alloc, reader) {
-        Err(error) => Exit::Unread(error),
-        Ok(bytes) => {
-            about.looks.set(Looks::of(bytes.as_slice()));
-            play_bytes(alloc, bytes, about, settings, input, screen, script, slot)
-        }
+    match open_story(alloc, reader, about) {
+        Err(exit) => exit,
+        Ok(story) => Exit::Stopped(play_story(alloc, story, about, settings, devices)),
     }
 }
 
-/// Plays the story that a reader gives: the lines of `input` answer its reads, and the slot keeps its saved game. It
-/// reports how that ends, and answers the program's status.
+/// Plays the story that a reader gives, reports how that ends, and answers the program's status.
 pub fn play_and_report<R: Read + Drop, I: Source, S: Target, T: Target, K: SaveSlot, E: Target>(
     alloc: Global,
     reader: R,
     about: &About,
     settings: Settings,
-    input: &mut I,
-    screen: &mut S,
-    script: &mut T,
-    slot: &mut K,
+    devices: &mut Devices<I, S, T, K>,
     errors: &mut E,
 ) -> u8
     requires in_range { AreInRange settings.limits }
-    requires input_works { I.failed input.old ≡ false }
-    requires works { S.failed screen.old ≡ false }
-    requires script_works { T.failed script.old ≡ false }
+    requires works { Work I.failed S.failed T.failed devices.old }
     requires errors_work { E.failed errors.old ≡ false }
-    ensures { IsPlayedFrom (IsAnswered I.ends I.fails I.failed input.old input.new)
-        (IsPlayed K.held K.keeps slot.old slot.new)
-        (record { typed = I.left input.old; left = I.left input.new; unread = I.failed input.new })
-        (R.remaining reader) settings (record {
-          screen = device S.taken S.failed screen.old;
-          script = device T.taken T.failed script.old;
-        })
-        (record {
-          screen = device S.taken S.failed screen.new;
-          script = device T.taken T.failed script.new;
-        }) (device E.taken E.failed errors.old)
-        (device E.taken E.failed errors.new) result }
+    ensures { (exit : Exit) × EndsPlay (play_on I.left I.failed I.ends I.fails S.taken S.failed
+        T.taken T.failed K.held K.keeps devices.old devices.new) (R.remaining reader) settings exit
+        × IsReported exit (device E.taken E.failed errors.old) (device E.taken E.failed errors.new) result }
 {
-    let exit = play_from(alloc, reader, about, settings, input, screen, script, slot);
+    let exit = play_file(alloc, reader, about, settings, devices);
     report(alloc, &exit, &settings.limits, about, errors)
 }

@@ -1,6 +1,6 @@
 // The file of a saved game.
 
-ghost use Rattle.std.specs.Prelude.{◌≡◌, ◌≤◌, length, IfOk, IfSome};
+ghost use Rattle.std.specs.Prelude.{◌≡◌};
 
 use crate::reason::Reason;
 use std::alloc::{AllocError, Global};
@@ -27,17 +27,35 @@ enum NoGame {
     Failed(#[from] io::Error),
 }
 
-/// A file that holds one saved game. A new one is written beside it and then takes its place: where that fails, the
-/// one before stays whole. What goes wrong is told on standard error.
+/// A file that holds one saved game, where an option names one. A new game is written beside it and then takes its
+/// place: where that fails, the one before stays whole. What goes wrong is told on standard error, and so is once that no
+/// file is named.
 #[derive(Drop)]
 pub struct SaveFile<'a> {
     rt: &'a HostRuntime,
-    path: &'a str,
+    path: Option<&'a str>,
+    told: bool,
 }
 
 impl<'a> SaveFile<'a> {
-    pub fn new(rt: &'a HostRuntime, path: &'a str) -> SaveFile<'a> {
-        SaveFile { rt, path }
+    pub fn new(rt: &'a HostRuntime, path: Option<&'a str>) -> SaveFile<'a> {
+        SaveFile {
+            rt,
+            path,
+            told: false,
+        }
+    }
+
+    /// Tells which option is missing.
+    fn tell_missing(&mut self)
+        ensures { self.new.path ≡ self.old.path }
+    {
+        if !self.told {
+            self.told = true;
+            let _ = eprintln!(self.rt;
+                "zkit: the story saves or restores a game, and has no file for it: --save FILE names one"
+            );
+        }
     }
 }
 
@@ -156,34 +174,49 @@ fn find(rt: &HostRuntime, alloc: Global, path: &str) -> Result<Vec<u8>, NoGame> 
     Ok(bytes)
 }
 
+/// Keeps a saved game in a file, and tells why where it can't.
+fn keep_in(rt: &HostRuntime, path: &str, file: &[u8]) -> bool {
+    match keep(rt, path, file) {
+        Ok(()) => true,
+        Err(error) => {
+            let _ = eprintln!(rt; "zkit: {}: the game was not saved: {}", path, error);
+            false
+        }
+    }
+}
+
+/// The saved game of a file, and tells why where there is none.
+fn find_in(rt: &HostRuntime, alloc: Global, path: &str) -> Result<Option<Vec<u8>>, AllocError> {
+    match find(rt, alloc, path) {
+        Ok(found) => Ok(Some(found)),
+        Err(NoGame::Failed(error)) if error.kind() == ErrorKind::OutOfMemory => Err(AllocError),
+        Err(error) => {
+            let _ = eprintln!(rt; "zkit: {}: no saved game: {}", path, error);
+            Ok(None)
+        }
+    }
+}
+
 impl SaveSlot for SaveFile<'_> {
-    ghost use Rattle.std.specs.Prelude.{None};
+    ghost use Rattle.zk_command.specs.SaveFiles.{held_in, keeps_in};
 
-    ghost held = { λ _. None };
+    ghost held = { λ s. held_in s.path };
 
-    ghost keeps = { λ _ _. None };
+    ghost keeps = { λ s _. keeps_in s.path };
 
     fn put(&mut self, file: &[u8]) -> bool {
-        match keep(self.rt, self.path, file) {
-            Ok(()) => true,
-            Err(error) => {
-                let _ = eprintln!(self.rt;
-                    "zkit: {}: the game was not saved: {}",
-                    self.path, error
-                );
-                false
-            }
-        }
+        let Some(path) = self.path else {
+            self.tell_missing();
+            return false;
+        };
+        keep_in(self.rt, path, file)
     }
 
     fn get(&mut self, alloc: Global) -> Result<Option<Vec<u8>>, AllocError> {
-        match find(self.rt, alloc, self.path) {
-            Ok(found) => Ok(Some(found)),
-            Err(NoGame::Failed(error)) if error.kind() == ErrorKind::OutOfMemory => Err(AllocError),
-            Err(error) => {
-                let _ = eprintln!(self.rt; "zkit: {}: no saved game: {}", self.path, error);
-                Ok(None)
-            }
-        }
+        let Some(path) = self.path else {
+            self.tell_missing();
+            return Ok(None);
+        };
+        find_in(self.rt, alloc, path)
     }
 }

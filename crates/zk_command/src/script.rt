@@ -7,18 +7,20 @@ use std::fs::File;
 use zk_term::over::Over;
 use zk_term::target::{Failed, Target};
 
-/// A file that the first write makes or empties, even a write of no bytes.
+/// A file that the first write makes or empties, even a write of no bytes, where an option names one. Without one what it
+/// takes is dropped, and standard error says so once.
 #[derive(Drop)]
 pub struct ScriptFile<'a> {
     rt: &'a HostRuntime,
-    path: &'a str,
+    path: Option<&'a str>,
     notes: &'a Notes,
     file: Option<Over<Watched<'a, File>>>,
+    told: bool,
     failed: bool,
 }
 
 impl<'a> ScriptFile<'a> {
-    pub fn new(rt: &'a HostRuntime, path: &'a str, notes: &'a Notes) -> ScriptFile<'a>
+    pub fn new(rt: &'a HostRuntime, path: Option<&'a str>, notes: &'a Notes) -> ScriptFile<'a>
         ensures { result.failed ≡ false }
     {
         ScriptFile {
@@ -26,8 +28,23 @@ impl<'a> ScriptFile<'a> {
             path,
             notes,
             file: None,
+            told: false,
             failed: false,
         }
+    }
+
+    /// Drops bytes, and tells which option is missing.
+    fn drop_bytes(&mut self, bytes: &[u8]) -> usize
+        ensures count { result ≡ length bytes.now }
+        ensures failed { self.new.failed ≡ self.old.failed }
+    {
+        if !self.told && !bytes.is_empty() {
+            self.told = true;
+            let _ = eprintln!(self.rt;
+                "zkit: the story writes a transcript, and has no file for it: --script FILE names one"
+            );
+        }
+        bytes.len()
     }
 }
 
@@ -68,7 +85,10 @@ impl Target for ScriptFile<'_> {
     ghost fails = { λ _ s. s.failed ≡ true };
 
     fn write(&mut self, bytes: &[u8]) -> Result<usize, Failed> {
-        match write_to(self.rt, self.path, self.notes, &mut self.file, bytes) {
+        let Some(path) = self.path else {
+            return Ok(self.drop_bytes(bytes));
+        };
+        match write_to(self.rt, path, self.notes, &mut self.file, bytes) {
             Ok(count) => Ok(count),
             Err(Failed) => {
                 self.failed = true;

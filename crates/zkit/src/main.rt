@@ -1,7 +1,7 @@
 // Plays, lists and checks Z-machine stories.
 #![tactic(auto)]
 
-ghost use Rattle.std.specs.Prelude.{◌≡◌, ◌⊎◌, false};
+ghost use Rattle.std.specs.Prelude.{◌≡◌, ◌⊎◌};
 ghost use Rattle.clap.specs.Words.{kind_of};
 ghost use Rattle.zk_vm.specs.Bounds.{AreInRange};
 ghost use Rattle.zk_command.specs.CommandLine.{usage_status};
@@ -15,8 +15,7 @@ use zk_command::about::About;
 use zk_command::choice::{Choice, choose, story_named, usage_status_of};
 use zk_command::exit::Exit;
 use zk_command::listing::{Listing, list_and_report};
-use zk_command::missing::{MissingSave, MissingScript};
-use zk_command::playing::play_and_report;
+use zk_command::playing::{Devices, play_and_report};
 use zk_command::report::{report, report_briefly, report_listing};
 use zk_command::same_file::is_same_file;
 use zk_command::save_file::SaveFile;
@@ -24,66 +23,11 @@ use zk_command::script::ScriptFile;
 use zk_command::settings::Settings;
 use zk_command::watched::Watched;
 use zk_term::over::Over;
-use zk_term::target::Target;
-use zk_vm::slot::SaveSlot;
 use zk_vm::stop::Stop;
-
-/// Plays the story in a file, with its saved game in a slot and its transcript in a script, and answers the program's
-/// status.
-fn play_with<T: Target, K: SaveSlot>(
-    rt: &HostRuntime,
-    about: &About,
-    settings: Settings,
-    script: &mut T,
-    slot: &mut K,
-) -> u8
-    requires in_range { AreInRange settings.limits }
-    requires script_works { T.failed script.old ≡ false }
-{
-    let mut errors = Over::new(rt.stderr());
-    match File::open(rt, about.path) {
-        Err(error) => report(
-            rt.alloc(),
-            &Exit::Unread(error),
-            &settings.limits,
-            about,
-            &mut errors,
-        ),
-        Ok(file) => play_and_report(
-            rt.alloc(),
-            file,
-            about,
-            settings,
-            &mut Over::new(Watched::new(rt.stdin(), &about.input)),
-            &mut Over::new(Watched::new(io::writer(rt), &about.screen)),
-            script,
-            slot,
-            &mut errors,
-        ),
-    }
-}
-
-/// Plays the story in a file, with its transcript in a script, and with its saved game in another file where one is
-/// named; and answers the program's status.
-fn play_saving<T: Target>(
-    rt: &HostRuntime,
-    about: &About,
-    save: Option<&str>,
-    settings: Settings,
-    script: &mut T,
-) -> u8
-    requires in_range { AreInRange settings.limits }
-    requires script_works { T.failed script.old ≡ false }
-{
-    match save {
-        None => play_with(rt, about, settings, script, &mut MissingSave::new(rt)),
-        Some(save) => play_with(rt, about, settings, script, &mut SaveFile::new(rt, save)),
-    }
-}
 
 /// Plays the story in a file, with its saved game and its transcript in others where these are named, and answers the
 /// program's status.
-fn play_file(
+fn play(
     rt: &HostRuntime,
     path: &str,
     save: Option<&str>,
@@ -93,17 +37,34 @@ fn play_file(
     requires { AreInRange settings.limits }
 {
     let about = About::new(path, script.unwrap_or(""));
-    match script {
-        None => play_saving(rt, &about, save, settings, &mut MissingScript::new(rt)),
-        Some(script) => {
-            let mut file = ScriptFile::new(rt, script, &about.script);
-            play_saving(rt, &about, save, settings, &mut file)
-        }
+    let mut errors = Over::new(rt.stderr());
+    let mut devices = Devices {
+        input: Over::new(Watched::new(rt.stdin(), &about.input)),
+        screen: Over::new(Watched::new(io::writer(rt), &about.screen)),
+        script: ScriptFile::new(rt, script, &about.script),
+        slot: SaveFile::new(rt, save),
+    };
+    match File::open(rt, path) {
+        Err(error) => report(
+            rt.alloc(),
+            &Exit::Unread(error),
+            &settings.limits,
+            &about,
+            &mut errors,
+        ),
+        Ok(file) => play_and_report(
+            rt.alloc(),
+            file,
+            &about,
+            settings,
+            &mut devices,
+            &mut errors,
+        ),
     }
 }
 
 /// Lists the story in a file, and answers the program's status.
-fn list_file(rt: &HostRuntime, path: &str, listing: Listing) -> u8 {
+fn list(rt: &HostRuntime, path: &str, listing: Listing) -> u8 {
     let mut errors = Over::new(rt.stderr());
     let about = About::new(path, "");
     match File::open(rt, path) {
@@ -200,9 +161,9 @@ fn answer(rt: &HostRuntime, words: &[String]) -> u8 {
             },
         ) => match option_on_story(rt, story, save, script) {
             Some(option) => tell_usage(rt, &story_named(rt.alloc(), option)),
-            None => play_file(rt, story, save, script, settings),
+            None => play(rt, story, save, script, settings),
         },
-        Ok(Choice::Show { story, listing }) => list_file(rt, story, listing),
+        Ok(Choice::Show { story, listing }) => list(rt, story, listing),
         Err(error) => {
             let status = tell_usage(rt, &error);
             tell_command(rt, words.as_slice(), &error);
