@@ -6,7 +6,7 @@ use std::alloc::{AllocError, Global};
 use std::process::Abort;
 use std::test::Fail;
 use zk_command::about::About;
-use zk_command::playing::play_bytes;
+use zk_command::playing::{Devices, play_file};
 use zk_command::settings::Settings;
 use zk_term::nothing::Nothing;
 use zk_term::over::Over;
@@ -53,19 +53,28 @@ pub(crate) fn goes_on(
     line: &str,
 ) -> Result<(), Fail> {
     let bytes = story_bytes(rt.alloc(), game.version, game.code)?;
-    let mut slot = MemorySlot { file: game.file };
+    let slot = MemorySlot { file: game.file };
     demand(&rt, settings.limits.check());
-    let mut shown = Over::new(Vec::new(rt.alloc()));
-    let ending = play_bytes(
+    let shown = Over::new(Vec::new(rt.alloc()));
+    let mut devices = Devices {
+        input: Over::new(game.typed),
+        screen: shown,
+        script: Nothing,
+        slot,
+    };
+    let ending = play_file(
         rt.alloc(),
-        bytes,
+        bytes.as_slice(),
         &About::new("story", "said"),
         settings,
-        &mut Over::new(game.typed),
-        &mut shown,
-        &mut Nothing,
-        &mut slot,
+        &mut devices,
     );
+    let Devices {
+        input: _,
+        screen: shown,
+        script: _,
+        slot: _,
+    } = devices;
     let (ended, lines) = reported(rt.alloc(), &ending, &settings.limits);
     same(&rt, shown.into_inner().as_slice(), screen.as_bytes());
     demand(&rt, lines.as_slice().ends_with(line.as_bytes()));

@@ -6,7 +6,7 @@ use crate::tests_same::same;
 use std::process::Abort;
 use std::test::Fail;
 use zk_command::about::About;
-use zk_command::listing::{Listing, list_and_report, list_bytes};
+use zk_command::listing::{Listing, list_and_report, list_file};
 use zk_term::over::Over;
 
 /// Lists a story's bytes, and compares what is shown, the status and the lines on the ending.
@@ -64,7 +64,13 @@ fn failed_writes_end_listings(rt: HostRuntime) -> Result<(), Fail> {
             room,
             failed: false,
         };
-        let ending = list_bytes(rt.alloc(), bytes, Listing::Code, &mut screen);
+        let ending = list_file(
+            rt.alloc(),
+            bytes.as_slice(),
+            &About::new("story", "said"),
+            Listing::Code,
+            &mut screen,
+        );
         let Short {
             taken,
             room: _,

@@ -5,7 +5,7 @@ use crate::tests_same::{demand, same};
 use std::process::Abort;
 use std::test::Fail;
 use zk_command::about::About;
-use zk_command::playing::play_bytes;
+use zk_command::playing::{Devices, play_file};
 use zk_term::nothing::Nothing;
 use zk_term::target::{Failed, Target};
 use zk_vm::slot::NoSlot;
@@ -43,23 +43,32 @@ impl Target for Short {
 #[test]
 fn a_failed_write_ends_the_play(rt: HostRuntime) -> Result<(), Fail> {
     let bytes = story_bytes(rt.alloc(), 3, "B2 B5C5 B2 B5C5 BA")?;
-    let mut screen = Short {
+    let screen = Short {
         taken: Vec::new(rt.alloc()),
         room: 3,
         failed: false,
     };
     let limits = AMPLE;
     demand(&rt, limits.check());
-    let ending = play_bytes(
+    let mut devices = Devices {
+        input: Nothing,
+        screen,
+        script: Nothing,
+        slot: NoSlot,
+    };
+    let ending = play_file(
         rt.alloc(),
-        bytes,
+        bytes.as_slice(),
         &About::new("story", "said"),
         plainly(limits),
-        &mut Nothing,
-        &mut screen,
-        &mut Nothing,
-        &mut NoSlot,
+        &mut devices,
     );
+    let Devices {
+        input: _,
+        screen,
+        script: _,
+        slot: _,
+    } = devices;
     let Short {
         taken,
         room: _,
