@@ -7,7 +7,7 @@ use Rattle.clap.specs.Words.{App, HasMatchesOf, Row, Text, first_of, is_simple, 
 use Rattle.clap.proofs.OnLiterals.{clap_on_literals}
 use Rattle.clap.specs.declared.ArgMatches.{ArgMatches}
 use Rattle.zk_command.specs.declared.settings.Settings.{Settings}
-use Rattle.zk_command.specs.CommandLine.{Asks, IsNumberIn, Says, SaysManner, SaysNumber, SaysStory, command_line, flag_said, number_in}
+use Rattle.zk_command.specs.CommandLine.{Asks, IsNumberIn, Says, SaysSettings, SaysNumber, SaysStory, command_line, flag_said, number_in}
 use Rattle.zk_command.specs.declared.choice.Choice.{Choice}
 use Rattle.zk_command.specs.declared.choice.Choice.TheVariants.{Play, Show}
 use Rattle.zk_command.specs.declared.listing.Listing.TheVariants.{Info, Code, Findings}
@@ -93,11 +93,11 @@ pub no_story_said : (name : Text) (rows : List Row) → ((path : List ℕ) → S
 no_story_said name rows none (Play story save script m) h = none story.now h.1
 no_story_said name rows none (Show story listing) h = none story.now h.0
 
-pub no_manner_said : (rows : List Row) → ((m : Settings) → SaysManner rows m → ⊥) → (c : Choice) → Says (codes "play") rows c → ⊥
-no_manner_said rows none (Play story save script m) h = none m h.4
-no_manner_said rows none (Show story (Info sections)) h = other_name (codes "play") (codes "info") refl h.1.0
-no_manner_said rows none (Show story Code) h = other_name (codes "play") (codes "disasm") refl h.1
-no_manner_said rows none (Show story Findings) h = other_name (codes "play") (codes "check") refl h.1
+pub no_settings_said : (rows : List Row) → ((m : Settings) → SaysSettings rows m → ⊥) → (c : Choice) → Says (codes "play") rows c → ⊥
+no_settings_said rows none (Play story save script m) h = none m h.4
+no_settings_said rows none (Show story (Info sections)) h = other_name (codes "play") (codes "info") refl h.1.0
+no_settings_said rows none (Show story Code) h = other_name (codes "play") (codes "disasm") refl h.1
+no_settings_said rows none (Show story Findings) h = other_name (codes "play") (codes "check") refl h.1
 
 pub no_command : (name : Text) (rows : List Row) → bytes_eq name (codes "play") ≡ false → bytes_eq name (codes "info") ≡ false → bytes_eq name (codes "disasm") ≡ false → bytes_eq name (codes "check") ≡ false → (c : Choice) → Says name rows c → ⊥
 no_command name rows p i d k (Play story save script m) h = other_name name (codes "play") p h.0

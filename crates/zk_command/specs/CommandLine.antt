@@ -91,7 +91,7 @@ abbrev pub view_said : List Row → View
 view_said rows = if flag_said (first_of (codes "upper") rows) then Upper else Plain
 
 -- what clap found says the settings of a run: its limits, its seed, which is any number of 64 bits, and its view
-pub record SaysManner (rows : List Row) (m : Settings) : Type 0 where
+pub record SaysSettings (rows : List Row) (m : Settings) : Type 0 where
   pub limits : SaysLimits rows m.limits
   pub seed : SaysNumber rows (codes "seed") 0 18446744073709551615 m.seed
   pub view : m.view ≡ view_said rows
@@ -122,7 +122,7 @@ SaysListing name rows Findings = name ≡ codes "check"
 abbrev pub Says : Text → List Row → Choice → Type 0
 Says name rows (Play story save script m) =
     (name ≡ codes "play") × SaysStory rows story.now × (option_map (λ s. s.now) save ≡ first_of (codes "save") rows)
-    × (option_map (λ s. s.now) script ≡ first_of (codes "script") rows) × SaysManner rows m
+    × (option_map (λ s. s.now) script ≡ first_of (codes "script") rows) × SaysSettings rows m
 Says name rows (Show story listing) = SaysStory rows story.now × SaysListing name rows listing
 
 -- the words ask for a choice: clap finds a command in them that says it

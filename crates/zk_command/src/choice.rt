@@ -7,7 +7,7 @@ ghost use Rattle.zk_vm.specs.Bounds.{AreInRange};
 ghost use Rattle.zk_vm.specs.declared.limits.Limits.{Limits};
 ghost use Rattle.zk_command.specs.declared.choice.Choice.{Choice};
 ghost use Rattle.zk_command.specs.declared.settings.Settings.{Settings};
-ghost use Rattle.zk_command.specs.CommandLine.{Asks, HasLimits, IsNumberIn, IsRefusedWith, Says, SaysLimits, SaysManner, SaysNumber, SaysStory, check_command, command_line, disasm_command, file_option, flag, flag_said, info_command, number_in, number_option, play_command, sections_said, story_word, usage_status, view_said};
+ghost use Rattle.zk_command.specs.CommandLine.{Asks, HasLimits, IsNumberIn, IsRefusedWith, Says, SaysLimits, SaysSettings, SaysNumber, SaysStory, check_command, command_line, disasm_command, file_option, flag, flag_said, info_command, number_in, number_option, play_command, sections_said, story_word, usage_status, view_said};
 
 use crate::listing::{Listing, Sections};
 use crate::settings::Settings;
@@ -321,11 +321,11 @@ fn view_of(play: &ArgMatches<'_>) -> View
 
 /// The settings of a run that the options of `play` say.
 fn manner_of(alloc: Global, play: &ArgMatches<'_>) -> Result<Settings, Error>
-    ensures says { IfOk result (λ m. SaysManner (rows_of (found_of play.now)) m) }
+    ensures says { IfOk result (λ m. SaysSettings (rows_of (found_of play.now)) m) }
     ensures in_range { IfOk result (λ m. AreInRange m.limits) }
     ensures mistake { IfErr result (λ e. 1 ≤ usage_status (kind_of e)) }
     ensures says_none { OnErr result
-        ((m : Settings) → SaysManner (rows_of (found_of play.now)) m → ⊥) }
+        ((m : Settings) → SaysSettings (rows_of (found_of play.now)) m → ⊥) }
 {
     let limits = match limits_of(alloc, play) {
         Ok(limits) => limits,
