@@ -5,6 +5,8 @@
 #[cfg(test)]
 mod tests_of_arrays;
 #[cfg(test)]
+mod tests_of_batches;
+#[cfg(test)]
 mod tests_of_checks;
 #[cfg(test)]
 mod tests_of_command_lines;
@@ -42,8 +44,6 @@ mod tests_of_saved_games;
 mod tests_of_saves;
 #[cfg(test)]
 mod tests_of_sections;
-#[cfg(test)]
-mod tests_of_stretches;
 #[cfg(test)]
 mod tests_of_texts;
 #[cfg(test)]
