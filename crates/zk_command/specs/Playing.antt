@@ -19,7 +19,7 @@ bytes_read file = take 524289 file
 
 -- the devices of a play, by what they tell of themselves: what was typed and not read yet, and whether a read has failed;
 -- the screen, and what the transcript goes to
-pub record Told : Type 0 where
+pub record DeviceStates : Type 0 where
   pub typed : Option (List ℕ)
   pub unread : Bool
   pub screen : Device
@@ -30,11 +30,11 @@ pub record Told : Type 0 where
 pub record Play : Type 1 where
   pub answered : Bool → Session → Outcome → Type 0
   pub played : List ℕ → List ℕ → Bool → Bool → Session → Outcome → Type 0
-  pub old : Told
-  pub new : Told
+  pub old : DeviceStates
+  pub new : DeviceStates
 
-abbrev pub told : {I S T K : Type 0} → (I → Option (List ℕ)) → (I → Bool) → (S → Option (List ℕ)) → (S → Bool) → (T → Option (List ℕ)) → (T → Bool) → Devices I S T K → Told
-told {I} {S} {T} {K} left unread seen screen_failed written script_failed d = record {
+abbrev pub states_of : {I S T K : Type 0} → (I → Option (List ℕ)) → (I → Bool) → (S → Option (List ℕ)) → (S → Bool) → (T → Option (List ℕ)) → (T → Bool) → Devices I S T K → DeviceStates
+states_of {I} {S} {T} {K} left unread seen screen_failed written script_failed d = record {
   typed = left d.input;
   unread = unread d.input;
   screen = device seen screen_failed d.screen;
@@ -47,8 +47,8 @@ abbrev pub play_on : {I S T K : Type 0} → (I → Option (List ℕ)) → (I →
 play_on {I} {S} {T} {K} left unread ends fails seen screen_failed written script_failed held keeps old new = record {
   answered = IsAnswered ends fails unread old.input new.input;
   played = IsPlayed held keeps old.slot new.slot;
-  old = told left unread seen screen_failed written script_failed old;
-  new = told left unread seen screen_failed written script_failed new;
+  old = states_of left unread seen screen_failed written script_failed old;
+  new = states_of left unread seen screen_failed written script_failed new;
 }
 
 -- no device has failed
