@@ -77,7 +77,7 @@ impl Model for Machine {
     ghost use Rattle.zk_vm.specs.Outcome.{Session};
     ghost use Rattle.zk_vm.specs.Sound.{state_seen, IsSound};
     ghost use Rattle.std.specs.Coded as coded;
-    ghost use Rattle.zk_step.specs.contracts.game.GameState as play;
+    ghost use Rattle.zk_step.specs.contracts.game_state.GameState as play;
 
     ghost Value = { Session };
 
