@@ -9,7 +9,7 @@ use Rattle.zk_vm.specs.Plays.{IsPlay, IsPlayed, IsAnswered}
 use Rattle.zk_command.specs.LastLine.{TookExplained, last_line}
 use Rattle.zk_command.specs.Status.{exit_status}
 use Rattle.zk_command.specs.declared.exit.Exit.{Exit}
-use Rattle.zk_command.specs.declared.exit.Exit.TheVariants.{Unread, Refused, Stopped, Found}
+use Rattle.zk_command.specs.declared.exit.Exit.TheVariants.{Unread, Refused, Stopped}
 use Rattle.zk_command.specs.declared.playing.Devices.{Devices}
 use Rattle.zk_command.specs.declared.settings.Settings.{Settings}
 
@@ -95,8 +95,10 @@ EndsBy file Nothing Ended exit = (bytes : List ℕ) × AreRead file bytes × (re
 abbrev pub EndsPlay : Play → Option (List ℕ) → Settings → Exit → Type 0
 EndsPlay p file settings exit = EndsBy file (GotNothing p) (λ story. EndsRun p story settings) exit
 
--- how a program ends was told a device for errors, and is its status
-pub record IsReported (exit : Exit) (old new : Device) (status : ℕ) : Type 0 where
+-- the program has ended so; a device for errors, before and after that, was told how, and the status says it
+pub record IsReported (Ends : Exit → Type 0) (old new : Device) (status : ℕ) : Type 0 where
+  pub exit : Exit
+  pub ends : Ends exit
   pub status_is : status ≡ exit_status exit
   pub lines : TookExplained exit (last_line exit) old new
 

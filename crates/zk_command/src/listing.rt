@@ -8,7 +8,6 @@ ghost use Rattle.zk_term.specs.Devices.{device};
 ghost use Rattle.zk_command.specs.Listing.{EndsListing, IsListed, Tells};
 ghost use Rattle.zk_command.specs.Playing.{IsReported};
 ghost use Rattle.zk_command.specs.Verdict.{IsStart};
-ghost use Rattle.zk_command.specs.declared.exit.Exit.{Exit};
 ghost use Rattle.zk_command.specs.declared.listing.Listing.{Listing};
 ghost use Rattle.zk_command.specs.declared.listing.Listing.TheVariants as listing;
 
@@ -253,8 +252,8 @@ pub fn list_and_report<R: Read + Drop, S: Target, E: Target>(
     errors: &mut E,
 ) -> u8
     requires { E.failed errors.old ≡ false }
-    ensures { (exit : Exit) × EndsListing listing (R.remaining reader) exit
-        × IsReported exit (device E.taken E.failed errors.old) (device E.taken E.failed errors.new) result }
+    ensures { IsReported (EndsListing listing (R.remaining reader))
+        (device E.taken E.failed errors.old) (device E.taken E.failed errors.new) result }
 {
     let exit = list_file(alloc, reader, about, listing, screen);
     report_listing(alloc, &exit, about, errors)

@@ -5,7 +5,6 @@ ghost use Rattle.zk_mem.specs.Story.{refusal};
 ghost use Rattle.zk_term.specs.Devices.{device};
 ghost use Rattle.zk_vm.specs.Bounds.{AreInRange};
 ghost use Rattle.zk_command.specs.Playing.{EndsPlay, IsPlayedBy, IsReported, IsRun, Work, play_on};
-ghost use Rattle.zk_command.specs.declared.exit.Exit.{Exit};
 
 use crate::about::About;
 use crate::astray::Astray;
@@ -121,9 +120,9 @@ pub fn play_and_report<R: Read + Drop, I: Source, S: Target, T: Target, K: SaveS
     requires in_range { AreInRange settings.limits }
     requires works { Work I.failed S.failed T.failed devices.old }
     requires errors_work { E.failed errors.old ≡ false }
-    ensures { (exit : Exit) × EndsPlay (play_on I.left I.failed I.ends I.fails S.taken S.failed
-        T.taken T.failed K.held K.keeps devices.old devices.new) (R.remaining reader) settings exit
-        × IsReported exit (device E.taken E.failed errors.old) (device E.taken E.failed errors.new) result }
+    ensures { IsReported (EndsPlay (play_on I.left I.failed I.ends I.fails S.taken S.failed
+        T.taken T.failed K.held K.keeps devices.old devices.new) (R.remaining reader) settings)
+        (device E.taken E.failed errors.old) (device E.taken E.failed errors.new) result }
 {
     let exit = play_file(alloc, reader, about, settings, devices);
     report(alloc, &exit, &settings.limits, about, errors)

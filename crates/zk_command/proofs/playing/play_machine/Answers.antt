@@ -17,12 +17,12 @@ returns-in-Ok g c = record {
 pub returns-in-Err : goal.returns-in-Err
 returns-in-Err g c = record {
   answered = unwritten _ (outcome [] (stop_waiting (event_waited (ran (given_all [] c.args.machine.now)).waiting) End) c.args.machine.now) _ _ _ _ _
-      (none_answered g.I.Source.ends g.I.Source.fails g.I.Source.failed c.args.input.now _ c.args.machine.now (failed_or _ _ c.in-Err.ensures.failed)) c.in-Err.ensures.failed (failed_none _ _ c.in-Err.ensures.bytes);
+      (none_answered g.I.Source.ends g.I.Source.fails g.I.Source.failed c.args.devices.now.input _ c.args.machine.now (failed_or _ _ c.in-Err.ensures.failed)) c.in-Err.ensures.failed (failed_none _ _ c.in-Err.ensures.bytes);
   played = λ bytes told. (
     bytes,
     told,
     unwritten _ (outcome [] (stop_waiting (event_waited (ran (given_all [] c.args.machine.now)).waiting) (heard bytes).over) c.args.machine.now) _ _ _ _ _
-        (none_played g.K.SaveSlot.held g.K.SaveSlot.keeps c.args.slot.now bytes bytes _ _ c.args.machine.now c.requires.input_works (failed_or _ _ c.in-Err.ensures.failed)) c.in-Err.ensures.failed (failed_none _ _ c.in-Err.ensures.bytes),
+        (none_played g.K.SaveSlot.held g.K.SaveSlot.keeps c.args.devices.now.slot bytes bytes _ _ c.args.machine.now c.requires.works.input (failed_or _ _ c.in-Err.ensures.failed)) c.in-Err.ensures.failed (failed_none _ _ c.in-Err.ensures.bytes),
   );
-  unread = not_true _ _ c.requires.input_works;
+  unread = not_true _ _ c.requires.works.input;
 }
