@@ -23,7 +23,7 @@ use Rattle.zk_vm.specs.Outcome.{Session, given, given_to, resumed}
 use Rattle.zk_vm.specs.Step.{State, Step, Verdict, goes_by, goes_to, verdict_of, state_after}
 use Rattle.zk_vm.specs.Step.Step.{Goes, Quits, Faults, Exceeds}
 use Rattle.zk_vm.specs.Step.Verdict.{GoesOn, WaitsFor, StopsBy}
-use Rattle.zk_vm.proofs.Ends.{next_is}
+use Rattle.zk_step.proofs.Ends.{next_is}
 
 -- where an instruction leads that was finished, as the code tells it
 abbrev pub Told : Result Next Refusal → Result (GameState × Next) Refusal → GameState → Type 0

@@ -1,11 +1,9 @@
 -- What a machine tells of a run, and how it is left.
 use Rattle.std.specs.Prelude.{◌≡◌, ◌⊎◌, ◌≤◌, ◌<◌, ◌^◌, ◌-◌, Bool, true, false, ℕ, List, [], Option, Some, None, Result, Ok, Err}
-use Rattle.zk_step.specs.declared.ending.Next.{Next}
 use Rattle.zk_code.specs.declared.instr.Instr.{Instr}
 use Rattle.zk_code.specs.declared.opcode.Opcode.TheVariants.{Saving}
 use Rattle.zk_code.specs.declared.opcode.Saving.TheVariants.{SaveUndo}
 use Rattle.zk_code.specs.Reading.{instr_at}
-use Rattle.zk_step.specs.declared.ending.Next.TheVariants.{Waits, Keeps, Resumes}
 use Rattle.zk_step.specs.declared.ending.Wait.{Wait}
 use Rattle.zk_step.specs.declared.ending.Wait.TheVariants as wait
 use Rattle.zk_step.specs.declared.game_state.GameState.{GameState}
@@ -87,13 +85,6 @@ pub record IsAnswerable (s : State) (l : Limits) (stopped : Option Stop) (w : Wa
 abbrev pub CanAnswer : State → Limits → Option Stop → Option Waiting → Type 0
 CanAnswer s l stopped None = Unit {0}
 CanAnswer s l stopped (Some w) = IsAnswerable s l stopped w
-
--- an instruction that waits, keeps or goes back shows nothing
-abbrev pub IsQuiet : Next → Texts → Type 0
-IsQuiet (Waits w) text = text ≡ no_text
-IsQuiet Keeps text = text ≡ no_text
-IsQuiet Resumes text = text ≡ no_text
-IsQuiet _ text = Unit {0}
 
 -- ---- want of memory
 

@@ -16,13 +16,10 @@ ghost use Rattle.zk_vm.specs.Plays.{image_of};
 ghost use Rattle.zk_vm.specs.Step.{is_read, led_to, text_of};
 ghost use Rattle.zk_step.specs.Routing.{no_text};
 
-use crate::codes::Codes;
 use crate::limits::Limits;
 use crate::screen::Screen;
-use crate::step::carry_out;
 use crate::stop::{Event, Stop};
 use crate::transcript::{script_all, transcribe};
-use crate::view::{check_view, show_view};
 use crate::waiting::{Halt, Waiting};
 use arrayvec::ArrayVec;
 use std::alloc::{AllocError, Global};
@@ -38,12 +35,15 @@ use zk_save::save::save;
 use zk_save::undo::Undo;
 use zk_state::frames::Frames;
 use zk_state::refusal::{Limit, Refusal};
+use zk_step::codes::Codes;
 use zk_step::ending::{Next, Wait};
 use zk_step::game_state::{GameState, View};
 use zk_step::inputs::{answer_character, answer_line, answer_result};
+use zk_step::instruction::carry_out;
 use zk_step::random::Generators;
 use zk_step::resuming::resume;
 use zk_step::streams::Streams;
+use zk_step::view::{check_view, show_view};
 use zk_term::windows::Windows;
 
 /// So many reads are answered in a run.
@@ -77,7 +77,7 @@ impl Model for Machine {
     ghost use Rattle.zk_vm.specs.Outcome.{Session};
     ghost use Rattle.zk_vm.specs.Sound.{state_seen, IsSound};
     ghost use Rattle.std.specs.Coded as coded;
-    ghost use Rattle.zk_step.specs.contracts.game.GameState as play;
+    ghost use Rattle.zk_step.specs.contracts.game_state.GameState as play;
 
     ghost Value = { Session };
 
