@@ -22,6 +22,5 @@ pub mod Steps
 pub mod Sweep
 pub mod UpperRows
 pub mod Viewing
-pub mod Waits
 pub mod Ways
 pub mod WithinBounds

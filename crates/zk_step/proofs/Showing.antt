@@ -1,10 +1,11 @@
 -- What is shown of an instruction.
-use Rattle.std.proofs.Common.{◌≡◌, ◌∙◌, ℕ, List, [], Result, Ok, Err, IsOk, ◌⊎◌, inl, inr, refl, ap, sym, rules}
+use Rattle.std.proofs.Common.{◌≡◌, ◌∙◌, ℕ, List, [], Result, Ok, Err, IsOk, ◌⊎◌, inl, inr, refl, ap, sym, subst, rules}
 use Rattle.zk_mem.specs.declared.fault.Fault.{Fault}
 use Rattle.zk_mem.specs.Map.{MemoryMap}
 use Rattle.zk_state.specs.declared.refusal.Refusal.{Refusal}
 use Rattle.zk_state.specs.declared.refusal.Refusal.TheVariants as refusal
 use Rattle.zk_step.specs.declared.ending.Ending.{Ending}
+use Rattle.zk_step.specs.declared.ending.Ending.TheVariants as ending
 use Rattle.zk_code.specs.declared.instr.Instr.{Instr}
 use Rattle.zk_step.specs.declared.ending.Effect.{Effect}
 use Rattle.zk_step.specs.declared.ending.Next.{Next}
@@ -15,13 +16,12 @@ use Rattle.zk_step.specs.declared.game_state.GameState.{GameState}
 use Rattle.zk_step.specs.Finish.{finished}
 use Rattle.zk_step.specs.Instructions.{carried_out, HasBegun}
 use Rattle.zk_step.specs.Limited.{limited_next, limited_move, text_in}
-use Rattle.zk_step.specs.Printing.{IsPrintable}
+use Rattle.zk_step.specs.Printing.{IsPlainEnd, IsPrintable}
 use Rattle.zk_step.specs.Routing.{Texts, no_text, routed, text_routed}
 use Rattle.zk_step.proofs.Steps.{finish_refused, route_refused}
-use Rattle.zk_step.proofs.Waits.{waits_ends, waits_silent}
 use Rattle.zk_step.specs.Silence.{IsQuiet}
 use Rattle.zk_step.specs.Routes.{finished_after}
-use Rattle.zk_step.proofs.Ends.{ends_as, next_is, keeps_silent, resumes_silent}
+use Rattle.zk_step.proofs.Ends.{ends_as, next_is, prints_nothing}
 
 -- an instruction that is not refused shows its texts
 pub told : (r : Result (GameState × (Next × Texts)) Refusal) (w : GameState) (n : Next) (t : Texts) → r ≡ Ok (w, (n, t)) → r ≡ Ok (w, (n, text_in r))
@@ -76,19 +76,13 @@ silent : (m : MemoryMap) (w : GameState) (o : Output) → o ≡ Nothing → text
 unfolding routed
 silent m w o h = rw h refl
 
+quiet_by : (m : MemoryMap) (w : GameState) (before after : MemoryMap) (e : Effect) (end : Ending) → e.ending ≡ end → (IsPlainEnd end → ⊥) → IsPrintable before after e.output e.ending → text_routed (routed m w e.output) ≡ no_text
+quiet_by m w before after e end is other ready = silent m w e.output (prints_nothing before after e.output e.ending (λ plain. other (subst IsPlainEnd is plain)) ready)
+
 pub quiet_wait : (w : GameState) (i : Instr) (vs : List ℕ) (e : Effect) (v : GameState) (n : Next) (found : MemoryMap) (u : GameState) (before after : MemoryMap) → IsPrintable before after e.output e.ending
     → limited_next (finished w i vs e.ending) ≡ Ok (v, n) → IsQuiet n (text_routed (routed found u e.output))
 quiet_wait w i vs e v (At place) found u before after ready h = tt
-quiet_wait w i vs e v (Waits x) found u before after ready h =
-    let waits = waits_ends w i vs e.ending v x h in
-    let ready_wait = rw waits at ready in
-    silent found u e.output (waits_silent before after e.output x ready_wait)
-quiet_wait w i vs e v Keeps found u before after ready h =
-    let keeps = ends_as w i vs e.ending v Keeps (next_is _ v Keeps h) in
-    let ready_keep = rw keeps at ready in
-    silent found u e.output (keeps_silent before after e.output ready_keep)
-quiet_wait w i vs e v Resumes found u before after ready h =
-    let resumes = ends_as w i vs e.ending v Resumes (next_is _ v Resumes h) in
-    let ready_back = rw resumes at ready in
-    silent found u e.output (resumes_silent before after e.output ready_back)
+quiet_wait w i vs e v (Waits x) found u before after ready h = quiet_by found u before after e (ending.Wait x) (ends_as w i vs e.ending v (Waits x) (next_is _ v (Waits x) h)) (λ plain. plain) ready
+quiet_wait w i vs e v Keeps found u before after ready h = quiet_by found u before after e ending.Keep (ends_as w i vs e.ending v Keeps (next_is _ v Keeps h)) (λ plain. plain) ready
+quiet_wait w i vs e v Resumes found u before after ready h = quiet_by found u before after e ending.Resume (ends_as w i vs e.ending v Resumes (next_is _ v Resumes h)) (λ plain. plain) ready
 quiet_wait w i vs e v End found u before after ready h = tt
