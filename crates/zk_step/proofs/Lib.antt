@@ -1,6 +1,9 @@
 pub mod Arguments
 pub mod Buffers
+pub mod Ends
+pub mod Filling
 pub mod FixedParts
+pub mod GivenCodes
 pub mod Inside
 pub mod Keys
 pub mod Later
@@ -12,9 +15,12 @@ pub mod Operands
 pub mod Plain
 pub mod Pushes
 pub mod Returns
+pub mod Routes
 pub mod SameStory
+pub mod Showing
 pub mod Steps
 pub mod Sweep
-pub mod Waits
+pub mod UpperRows
+pub mod Viewing
 pub mod Ways
 pub mod WithinBounds

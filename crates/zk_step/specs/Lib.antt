@@ -22,12 +22,15 @@ pub mod Instructions
 pub mod Laws
 pub mod Limited
 pub mod Objects
+pub mod Printed
 pub mod Printing
+pub mod Routes
 pub mod Routines
 pub mod Routing
 pub mod Values
 pub mod TextBuffers
 pub mod Variables
+pub mod View
 pub mod Words
 pub mod Random
 pub mod StoryWords

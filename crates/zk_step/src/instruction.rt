@@ -4,14 +4,18 @@ ghost use Rattle.zk_state.specs.Frames.{bounds_of};
 ghost use Rattle.std.specs.Prelude.{◌≡◌, ◌≤◌, ◌^◌, Bool, Ok, Err, IfOk, IfErr, IsOk, OnOk, MatchResult};
 ghost use Rattle.zk_step.specs.Finish.{finished};
 ghost use Rattle.zk_step.specs.Instructions.{carried_out, HasBegun};
-ghost use Rattle.zk_step.specs.Limited.{limited_next, limited_move};
+ghost use Rattle.zk_step.specs.Limited.{limited_next, limited_move, text_in};
 ghost use Rattle.zk_step.specs.Printing.{IsPlainEnd, IsPrintable};
 ghost use Rattle.zk_step.specs.Routing.{with_line_start};
+ghost use Rattle.zk_step.specs.Silence.{IsQuiet};
 
+use crate::codes::Codes;
 use crate::effects::effect;
 use crate::ending::{Effect, Next};
 use crate::finish::{check_finish, finish as finish_ending};
 use crate::game_state::GameState;
+use crate::routing::route;
+use crate::screen::Screen;
 use crate::values::{Values, read_operands};
 use zk_code::instr::Instr;
 use zk_state::refusal::Refusal;
@@ -45,7 +49,7 @@ pub fn begin(game: &mut GameState, i: &Instr) -> Result<Begun, Refusal>
 
 /// Whether an instruction that has begun, and prints, can be finished: the refusals are those of `finish`,
 /// wherever the screen's last line then ends, and nothing changes.
-pub fn check(game: &GameState, i: &Instr, begun: &Begun) -> Result<(), Refusal>
+pub(crate) fn check(game: &GameState, i: &Instr, begun: &Begun) -> Result<(), Refusal>
     requires { IsPlainEnd begun.now.effect.ending }
     ensures ok { OnOk result ((b : Bool) → IsOk (limited_next
         (finished (with_line_start b game.now) i.now begun.now.values
@@ -67,4 +71,38 @@ pub fn finish(game: &mut GameState, i: &Instr, begun: &Begun) -> Result<Next, Re
     ensures bounds { bounds_of game.new.frames ≡ bounds_of game.old.frames }
 {
     finish_ending(game, i, &begun.values, begun.effect.ending)
+}
+
+/// Carries out an instruction, shows or stores what it prints, and answers where the machine goes on. What is printed
+/// is read from memory as the instruction finds it, before its result is stored; where the instruction is refused nothing
+/// is shown. `codes` is room for what a table of stream 3 gets.
+pub fn carry_out<S: Screen>(
+    game: &mut GameState,
+    i: &Instr,
+    codes: &mut Codes,
+    screen: &mut S,
+) -> Result<Next, Refusal>
+    requires { i.now.next ≤ 2 ^ 20 }
+    ensures value { MatchResult result (λ n. limited_move (carried_out game.old i.now)
+        ≡ Ok (game.new, (n, text_in (limited_move (carried_out game.old i.now)))))
+        (λ e. limited_move (carried_out game.old i.now) ≡ Err e) }
+    ensures quiet { IfOk result
+        (λ n. IsQuiet n (text_in (limited_move (carried_out game.old i.now)))) }
+    ensures bounds { bounds_of game.new.frames ≡ bounds_of game.old.frames }
+    ensures text { S.shows screen.old screen.new
+        (text_in (limited_move (carried_out game.old i.now))).screen
+        (text_in (limited_move (carried_out game.old i.now))).script }
+{
+    let begun = match begin(game, i) {
+        Ok(begun) => begun,
+        Err(refusal) => return Err(refusal),
+    };
+    match route(game, i, &begun, codes, screen) {
+        Ok(()) => {}
+        Err(refusal) => return Err(refusal),
+    }
+    match finish(game, i, &begun) {
+        Ok(next) => Ok(next),
+        Err(refusal) => Err(refusal),
+    }
 }

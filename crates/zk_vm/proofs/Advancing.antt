@@ -28,11 +28,9 @@ use Rattle.zk_fast.specs.Caches.{IsCacheOf}
 use Rattle.zk_vm.specs.declared.machine.Machine.TheInside.{Inside}
 use Rattle.zk_vm.specs.declared.stop.Stop.{Stop}
 use Rattle.zk_vm.specs.declared.stop.Stop.TheVariants as stop
-use Rattle.zk_vm.specs.declared.waiting.Halt.{Halt}
-use Rattle.zk_vm.specs.declared.waiting.Halt.TheVariants as halt
 use Rattle.zk_vm.specs.declared.waiting.Waiting.{Waiting}
 use Rattle.zk_vm.specs.Going.{stop_by, IsPut, Settles, LacksMemory}
-use Rattle.zk_vm.specs.Halts.{IsKeeping, IsLeftAt, IsStep, halt_by}
+use Rattle.zk_vm.specs.Halts.{Halt, IsKeeping, IsLeftAt, IsStep, event_by, halt_by}
 use Rattle.zk_vm.specs.Outcome.{Session}
 use Rattle.zk_vm.specs.Sound.{state_seen, IsOfStory, IsSound}
 use Rattle.zk_vm.specs.Step.{State, Step, Verdict, back_to, fetched, settled, goes_by, goes_to, is_past_reads, is_read, kept_answer, led_to, most_reads, state_after, step, text_of, text_within, verdict_of, view_before, waits_by, with_kept}
@@ -40,7 +38,7 @@ use Rattle.zk_vm.specs.Step.Step.{Goes, Waits as Awaits, Quits, Faults, Exceeds}
 use Rattle.zk_vm.specs.Step.Verdict.{GoesOn, WaitsFor, StopsBy}
 use Rattle.zk_step.specs.declared.game_state.View.{View}
 use Rattle.zk_step.specs.declared.game_state.View.TheVariants as view
-use Rattle.zk_vm.specs.View.{viewed, viewed_by, lines_shown, rows_shown, status_shown}
+use Rattle.zk_step.specs.View.{viewed, viewed_by, lines_shown, rows_shown, status_shown}
 use Rattle.zk_vm.proofs.Going.{stops_by}
 use Rattle.zk_vm.proofs.Keeping.{seen, same_states}
 use Rattle.zk_vm.specs.declared.limits.Limits.{Limits}
@@ -291,13 +289,13 @@ stepped_on {S} shows a b m i w p t h told shown =
 
 -- it is the last
 ended_by : {S : Type 0} (shows : S → S → List ℕ → List ℕ → Type 0) (a b : S) (old new : Session) (x : Step) (stop : Stop) (t : Texts) (answer : Result (Unit {0}) Halt) → step old.state ≡ x → verdict_of old.state x ≡ StopsBy stop → text_of old.state x ≡ t
-    → answer ≡ Err (halt.Stops stop) → new.waiting ≡ None → shows a b t.screen t.script → IsStep old new answer (λ y. shows a b y.screen y.script)
+    → answer ≡ Err (Err stop) → new.waiting ≡ None → shows a b t.screen t.script → IsStep old new answer (λ y. shows a b y.screen y.script)
 ended_by {S} shows a b old new x stop t answer is verdict text tells free shown =
     inl (subst (λ (y : Step). (answer ≡ halt_by (verdict_of old.state y)) × IsLeftAt old new (verdict_of old.state y) (state_after old.state y) × shows a b (text_of old.state y).screen (text_of old.state y).script) (sym is)
     (tells ∙ sym (ap halt_by verdict), subst (λ (v : Verdict). IsLeftAt old new v (state_after old.state x)) (sym verdict) free, subst (λ (y : Texts). shows a b y.screen y.script) (sym text) shown))
 
 pub stepped_end : {S : Type 0} (shows : S → S → List ℕ → List ℕ → Type 0) (a b : S) (m : Inside) (new : Session) (i : Instr) (w : GameState) (t : Texts) (answer : Result (Unit {0}) Halt) → instr_at m.game.memory m.place ≡ Ok i
-    → limited_move (carried_out m.game i) ≡ Ok (w, (End, t)) → answer ≡ Err (halt.Stops stop.Quit) → new.waiting ≡ None → shows a b t.screen t.script → IsStep (seen m) new answer (λ y. shows a b y.screen y.script)
+    → limited_move (carried_out m.game i) ≡ Ok (w, (End, t)) → answer ≡ Err (Err stop.Quit) → new.waiting ≡ None → shows a b t.screen t.script → IsStep (seen m) new answer (λ y. shows a b y.screen y.script)
 stepped_end {S} shows a b m new i w t answer h told tells free shown =
     ended_by shows a b (seen m) new (Quits t) stop.Quit t answer (step_is (state_seen m) i w End t h (move_is (carried_out m.game i) (w, (End, t)) told)) refl refl tells free shown
 
@@ -316,7 +314,7 @@ err_step s i (Ok (w, (End, t))) e h = absurd cc
 err_step s i (Err f) e h = let is : refusal.Fault f ≡ e = cc in (ap (λ (x : Refusal). StopsBy (stop_by s.place x)) is, refl)
 
 pub stepped_err : {S : Type 0} (shows : S → S → List ℕ → List ℕ → Type 0) (a b : S) (m : Inside) (new : Session) (i : Instr) (e : Refusal) (answer : Result (Unit {0}) Halt) → instr_at m.game.memory m.place ≡ Ok i
-    → limited_move (carried_out m.game i) ≡ Err e → answer ≡ Err (halt.Stops (stop_by m.place e)) → new.waiting ≡ None
+    → limited_move (carried_out m.game i) ≡ Err e → answer ≡ Err (Err (stop_by m.place e)) → new.waiting ≡ None
     → shows a b (text_in (limited_move (carried_out m.game i))).screen (text_in (limited_move (carried_out m.game i))).script → IsStep (seen m) new answer (λ y. shows a b y.screen y.script)
 stepped_err {S} shows a b m new i e answer h told tells free shown =
     let parts = err_step (state_seen m) i (carried_out m.game i) e told in
@@ -324,7 +322,7 @@ stepped_err {S} shows a b m new i e answer h told tells free shown =
     (subst (λ (y : Texts). shows a b y.screen y.script) (ap text_in told) shown)
 
 pub stepped_fault : {S : Type 0} (shows : S → S → List ℕ → List ℕ → Type 0) (a : S) (m : Inside) (new : Session) (f : Fault) (answer : Result (Unit {0}) Halt) → instr_at m.game.memory m.place ≡ Err f
-    → answer ≡ Err (halt.Stops (stop.Fault m.place f)) → new.waiting ≡ None → shows a a [] [] → IsStep (seen m) new answer (λ y. shows a a y.screen y.script)
+    → answer ≡ Err (Err (stop.Fault m.place f)) → new.waiting ≡ None → shows a a [] [] → IsStep (seen m) new answer (λ y. shows a a y.screen y.script)
 stepped_fault {S} shows a m new f answer h tells free shown = ended_by shows a a (seen m) new (Faults f) (stop.Fault m.place f) no_text answer (fault_is (state_seen m) f h) refl refl tells free shown
 
 -- ---- it waits for a read
@@ -381,7 +379,7 @@ sound_viewed m v t w is runs silent room view bounds near inside few = sound_wai
 
 -- so it is left
 pub view_settles : (m : Inside) (v : GameState) (t : Texts) (x : Wait) (i : Instr) → is_read x ≡ true → viewed m.game ≡ Ok (v, t) → m.reads < 16777216
-    → Settles (seen m) (seen (record m { game = v; waiting = Some (record { wait = x; instruction = i }) })) (Err (halt.Waits x)) (led_to (state_seen m) i m.game no_text (Waits x))
+    → Settles (seen m) (seen (record m { game = v; waiting = Some (record { wait = x; instruction = i }) })) (Err (Ok (event_by x))) (led_to (state_seen m) i m.game no_text (Waits x))
 view_settles m v t x i read view few =
     let memory = viewed_memory m.game v t view in
     let here : led_to (state_seen m) i m.game no_text (Waits x) ≡ Awaits (record (state_seen m) { game = v }) (record { wait = x; instruction = i }) t
@@ -390,6 +388,6 @@ view_settles m v t x i read view few =
     = ap (λ (b : Bool). if b then StopsBy (stop.Limit m.place Reads) else WaitsFor (record { wait = x; instruction = i })) (not_past m.reads x few) in
     let put : IsPut (seen m) (seen (record m { game = v; waiting = Some (record { wait = x; instruction = i }) })) (WaitsFor (record { wait = x; instruction = i })) (record (state_seen m) { game = v })
     = ap (λ (u : List WholeState). record (seen m) { state = record (state_seen m) { game = v; undo = u }; waiting = Some (record { wait = x; instruction = i }) }) (ap (λ (n : MemoryMap). states_in n.file m.undo) memory) in
-    let settles : Settles (seen m) (seen (record m { game = v; waiting = Some (record { wait = x; instruction = i }) })) (Err (halt.Waits x)) (Awaits (record (state_seen m) { game = v }) (record { wait = x; instruction = i }) t)
+    let settles : Settles (seen m) (seen (record m { game = v; waiting = Some (record { wait = x; instruction = i }) })) (Err (Ok (event_by x))) (Awaits (record (state_seen m) { game = v }) (record { wait = x; instruction = i }) t)
     = record { tells = sym (ap halt_by verdict); put = subst (λ (y : Verdict). IsPut (seen m) (seen (record m { game = v; waiting = Some (record { wait = x; instruction = i }) })) y (record (state_seen m) { game = v })) (sym verdict) put } in
-    subst (λ (y : Step). Settles (seen m) (seen (record m { game = v; waiting = Some (record { wait = x; instruction = i }) })) (Err (halt.Waits x)) y) (sym here) settles
+    subst (λ (y : Step). Settles (seen m) (seen (record m { game = v; waiting = Some (record { wait = x; instruction = i }) })) (Err (Ok (event_by x))) y) (sym here) settles

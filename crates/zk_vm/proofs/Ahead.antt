@@ -14,11 +14,9 @@ use Rattle.zk_fast.specs.QuietSteps.QuietSteps.{none, more}
 use Rattle.zk_vm.specs.declared.limits.Limits.{Limits}
 use Rattle.zk_vm.specs.declared.machine.Machine.TheInside.{Inside}
 use Rattle.zk_vm.specs.declared.stop.Stop.{Stop}
-use Rattle.zk_vm.specs.declared.waiting.Halt.{Halt}
-use Rattle.zk_vm.specs.declared.waiting.Halt.TheVariants as halt
 use Rattle.zk_vm.specs.declared.waiting.Waiting.{Waiting}
 use Rattle.zk_vm.specs.Going.{GoesAhead, IsAhead, IsHalted, StopsAhead, behind_strides, steps_left, stop_by}
-use Rattle.zk_vm.specs.Halts.{ComesToKeepAt, IsLeftBy, halt_of}
+use Rattle.zk_vm.specs.Halts.{ComesToKeepAt, Halt, IsLeftBy, event_of}
 use Rattle.zk_vm.specs.Outcome.{Segment, Session, segment}
 use Rattle.zk_vm.specs.Step.{State, goes_by, step, state_after, text_of, text_within, verdict_of}
 use Rattle.zk_vm.specs.Step.Verdict.{GoesOn, StopsBy}
@@ -129,7 +127,7 @@ halts_ahead {S} shows first now old mid new h stops end text silence =
     let parts = stops_ahead mid new h stops in
     let ends : (steps_left old).end ≡ Err (stop_by stops.place stops.refusal) = sym end ∙ parts.0 in
     inl (
-      stops.tells ∙ sym (ap halt_of ends),
+      stops.tells ∙ sym (ap event_of ends),
       subst (λ (r : Result Waiting Stop). IsLeftBy old new r (steps_left old).state) (sym ends) stops.free,
       last_shown shows first now now _ _ _ parts.1 silence text,
     )
@@ -159,7 +157,7 @@ seen_ahead m k w p quiet_steps =
       there = ap (λ (u : List WholeState). let s : Session = record (seen m) { state = record to { undo = u } } in s) same;
     }
 
-pub seen_stop : (old new : Session) (answer : Result (Unit {0}) Halt) (k place : ℕ) (refusal : Refusal) → answer ≡ Err (halt.Stops (stop_by place refusal)) → k < old.limits.steps - old.state.steps
+pub seen_stop : (old new : Session) (answer : Result (Unit {0}) Halt) (k place : ℕ) (refusal : Refusal) → answer ≡ Err (Err (stop_by place refusal)) → k < old.limits.steps - old.state.steps
     → IsRefusedAfter k old.state.game old.state.place place refusal → new.waiting ≡ None → IsAhead old new answer
 seen_stop old new answer k place refusal tells few refused free =
     subst (λ (r : Result (Unit {0}) Halt). IsAhead old new r) (sym tells) (record { steps = k; place = place; refusal = refusal; few = few; refused = refused; tells = refl; free = free })

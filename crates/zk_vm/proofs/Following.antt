@@ -3,10 +3,8 @@ use Rattle.std.proofs.Common.{◌≡◌, ◌∙◌, ◌≤◌, ◌<◌, ℕ, ◌
 use Rattle.zk_state.specs.declared.refusal.Limit.TheVariants.{Steps}
 use Rattle.zk_step.specs.Routing.{Texts, text_joined}
 use Rattle.zk_vm.specs.declared.stop.Stop.TheVariants as stops
-use Rattle.zk_vm.specs.declared.waiting.Halt.{Halt}
-use Rattle.zk_vm.specs.declared.waiting.Halt.TheVariants as halt
 use Rattle.zk_vm.specs.Going.{GoesAhead, IsHalted, StopsAhead, steps_left}
-use Rattle.zk_vm.specs.Halts.{IsStep}
+use Rattle.zk_vm.specs.Halts.{Halt, IsStep}
 use Rattle.zk_vm.specs.Outcome.{Segment, Session, segment}
 use Rattle.zk_vm.specs.Step.{State, step, state_after, text_of, verdict_of}
 use Rattle.zk_vm.proofs.Ahead.{comes_ahead, halts_ahead, left_ahead}
@@ -77,6 +75,6 @@ follows_end {S} shows first now last old s new h on runs room stepped =
 
 -- it ends where no step is left
 pub follows_limit : {S : Type 0} (shows : S → S → List ℕ → List ℕ → Type 0) (first now : S) (old s : Session) (place : ℕ) → Follows shows first now old s → s.limits.steps ≤ s.state.steps → place ≡ s.state.place → s.waiting ≡ None → shows now now [] []
-    → IsHalted old s (halt.Stops (stops.Limit place Steps)) (λ t. shows first now t.screen t.script)
+    → IsHalted old s (Err (stops.Limit place Steps)) (λ t. shows first now t.screen t.script)
 follows_limit {S} shows first now old s place on few at free silence =
     run_out shows first now s.limits.steps s.state.steps old s place few at free on.end on.text silence

@@ -36,7 +36,7 @@ use Rattle.zk_vm.specs.Step.{State, Step, Verdict, step, fetched, settled, led_t
 use Rattle.zk_vm.specs.Step.Step.{Goes, Waits, Quits, Faults, Exceeds}
 use Rattle.zk_vm.specs.Step.Verdict.{GoesOn, WaitsFor, StopsBy}
 use Rattle.zk_vm.specs.Outcome.{Segment, segment, continued}
-use Rattle.zk_vm.specs.View.{viewed, viewed_by, lines_shown, rows_shown, status_shown}
+use Rattle.zk_step.specs.View.{viewed, viewed_by, lines_shown, rows_shown, status_shown}
 use Rattle.zk_vm.proofs.Sounds.{back_fixed}
 use Rattle.zk_vm.specs.Laws.{IsWithin, state_in, segment_in, IsNoFrameLimit, FrameLimitsOnlyCut, LimitsCutThere, Passes}
 

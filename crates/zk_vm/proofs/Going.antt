@@ -14,16 +14,15 @@ use Rattle.zk_step.specs.Limited.{kept, limited_next}
 use Rattle.zk_step.specs.Routing.{no_text}
 use Rattle.zk_vm.specs.declared.stop.Stop.{Stop}
 use Rattle.zk_vm.specs.declared.stop.Stop.TheVariants as stop
-use Rattle.zk_vm.specs.declared.waiting.Halt.{Halt}
 use Rattle.zk_vm.specs.declared.waiting.Waiting.{Waiting}
 use Rattle.zk_vm.specs.Answers.{Answer, answered, answer_settled}
 use Rattle.zk_vm.specs.Going.{stop_by, verdict_by, place_by, steps_by, stopped_by, IsPut, Settles}
-use Rattle.zk_vm.specs.Halts.{IsLeftAs, halt_by}
+use Rattle.zk_vm.specs.Halts.{Halt, IsLeftAs, halt_by}
 use Rattle.zk_vm.specs.Outcome.{Session, given, given_to, resumed}
 use Rattle.zk_vm.specs.Step.{State, Step, Verdict, goes_by, goes_to, verdict_of, state_after}
 use Rattle.zk_vm.specs.Step.Step.{Goes, Quits, Faults, Exceeds}
 use Rattle.zk_vm.specs.Step.Verdict.{GoesOn, WaitsFor, StopsBy}
-use Rattle.zk_vm.proofs.Ends.{next_is}
+use Rattle.zk_step.proofs.Ends.{next_is}
 
 -- where an instruction leads that was finished, as the code tells it
 abbrev pub Told : Result Next Refusal → Result (GameState × Next) Refusal → GameState → Type 0

@@ -2,15 +2,12 @@
 use Rattle.std.proofs.Common.{◌≡◌, ◌∙◌, ◌≤◌, ◌<◌, inl, inr, ℕ, suc, ◌+◌, ◌-◌, List, [], ◌++◌, Option, Some, None, Result, Ok, Err, refl, ap, sym, subst, arith}
 use Rattle.zk_state.specs.declared.refusal.Limit.TheVariants.{Steps}
 use Rattle.zk_step.specs.Routing.{Texts, no_text, on_script, text_joined}
-use Rattle.zk_step.specs.declared.ending.Wait.{Wait}
 use Rattle.zk_vm.specs.declared.stop.Event.{Event}
 use Rattle.zk_vm.specs.declared.stop.Stop.{Stop}
 use Rattle.zk_vm.specs.declared.stop.Stop.TheVariants as stops
-use Rattle.zk_vm.specs.declared.waiting.Halt.{Halt}
-use Rattle.zk_vm.specs.declared.waiting.Halt.TheVariants as halt
 use Rattle.zk_vm.specs.declared.waiting.Waiting.{Waiting}
 use Rattle.zk_vm.specs.Going.{IsHalted, steps_left}
-use Rattle.zk_vm.specs.Halts.{ComesToKeepAt, IsKeeping, IsLeftAs, IsLeftAt, IsLeftBy, IsRun, IsStep, event_by, event_of, halt_by, halt_of}
+use Rattle.zk_vm.specs.Halts.{ComesToKeepAt, Halt, IsKeeping, IsLeftAs, IsLeftAt, IsLeftBy, IsRun, IsStep, event_of, halt_by}
 use Rattle.zk_vm.specs.Outcome.{Leads, Segment, Session, behind_due, ended, ran, segment, segment_by, segment_of}
 use Rattle.zk_vm.specs.Step.{State, step, state_after, text_of, verdict_of}
 use Rattle.zk_vm.specs.Step.Verdict.{GoesOn}
@@ -70,22 +67,22 @@ pub run_halts : {S : Type 0} (shows : S → S → List ℕ → List ℕ → Type
 run_halts {S} shows first now last n i old mid new h lt same runs silent room end state text comes (inl stepped) =
     let parts = run_ends n i old mid new h lt same stepped.0 stepped.1 in
     let left : IsLeftBy old new (steps_left old).end (segment (n - i) mid.state).state = subst (λ (r : Result Waiting Stop). IsLeftBy old new r (segment (n - i) mid.state).state) end parts.1 in
-    inl (parts.0 ∙ ap halt_of end, subst (λ (s : State). IsLeftBy old new (steps_left old).end s) state left, last_shown shows first now last _ _ _ parts.2 stepped.2 text)
+    inl (parts.0 ∙ ap event_of end, subst (λ (s : State). IsLeftBy old new (steps_left old).end s) state left, last_shown shows first now last _ _ _ parts.2 stepped.2 text)
 run_halts {S} shows first now last n i old mid new h lt same runs silent room end state text comes (inr keeps) =
     let tells = keeps.0 in
-    let is : h ≡ halt.Stops stops.Memory = cc in
+    let is : h ≡ Err stops.Memory = cc in
     let all = comes no_text new.state (comes_here mid new.state runs silent room keeps.2.0) in
     inr (is, keeps.1, (all.0, all.1.0, all.1.1 last keeps.2.1))
 
 -- no step is left
 pub run_out : {S : Type 0} (shows : S → S → List ℕ → List ℕ → Type 0) (first now : S) (n i : ℕ) (old mid : Session) (place : ℕ) → n ≤ i → place ≡ mid.state.place → mid.waiting ≡ None
     → (segment (n - i) mid.state).end ≡ (steps_left old).end → ShowsRest shows first now (segment (n - i) mid.state).text (steps_left old).text → shows now now [] []
-    → IsHalted old mid (halt.Stops (stops.Limit place Steps)) (λ t. shows first now t.screen t.script)
+    → IsHalted old mid (Err (stops.Limit place Steps)) (λ t. shows first now t.screen t.script)
 run_out {S} shows first now n i old mid place few at free end text none =
     let e = run_limit n i mid.state few in
     let ends : (steps_left old).end ≡ Err (stops.Limit mid.state.place Steps) = sym end ∙ ap (λ (g : Segment). g.end) e in
     inl (
-      ap (λ (p : ℕ). halt.Stops (stops.Limit p Steps)) at ∙ sym (ap halt_of ends),
+      ap (λ (p : ℕ). let h : Halt = Err (stops.Limit p Steps) in h) at ∙ sym (ap event_of ends),
       subst (λ (r : Result Waiting Stop). IsLeftBy old mid r (steps_left old).state) (sym ends) free,
       last_shown shows first now now _ _ _ (ap (λ (g : Segment). g.text) e) none text,
     )
@@ -114,34 +111,33 @@ run_ended : (old new : Session) (answer : Result Event Stop) (Shown : Texts → 
 unfolding ran
 run_ended old new answer Shown runs h = inl (subst (λ (g : Segment). Ends old new answer Shown g) (sym (segment_is old runs)) h)
 
-waits_end : (old new : Session) (x : Wait) (s : State) (g : Segment) (r : Result Waiting Stop) → g.state ≡ s → halt.Waits x ≡ halt_of r → IsLeftBy (told_due old) new r s → old.stopped ≡ None → (Ok (event_by x) ≡ event_of r) × IsLeftAs new (ended old g r) (ended old g r).stopped
-waits_end old new x s g (Ok w) same h left runs =
-    let wait : x ≡ w.wait = cc in
+waits_end : (old new : Session) (event : Event) (s : State) (g : Segment) (r : Result Waiting Stop) → g.state ≡ s → Ok event ≡ event_of r → IsLeftBy (told_due old) new r s → old.stopped ≡ None → IsLeftAs new (ended old g r) (ended old g r).stopped
+waits_end old new event s g (Ok w) same h left runs =
     let here : new ≡ record old { state = g.state; waiting = Some w } = left ∙ ap (λ (t : State). record old { state = t; waiting = Some w }) (sym same) in
-    (ap (λ (y : Wait). Ok (event_by y)) wait, subst (λ (y : Option Stop). IsLeftAs new (record old { state = g.state; waiting = Some w }) y) (sym runs) here)
-waits_end old new x s g (Err stop) same h left runs = absurd cc
+    subst (λ (y : Option Stop). IsLeftAs new (record old { state = g.state; waiting = Some w }) y) (sym runs) here
+waits_end old new event s g (Err stop) same h left runs = absurd cc
 
-pub run_waits : {S : Type 0} (shows : S → S → List ℕ → List ℕ → Type 0) (twice : (a b c : S) (s t u v : List ℕ) → shows a b s u → shows b c t v → shows a c (s ++ t) (u ++ v)) (a b c : S) (old new : Session) (x : Wait) → old.stopped ≡ None
-    → shows a b [] old.state.due → IsHalted (told_due old) new (halt.Waits x) (λ t. shows b c t.screen t.script) → IsRun old new (Ok (event_by x)) (λ t. shows a c t.screen t.script)
-run_waits {S} shows twice a b c old new x runs first (inl h) =
-    let ends = waits_end old new x (steps_left (told_due old)).state (behind_due old.state.due (steps_left (told_due old))) (steps_left (told_due old)).end refl h.0 h.1 runs in
-    run_ended old new (Ok (event_by x)) (λ t. shows a c t.screen t.script) runs (ends.0, ends.1, twice a b c [] _ old.state.due _ first h.2)
-run_waits {S} shows twice a b c old new x runs first (inr h) = let never = h.0 in absurd cc
+pub run_waits : {S : Type 0} (shows : S → S → List ℕ → List ℕ → Type 0) (twice : (a b c : S) (s t u v : List ℕ) → shows a b s u → shows b c t v → shows a c (s ++ t) (u ++ v)) (a b c : S) (old new : Session) (event : Event) → old.stopped ≡ None
+    → shows a b [] old.state.due → IsHalted (told_due old) new (Ok event) (λ t. shows b c t.screen t.script) → IsRun old new (Ok event) (λ t. shows a c t.screen t.script)
+run_waits {S} shows twice a b c old new event runs first (inl h) =
+    let left = waits_end old new event (steps_left (told_due old)).state (behind_due old.state.due (steps_left (told_due old))) (steps_left (told_due old)).end refl h.0 h.1 runs in
+    run_ended old new (Ok event) (λ t. shows a c t.screen t.script) runs (h.0, left, twice a b c [] _ old.state.due _ first h.2)
+run_waits {S} shows twice a b c old new event runs first (inr h) = let never = h.0 in absurd cc
 
-stops_end : (old new : Session) (stop : Stop) (g : Segment) (r : Result Waiting Stop) → halt.Stops stop ≡ halt_of r → new.stopped ≡ Some stop → new.waiting ≡ None → new.limits ≡ old.limits → (Err stop ≡ event_of r) × IsLeftAs new (ended old g r) (ended old g r).stopped
+stops_end : (old new : Session) (stop : Stop) (g : Segment) (r : Result Waiting Stop) → Err stop ≡ event_of r → new.stopped ≡ Some stop → new.waiting ≡ None → new.limits ≡ old.limits → IsLeftAs new (ended old g r) (ended old g r).stopped
 stops_end old new stop g (Ok w) h stopped free limits = absurd cc
-stops_end old new stop g (Err e) h stopped free limits = let same : stop ≡ e = cc in (ap Err same, (stopped ∙ ap Some same, free, limits))
+stops_end old new stop g (Err e) h stopped free limits = let same : stop ≡ e = cc in (stopped ∙ ap Some same, free, limits)
 
-free_by : (old mid : Session) (stop : Stop) (r : Result Waiting Stop) (s : State) → halt.Stops stop ≡ halt_of r → IsLeftBy old mid r s → mid.waiting ≡ None
+free_by : (old mid : Session) (stop : Stop) (r : Result Waiting Stop) (s : State) → Err stop ≡ event_of r → IsLeftBy old mid r s → mid.waiting ≡ None
 free_by old mid stop (Ok w) s h left = absurd cc
 free_by old mid stop (Err e) s h left = left
 
 pub run_stops : {S : Type 0} (shows : S → S → List ℕ → List ℕ → Type 0) (twice : (a b c : S) (s t u v : List ℕ) → shows a b s u → shows b c t v → shows a c (s ++ t) (u ++ v)) (a b c : S) (old mid new : Session) (stop : Stop) → old.stopped ≡ None
-    → shows a b [] old.state.due → IsHalted (told_due old) mid (halt.Stops stop) (λ t. shows b c t.screen t.script) → new.stopped ≡ Some stop → new.waiting ≡ mid.waiting → new.limits ≡ old.limits → new.state ≡ mid.state → IsRun old new (Err stop) (λ t. shows a c t.screen t.script)
+    → shows a b [] old.state.due → IsHalted (told_due old) mid (Err stop) (λ t. shows b c t.screen t.script) → new.stopped ≡ Some stop → new.waiting ≡ mid.waiting → new.limits ≡ old.limits → new.state ≡ mid.state → IsRun old new (Err stop) (λ t. shows a c t.screen t.script)
 run_stops {S} shows twice a b c old mid new stop runs first (inl h) stopped free limits same =
     let none = free_by (told_due old) mid stop (steps_left (told_due old)).end (steps_left (told_due old)).state h.0 h.1 in
-    let ends = stops_end old new stop (behind_due old.state.due (steps_left (told_due old))) (steps_left (told_due old)).end h.0 stopped (free ∙ none) limits in
-    run_ended old new (Err stop) (λ t. shows a c t.screen t.script) runs (ends.0, ends.1, twice a b c [] _ old.state.due _ first h.2)
+    let left = stops_end old new stop (behind_due old.state.due (steps_left (told_due old))) (steps_left (told_due old)).end h.0 stopped (free ∙ none) limits in
+    run_ended old new (Err stop) (λ t. shows a c t.screen t.script) runs (h.0, left, twice a b c [] _ old.state.due _ first h.2)
 run_stops {S} shows twice a b c old mid new stop runs first (inr h) stopped free limits same =
     let tells = h.0 in
     let is : stop ≡ stops.Memory = cc in
@@ -158,10 +154,10 @@ run_stops {S} shows twice a b c old mid new stop runs first (inr h) stopped free
     } in
     inr (ap Err is, stopped ∙ ap Some is, free ∙ h.1, (text_joined (on_script old.state.due) h.2.0, subst (ComesToKeepAt old (text_joined (on_script old.state.due) h.2.0)) (sym same) whole, twice a b c [] _ old.state.due _ first h.2.2))
 
-pub halted_waits : (old new : Session) (x : Wait) (Shown : Texts → Type 0) → IsHalted old new (halt.Waits x) Shown → (w : Waiting) × (new.waiting ≡ Some w)
-halted_waits old new x Shown (inl h) = go (steps_left old).end h.0 h.1
+pub halted_waits : (old new : Session) (event : Event) (Shown : Texts → Type 0) → IsHalted old new (Ok event) Shown → (w : Waiting) × (new.waiting ≡ Some w)
+halted_waits old new event Shown (inl h) = go (steps_left old).end h.0 h.1
   where
-    go : (r : Result Waiting Stop) → halt.Waits x ≡ halt_of r → IsLeftBy old new r (steps_left old).state → (w : Waiting) × (new.waiting ≡ Some w)
+    go : (r : Result Waiting Stop) → Ok event ≡ event_of r → IsLeftBy old new r (steps_left old).state → (w : Waiting) × (new.waiting ≡ Some w)
     go (Ok w) e left = (w, ap (λ (s : Session). s.waiting) left)
     go (Err stop) e left = absurd cc
-halted_waits old new x Shown (inr h) = let never = h.0 in absurd cc
+halted_waits old new event Shown (inr h) = let never = h.0 in absurd cc

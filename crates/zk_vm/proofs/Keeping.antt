@@ -18,9 +18,8 @@ use Rattle.zk_step.specs.Routing.{no_text}
 use Rattle.zk_step.proofs.Sweep.{answers_leave_stories}
 use Rattle.zk_vm.specs.declared.machine.Machine.TheInside.{Inside}
 use Rattle.zk_vm.specs.declared.stop.Stop.{Stop}
-use Rattle.zk_vm.specs.declared.waiting.Halt.{Halt}
 use Rattle.zk_vm.specs.Going.{verdict_by, place_by, steps_by, stopped_by, Settles}
-use Rattle.zk_vm.specs.Halts.{halt_by}
+use Rattle.zk_vm.specs.Halts.{Halt, halt_by}
 use Rattle.zk_vm.specs.Outcome.{Session}
 use Rattle.zk_vm.specs.Sound.{state_seen, IsOfStory, IsSound}
 use Rattle.zk_vm.specs.Step.{Step, back_to, goes_to, led_to, kept_answer, saved_place, with_kept}

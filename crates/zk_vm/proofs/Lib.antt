@@ -1,11 +1,8 @@
 pub mod Advancing
 pub mod Ahead
 pub mod Answering
-pub mod Ends
-pub mod Filling
 pub mod Following
 pub mod FrameLimits
-pub mod GivenCodes
 pub mod Going
 pub mod Halting
 pub mod Keeping
@@ -15,15 +12,10 @@ pub mod GreaterLimits
 pub mod GreaterRoom
 pub mod Outcomes
 pub mod Playing
-pub mod Routes
 pub mod Runs
 pub mod RunningOn
-pub mod Showing
-pub mod Texts
 pub mod Transcripts
 pub mod Writes
-pub mod UpperRows
-pub mod Viewing
 pub mod Popping
 pub mod Within
 pub mod Cuts

@@ -22,7 +22,7 @@ use Rattle.zk_step.specs.Finish.{finished}
 use Rattle.zk_step.specs.Routing.{Texts, no_text, routed}
 use Rattle.zk_step.specs.Variables.{operands_read}
 use Rattle.zk_step.proofs.FixedParts.{Leaves, gives, fails, value_left}
-use Rattle.zk_vm.proofs.Ends.{EndsAs, ends_as}
+use Rattle.zk_step.proofs.Ends.{EndsAs, ends_as}
 use Rattle.zk_step.proofs.Behaviours.{IsPause, PausesSo, pauses_by}
 use Rattle.zk_step.proofs.Sweep.{effect_behaviour, effects_end}
 use Rattle.zk_step.specs.Laws.{EndsBy}

@@ -15,7 +15,7 @@ use Rattle.zk_step.specs.Routing.{Texts}
 use Rattle.zk_step.specs.Variables.{named_read, operand_read, operands_read, variable_read, with_frames}
 use Rattle.zk_step.proofs.FixedParts.{Leaves, gives, fails, leaves_then, leaves_after, leaves_if, value_left}
 use Rattle.zk_vm.specs.Step.{view_before}
-use Rattle.zk_vm.specs.View.{lines_shown, rows_shown, status_shown, viewed, viewed_by}
+use Rattle.zk_step.specs.View.{lines_shown, rows_shown, status_shown, viewed, viewed_by}
 
 -- the memory and the frames are the same, but for words that were taken
 pub record Pops (w v : GameState) : Type 0 where

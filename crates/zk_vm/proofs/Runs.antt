@@ -3,8 +3,7 @@ use Rattle.std.proofs.Common.{◌≡◌, ◌∙◌, ℕ, ◌+◌, ◌-◌, ◌<�
 use Rattle.zk_state.specs.declared.refusal.Limit.TheVariants.{Steps}
 use Rattle.zk_step.specs.Routing.{Texts, no_text, text_joined}
 use Rattle.zk_vm.specs.declared.stop.Stop.TheVariants.{Limit}
-use Rattle.zk_vm.specs.declared.waiting.Halt.{Halt}
-use Rattle.zk_vm.specs.Halts.{halt_by, halt_of, IsLeftAt, IsLeftBy}
+use Rattle.zk_vm.specs.Halts.{Halt, IsLeftAt, IsLeftBy, event_of, halt_by}
 use Rattle.zk_vm.specs.Laws.{IsNoStepLimit, StepLimitOnlyCuts, StepLimitCutsThere}
 use Rattle.zk_vm.specs.Outcome.{Segment, Session, continued, segment}
 use Rattle.zk_vm.specs.Step.{State, Verdict, step, state_after, text_of, verdict_of}
@@ -34,13 +33,13 @@ left_on old mid new s h k =
 
 -- a step that does not
 ends_by : (old mid new : Session) (h : Halt) → mid ≡ record old { state = mid.state } → (v : Verdict) (s : State) (t : Texts) (rest : Segment) → Err h ≡ halt_by v → IsLeftAt mid new v s
-    → (h ≡ halt_of (continued v s t rest).end) × IsLeftBy old new (continued v s t rest).end (continued v s t rest).state × ((continued v s t rest).text ≡ t)
+    → (h ≡ event_of (continued v s t rest).end) × IsLeftBy old new (continued v s t rest).end (continued v s t rest).state × ((continued v s t rest).text ≡ t)
 ends_by old mid new h same GoesOn s t rest e left = absurd cc
 ends_by old mid new h same (WaitsFor w) s t rest e left = (cc, left ∙ ap (λ (m : Session). record m { state = s; waiting = Some w }) same, refl)
 ends_by old mid new h same (StopsBy stop) s t rest e left = (cc, left, refl)
 
 pub run_ends : (n i : ℕ) (old mid new : Session) (h : Halt) → i < n → mid ≡ record old { state = mid.state } → Err h ≡ halt_by (verdict_of mid.state (step mid.state)) → IsLeftAt mid new (verdict_of mid.state (step mid.state)) (state_after mid.state (step mid.state))
-    → (h ≡ halt_of (segment (n - i) mid.state).end) × IsLeftBy old new (segment (n - i) mid.state).end (segment (n - i) mid.state).state × ((segment (n - i) mid.state).text ≡ text_of mid.state (step mid.state))
+    → (h ≡ event_of (segment (n - i) mid.state).end) × IsLeftBy old new (segment (n - i) mid.state).end (segment (n - i) mid.state).state × ((segment (n - i) mid.state).text ≡ text_of mid.state (step mid.state))
 unfolding segment
 run_ends n i old mid new h lt same e left =
     let more : n - i ≡ suc (n - (i + 1)) = omega arith in

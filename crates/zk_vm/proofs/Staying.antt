@@ -45,7 +45,7 @@ use Rattle.zk_vm.specs.Inside.{EachOfRun, EachStep, FramesReturn, Onward, is_res
 use Rattle.zk_vm.specs.Step.{State, Step, back_to, fetched, goes_by, goes_to, is_past_reads, kept_answer, led_to, saved_place, settled as step_settled, state_after, step, verdict_of, view_before, waits_by, with_kept}
 use Rattle.zk_vm.specs.Step.Step.{Goes, Waits, Quits, Faults, Exceeds}
 use Rattle.zk_vm.specs.Step.Verdict.{WaitsFor, StopsBy}
-use Rattle.zk_vm.specs.View.{lines_shown, rows_shown, status_shown, viewed, viewed_by}
+use Rattle.zk_step.specs.View.{lines_shown, rows_shown, status_shown, viewed, viewed_by}
 use Rattle.zk_vm.proofs.Pauses.{PausesBy, pauses}
 
 -- ---- what the view leaves

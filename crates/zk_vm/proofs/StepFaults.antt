@@ -29,7 +29,7 @@ use Rattle.zk_vm.specs.declared.waiting.Waiting.{Waiting}
 use Rattle.zk_vm.specs.Answers.{Answer, answer_settled, answered, answered_by, codes_of, file_of, first_code, is_kept, restored_from, restored_to, truth_word}
 use Rattle.zk_vm.specs.Step.{State, Step, back_to, fetched, goes_to, kept_answer, led_to, settled, step, view_before, waits_by, with_kept}
 use Rattle.zk_vm.specs.Step.Step.{Goes, Waits, Quits, Faults, Exceeds}
-use Rattle.zk_vm.specs.View.{status_shown, viewed, viewed_by}
+use Rattle.zk_step.specs.View.{status_shown, viewed, viewed_by}
 
 status_later : (m : MemoryMap) → Later (status_shown m)
 status_later m = later_if (m.version == 3) (later_then (status_units m) _ (status_units_later m) (λ units. Later.value)) Later.value

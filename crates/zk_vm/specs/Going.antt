@@ -20,9 +20,7 @@ use Rattle.zk_step.specs.Routing.{Texts}
 use Rattle.zk_fast.specs.QuietSteps.{IsRefusedAfter, QuietSteps}
 use Rattle.zk_vm.specs.declared.stop.Stop.{Stop}
 use Rattle.zk_vm.specs.declared.stop.Stop.TheVariants as stop
-use Rattle.zk_vm.specs.declared.waiting.Halt.{Halt}
-use Rattle.zk_vm.specs.declared.waiting.Halt.TheVariants as halt
-use Rattle.zk_vm.specs.Halts.{ComesToKeepAt, IsLeftBy, halt_by, halt_of}
+use Rattle.zk_vm.specs.Halts.{ComesToKeepAt, Halt, IsLeftBy, event_of, halt_by}
 use Rattle.zk_vm.specs.Outcome.{Segment, Session, segment}
 use Rattle.zk_vm.specs.Step.{State, Step, Verdict, verdict_of, state_after}
 use Rattle.zk_vm.specs.Step.Verdict.{GoesOn, WaitsFor, StopsBy}
@@ -66,7 +64,7 @@ pub record Settles (old new : Session) (answer : Result (Unit {0}) Halt) (x : St
 
 -- there is no memory for a state that is to be kept: the states that are kept stand, and nothing is stored
 pub record LacksMemory (old new : Session) (answer : Result (Unit {0}) Halt) : Type 0 where
-  pub tells : answer ≡ Err (halt.Stops stop.Memory)
+  pub tells : answer ≡ Err (Err stop.Memory)
   pub same : new.state ≡ old.state
   pub waiting : new.waiting ≡ None
   pub some : 0 < old.state.game.memory.undo_states
@@ -94,8 +92,8 @@ steps_left s = segment (s.limits.steps - s.state.steps) s.state
 -- came to keep a state, for which there was no memory.
 abbrev pub IsHalted : Session → Session → Halt → (Texts → Type 0) → Type 0
 IsHalted old new answer Shown =
-    ((answer ≡ halt_of (steps_left old).end) × IsLeftBy old new (steps_left old).end (steps_left old).state × Shown (steps_left old).text)
-    ⊎ ((answer ≡ halt.Stops stop.Memory) × (new.waiting ≡ None) × ((text : Texts) × ComesToKeepAt old text new.state × Shown text))
+    ((answer ≡ event_of (steps_left old).end) × IsLeftBy old new (steps_left old).end (steps_left old).state × Shown (steps_left old).text)
+    ⊎ ((answer ≡ Err stop.Memory) × (new.waiting ≡ None) × ((text : Texts) × ComesToKeepAt old text new.state × Shown text))
 
 -- ---- steps that are made in silence
 
@@ -116,7 +114,7 @@ pub record StopsAhead (old new : Session) (answer : Halt) : Type 0 where
   pub refusal : Refusal
   pub few : steps < old.limits.steps - old.state.steps
   pub refused : IsRefusedAfter steps old.state.game old.state.place place refusal
-  pub tells : answer ≡ halt.Stops (stop_by place refusal)
+  pub tells : answer ≡ Err (stop_by place refusal)
   pub free : new.waiting ≡ None
 
 abbrev pub IsAhead : Session → Session → Result (Unit {0}) Halt → Type 0

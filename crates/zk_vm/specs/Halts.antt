@@ -1,11 +1,9 @@
 -- What a machine tells of a run, and how it is left.
 use Rattle.std.specs.Prelude.{◌≡◌, ◌⊎◌, ◌≤◌, ◌<◌, ◌^◌, ◌-◌, Bool, true, false, ℕ, List, [], Option, Some, None, Result, Ok, Err}
-use Rattle.zk_step.specs.declared.ending.Next.{Next}
 use Rattle.zk_code.specs.declared.instr.Instr.{Instr}
 use Rattle.zk_code.specs.declared.opcode.Opcode.TheVariants.{Saving}
 use Rattle.zk_code.specs.declared.opcode.Saving.TheVariants.{SaveUndo}
 use Rattle.zk_code.specs.Reading.{instr_at}
-use Rattle.zk_step.specs.declared.ending.Next.TheVariants.{Waits, Keeps, Resumes}
 use Rattle.zk_step.specs.declared.ending.Wait.{Wait}
 use Rattle.zk_step.specs.declared.ending.Wait.TheVariants as wait
 use Rattle.zk_step.specs.declared.game_state.GameState.{GameState}
@@ -16,23 +14,10 @@ use Rattle.zk_vm.specs.declared.stop.Event.{Event}
 use Rattle.zk_vm.specs.declared.stop.Event.TheVariants as event
 use Rattle.zk_vm.specs.declared.stop.Stop.{Stop}
 use Rattle.zk_vm.specs.declared.stop.Stop.TheVariants as stop
-use Rattle.zk_vm.specs.declared.waiting.Halt.{Halt}
-use Rattle.zk_vm.specs.declared.waiting.Halt.TheVariants as halt
 use Rattle.zk_vm.specs.declared.waiting.Waiting.{Waiting}
 use Rattle.zk_vm.specs.Step.{State, Verdict, step, verdict_of, state_after, text_of, is_past_reads}
 use Rattle.zk_vm.specs.Step.Verdict.{GoesOn, WaitsFor, StopsBy}
 use Rattle.zk_vm.specs.Outcome.{Session, Leads, segment_of, ran}
-
--- a verdict, as the code tells it
-abbrev pub halt_by : Verdict → Result (Unit {0}) Halt
-halt_by GoesOn = Ok tt
-halt_by (WaitsFor w) = Err (halt.Waits w.wait)
-halt_by (StopsBy stop) = Err (halt.Stops stop)
-
--- how a segment ends, as the code tells it
-abbrev pub halt_of : Result Waiting Stop → Halt
-halt_of (Ok w) = halt.Waits w.wait
-halt_of (Err stop) = halt.Stops stop
 
 -- what is asked for
 abbrev pub event_by : Wait → Event
@@ -41,8 +26,18 @@ event_by wait.Char = event.Char
 event_by wait.Save = event.Save
 event_by wait.Restore = event.Restore
 
+-- what ends the steps of a machine: what is asked for, or why it stops
+abbrev pub Halt : Type 0
+Halt = Result Event Stop
+
+-- a verdict, as the code tells it
+abbrev pub halt_by : Verdict → Result (Unit {0}) Halt
+halt_by GoesOn = Ok tt
+halt_by (WaitsFor w) = Err (Ok (event_by w.wait))
+halt_by (StopsBy stop) = Err (Err stop)
+
 -- how a segment ends, as callers are told
-abbrev pub event_of : Result Waiting Stop → Result Event Stop
+abbrev pub event_of : Result Waiting Stop → Halt
 event_of (Ok w) = Ok (event_by w.wait)
 event_of (Err stop) = Err stop
 
@@ -88,13 +83,6 @@ abbrev pub CanAnswer : State → Limits → Option Stop → Option Waiting → T
 CanAnswer s l stopped None = Unit {0}
 CanAnswer s l stopped (Some w) = IsAnswerable s l stopped w
 
--- an instruction that waits, keeps or goes back shows nothing
-abbrev pub IsQuiet : Next → Texts → Type 0
-IsQuiet (Waits w) text = text ≡ no_text
-IsQuiet Keeps text = text ≡ no_text
-IsQuiet Resumes text = text ≡ no_text
-IsQuiet _ text = Unit {0}
-
 -- ---- want of memory
 
 -- the instruction at a state's place would be carried out, and keep a state, where there may be one; its operands were
@@ -116,7 +104,7 @@ IsStep old new answer Shown =
     ((answer ≡ halt_by (verdict_of old.state (step old.state)))
     × IsLeftAt old new (verdict_of old.state (step old.state)) (state_after old.state (step old.state))
     × Shown (text_of old.state (step old.state)))
-    ⊎ ((answer ≡ Err (halt.Stops stop.Memory)) × (new.waiting ≡ None) × (IsKeeping old.state new.state × Shown no_text))
+    ⊎ ((answer ≡ Err (Err stop.Memory)) × (new.waiting ≡ None) × (IsKeeping old.state new.state × Shown no_text))
 
 -- some steps of a machine lead to an instruction that keeps a state; this is what they show, and the state in which it is
 -- left there, with the instruction's operands taken

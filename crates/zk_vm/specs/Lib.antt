@@ -1,4 +1,3 @@
-pub mod View
 pub mod Answers
 pub mod Bounds
 pub mod Consoles
@@ -8,9 +7,7 @@ pub mod Laws
 pub mod Outcome
 pub mod Sound
 pub mod Plays
-pub mod Printed
 pub mod Step
 pub mod Examples
-pub mod Routes
 pub mod SavingExamples
 pub mod Inside

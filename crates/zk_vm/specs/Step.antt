@@ -22,7 +22,7 @@ use Rattle.zk_step.specs.Inputs.{result_answered}
 use Rattle.zk_step.specs.Instructions.{carried_out}
 use Rattle.zk_step.specs.Resuming.{resumed}
 use Rattle.zk_step.specs.Routing.{Texts, no_text}
-use Rattle.zk_vm.specs.View.{viewed}
+use Rattle.zk_step.specs.View.{viewed}
 
 -- the state of play: the game state, the byte address of the next instruction, how many steps were made since the last
 -- read was answered, how many reads were answered, what the transcript is still to get of the line that was read, and

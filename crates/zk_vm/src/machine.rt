@@ -9,20 +9,17 @@ ghost use Rattle.zk_vm.specs.Bounds.{AreInRange};
 ghost use Rattle.zk_vm.specs.Answers.{truth_word};
 ghost use Rattle.zk_vm.specs.Answers.Answer.{Typed, GameKept, File};
 ghost use Rattle.zk_vm.specs.Going.{IsAhead, limit_of, stop_by, verdict_by, place_by, steps_by, stopped_by, restored_on, Settles, LacksMemory, IsHalted};
-ghost use Rattle.zk_vm.specs.Halts.{ComesToKeep, IsLeftAs, IsLeftBy, IsRun, IsStep, event_by, event_waited, halt_by, halt_of, is_read_event};
+ghost use Rattle.zk_vm.specs.Halts.{ComesToKeep, IsLeftAs, IsLeftBy, IsRun, IsStep, event_by, event_waited, halt_by, is_read_event};
 ghost use Rattle.zk_vm.specs.Laws.{IsWithin};
 ghost use Rattle.zk_vm.specs.Outcome.{begun, first_game, given, segment, with_stop};
 ghost use Rattle.zk_vm.specs.Plays.{image_of};
 ghost use Rattle.zk_vm.specs.Step.{is_read, led_to, text_of};
 ghost use Rattle.zk_step.specs.Routing.{no_text};
 
-use crate::codes::Codes;
 use crate::limits::Limits;
 use crate::screen::Screen;
-use crate::step::carry_out;
 use crate::stop::{Event, Stop};
 use crate::transcript::{script_all, transcribe};
-use crate::view::{check_view, show_view};
 use crate::waiting::{Halt, Waiting};
 use arrayvec::ArrayVec;
 use std::alloc::{AllocError, Global};
@@ -38,12 +35,15 @@ use zk_save::save::save;
 use zk_save::undo::Undo;
 use zk_state::frames::Frames;
 use zk_state::refusal::{Limit, Refusal};
+use zk_step::codes::Codes;
 use zk_step::ending::{Next, Wait};
 use zk_step::game_state::{GameState, View};
 use zk_step::inputs::{answer_character, answer_line, answer_result};
+use zk_step::instruction::carry_out;
 use zk_step::random::Generators;
 use zk_step::resuming::resume;
 use zk_step::streams::Streams;
+use zk_step::view::{check_view, show_view};
 use zk_term::windows::Windows;
 
 /// So many reads are answered in a run.
@@ -284,7 +284,7 @@ impl Machine {
             return self.wait_behind_view(wait, instruction, screen);
         }
         self.waiting = Some(Waiting { wait, instruction });
-        Err(Halt::Waits(wait))
+        Err(Ok(asked_by(wait)))
     }
 
     /// Shows the view and waits for a line or a character, where there may be one more read.
@@ -322,7 +322,7 @@ impl Machine {
         }
         show_view(&mut self.game, screen);
         self.waiting = Some(Waiting { wait, instruction });
-        Err(Halt::Waits(wait))
+        Err(Ok(asked_by(wait)))
     }
 
     /// One step.
@@ -418,11 +418,11 @@ impl Machine {
         script_all(screen, self.due.as_slice());
         self.due.clear();
         match self.steps_to_halt(screen) {
-            Halt::Waits(wait) => {
+            Ok(event) => {
                 self.is_within();
-                Ok(asked_by(wait))
+                Ok(event)
             }
-            Halt::Stops(stop) => {
+            Err(stop) => {
                 self.stopped = Some(stop);
                 self.is_within();
                 Err(stop)
@@ -644,18 +644,18 @@ fn stop_at(place: u32, refusal: Refusal) -> Stop
 
 /// The stop of a machine that has no step left.
 fn out_of_steps(place: u32) -> Halt
-    ensures { result ≡ Halt.Stops (Stop.Limit place Limit.Steps) }
+    ensures { result ≡ Err (Stop.Limit place Limit.Steps) }
 {
-    Halt::Stops(Stop::Limit(place, Limit::Steps))
+    Err(Stop::Limit(place, Limit::Steps))
 }
 
 /// Stops a machine.
 fn halt(stopped: &mut Option<Stop>, stop: Stop) -> Result<(), Halt>
-    ensures value { result ≡ Err (Halt.Stops stop) }
+    ensures value { result ≡ Err (Err stop) }
     ensures stopped { stopped.new ≡ Some stop }
 {
     *stopped = Some(stop);
-    Err(Halt::Stops(stop))
+    Err(Err(stop))
 }
 
 /// Goes on by one step where an instruction leads that was finished in silence, or stops.

@@ -1,24 +1,3 @@
 // Where a machine's text goes.
 
-ghost use Rattle.std.specs.Prelude.{[], ◌∷◌};
-
-/// What a machine shows: text on the screen, and the transcript that the Standard calls output stream 2.
-pub trait Screen {
-    ghost use Rattle.std.specs.Prelude.{List, ℕ, [], ◌++◌};
-
-    // what came of a screen that was given characters for the screen, and others for the transcript
-    ghost shows: { Self → Self → List ℕ → List ℕ → Type 0 };
-
-    /// Shows a character on the screen.
-    fn text(&mut self, c: char)
-        ensures { shows self.old self.new (c ∷ []) [] };
-
-    /// Adds a character to the transcript.
-    fn script(&mut self, c: char)
-        ensures { shows self.old self.new [] (c ∷ []) };
-
-    ghost nothing: { (a : Self) → shows a a [] [] };
-
-    ghost twice: { (a b c : Self) (s t u v : List ℕ) → shows a b s u → shows b c t v
-        → shows a c (s ++ t) (u ++ v) };
-}
+pub use zk_step::screen::Screen;

@@ -6,11 +6,11 @@ ghost use Rattle.zk_text.specs.Shown.{shown_all};
 ghost use Rattle.zk_step.specs.Status.{code_units};
 ghost use Rattle.zk_vm.specs.Answers.{line_shown, is_transcribed};
 
-use crate::routing::is_script_on;
 use crate::screen::Screen;
 use arrayvec::ArrayVec;
 use zk_mem::memory::Memory;
 use zk_step::game_state::GameState;
+use zk_step::routing::is_script_on;
 use zk_step::text_buffers::kept_letters;
 use zk_text::extra::Extra;
 use zk_text::shown::Shown;

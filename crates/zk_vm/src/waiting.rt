@@ -1,6 +1,6 @@
 // What a machine waits for.
 
-use crate::stop::Stop;
+use crate::stop::{Event, Stop};
 use zk_code::instr::Instr;
 use zk_step::ending::Wait;
 
@@ -13,10 +13,5 @@ pub(crate) struct Waiting {
     pub(crate) instruction: Instr,
 }
 
-/// Why a machine makes no further step.
-#[derive(Clone, Copy, PartialEq, Eq, Drop)]
-pub(crate) enum Halt {
-    /// It waits for an answer.
-    Waits(Wait),
-    Stops(Stop),
-}
+/// Why a machine makes no further step: what it waits for, or its stop.
+pub(crate) type Halt = Result<Event, Stop>;

@@ -11,21 +11,21 @@ returns-in-Some-clause-run g c =
     let free = rw (← c.self.view_is) at c.requires in
     rw (← c.self.view_is) (run_stopped g.S.Screen.shows _ _ c.in-Some.stop stopped free (g.met.S.Screen.nothing _))
 
-pub returns-in-Waits-clause-run : goal.returns-in-Waits-clause-run
-returns-in-Waits-clause-run g c =
+pub returns-in-Ok-clause-run : goal.returns-in-Ok-clause-run
+returns-in-Ok-clause-run g c =
     let first = rw c.as_slice.ensures.value at c.script_all.ensures in
-    let rest = rw c.clear.ensures at c.in-Waits.ensures.run in
-    rw (← c.self.view_is, c.asked_by.ensures) (run_waits g.S.Screen.shows g.met.S.Screen.twice _ _ _ (seen c.self.inside) c.steps_to_halt.new.self c.in-Waits.wait c.in_default.is first rest)
+    let rest = rw c.clear.ensures at c.in-Ok.ensures.run in
+    rw (← c.self.view_is) (run_waits g.S.Screen.shows g.met.S.Screen.twice _ _ _ (seen c.self.inside) c.steps_to_halt.new.self c.in-Ok.event c.in_default.is first rest)
 
-pub returns-in-Waits-clause-steps : goal.returns-in-Waits-clause-steps
-returns-in-Waits-clause-steps g c =
-    let waits = halted_waits _ _ c.in-Waits.wait _ c.in-Waits.ensures.run in
+pub returns-in-Ok-clause-steps : goal.returns-in-Ok-clause-steps
+returns-in-Ok-clause-steps g c =
+    let waits = halted_waits _ _ c.in-Ok.event _ c.in-Ok.ensures.run in
     let can = answerable c.self-2.inside waits.0 c.self-2.invariant (ap (λ (m : Session). m.waiting) c.self-2.view_is ∙ waits.1) in
-    (rw (← c.self.view_is) c.in-Waits.ensures.more, rw (← c.self-2.view_is) can.steps)
+    (rw (← c.self.view_is) c.in-Ok.ensures.more, rw (← c.self-2.view_is) can.steps)
 
-pub returns-in-Stops-clause-run : goal.returns-in-Stops-clause-run
-returns-in-Stops-clause-run g c =
+pub returns-in-Err-clause-run : goal.returns-in-Err-clause-run
+returns-in-Err-clause-run g c =
     let first = rw c.as_slice.ensures.value at c.script_all.ensures in
-    let rest = rw c.clear.ensures at c.in-Stops.ensures.run in
-    rw (← c.self.view_is) (run_stops g.S.Screen.shows g.met.S.Screen.twice _ _ _ (seen c.self.inside) c.steps_to_halt.new.self _ c.in-Stops.stop c.in_default.is first rest refl
-    (ap (λ (m : Session). m.waiting) c.self-2.view_is) (ap (λ (m : Session). m.limits) c.self-2.view_is ∙ c.in-Stops.ensures.limits) (ap (λ (m : Session). m.state) c.self-2.view_is))
+    let rest = rw c.clear.ensures at c.in-Err.ensures.run in
+    rw (← c.self.view_is) (run_stops g.S.Screen.shows g.met.S.Screen.twice _ _ _ (seen c.self.inside) c.steps_to_halt.new.self _ c.in-Err.stop c.in_default.is first rest refl
+    (ap (λ (m : Session). m.waiting) c.self-2.view_is) (ap (λ (m : Session). m.limits) c.self-2.view_is ∙ c.in-Err.ensures.limits) (ap (λ (m : Session). m.state) c.self-2.view_is))

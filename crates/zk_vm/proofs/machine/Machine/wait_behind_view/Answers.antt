@@ -11,4 +11,4 @@ invariant_of-self-2 g c =
 
 pub returns-clause-step : goal.returns-clause-step
 returns-clause-step g c =
-    rw (← c.self.view_is) (view_settles c.self.inside c.show_view.new.game _ c.args.wait c.args.instruction c.requires.read c.show_view.ensures.state c.if-self-ge-MOST_READS.false)
+    rw (← c.self.view_is, c.asked_by.ensures) (view_settles c.self.inside c.show_view.new.game _ c.args.wait c.args.instruction c.requires.read c.show_view.ensures.state c.if-self-ge-MOST_READS.false)
