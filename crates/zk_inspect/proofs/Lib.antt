@@ -8,7 +8,7 @@ pub mod Listed
 pub mod Checks
 pub mod Entries
 pub mod Answered
-pub mod TextAddresses
+pub mod TextMarks
 pub mod FarSiblings
 pub mod LastMarks
 pub mod LastLists

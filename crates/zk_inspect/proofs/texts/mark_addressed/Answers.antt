@@ -1,5 +1,5 @@
 use Rattle.std.proofs.Common.{sym}
-use Rattle.zk_inspect.proofs.TextAddresses.{addressed_printed}
+use Rattle.zk_inspect.proofs.TextMarks.{addressed_printed}
 use Rattle.zk_inspect.proofs.texts.mark_addressed.Goals as goal
 
 pub mark_text-requires-clause-printed : goal.mark_text-requires-clause-printed

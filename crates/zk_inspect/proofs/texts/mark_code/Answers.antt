@@ -2,7 +2,7 @@ use Rattle.std.proofs.Common.{List, ℕ, sym, subst, refl}
 use Rattle.std.proofs.lemmas.List.Elements.{Contains-get_or}
 use Rattle.zk_code.specs.Reach.{IsReached}
 use Rattle.zk_inspect.specs.Lists.{IsListOf}
-use Rattle.zk_inspect.proofs.TextAddresses.{code_end, code_more}
+use Rattle.zk_inspect.proofs.TextMarks.{code_end, code_more}
 use Rattle.zk_inspect.proofs.texts.mark_code.Goals as goal
 
 pub mark_texts-requires-clause-reached : goal.mark_texts-requires-clause-reached

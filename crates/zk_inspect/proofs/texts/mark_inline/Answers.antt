@@ -1,5 +1,5 @@
 use Rattle.std.proofs.Common.{arith}
-use Rattle.zk_inspect.proofs.TextAddresses.{inline_printed, text_inside}
+use Rattle.zk_inspect.proofs.TextMarks.{inline_printed, text_inside}
 use Rattle.zk_inspect.proofs.texts.mark_inline.Goals as goal
 
 pub mark_text-requires-clause-printed : goal.mark_text-requires-clause-printed

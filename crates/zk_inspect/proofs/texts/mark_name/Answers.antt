@@ -1,5 +1,5 @@
 use Rattle.std.proofs.Common.{arith}
-use Rattle.zk_inspect.proofs.TextAddresses.{name_err, name_is, name_not, name_printed, names_more, names_none}
+use Rattle.zk_inspect.proofs.TextMarks.{name_err, name_is, name_not, name_printed, names_more, names_none}
 use Rattle.zk_inspect.proofs.texts.mark_name.Goals as goal
 
 pub mark_text-requires-clause-printed : goal.mark_text-requires-clause-printed

@@ -1,6 +1,6 @@
 use Rattle.std.proofs.Common.{◌≡◌, subst, arith}
 use Rattle.zk_inspect.specs.TextTests.{NamesMarked}
-use Rattle.zk_inspect.proofs.TextAddresses.{names_begin}
+use Rattle.zk_inspect.proofs.TextMarks.{names_begin}
 use Rattle.zk_inspect.proofs.texts.mark_names.Goals as goal
 
 pub loop-before-init : goal.loop-before-init

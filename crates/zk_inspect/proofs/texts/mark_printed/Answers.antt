@@ -1,4 +1,4 @@
-use Rattle.zk_inspect.proofs.TextAddresses.{names_kept, none_text_marks, printed_exact}
+use Rattle.zk_inspect.proofs.TextMarks.{names_kept, none_text_marks, printed_exact}
 use Rattle.zk_inspect.proofs.texts.mark_printed.Goals as goal
 
 pub mark_names-requires-clause-marks : goal.mark_names-requires-clause-marks

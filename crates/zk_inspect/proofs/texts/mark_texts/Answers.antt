@@ -1,4 +1,4 @@
-use Rattle.zk_inspect.proofs.TextAddresses.{texts_marked, texts_none}
+use Rattle.zk_inspect.proofs.TextMarks.{texts_marked, texts_none}
 use Rattle.zk_inspect.proofs.texts.mark_texts.Goals as goal
 
 pub returns-in-Ok-clause-texts : goal.returns-in-Ok-clause-texts
