@@ -19,7 +19,6 @@ pub mod AllNumbers
 pub mod Numbered
 pub mod Places
 pub mod Plain
-pub mod Parts
 pub mod PropertyLines
 pub mod Keyed
 pub mod Rows
