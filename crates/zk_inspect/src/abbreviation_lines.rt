@@ -16,8 +16,7 @@ use zk_text::text::check_abbreviation;
 
 /// Writes a fault in place of a text.
 fn write_fault<P: Page>(page: &mut P, fault: Fault)
-    ensures { P.wrote page.old page.new
-        (codes "! F" ++ decimal (fault_number fault)) }
+    ensures { P.wrote page.old page.new (codes "! F" ++ decimal (fault_number fault)) }
 {
     write_decimal(page, b"! F", b"", fault.number() as u32);
 }
@@ -36,8 +35,7 @@ fn write_text<P: Page>(page: &mut P, memory: &Memory, address: u32)
 /// Writes what an abbreviation stands for, or why it stands for nothing.
 fn write_meaning_of<P: Page>(page: &mut P, memory: &Memory, number: u16)
     requires { number < 96 }
-    ensures { P.wrote page.old page.new
-        (units_text memory.now (abbreviation memory.now number)) }
+    ensures { P.wrote page.old page.new (units_text memory.now (abbreviation memory.now number)) }
 {
     match memory.word(memory.header().abbreviations as u32 + 2 * number as u32) {
         Ok(word) => write_text(page, memory, 2 * word as u32),
@@ -48,8 +46,7 @@ fn write_meaning_of<P: Page>(page: &mut P, memory: &Memory, number: u16)
 /// Writes the line of an abbreviation.
 fn write_abbreviation<P: Page>(page: &mut P, memory: &Memory, number: u16)
     requires { number < 96 }
-    ensures { P.wrote page.old page.new
-        (abbreviation_line memory.now number) }
+    ensures { P.wrote page.old page.new (abbreviation_line memory.now number) }
 {
     write_decimal(page, b"", b"", number as u32);
     page.write(b" ");
@@ -70,8 +67,7 @@ fn write_all_abbreviations<P: Page>(page: &mut P, memory: &Memory)
 /// Writes the lines of abbreviations, where the story has a table of them.
 #[tactic(auto, unfolding(crate::specs::AbbreviationLines::abbreviation_lines))]
 pub(crate) fn write_abbreviations<P: Page>(page: &mut P, memory: &Memory)
-    ensures { P.wrote page.old page.new
-        (abbreviation_lines memory.now) }
+    ensures { P.wrote page.old page.new (abbreviation_lines memory.now) }
 {
     if memory.header().abbreviations == 0 {
         return;

@@ -106,8 +106,7 @@ fn cut(first: u8, rest: &[u8]) -> (Option<Piece>, usize)
 /// Writes no units.
 #[tactic(auto, unfolding(crate::specs::Quoted::quoted_units, crate::specs::Listing::quoted_bytes, zk_text::specs::Shown::shown_all))]
 fn write_nothing<P: Page>(page: &mut P, _memory: &Memory)
-    ensures { P.wrote page.old page.new
-        (quoted_units (own_characters _memory.now) []) }
+    ensures { P.wrote page.old page.new (quoted_units (own_characters _memory.now) []) }
 {
     write_texts(page, &[]);
 }
@@ -190,8 +189,7 @@ fn write_key<P: Page>(page: &mut P, memory: &Memory, address: u32)
 /// Writes the number and the address of an entry, up to the quote before its word.
 #[tactic(auto, unfolding(crate::specs::DictionaryLines::entry_front, crate::specs::Numbers::address_digits))]
 fn write_front<P: Page>(page: &mut P, index: u16, address: u32)
-    ensures { P.wrote page.old page.new
-        (entry_front index address) }
+    ensures { P.wrote page.old page.new (entry_front index address) }
 {
     let mut buffer = Buffer::new();
     let digits = hex_digits_of(address);
@@ -218,8 +216,7 @@ fn start_of(memory: &Memory, dictionary: &Dictionary, index: u16) -> u32
 /// Writes the line of the entry at an address.
 fn write_entry_at<P: Page>(page: &mut P, memory: &Memory, index: u16, address: u32)
     requires { address < 4294967000 }
-    ensures { P.wrote page.old page.new
-        (entry_text memory.now index address) }
+    ensures { P.wrote page.old page.new (entry_text memory.now index address) }
 {
     write_front(page, index, address);
     write_key(page, memory, address);
@@ -230,8 +227,7 @@ fn write_entry_at<P: Page>(page: &mut P, memory: &Memory, index: u16, address: u
 fn write_entry<P: Page>(page: &mut P, memory: &Memory, dictionary: &Dictionary, index: u16)
     requires stands { IsDictionaryOf memory.now dictionary.now }
     requires index { index < dictionary.now.entries }
-    ensures { P.wrote page.old page.new
-        (entry_line memory.now dictionary.now index) }
+    ensures { P.wrote page.old page.new (entry_line memory.now dictionary.now index) }
 {
     let address = start_of(memory, dictionary, index);
     write_entry_at(page, memory, index, address);
@@ -259,8 +255,7 @@ fn byte_or_none(memory: &Memory, address: u32) -> u8
 /// Writes a separator of a dictionary, counted from 0.
 fn write_separator<P: Page>(page: &mut P, memory: &Memory, dictionary: &Dictionary, index: u8)
     requires { dictionary.now.address < 70000 }
-    ensures { P.wrote page.old page.new
-        (separator_text memory.now dictionary.now index) }
+    ensures { P.wrote page.old page.new (separator_text memory.now dictionary.now index) }
 {
     let code = byte_or_none(memory, dictionary.address + 1 + index as u32);
     write_code(page, memory, code as u16);
@@ -269,8 +264,7 @@ fn write_separator<P: Page>(page: &mut P, memory: &Memory, dictionary: &Dictiona
 /// Writes the separators of a dictionary.
 fn write_separators<P: Page>(page: &mut P, memory: &Memory, dictionary: &Dictionary)
     requires { dictionary.now.address < 70000 }
-    ensures { P.wrote page.old page.new
-        (separators_text memory.now dictionary.now) }
+    ensures { P.wrote page.old page.new (separators_text memory.now dictionary.now) }
 {
     for index in 0..dictionary.separators {
         write_separator(page, memory, dictionary, index);
@@ -280,8 +274,7 @@ fn write_separators<P: Page>(page: &mut P, memory: &Memory, dictionary: &Diction
 /// Writes the line of a dictionary's separators.
 fn write_separators_line<P: Page>(page: &mut P, memory: &Memory, dictionary: &Dictionary)
     requires { dictionary.now.address < 70000 }
-    ensures { P.wrote page.old page.new
-        (separators_line memory.now dictionary.now) }
+    ensures { P.wrote page.old page.new (separators_line memory.now dictionary.now) }
 {
     page.write(b"separators \"");
     write_separators(page, memory, dictionary);
@@ -291,8 +284,7 @@ fn write_separators_line<P: Page>(page: &mut P, memory: &Memory, dictionary: &Di
 /// Writes the line of a dictionary's size.
 #[tactic(auto, unfolding(crate::specs::DictionaryLines::size_line))]
 fn write_size_line<P: Page>(page: &mut P, dictionary: &Dictionary)
-    ensures { P.wrote page.old page.new
-        (size_line dictionary.now) }
+    ensures { P.wrote page.old page.new (size_line dictionary.now) }
 {
     let mut counts = Buffer::new();
     let mut lengths = Buffer::new();
@@ -304,8 +296,7 @@ fn write_size_line<P: Page>(page: &mut P, dictionary: &Dictionary)
 /// Writes the lines of a dictionary that is one.
 fn write_table<P: Page>(page: &mut P, memory: &Memory, dictionary: &Dictionary)
     requires { IsDictionaryOf memory.now dictionary.now }
-    ensures { P.wrote page.old page.new
-        (table_lines memory.now dictionary.now) }
+    ensures { P.wrote page.old page.new (table_lines memory.now dictionary.now) }
 {
     write_separators_line(page, memory, dictionary);
     write_size_line(page, dictionary);
@@ -325,8 +316,7 @@ fn write_fault_line<P: Page>(page: &mut P, fault: Fault)
 /// Writes the lines of the dictionary that the header names, or why there is none.
 #[tactic(auto, unfolding(crate::specs::DictionaryLines::dictionary_lines))]
 pub(crate) fn write_dictionary<P: Page>(page: &mut P, memory: &Memory)
-    ensures { P.wrote page.old page.new
-        (dictionary_lines memory.now) }
+    ensures { P.wrote page.old page.new (dictionary_lines memory.now) }
 {
     let address = memory.header().dictionary;
     if address == 0 {

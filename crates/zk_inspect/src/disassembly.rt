@@ -14,7 +14,8 @@ use crate::error::ListError;
 use crate::operands::{write_branch, write_operands, write_store};
 use crate::page::{Page, TargetPage};
 use crate::quoting::write_quoted;
-use crate::writing::{write_address, write_counted, write_texts};
+use crate::writing::{hex_digits_of, write_address, write_texts, zeros_before};
+use itoa::Buffer;
 use zk_code::decode::decode;
 use zk_code::instr::Instr;
 use zk_code::opcode::{Opcode, name};
@@ -25,8 +26,7 @@ use zk_term::target::Target;
 /// Writes the text of an instruction, where it has one.
 #[tactic(auto, unfolding(crate::specs::Listing::text_text))]
 fn write_text<P: Page>(page: &mut P, memory: &Memory, text: Option<u32>)
-    ensures { P.wrote page.old page.new
-        (text_text memory.now text) }
+    ensures { P.wrote page.old page.new (text_text memory.now text) }
 {
     match text {
         Some(address) => {
@@ -39,18 +39,16 @@ fn write_text<P: Page>(page: &mut P, memory: &Memory, text: Option<u32>)
 
 /// Writes the name of an opcode.
 fn write_name<P: Page>(page: &mut P, memory: &Memory, opcode: Opcode)
-    ensures { P.wrote page.old page.new
-        (name_of memory.now.version opcode) }
+    ensures { P.wrote page.old page.new (name_of memory.now.version opcode) }
 {
     let name = name(opcode, memory.version());
-    write_texts(page, &[name.as_bytes()]);
+    page.write(name.as_bytes());
 }
 
 /// Writes an instruction.
 fn write_instruction<P: Page>(page: &mut P, memory: &Memory, instr: &Instr)
     requires { instr.now.next ≤ 2 ^ 20 }
-    ensures { P.wrote page.old page.new
-        (instruction_text memory.now instr.now) }
+    ensures { P.wrote page.old page.new (instruction_text memory.now instr.now) }
 {
     write_name(page, memory, instr.opcode);
     write_operands(memory, instr, page);
@@ -61,8 +59,7 @@ fn write_instruction<P: Page>(page: &mut P, memory: &Memory, instr: &Instr)
 
 /// Writes what stands at an address: an instruction, or a question mark where there is none.
 fn write_found<P: Page>(page: &mut P, memory: &Memory, address: u32)
-    ensures { P.wrote page.old page.new
-        (found_text memory.now (instr_at memory.now address)) }
+    ensures { P.wrote page.old page.new (found_text memory.now (instr_at memory.now address)) }
 {
     match decode(memory, address) {
         Ok(instr) => write_instruction(page, memory, &instr),
@@ -72,8 +69,7 @@ fn write_found<P: Page>(page: &mut P, memory: &Memory, address: u32)
 
 /// Writes the line of an address.
 fn write_address_line<P: Page>(page: &mut P, memory: &Memory, address: u32)
-    ensures { P.wrote page.old page.new
-        (address_line memory.now address) }
+    ensures { P.wrote page.old page.new (address_line memory.now address) }
 {
     write_address(page, b"", b"", address);
     page.write(b" ");
@@ -82,19 +78,23 @@ fn write_address_line<P: Page>(page: &mut P, memory: &Memory, address: u32)
 }
 
 /// Writes the line of a routine.
-#[tactic(auto, unfolding(crate::specs::Listing::routine_line))]
+#[tactic(auto, unfolding(crate::specs::Listing::routine_line, crate::specs::Numbers::address_digits))]
 fn write_routine_line<P: Page>(page: &mut P, memory: &Memory, routine: u32)
-    ensures { P.wrote page.old page.new
-        (routine_line memory.now routine) }
+    ensures { P.wrote page.old page.new (routine_line memory.now routine) }
 {
-    let count = local_count(memory, routine).unwrap_or(0) as u32;
-    write_counted(page, b"routine ", routine, b" locals ", count, b"\n");
+    let mut buffer = Buffer::new();
+    let digits = hex_digits_of(routine);
+    let shown = &digits[zeros_before(routine)..];
+    let count = buffer.format(local_count(memory, routine).unwrap_or(0));
+    write_texts(
+        page,
+        &[b"routine ", shown, b" locals ", count.as_bytes(), b"\n"],
+    );
 }
 
 /// Writes the lines of addresses.
 fn write_address_lines<P: Page>(page: &mut P, memory: &Memory, addresses: &[u32])
-    ensures { P.wrote page.old page.new
-        (flat_map (address_line memory.now) addresses.now) }
+    ensures { P.wrote page.old page.new (flat_map (address_line memory.now) addresses.now) }
 {
     for address in addresses {
         write_address_line(page, memory, *address);
@@ -103,8 +103,7 @@ fn write_address_lines<P: Page>(page: &mut P, memory: &Memory, addresses: &[u32]
 
 /// Writes the lines of routines.
 fn write_routine_lines<P: Page>(page: &mut P, memory: &Memory, routines: &[u32])
-    ensures { P.wrote page.old page.new
-        (flat_map (routine_line memory.now) routines.now) }
+    ensures { P.wrote page.old page.new (flat_map (routine_line memory.now) routines.now) }
 {
     for routine in routines {
         write_routine_line(page, memory, *routine);
@@ -114,8 +113,7 @@ fn write_routine_lines<P: Page>(page: &mut P, memory: &Memory, routines: &[u32])
 /// Writes the lines of a story's code.
 #[tactic(auto, unfolding(crate::specs::Listing::disassembly))]
 fn write_code<P: Page>(page: &mut P, memory: &Memory, code: &Code)
-    ensures { P.wrote page.old page.new
-        (disassembly memory.now code.now) }
+    ensures { P.wrote page.old page.new (disassembly memory.now code.now) }
 {
     write_address_lines(page, memory, code.addresses.as_slice());
     write_routine_lines(page, memory, code.routines.as_slice());

@@ -38,8 +38,7 @@ fn write_finding<P: Page>(page: &mut P, finding: Finding)
 
 /// Writes the lines of findings.
 fn write_lines<P: Page>(page: &mut P, findings: &[Finding])
-    ensures { P.wrote page.old page.new
-        (flat_map finding_line findings.now) }
+    ensures { P.wrote page.old page.new (flat_map finding_line findings.now) }
 {
     for finding in findings {
         write_finding(page, *finding);

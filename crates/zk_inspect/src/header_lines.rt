@@ -1,6 +1,6 @@
 // The lines of a header.
 
-ghost use Rattle.std.specs.Prelude.{◌≡◌, ◌++◌, codes};
+ghost use Rattle.std.specs.Prelude.{◌≡◌};
 ghost use Rattle.std.specs.List.{flat_map};
 ghost use Rattle.zk_inspect.specs.HeaderLines.{common_lines, field_line, header_lines, late_lines, serial_shown, value_text, visible_byte};
 
@@ -54,83 +54,65 @@ fn shown_serial(serial: [u8; 6]) -> [u8; 6]
     ]
 }
 
-/// Writes a word after a name: its four digits.
+/// Writes a word: its four digits.
 #[tactic(auto, unfolding(crate::specs::HeaderLines::value_text, crate::specs::Numbers::word_digits))]
-fn write_digits<P: Page>(page: &mut P, name: &[u8], word: u16)
-    ensures { P.wrote page.old page.new
-        (name.now ++ codes " " ++ value_text (Value.Word word)) }
+fn write_digits<P: Page>(page: &mut P, word: u16)
+    ensures { P.wrote page.old page.new (value_text (Value.Word word)) }
 {
     let digits = hex_digits_of(word as u32);
-    let shown = &digits[4..];
-    write_texts(page, &[name, b" ", shown]);
+    page.write(&digits[4..]);
 }
 
-/// Writes a byte after a name: its two digits.
+/// Writes a byte: its two digits.
 #[tactic(auto, unfolding(crate::specs::HeaderLines::value_text, crate::specs::Numbers::byte_digits))]
-fn write_two_digits<P: Page>(page: &mut P, name: &[u8], byte: u8)
-    ensures { P.wrote page.old page.new
-        (name.now ++ codes " " ++ value_text (Value.Byte byte)) }
+fn write_two_digits<P: Page>(page: &mut P, byte: u8)
+    ensures { P.wrote page.old page.new (value_text (Value.Byte byte)) }
 {
     let digits = hex_digits_of(byte as u32);
-    let shown = &digits[6..];
-    write_texts(page, &[name, b" ", shown]);
+    page.write(&digits[6..]);
 }
 
-/// Writes a serial number after a name.
-#[tactic(auto, unfolding(crate::specs::HeaderLines::value_text))]
-fn write_serial<P: Page>(page: &mut P, name: &[u8], serial: [u8; 6])
-    ensures { P.wrote page.old page.new
-        (name.now ++ codes " " ++ value_text (Value.Serial serial)) }
-{
-    let digits = shown_serial(serial);
-    let shown = &digits[..];
-    write_texts(page, &[name, b" ", shown]);
-}
-
-/// Writes a checksum after a name, and whether it is right.
+/// Writes a checksum, and whether it is right.
 #[tactic(auto, unfolding(crate::specs::HeaderLines::value_text, crate::specs::Numbers::word_digits))]
-fn write_sum<P: Page>(page: &mut P, name: &[u8], sum: u16, right: bool)
-    ensures { P.wrote page.old page.new
-        (name.now ++ codes " " ++ value_text (Value.Checksum sum right)) }
+fn write_sum<P: Page>(page: &mut P, sum: u16, right: bool)
+    ensures { P.wrote page.old page.new (value_text (Value.Checksum sum right)) }
 {
     let digits = hex_digits_of(sum as u32);
-    let shown = &digits[4..];
     if right {
-        write_texts(page, &[name, b" ", shown, b" ok"])
+        write_texts(page, &[&digits[4..], b" ok"]);
     } else {
-        write_texts(page, &[name, b" ", shown, b" wrong"])
+        write_texts(page, &[&digits[4..], b" wrong"]);
     }
 }
 
-/// Writes what a field says, after its name.
+/// Writes what a field says.
 #[tactic(auto, unfolding(crate::specs::HeaderLines::value_text))]
-fn write_value<P: Page>(page: &mut P, name: &[u8], value: Value)
-    ensures { P.wrote page.old page.new
-        (name.now ++ codes " " ++ value_text value) }
+fn write_value<P: Page>(page: &mut P, value: Value)
+    ensures { P.wrote page.old page.new (value_text value) }
 {
     match value {
-        Value::Number(number) => write_decimal(page, name, b" ", number),
-        Value::Address(address) => write_address(page, name, b" ", address as u32),
-        Value::Word(word) => write_digits(page, name, word),
-        Value::Byte(byte) => write_two_digits(page, name, byte),
-        Value::Serial(serial) => write_serial(page, name, serial),
-        Value::Checksum(sum, right) => write_sum(page, name, sum, right),
+        Value::Number(number) => write_decimal(page, b"", b"", number),
+        Value::Address(address) => write_address(page, b"", b"", address as u32),
+        Value::Word(word) => write_digits(page, word),
+        Value::Byte(byte) => write_two_digits(page, byte),
+        Value::Serial(serial) => page.write(&shown_serial(serial)),
+        Value::Checksum(sum, right) => write_sum(page, sum, right),
     }
 }
 
 /// Writes the line of a field.
 fn write_field<P: Page>(page: &mut P, name: &[u8], value: Value)
-    ensures { P.wrote page.old page.new
-        (field_line name.now value) }
+    ensures { P.wrote page.old page.new (field_line name.now value) }
 {
-    write_value(page, name, value);
+    page.write(name);
+    page.write(b" ");
+    write_value(page, value);
     page.write(b"\n");
 }
 
 /// Writes the lines of fields.
 fn write_fields<P: Page>(page: &mut P, fields: &[Field<'_>])
-    ensures { P.wrote page.old page.new
-        (flat_map (λ f. field_line f.name.now f.value) fields.now) }
+    ensures { P.wrote page.old page.new (flat_map (λ f. field_line f.name.now f.value) fields.now) }
 {
     for field in fields {
         write_field(page, field.name, field.value);
@@ -140,8 +122,7 @@ fn write_fields<P: Page>(page: &mut P, fields: &[Field<'_>])
 /// Writes the lines of the fields that every version has.
 #[tactic(auto, unfolding(crate::specs::HeaderLines::common_lines))]
 fn write_common_fields<P: Page>(page: &mut P, memory: &Memory)
-    ensures { P.wrote page.old page.new
-        (common_lines memory.now) }
+    ensures { P.wrote page.old page.new (common_lines memory.now) }
 {
     let header = memory.header();
     let length = unpack(header.version, header.file_length);
@@ -240,8 +221,7 @@ fn write_late_fields<P: Page>(page: &mut P, memory: &Memory)
 /// Writes the lines of a header.
 #[tactic(auto, unfolding(crate::specs::HeaderLines::header_lines))]
 pub(crate) fn write_header<P: Page>(page: &mut P, memory: &Memory)
-    ensures { P.wrote page.old page.new
-        (header_lines memory.now) }
+    ensures { P.wrote page.old page.new (header_lines memory.now) }
 {
     write_common_fields(page, memory);
     write_late_fields(page, memory);

@@ -23,8 +23,7 @@ use zk_tables::tree::{child, parent, sibling};
 /// Writes the name of an object: nothing between quotes where it has none.
 #[tactic(auto, unfolding(crate::specs::ObjectLines::name_text))]
 fn write_name<P: Page>(page: &mut P, memory: &Memory, object: u16)
-    ensures { P.wrote page.old page.new
-        (name_text memory.now (name_of memory.now object)) }
+    ensures { P.wrote page.old page.new (name_text memory.now (name_of memory.now object)) }
 {
     match name(memory, object) {
         Ok(Some(address)) => write_quoted(page, memory, address),
@@ -35,8 +34,7 @@ fn write_name<P: Page>(page: &mut P, memory: &Memory, object: u16)
 
 /// Writes the number and the name of an object.
 pub(crate) fn write_label<P: Page>(page: &mut P, memory: &Memory, object: u16)
-    ensures { P.wrote page.old page.new
-        (label_text memory.now object) }
+    ensures { P.wrote page.old page.new (label_text memory.now object) }
 {
     write_decimal(page, b"", b"", object as u32);
     page.write(b" ");
@@ -56,8 +54,7 @@ pub(crate) fn number_or_none(link: Result<u16, Fault>) -> u16
 /// Writes the links of an object.
 #[tactic(auto, unfolding(crate::specs::ObjectLines::links_text))]
 fn write_links<P: Page>(page: &mut P, memory: &Memory, object: u16)
-    ensures { P.wrote page.old page.new
-        (links_text memory.now object) }
+    ensures { P.wrote page.old page.new (links_text memory.now object) }
 {
     let mut parents = Buffer::new();
     let mut siblings = Buffer::new();
@@ -113,8 +110,7 @@ fn attributes_of(memory: &Memory, object: u16) -> ArrayVec<u16, 48>
 
 /// Writes numbers, each after a comma.
 fn write_further_numbers<P: Page>(page: &mut P, numbers: &[u16])
-    ensures { P.wrote page.old page.new
-        (flat_map (λ n. codes "," ++ decimal n) numbers.now) }
+    ensures { P.wrote page.old page.new (flat_map (λ n. codes "," ++ decimal n) numbers.now) }
 {
     for number in numbers {
         write_decimal(page, b",", b"", *number as u32);
@@ -123,8 +119,7 @@ fn write_further_numbers<P: Page>(page: &mut P, numbers: &[u16])
 
 /// Writes numbers after a text, with commas between them, or a hyphen where there are none.
 fn write_numbers<P: Page>(page: &mut P, before: &[u8], numbers: &[u16])
-    ensures { P.wrote page.old page.new
-        (before.now ++ separated decimal numbers.now) }
+    ensures { P.wrote page.old page.new (before.now ++ separated decimal numbers.now) }
 {
     let [first, rest @ ..] = numbers else {
         return write_texts(page, &[before, b"-"]);
@@ -145,8 +140,7 @@ fn write_attributes<P: Page>(page: &mut P, memory: &Memory, object: u16)
 /// Writes a property after a text: its number, and the length of its data.
 #[tactic(auto, unfolding(crate::specs::ObjectLines::property_text))]
 fn write_property<P: Page>(page: &mut P, before: &[u8], property: Property)
-    ensures { P.wrote page.old page.new
-        (before.now ++ property_text property) }
+    ensures { P.wrote page.old page.new (before.now ++ property_text property) }
 {
     let mut numbers = Buffer::new();
     let mut lengths = Buffer::new();
@@ -209,8 +203,7 @@ fn write_properties<P: Page>(page: &mut P, before: &[u8], memory: &Memory, objec
 
 /// Writes the line of an object.
 fn write_object<P: Page>(page: &mut P, memory: &Memory, object: u16)
-    ensures { P.wrote page.old page.new
-        (object_line memory.now object) }
+    ensures { P.wrote page.old page.new (object_line memory.now object) }
 {
     write_label(page, memory, object);
     write_links(page, memory, object);

@@ -17,8 +17,7 @@ use zk_mem::memory::Memory;
 /// Writes a variable after a text.
 #[tactic(auto, unfolding(crate::specs::Listing::variable_text))]
 fn write_variable<P: Page>(page: &mut P, before: &[u8], number: u8)
-    ensures { P.wrote page.old page.new
-        (before.now ++ variable_text number) }
+    ensures { P.wrote page.old page.new (before.now ++ variable_text number) }
 {
     if number == 0 {
         write_texts(page, &[before, b"sp"])
@@ -32,8 +31,7 @@ fn write_variable<P: Page>(page: &mut P, before: &[u8], number: u8)
 /// Writes an operand after a text.
 #[tactic(auto, unfolding(crate::specs::Listing::operand_text))]
 fn write_operand<P: Page>(page: &mut P, before: &[u8], operand: Operand)
-    ensures { P.wrote page.old page.new
-        (before.now ++ operand_text operand) }
+    ensures { P.wrote page.old page.new (before.now ++ operand_text operand) }
 {
     match operand {
         Operand::Large(value) => write_word(page, before, value),
@@ -56,8 +54,7 @@ pub(crate) fn write_store<P: Page>(page: &mut P, store: Option<u8>)
 /// Writes where a branch leads, after a text.
 #[tactic(auto, unfolding(crate::specs::Listing::target_text))]
 fn write_destination<P: Page>(page: &mut P, before: &[u8], destination: Destination)
-    ensures { P.wrote page.old page.new
-        (before.now ++ target_text destination) }
+    ensures { P.wrote page.old page.new (before.now ++ target_text destination) }
 {
     match destination {
         Destination::ReturnFalse => write_texts(page, &[before, b"rfalse"]),
@@ -99,8 +96,7 @@ fn names_variable(opcode: Opcode) -> bool
 
 /// Writes an operand that is the number of a variable, after a space.
 fn write_reference<P: Page>(page: &mut P, operand: Operand)
-    ensures { P.wrote page.old page.new
-        (32 ∷ reference_text operand (constant_of operand)) }
+    ensures { P.wrote page.old page.new (32 ∷ reference_text operand (constant_of operand)) }
 {
     match operand.constant() {
         Some(number) => {
@@ -116,8 +112,7 @@ fn write_reference<P: Page>(page: &mut P, operand: Operand)
 
 /// Writes the operand of a jump after a space.
 fn write_jump<P: Page>(page: &mut P, operand: Operand, destination: Option<u32>)
-    ensures { P.wrote page.old page.new
-        (32 ∷ jump_text operand destination) }
+    ensures { P.wrote page.old page.new (32 ∷ jump_text operand destination) }
 {
     match destination {
         Some(address) => write_address(page, b" ", b"", address),
@@ -129,8 +124,7 @@ fn write_jump<P: Page>(page: &mut P, operand: Operand, destination: Option<u32>)
 #[tactic(auto, unfolding(crate::specs::Listing::first_text))]
 fn write_first<P: Page>(memory: &Memory, instr: &Instr, operand: Operand, page: &mut P)
     requires { instr.now.next ≤ 2 ^ 20 }
-    ensures { P.wrote page.old page.new
-        (32 ∷ first_text memory.now instr.now operand) }
+    ensures { P.wrote page.old page.new (32 ∷ first_text memory.now instr.now operand) }
 {
     if names_variable(instr.opcode) {
         write_reference(page, operand)
@@ -154,8 +148,7 @@ fn write_further<P: Page>(page: &mut P, operands: &[Operand])
 #[tactic(auto, unfolding(crate::specs::Listing::operands_text))]
 pub(crate) fn write_operands<P: Page>(memory: &Memory, instr: &Instr, page: &mut P)
     requires { instr.now.next ≤ 2 ^ 20 }
-    ensures { P.wrote page.old page.new
-        (operands_text memory.now instr.now instr.now.operands) }
+    ensures { P.wrote page.old page.new (operands_text memory.now instr.now instr.now.operands) }
 {
     match instr.operands.as_slice() {
         [] => {}

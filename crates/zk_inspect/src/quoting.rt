@@ -160,8 +160,7 @@ fn write_units<P: Page>(page: &mut P, memory: &Memory, address: u32)
 /// Writes a text that has a meaning between quotes.
 pub(crate) fn write_meaning<P: Page>(page: &mut P, memory: &Memory, address: u32)
     requires { IsOk (text_units memory.now address) }
-    ensures { P.wrote page.old page.new
-        (units_text memory.now (text_units memory.now address)) }
+    ensures { P.wrote page.old page.new (units_text memory.now (text_units memory.now address)) }
 {
     page.write(b"\"");
     write_units(page, memory, address);
@@ -170,8 +169,7 @@ pub(crate) fn write_meaning<P: Page>(page: &mut P, memory: &Memory, address: u32
 
 /// Writes what a text prints between quotes, or why it has no meaning.
 pub(crate) fn write_quoted<P: Page>(page: &mut P, memory: &Memory, address: u32)
-    ensures { P.wrote page.old page.new
-        (units_text memory.now (text_units memory.now address)) }
+    ensures { P.wrote page.old page.new (units_text memory.now (text_units memory.now address)) }
 {
     match check_text(memory, address) {
         Ok(_) => write_meaning(page, memory, address),

@@ -35,8 +35,7 @@ fn write_indent<P: Page>(page: &mut P, level: usize)
 /// Writes an object as it stands in the tree, without the spaces before it.
 #[tactic(auto, unfolding(crate::specs::TreeLines::row_text))]
 fn write_object<P: Page>(page: &mut P, memory: &Memory, row: Row)
-    ensures { P.wrote page.old page.new
-        (row_text memory.now row) }
+    ensures { P.wrote page.old page.new (row_text memory.now row) }
 {
     if row.again {
         write_number_again(page, row.object)
@@ -56,8 +55,7 @@ fn write_number_again<P: Page>(page: &mut P, object: u16)
 
 /// Writes a line of the tree.
 fn write_row<P: Page>(page: &mut P, memory: &Memory, row: Row)
-    ensures { P.wrote page.old page.new
-        (row_line memory.now row) }
+    ensures { P.wrote page.old page.new (row_line memory.now row) }
 {
     write_indent(page, row.level);
     write_object(page, memory, row);

@@ -9,8 +9,7 @@ use itoa::Buffer;
 
 /// Writes texts one after another.
 pub(crate) fn write_texts<P: Page>(page: &mut P, texts: &[&[u8]])
-    ensures { P.wrote page.old page.new
-        (flat_map (λ t. t.now) texts.now) }
+    ensures { P.wrote page.old page.new (flat_map (λ t. t.now) texts.now) }
 {
     for text in texts {
         page.write(text);
@@ -64,8 +63,7 @@ pub(crate) fn zeros_before(address: u32) -> usize
 /// Writes an address after two texts: by its hexadecimal digits, five at least.
 #[tactic(auto, unfolding(crate::specs::Numbers::address_digits))]
 pub(crate) fn write_address<P: Page>(page: &mut P, before: &[u8], between: &[u8], address: u32)
-    ensures { P.wrote page.old page.new
-        (before.now ++ between.now ++ address_digits address) }
+    ensures { P.wrote page.old page.new (before.now ++ between.now ++ address_digits address) }
 {
     let digits = hex_digits_of(address);
     let shown = &digits[zeros_before(address)..];
@@ -75,8 +73,7 @@ pub(crate) fn write_address<P: Page>(page: &mut P, before: &[u8], between: &[u8]
 /// Writes a constant after a text: a word by its four hexadecimal digits.
 #[tactic(auto, unfolding(crate::specs::Numbers::word_digits))]
 pub(crate) fn write_word<P: Page>(page: &mut P, before: &[u8], word: u16)
-    ensures { P.wrote page.old page.new
-        (before.now ++ codes "#" ++ word_digits word) }
+    ensures { P.wrote page.old page.new (before.now ++ codes "#" ++ word_digits word) }
 {
     let digits = hex_digits_of(word as u32);
     let shown = &digits[4..];
@@ -86,8 +83,7 @@ pub(crate) fn write_word<P: Page>(page: &mut P, before: &[u8], word: u16)
 /// Writes a constant after a text: a byte by its two hexadecimal digits.
 #[tactic(auto, unfolding(crate::specs::Numbers::byte_digits))]
 pub(crate) fn write_byte<P: Page>(page: &mut P, before: &[u8], byte: u8)
-    ensures { P.wrote page.old page.new
-        (before.now ++ codes "#" ++ byte_digits byte) }
+    ensures { P.wrote page.old page.new (before.now ++ codes "#" ++ byte_digits byte) }
 {
     let digits = hex_digits_of(byte as u32);
     let shown = &digits[6..];
@@ -96,29 +92,8 @@ pub(crate) fn write_byte<P: Page>(page: &mut P, before: &[u8], byte: u8)
 
 /// Writes a number after two texts, by its decimal digits.
 pub(crate) fn write_decimal<P: Page>(page: &mut P, before: &[u8], between: &[u8], n: u32)
-    ensures { P.wrote page.old page.new
-        (before.now ++ between.now ++ decimal n) }
+    ensures { P.wrote page.old page.new (before.now ++ between.now ++ decimal n) }
 {
     let mut buffer = Buffer::new();
     write_texts(page, &[before, between, buffer.format(n).as_bytes()]);
-}
-
-/// Writes an address and a number between three texts.
-#[tactic(auto, unfolding(crate::specs::Numbers::address_digits))]
-pub(crate) fn write_counted<'a, P: Page>(
-    page: &mut P,
-    before: &'a [u8],
-    address: u32,
-    between: &'a [u8],
-    n: u32,
-    after: &'a [u8],
-)
-    ensures { P.wrote page.old page.new
-        (before.now ++ address_digits address ++ between.now ++ decimal n ++ after.now) }
-{
-    let mut buffer = Buffer::new();
-    let digits = hex_digits_of(address);
-    let number = buffer.format(n).as_bytes();
-    let shown = &digits[zeros_before(address)..];
-    write_texts(page, &[before, shown, between, number, after]);
 }
