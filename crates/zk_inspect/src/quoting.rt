@@ -99,17 +99,6 @@ impl<'a, P: Page> Sink for Quoting<'a, P> {
     ghost late = { λ a b c s t h k. k };
 }
 
-/// Gives a unit to a sink.
-fn give_unit<K: Sink>(sink: &mut K, unit: Unit) -> Result<(), SinkFault>
-    ensures ok { OnOk result (K.gave sink.old sink.new (unit ∷ [])) }
-    ensures err { OnErr result (K.refused sink.old sink.new (unit ∷ [])) }
-{
-    match sink.put(unit) {
-        Ok(()) => Ok(()),
-        Err(SinkFault) => Err(SinkFault),
-    }
-}
-
 /// Writes a ZSCII code as it stands between quotes.
 pub(crate) fn write_code<P: Page>(page: &mut P, memory: &Memory, code: u16)
     ensures { P.wrote page.old page.new
@@ -120,7 +109,7 @@ pub(crate) fn write_code<P: Page>(page: &mut P, memory: &Memory, code: u16)
         page,
         extra: &extra,
     };
-    match give_unit(&mut quoting, Unit::Code(code)) {
+    match quoting.put(Unit::Code(code)) {
         Ok(()) => {}
         Err(SinkFault) => {}
     }

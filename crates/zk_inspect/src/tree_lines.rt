@@ -128,10 +128,7 @@ impl Walk {
         if again {
             return Ok(self.go_beside(memory));
         }
-        match self.go_below(memory, object) {
-            Ok(child) => Ok(Some(child)),
-            Err(error) => Err(error),
-        }
+        Ok(Some(self.go_below(memory, object)?))
     }
 
     /// Lists a root, and the tree below it.
@@ -151,10 +148,7 @@ impl Walk {
             let Some(object) = next else {
                 return Ok(());
             };
-            match self.step(page, memory, object) {
-                Ok(further) => next = further,
-                Err(error) => return Err(error),
-            }
+            next = self.step(page, memory, object)?;
         }
         Ok(())
     }
@@ -179,10 +173,7 @@ fn list_root<P: Page>(
     if !is_root(memory, object) {
         return Ok(());
     }
-    match walk.list_below(page, memory, object) {
-        Ok(()) => Ok(()),
-        Err(error) => Err(error),
-    }
+    walk.list_below(page, memory, object)
 }
 
 /// Lists the trees of so many objects.
@@ -196,10 +187,7 @@ fn list_trees<P: Page>(
     ensures { WroteSome (AreRows memory.now) P.wrote page.old page.new }
 {
     for before in 0..count {
-        match list_root(walk, memory, before + 1, page) {
-            Ok(()) => {}
-            Err(error) => return Err(error),
-        }
+        list_root(walk, memory, before + 1, page)?;
     }
     Ok(())
 }
@@ -213,10 +201,7 @@ pub(crate) fn write_tree<P: Page>(
 ) -> Result<(), AllocError>
     ensures { WroteSome (AreRows memory.now) P.wrote page.old page.new }
 {
-    let listed = match AddressSet::none(alloc, count as usize + 1) {
-        Ok(listed) => listed,
-        Err(error) => return Err(error),
-    };
+    let listed = AddressSet::none(alloc, count as usize + 1)?;
     let mut walk = Walk {
         count,
         listed,
