@@ -115,20 +115,6 @@ pub(crate) fn write_code<P: Page>(page: &mut P, memory: &Memory, code: u16)
     }
 }
 
-/// Gives a text that has a meaning to a sink.
-fn give_text<K: Sink>(sink: &mut K, memory: &Memory, address: u32) -> Result<(), SinkFault>
-    requires { IsOk (text_units memory.now address) }
-    ensures ok { OnOk result
-        (K.gave sink.old sink.new (units_or_none (text_units memory.now address))) }
-    ensures err { OnErr result
-        (K.refused sink.old sink.new (units_or_none (text_units memory.now address))) }
-{
-    match print_text(memory, address, sink) {
-        Ok(()) => Ok(()),
-        Err(SinkFault) => Err(SinkFault),
-    }
-}
-
 /// Writes the units of a text that has a meaning, as they stand between quotes.
 fn write_units<P: Page>(page: &mut P, memory: &Memory, address: u32)
     requires { IsOk (text_units memory.now address) }
@@ -140,7 +126,7 @@ fn write_units<P: Page>(page: &mut P, memory: &Memory, address: u32)
         page,
         extra: &extra,
     };
-    match give_text(&mut quoting, memory, address) {
+    match print_text(memory, address, &mut quoting) {
         Ok(()) => {}
         Err(SinkFault) => {}
     }
