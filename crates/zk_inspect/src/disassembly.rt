@@ -138,5 +138,5 @@ pub fn disassemble<T: Target>(memory: &Memory, code: &Code, target: &mut T) -> R
 {
     let mut page = TargetPage::new(target);
     write_code(&mut page, memory, code);
-    page.outcome()
+    page.finish()
 }

@@ -57,5 +57,5 @@ pub fn write_findings<T: Target>(findings: &[Finding], target: &mut T) -> Result
 {
     let mut page = TargetPage::new(target);
     write_lines(&mut page, findings);
-    page.outcome()
+    page.finish()
 }

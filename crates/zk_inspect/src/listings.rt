@@ -38,7 +38,7 @@ pub fn header<T: Target>(memory: &Memory, target: &mut T) -> Result<(), ListErro
 {
     let mut page = TargetPage::new(target);
     write_header(&mut page, memory);
-    page.outcome()
+    page.finish()
 }
 
 /// Writes where the parts of a story begin by its header, a line for each, in the order of their byte addresses; those of one
@@ -54,7 +54,7 @@ pub fn map<T: Target>(memory: &Memory, target: &mut T) -> Result<(), ListError>
 {
     let mut page = TargetPage::new(target);
     write_map(&mut page, memory);
-    page.outcome()
+    page.finish()
 }
 
 /// Writes what the 96 abbreviations stand for, a line for each, between quotes as `disassemble` shows texts; or `! F12`
@@ -70,7 +70,7 @@ pub fn abbreviations<T: Target>(memory: &Memory, target: &mut T) -> Result<(), L
 {
     let mut page = TargetPage::new(target);
     write_abbreviations(&mut page, memory);
-    page.outcome()
+    page.finish()
 }
 
 /// Writes the separators of the dictionary that the header names, how many entries it has and how long one is, in bytes, and
@@ -87,7 +87,7 @@ pub fn dictionary<T: Target>(memory: &Memory, target: &mut T) -> Result<(), List
 {
     let mut page = TargetPage::new(target);
     write_dictionary(&mut page, memory);
-    page.outcome()
+    page.finish()
 }
 
 /// Writes the lines of objects.
@@ -110,7 +110,7 @@ pub fn objects<T: Target>(memory: &Memory, target: &mut T) -> Result<(), ListErr
 {
     let mut page = TargetPage::new(target);
     write_all_objects(&mut page, memory);
-    page.outcome()
+    page.finish()
 }
 
 /// Writes the tree of objects: each object that has no parent, in the order of their numbers, and below it its children, each
@@ -124,7 +124,7 @@ pub fn tree<T: Target>(alloc: Global, memory: &Memory, target: &mut T) -> Result
     let count = count_objects(memory);
     let mut page = TargetPage::new(target);
     let listed = write_tree(alloc, memory, count, &mut page);
-    match page.outcome() {
+    match page.finish() {
         Ok(()) => match listed {
             Ok(()) => Ok(()),
             Err(_) => Err(ListError::Memory),
