@@ -1,6 +1,6 @@
 -- The words of keys.
 use Rattle.std.specs.List.{flat_map}
-use Rattle.std.proofs.Common.{arith, ◌≡◌, ◌∙◌, ◌-◌, ◌≤◌, ℕ, zero, suc, List, [], ◌∷◌, ◌++◌, Option, Some, None, Bool, false, length, get_or, take, drop, refl, sym, ap, ap₂}
+use Rattle.std.proofs.Common.{arith, ◌≡◌, ◌∙◌, ◌-◌, ◌≤◌, ℕ, zero, suc, List, [], ◌∷◌, ◌++◌, Option, Some, None, length, get_or, take, drop, refl, sym, ap, ap₂}
 use Rattle.std.specs.Prelude.{min}
 use Rattle.std.proofs.lemmas.List.{take_rest}
 use Rattle.zk_mem.specs.Map.{MemoryMap}
@@ -10,7 +10,6 @@ use Rattle.zk_text.specs.Extra.{ExtraTable}
 use Rattle.zk_text.specs.Pieces.{cut, piece_before, pieces, pieces_past}
 use Rattle.zk_inspect.specs.DictionaryLines.{piece_units, word_units}
 use Rattle.zk_inspect.specs.Quoted.{quoted_nothing, quoted_units, quoted_units-append}
-use Rattle.zk_inspect.specs.Written.{Gave}
 
 -- the first of some Z-characters belong to a piece before
 past_is_rest : (zs : List ℕ) (n : ℕ) → pieces_past zs n ≡ pieces (drop n zs)
@@ -50,7 +49,7 @@ word_on m t (z ∷ zs) d n p rest le r e f =
     ∙ ap₂ (λ (us : List Unit) (l : List ℕ). quoted_units t us ++ quoted_units t (word_units m l)) pe re
 
 -- no Z-characters are left
-pub word_end : {S : Type 0} (taken : S → Option (List ℕ)) (has_failed : S → Bool) (m : MemoryMap) (t : ExtraTable) (a : S) (xs : List ℕ) → length xs ≡ 0 → Gave taken has_failed false a a (quoted_units t (word_units m xs))
+pub word_end : {S : Type 0} (wrote : S → S → List ℕ → Type 0) (m : MemoryMap) (t : ExtraTable) (a : S) (xs : List ℕ) → wrote a a [] → length xs ≡ 0 → wrote a a (quoted_units t (word_units m xs))
 unfolding word_units pieces_past
-word_end {S} taken has_failed m t a [] h = quoted_nothing taken has_failed t a
-word_end {S} taken has_failed m t a (x ∷ xs) h = absurd (omega arith)
+word_end {S} wrote m t a [] nothing h = quoted_nothing wrote t a nothing
+word_end {S} wrote m t a (x ∷ xs) nothing h = absurd (omega arith)

@@ -2,6 +2,7 @@ pub mod Marking
 pub mod Inside
 pub mod Searching
 pub mod Outputs
+pub mod Ends
 pub mod Quotes
 pub mod OneList
 pub mod Listed
@@ -19,7 +20,6 @@ pub mod AllNumbers
 pub mod Numbered
 pub mod Places
 pub mod Plain
-pub mod Parts
 pub mod PropertyLines
 pub mod Keyed
 pub mod Rows

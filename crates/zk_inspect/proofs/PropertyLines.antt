@@ -1,7 +1,7 @@
 -- The properties of a list, one after another.
 use Rattle.std.specs.List.{flat_map}
-use Rattle.std.proofs.Common.{arith, ◌≤◌, ◌-◌, length, get_or, take, drop, ◌≡◌, ◌∙◌, ℕ, zero, suc, List, [], ◌∷◌, ◌++◌, Option, Some, None, Bool, true, false, append_assoc, append-nil, codes, refl, sym, ap}
-use Rattle.std.specs.Prelude.{◌+◌, decimal, Result, Ok, Err, IsOk, IsErr, is_err}
+use Rattle.std.proofs.Common.{arith, ◌≤◌, ◌-◌, length, get_or, take, drop, ◌≡◌, ◌∙◌, ℕ, zero, suc, List, [], ◌∷◌, ◌++◌, Some, None, append_assoc, append-nil, codes, refl, sym, ap}
+use Rattle.std.specs.Prelude.{◌+◌, decimal, Result, Ok, Err, IsOk}
 use Rattle.std.proofs.lemmas.List.{take_rest}
 use Rattle.zk_mem.specs.Faults.{fault_number}
 use Rattle.zk_mem.specs.Map.{MemoryMap, readable_end}
@@ -10,37 +10,34 @@ use Rattle.zk_mem.specs.Results.{◌>>=◌}
 use Rattle.zk_mem.specs.declared.fault.Fault.{Fault}
 use Rattle.zk_tables.specs.PropertyList.{properties_at, properties_from, property_at}
 use Rattle.zk_tables.specs.declared.lists.Property.{Property}
-use Rattle.zk_term.specs.declared.target.Failed.{Failed}
 use Rattle.zk_inspect.specs.ObjectLines.{properties_or_none, properties_text, property_text, separated}
-use Rattle.zk_inspect.specs.Written.{Gave, gave_then, gave_nothing}
-use Rattle.zk_inspect.proofs.Outputs.{gave_as, gave_err}
 
 -- a property after a comma
 abbrev pub behind_comma : Property → List ℕ
 behind_comma p = codes "," ++ property_text p
 
 -- what was written of some properties, and what is left of them
-pub record IsWritten {S : Type 0} (taken : S → Option (List ℕ)) (has_failed : S → Bool) (m : MemoryMap) (old new : S) (all : List ℕ) (n a : ℕ) : Type 0 where
+pub record IsWritten {S : Type 0} (wrote : S → S → List ℕ → Type 0) (m : MemoryMap) (old new : S) (all : List ℕ) (n a : ℕ) : Type 0 where
   pub rest : List Property
   pub done : List ℕ
   pub left : properties_from m n a ≡ Ok rest
   pub whole : all ≡ done ++ flat_map behind_comma rest
-  pub gave : Gave taken has_failed false old new done
+  pub given : wrote old new done
 
 value_of : {A : Type 0} (r : Result A Fault) → IsOk r → (x : A) × (r ≡ Ok x)
 value_of {A} (Ok x) h = (x, refl)
 value_of {A} (Err f) h = absurd cc
 
-pub begun : {S : Type 0} (taken : S → Option (List ℕ)) (has_failed : S → Bool) (m : MemoryMap) (s : S) (n k a : ℕ) → k ≡ n → IsOk (properties_from m n a)
-    → IsWritten taken has_failed m s s (flat_map behind_comma (properties_or_none (properties_from m n a))) k a
-begun {S} taken has_failed m s n k a same h =
+pub begun : {S : Type 0} (wrote : S → S → List ℕ → Type 0) (m : MemoryMap) (s : S) (n k a : ℕ) → wrote s s [] → k ≡ n → IsOk (properties_from m n a)
+    → IsWritten wrote m s s (flat_map behind_comma (properties_or_none (properties_from m n a))) k a
+begun {S} wrote m s n k a nothing same h =
     let v = value_of (properties_from m n a) h in
     record {
       rest = v.0;
       done = [];
       left = ap (λ (i : ℕ). properties_from m i a) same ∙ v.1;
       whole = ap (λ (r : Result (List Property) Fault). flat_map behind_comma (properties_or_none r)) v.1;
-      gave = gave_nothing taken has_failed s;
+      given = nothing;
     }
 
 tail_of : (p : Property) (r : Result (List Property) Fault) (all : List Property) → (r >>= λ ps. Ok (p ∷ ps)) ≡ Ok all → (ps : List Property) × (r ≡ Ok ps) × (all ≡ p ∷ ps)
@@ -69,39 +66,31 @@ unfolding properties_from
 not_none m a all h = absurd cc
 
 -- one more property was written
-pub written_more : {S : Type 0} (taken : S → Option (List ℕ)) (has_failed : S → Bool) (m : MemoryMap) (x y z : S) (all : List ℕ) (n k a : ℕ) (p : Property) → n ≡ suc k → property_at m a ≡ Ok (Some p)
-    → IsWritten taken has_failed m x y all n a → Gave taken has_failed false y z (behind_comma p) → IsWritten taken has_failed m x z all k (p.address + p.length)
-written_more {S} taken has_failed m x y z all n k a p is there h g =
+pub written_more : {S : Type 0} (wrote : S → S → List ℕ → Type 0) (twice : (x y z : S) (s t : List ℕ) → wrote x y s → wrote y z t → wrote x z (s ++ t)) (m : MemoryMap) (x y z : S) (all : List ℕ) (n k a : ℕ) (p : Property) → n ≡ suc k → property_at m a ≡ Ok (Some p)
+    → IsWritten wrote m x y all n a → wrote y z (behind_comma p) → IsWritten wrote m x z all k (p.address + p.length)
+written_more {S} wrote twice m x y z all n k a p is there h g =
     let f = first_one m k a p h.rest there (ap (λ (i : ℕ). properties_from m i a) (sym is) ∙ h.left) in
     record {
       rest = f.0;
       done = h.done ++ behind_comma p;
       left = f.1;
       whole = h.whole ∙ ap (λ (l : List Property). h.done ++ flat_map behind_comma l) f.2 ∙ sym (append_assoc h.done (behind_comma p) (flat_map behind_comma f.0));
-      gave = gave_then taken has_failed false x y z h.done (behind_comma p) h.gave g;
+      given = twice x y z h.done (behind_comma p) h.given g;
     }
 
--- a property could not be written
-pub written_failed : {S : Type 0} (taken : S → Option (List ℕ)) (has_failed : S → Bool) (m : MemoryMap) (r : Result (Unit {0}) Failed) (x y z : S) (all : List ℕ) (n k a : ℕ) (p : Property) → n ≡ suc k → property_at m a ≡ Ok (Some p) → IsErr r
-    → IsWritten taken has_failed m x y all n a → Gave taken has_failed true y z (behind_comma p) → Gave taken has_failed (is_err r) x z all
-written_failed {S} taken has_failed m r x y z all n k a p is there err h g =
-    let f = first_one m k a p h.rest there (ap (λ (i : ℕ). properties_from m i a) (sym is) ∙ h.left) in
-    let whole : all ≡ (h.done ++ behind_comma p) ++ flat_map behind_comma f.0 = h.whole ∙ ap (λ (l : List Property). h.done ++ flat_map behind_comma l) f.2 ∙ sym (append_assoc h.done (behind_comma p) (flat_map behind_comma f.0)) in
-    gave_as taken has_failed (is_err r) x z _ _ whole (gave_err taken has_failed r x z _ _ err (gave_then taken has_failed true x y z h.done (behind_comma p) h.gave g))
-
 -- the list has ended
-pub written_all : {S : Type 0} (taken : S → Option (List ℕ)) (has_failed : S → Bool) (m : MemoryMap) (x y : S) (all : List ℕ) (n k a : ℕ) → n ≡ suc k → property_at m a ≡ Ok None
-    → IsWritten taken has_failed m x y all n a → Gave taken has_failed false x y all
-written_all {S} taken has_failed m x y all n k a is there h =
+pub written_all : {S : Type 0} (wrote : S → S → List ℕ → Type 0) (m : MemoryMap) (x y : S) (all : List ℕ) (n k a : ℕ) → n ≡ suc k → property_at m a ≡ Ok None
+    → IsWritten wrote m x y all n a → wrote x y all
+written_all {S} wrote m x y all n k a is there h =
     let none = no_more m k a h.rest there (ap (λ (i : ℕ). properties_from m i a) (sym is) ∙ h.left) in
-    gave_as taken has_failed false x y _ _ (h.whole ∙ ap (λ (l : List Property). h.done ++ flat_map behind_comma l) none ∙ append-nil h.done) h.gave
+    rw (h.whole ∙ ap (λ (l : List Property). h.done ++ flat_map behind_comma l) none ∙ append-nil h.done) h.given
 
-pub never_faulty : {S : Type 0} (taken : S → Option (List ℕ)) (has_failed : S → Bool) (m : MemoryMap) (x y : S) (all : List ℕ) (n k a : ℕ) (f : Fault) → n ≡ suc k → property_at m a ≡ Err f
-    → IsWritten taken has_failed m x y all n a → ⊥
-never_faulty {S} taken has_failed m x y all n k a f is there h = no_fault m k a f h.rest there (ap (λ (i : ℕ). properties_from m i a) (sym is) ∙ h.left)
+pub never_faulty : {S : Type 0} (wrote : S → S → List ℕ → Type 0) (m : MemoryMap) (x y : S) (all : List ℕ) (n k a : ℕ) (f : Fault) → n ≡ suc k → property_at m a ≡ Err f
+    → IsWritten wrote m x y all n a → ⊥
+never_faulty {S} wrote m x y all n k a f is there h = no_fault m k a f h.rest there (ap (λ (i : ℕ). properties_from m i a) (sym is) ∙ h.left)
 
-pub never_without_end : {S : Type 0} (taken : S → Option (List ℕ)) (has_failed : S → Bool) (m : MemoryMap) (x y : S) (all : List ℕ) (n a : ℕ) → n ≡ zero → IsWritten taken has_failed m x y all n a → ⊥
-never_without_end {S} taken has_failed m x y all n a is h = not_none m a h.rest (ap (λ (i : ℕ). properties_from m i a) (sym is) ∙ h.left)
+pub never_without_end : {S : Type 0} (wrote : S → S → List ℕ → Type 0) (m : MemoryMap) (x y : S) (all : List ℕ) (n a : ℕ) → n ≡ zero → IsWritten wrote m x y all n a → ⊥
+never_without_end {S} wrote m x y all n a is h = not_none m a h.rest (ap (λ (i : ℕ). properties_from m i a) (sym is) ∙ h.left)
 
 -- there is room for the end of a list
 pub reaches : (m : MemoryMap) (n a : ℕ) → IsOk (properties_from m n a) → 1 ≤ n

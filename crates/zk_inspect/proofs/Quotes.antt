@@ -1,5 +1,5 @@
 -- A text between quotes.
-use Rattle.std.proofs.Common.{◌≡◌, ℕ, List, ◌++◌, Option, Some, None, append_assoc, sym, refl, ap, subst}
+use Rattle.std.proofs.Common.{◌≡◌, ℕ, List, ◌++◌, Option, Some, None, refl, ap, subst}
 use Rattle.std.specs.Prelude.{Result, Ok, Err, IsOk, codes, decimal, option_map, length, ◌+◌, ◌*◌}
 use Rattle.zk_mem.specs.Faults.{fault_number}
 use Rattle.zk_mem.specs.Results.{◌>>=◌}
@@ -13,15 +13,15 @@ use Rattle.zk_inspect.specs.Listing.{units_text}
 use Rattle.zk_inspect.specs.Quoted.{quoted_units, units_or_none}
 
 -- what stands between the quotes
-pub between : (m : MemoryMap) (before : List ℕ) (r : Units) → IsOk r → before ++ units_text m r ≡ (before ++ codes "\"") ++ (quoted_units (own_characters m) (units_or_none r) ++ codes "\"")
+pub between : (m : MemoryMap) (r : Units) → IsOk r → units_text m r ≡ (codes "\"" ++ quoted_units (own_characters m) (units_or_none r)) ++ codes "\""
 unfolding units_text quoted_units
-between m before (Ok us) i = sym (append_assoc before (codes "\"") (quoted_units (own_characters m) us ++ codes "\""))
-between m before (Err f) i = absurd cc
+between m (Ok us) i = refl
+between m (Err f) i = absurd cc
 
 -- a fault in place of it
-pub fault_text : (m : MemoryMap) (before : List ℕ) (r : Units) (f : Fault) (n : ℕ) → r ≡ Err f → n ≡ fault_number f → before ++ units_text m r ≡ before ++ codes "! F" ++ decimal n
+pub fault_text : (m : MemoryMap) (r : Units) (f : Fault) (n : ℕ) → r ≡ Err f → n ≡ fault_number f → units_text m r ≡ codes "! F" ++ decimal n
 unfolding units_text
-fault_text m before r f n e k = rw (e, k) (sym (append_assoc before (codes "! F") (decimal (fault_number f))))
+fault_text m r f n e k = rw (e, k) refl
 
 only_err : {A B : Type 0} (r : Result A Fault) (x : B) (f : Fault) → (r >>= λ _. Ok x) ≡ Err f → r ≡ Err f
 only_err {A} {B} (Ok y) x f h = absurd cc

@@ -4,6 +4,7 @@ pub mod Search
 pub mod Numbers
 pub mod Listing
 pub mod Written
+pub mod Pages
 pub mod Quoted
 pub mod Objects
 pub mod Texts

@@ -1,5 +1,5 @@
 -- Units of text between quotes, one after another.
-use Rattle.std.specs.Prelude.{◌≡◌, ℕ, Bool, true, false, List, [], ◌∷◌, ◌++◌, Option, map, encode_utf8_all, Ok, Err}
+use Rattle.std.specs.Prelude.{◌≡◌, ℕ, List, [], ◌∷◌, ◌++◌, map, encode_utf8_all, Ok, Err}
 use Rattle.std.proofs.Common.{◌∙◌, sym, ap, subst}
 use Rattle.std.proofs.lemmas.Str.{encodes-append}
 use Rattle.std.proofs.lemmas.List.{map-append}
@@ -9,7 +9,6 @@ use Rattle.zk_text.specs.Meaning.{Units}
 use Rattle.zk_text.specs.Shown.{shown, shown_all}
 use Rattle.zk_text.proofs.ShownLemmas.{shown_all-append, shown_all-one}
 use Rattle.zk_inspect.specs.Listing.{quoted_bytes, quoted_character}
-use Rattle.zk_inspect.specs.Written.{Gave, gave_then, gave_part, gave_nothing}
 
 -- the units of a text that has a meaning
 abbrev pub units_or_none : Units → List Unit
@@ -28,23 +27,17 @@ pub quoted_units-append : (t : ExtraTable) (us vs : List Unit) → quoted_units 
 unfolding quoted_units
 quoted_units-append t us vs = ap quoted_bytes (shown_all-append t us vs) ∙ quoted-append (shown_all t us) (shown_all t vs)
 
-pub quoted_nothing : {S : Type 0} (taken : S → Option (List ℕ)) (has_failed : S → Bool) (t : ExtraTable) (a : S) → Gave taken has_failed false a a (quoted_units t [])
+pub quoted_nothing : {S : Type 0} (wrote : S → S → List ℕ → Type 0) (t : ExtraTable) (a : S) → wrote a a [] → wrote a a (quoted_units t [])
 unfolding quoted_units shown_all quoted_bytes
-quoted_nothing {S} taken has_failed t a = gave_nothing taken has_failed a
+quoted_nothing {S} wrote t a h = h
 
-pub quoted_then : {S : Type 0} (taken : S → Option (List ℕ)) (has_failed : S → Bool) (e : Bool) (t u : ExtraTable) (a b c : S) (us vs : List Unit) → u ≡ t
-    → Gave taken has_failed false a b (quoted_units t us) → Gave taken has_failed e b c (quoted_units u vs) → Gave taken has_failed e a c (quoted_units t (us ++ vs))
-quoted_then {S} taken has_failed e t u a b c us vs same h k =
-    let k' = subst (λ (x : ExtraTable). Gave taken has_failed e b c (quoted_units x vs)) same k in
-    subst (λ (x : List ℕ). Gave taken has_failed e a c x) (sym (quoted_units-append t us vs)) (gave_then taken has_failed e a b c (quoted_units t us) (quoted_units t vs) h k')
+pub quoted_twice : {S : Type 0} (wrote : S → S → List ℕ → Type 0) (twice : (a b c : S) (s t : List ℕ) → wrote a b s → wrote b c t → wrote a c (s ++ t)) (t u : ExtraTable) (a b c : S) (us vs : List Unit) → u ≡ t
+    → wrote a b (quoted_units t us) → wrote b c (quoted_units u vs) → wrote a c (quoted_units t (us ++ vs))
+quoted_twice {S} wrote twice t u a b c us vs same h k =
+    let k' = subst (λ (x : ExtraTable). wrote b c (quoted_units x vs)) same k in
+    rw (quoted_units-append t us vs) (twice a b c (quoted_units t us) (quoted_units t vs) h k')
 
 -- one unit
-pub quoted_one : {S : Type 0} (taken : S → Option (List ℕ)) (has_failed : S → Bool) (t : ExtraTable) (a b : S) (u : Unit) (cs : List ℕ) → cs ≡ shown t u → Gave taken has_failed false a b (quoted_bytes cs) → Gave taken has_failed false a b (quoted_units t (u ∷ []))
+pub quoted_one : {S : Type 0} (wrote : S → S → List ℕ → Type 0) (t : ExtraTable) (a b : S) (u : Unit) (cs : List ℕ) → cs ≡ shown t u → wrote a b (quoted_bytes cs) → wrote a b (quoted_units t (u ∷ []))
 unfolding quoted_units
-quoted_one {S} taken has_failed t a b u cs is h = subst (λ (x : List ℕ). Gave taken has_failed false a b (quoted_bytes x)) (is ∙ sym (shown_all-one t u)) h
-
--- one unit that could not be written, and others after it
-pub quoted_refused : {S : Type 0} (taken : S → Option (List ℕ)) (has_failed : S → Bool) (t : ExtraTable) (a b : S) (u : Unit) (cs : List ℕ) (more : List Unit) → cs ≡ shown t u → Gave taken has_failed true a b (quoted_bytes cs) → Gave taken has_failed true a b (quoted_units t (u ∷ more))
-unfolding quoted_units shown_all
-quoted_refused {S} taken has_failed t a b u cs more is h =
-    subst (λ (x : List ℕ). Gave taken has_failed true a b x) (sym (ap (λ (x : List ℕ). quoted_bytes (x ++ shown_all t more)) (sym is) ∙ quoted-append cs (shown_all t more))) (gave_part taken has_failed a b (quoted_bytes cs) (quoted_bytes (shown_all t more)) h)
+quoted_one {S} wrote t a b u cs is h = subst (λ (x : List ℕ). wrote a b (quoted_bytes x)) (is ∙ sym (shown_all-one t u)) h

@@ -1,6 +1,6 @@
 // The lines of a dictionary.
 
-ghost use Rattle.std.specs.Prelude.{◌≡◌, ◌≤◌, ◌<◌, ◌+◌, ◌++◌, ◌∷◌, [], is_err, length, unwrap_or};
+ghost use Rattle.std.specs.Prelude.{◌≡◌, ◌≤◌, ◌<◌, ◌+◌, ◌++◌, ◌∷◌, [], length, unwrap_or};
 ghost use Rattle.std.specs.List.{flat_map, range_with_len};
 ghost use Rattle.zk_mem.specs.Map.{cell_at, code_word_at};
 ghost use Rattle.zk_text.specs.Extra.{own_characters};
@@ -9,8 +9,8 @@ ghost use Rattle.zk_text.specs.Words.{z_characters};
 ghost use Rattle.zk_tables.specs.Dictionaries.{IsDictionaryOf, entry_start};
 ghost use Rattle.zk_inspect.specs.DictionaryLines.{dictionary_lines, entry_front, entry_line, entry_text, fault_line, key_characters, piece_units, separator_text, separators_line, separators_text, size_line, table_lines, word_units};
 ghost use Rattle.zk_inspect.specs.Quoted.{quoted_units};
-ghost use Rattle.zk_inspect.specs.Written.{Gave};
 
+use crate::page::Page;
 use crate::quoting::write_code;
 use crate::writing::{hex_digits_of, write_decimal, write_texts, zeros_before};
 use arrayvec::ArrayVec;
@@ -18,7 +18,6 @@ use itoa::Buffer;
 use zk_mem::fault::Fault;
 use zk_mem::memory::Memory;
 use zk_tables::dictionary::Dictionary;
-use zk_term::target::{Failed, Target};
 use zk_text::alphabet::{Alphabet, Row};
 use zk_text::pieces::Piece;
 
@@ -106,46 +105,39 @@ fn cut(first: u8, rest: &[u8]) -> (Option<Piece>, usize)
 
 /// Writes no units.
 #[tactic(auto, unfolding(crate::specs::Quoted::quoted_units, crate::specs::Listing::quoted_bytes, zk_text::specs::Shown::shown_all))]
-fn write_nothing<T: Target>(target: &mut T, _memory: &Memory) -> Result<(), Failed>
-    ensures { Gave T.taken T.failed (is_err result) target.old target.new
-        (quoted_units (own_characters _memory.now) []) }
+fn write_nothing<P: Page>(page: &mut P, _memory: &Memory)
+    ensures { P.wrote page.old page.new (quoted_units (own_characters _memory.now) []) }
 {
-    write_texts(target, &[])
+    write_texts(page, &[]);
 }
 
 /// Writes what a piece of a key stands for: an abbreviation stands for nothing there.
-fn write_piece<T: Target>(
-    target: &mut T,
-    memory: &Memory,
-    piece: Option<Piece>,
-) -> Result<(), Failed>
-    ensures { Gave T.taken T.failed (is_err result) target.old target.new
+fn write_piece<P: Page>(page: &mut P, memory: &Memory, piece: Option<Piece>)
+    ensures { P.wrote page.old page.new
         (quoted_units (own_characters memory.now) (piece_units memory.now piece)) }
 {
     match piece {
         Some(Piece::Letter(row, character)) => {
             let code = Alphabet::of(memory).letter(memory, row, character);
-            write_code(target, memory, code as u16)
+            write_code(page, memory, code as u16)
         }
-        Some(Piece::Code(code)) => write_code(target, memory, code),
-        Some(Piece::Abbreviation(_)) => write_nothing(target, memory),
-        None => write_nothing(target, memory),
+        Some(Piece::Code(code)) => write_code(page, memory, code),
+        Some(Piece::Abbreviation(_)) => write_nothing(page, memory),
+        None => write_nothing(page, memory),
     }
 }
 
 /// Writes what Z-characters of a key stand for.
-fn write_word<T: Target>(target: &mut T, memory: &Memory, characters: &[u8]) -> Result<(), Failed>
-    ensures { Gave T.taken T.failed (is_err result) target.old target.new
+fn write_word<P: Page>(page: &mut P, memory: &Memory, characters: &[u8])
+    ensures { P.wrote page.old page.new
         (quoted_units (own_characters memory.now) (word_units memory.now characters.now)) }
 {
     let [first, rest @ ..] = characters else {
-        return Ok(());
+        return;
     };
     let (piece, taken) = cut(*first, rest);
-    match write_piece(target, memory, piece) {
-        Ok(()) => write_word(target, memory, &rest[taken.min(rest.len())..]),
-        Err(Failed) => Err(Failed),
-    }
+    write_piece(page, memory, piece);
+    write_word(page, memory, &rest[taken.min(rest.len())..]);
 }
 
 /// Adds the Z-characters of a word.
@@ -184,27 +176,26 @@ fn key_characters(memory: &Memory, address: u32) -> ArrayVec<u8, 9>
 }
 
 /// Writes the word whose key stands at an address.
-fn write_key<T: Target>(target: &mut T, memory: &Memory, address: u32) -> Result<(), Failed>
+fn write_key<P: Page>(page: &mut P, memory: &Memory, address: u32)
     requires { address < 4294967000 }
-    ensures { Gave T.taken T.failed (is_err result) target.old target.new
+    ensures { P.wrote page.old page.new
         (quoted_units (own_characters memory.now)
         (word_units memory.now (key_characters memory.now address))) }
 {
     let characters = key_characters(memory, address);
-    write_word(target, memory, characters.as_slice())
+    write_word(page, memory, characters.as_slice());
 }
 
 /// Writes the number and the address of an entry, up to the quote before its word.
 #[tactic(auto, unfolding(crate::specs::DictionaryLines::entry_front, crate::specs::Numbers::address_digits))]
-fn write_front<T: Target>(target: &mut T, index: u16, address: u32) -> Result<(), Failed>
-    ensures { Gave T.taken T.failed (is_err result) target.old target.new
-        (entry_front index address) }
+fn write_front<P: Page>(page: &mut P, index: u16, address: u32)
+    ensures { P.wrote page.old page.new (entry_front index address) }
 {
     let mut buffer = Buffer::new();
     let digits = hex_digits_of(address);
     let number = buffer.format(index).as_bytes();
     let shown = &digits[zeros_before(address)..];
-    write_texts(target, &[number, b" ", shown, b" \""])
+    write_texts(page, &[number, b" ", shown, b" \""]);
 }
 
 /// The byte address of an entry, counted from 0.
@@ -223,52 +214,35 @@ fn start_of(memory: &Memory, dictionary: &Dictionary, index: u16) -> u32
 }
 
 /// Writes the line of the entry at an address.
-fn write_entry_at<T: Target>(
-    target: &mut T,
-    memory: &Memory,
-    index: u16,
-    address: u32,
-) -> Result<(), Failed>
+fn write_entry_at<P: Page>(page: &mut P, memory: &Memory, index: u16, address: u32)
     requires { address < 4294967000 }
-    ensures { Gave T.taken T.failed (is_err result) target.old target.new
-        (entry_text memory.now index address) }
+    ensures { P.wrote page.old page.new (entry_text memory.now index address) }
 {
-    write_front(target, index, address)?;
-    write_key(target, memory, address)?;
-    write_texts(target, &[b"\"\n"])
+    write_front(page, index, address);
+    write_key(page, memory, address);
+    page.write(b"\"\n");
 }
 
 /// Writes the line of an entry, counted from 0.
-fn write_entry<T: Target>(
-    target: &mut T,
-    memory: &Memory,
-    dictionary: &Dictionary,
-    index: u16,
-) -> Result<(), Failed>
+fn write_entry<P: Page>(page: &mut P, memory: &Memory, dictionary: &Dictionary, index: u16)
     requires stands { IsDictionaryOf memory.now dictionary.now }
     requires index { index < dictionary.now.entries }
-    ensures { Gave T.taken T.failed (is_err result) target.old target.new
-        (entry_line memory.now dictionary.now index) }
+    ensures { P.wrote page.old page.new (entry_line memory.now dictionary.now index) }
 {
     let address = start_of(memory, dictionary, index);
-    write_entry_at(target, memory, index, address)
+    write_entry_at(page, memory, index, address);
 }
 
 /// Writes the lines of entries.
-fn write_entries<T: Target>(
-    target: &mut T,
-    memory: &Memory,
-    dictionary: &Dictionary,
-) -> Result<(), Failed>
+fn write_entries<P: Page>(page: &mut P, memory: &Memory, dictionary: &Dictionary)
     requires { IsDictionaryOf memory.now dictionary.now }
-    ensures { Gave T.taken T.failed (is_err result) target.old target.new
+    ensures { P.wrote page.old page.new
         (flat_map (entry_line memory.now dictionary.now)
         (range_with_len 0 dictionary.now.entries)) }
 {
     for index in 0..dictionary.entries {
-        write_entry(target, memory, dictionary, index)?;
+        write_entry(page, memory, dictionary, index);
     }
-    Ok(())
 }
 
 /// The byte at an address, or 0.
@@ -279,101 +253,77 @@ fn byte_or_none(memory: &Memory, address: u32) -> u8
 }
 
 /// Writes a separator of a dictionary, counted from 0.
-fn write_separator<T: Target>(
-    target: &mut T,
-    memory: &Memory,
-    dictionary: &Dictionary,
-    index: u8,
-) -> Result<(), Failed>
+fn write_separator<P: Page>(page: &mut P, memory: &Memory, dictionary: &Dictionary, index: u8)
     requires { dictionary.now.address < 70000 }
-    ensures { Gave T.taken T.failed (is_err result) target.old target.new
-        (separator_text memory.now dictionary.now index) }
+    ensures { P.wrote page.old page.new (separator_text memory.now dictionary.now index) }
 {
     let code = byte_or_none(memory, dictionary.address + 1 + index as u32);
-    write_code(target, memory, code as u16)
+    write_code(page, memory, code as u16);
 }
 
 /// Writes the separators of a dictionary.
-fn write_separators<T: Target>(
-    target: &mut T,
-    memory: &Memory,
-    dictionary: &Dictionary,
-) -> Result<(), Failed>
+fn write_separators<P: Page>(page: &mut P, memory: &Memory, dictionary: &Dictionary)
     requires { dictionary.now.address < 70000 }
-    ensures { Gave T.taken T.failed (is_err result) target.old target.new
-        (separators_text memory.now dictionary.now) }
+    ensures { P.wrote page.old page.new (separators_text memory.now dictionary.now) }
 {
     for index in 0..dictionary.separators {
-        write_separator(target, memory, dictionary, index)?;
+        write_separator(page, memory, dictionary, index);
     }
-    Ok(())
 }
 
 /// Writes the line of a dictionary's separators.
-fn write_separators_line<T: Target>(
-    target: &mut T,
-    memory: &Memory,
-    dictionary: &Dictionary,
-) -> Result<(), Failed>
+fn write_separators_line<P: Page>(page: &mut P, memory: &Memory, dictionary: &Dictionary)
     requires { dictionary.now.address < 70000 }
-    ensures { Gave T.taken T.failed (is_err result) target.old target.new
-        (separators_line memory.now dictionary.now) }
+    ensures { P.wrote page.old page.new (separators_line memory.now dictionary.now) }
 {
-    write_texts(target, &[b"separators \""])?;
-    write_separators(target, memory, dictionary)?;
-    write_texts(target, &[b"\"\n"])
+    page.write(b"separators \"");
+    write_separators(page, memory, dictionary);
+    page.write(b"\"\n");
 }
 
 /// Writes the line of a dictionary's size.
 #[tactic(auto, unfolding(crate::specs::DictionaryLines::size_line))]
-fn write_size_line<T: Target>(target: &mut T, dictionary: &Dictionary) -> Result<(), Failed>
-    ensures { Gave T.taken T.failed (is_err result) target.old target.new
-        (size_line dictionary.now) }
+fn write_size_line<P: Page>(page: &mut P, dictionary: &Dictionary)
+    ensures { P.wrote page.old page.new (size_line dictionary.now) }
 {
     let mut counts = Buffer::new();
     let mut lengths = Buffer::new();
     let count = counts.format(dictionary.entries).as_bytes();
     let length = lengths.format(dictionary.entry_length).as_bytes();
-    write_texts(target, &[b"entries ", count, b" length ", length, b"\n"])
+    write_texts(page, &[b"entries ", count, b" length ", length, b"\n"]);
 }
 
 /// Writes the lines of a dictionary that is one.
-fn write_table<T: Target>(
-    target: &mut T,
-    memory: &Memory,
-    dictionary: &Dictionary,
-) -> Result<(), Failed>
+fn write_table<P: Page>(page: &mut P, memory: &Memory, dictionary: &Dictionary)
     requires { IsDictionaryOf memory.now dictionary.now }
-    ensures { Gave T.taken T.failed (is_err result) target.old target.new
-        (table_lines memory.now dictionary.now) }
+    ensures { P.wrote page.old page.new (table_lines memory.now dictionary.now) }
 {
-    write_separators_line(target, memory, dictionary)?;
-    write_size_line(target, dictionary)?;
-    write_entries(target, memory, dictionary)
+    write_separators_line(page, memory, dictionary);
+    write_size_line(page, dictionary);
+    write_entries(page, memory, dictionary);
 }
 
 /// Writes the line of a dictionary that is none: its fault.
 #[tactic(auto, unfolding(crate::specs::DictionaryLines::fault_line))]
-fn write_fault_line<T: Target>(target: &mut T, fault: Fault) -> Result<(), Failed>
-    ensures { Gave T.taken T.failed (is_err result) target.old target.new (fault_line fault) }
+fn write_fault_line<P: Page>(page: &mut P, fault: Fault)
+    ensures { P.wrote page.old page.new (fault_line fault) }
 {
     let mut buffer = Buffer::new();
     let number = buffer.format(fault.number()).as_bytes();
-    write_texts(target, &[b"! F", number, b"\n"])
+    write_texts(page, &[b"! F", number, b"\n"]);
 }
 
 /// Writes the lines of the dictionary that the header names, or why there is none.
 #[tactic(auto, unfolding(crate::specs::DictionaryLines::dictionary_lines))]
-pub(crate) fn write_dictionary<T: Target>(target: &mut T, memory: &Memory) -> Result<(), Failed>
-    ensures { Gave T.taken T.failed (is_err result) target.old target.new
-        (dictionary_lines memory.now) }
+pub(crate) fn write_dictionary<P: Page>(page: &mut P, memory: &Memory)
+    ensures { P.wrote page.old page.new (dictionary_lines memory.now) }
 {
     let address = memory.header().dictionary;
     if address == 0 {
-        return Ok(());
+        return;
     }
     match Dictionary::at(memory, address as u32) {
-        Ok(dictionary) => write_table(target, memory, &dictionary),
-        Err(fault) => write_fault_line(target, fault),
+        Ok(dictionary) => write_table(page, memory, &dictionary),
+        Err(fault) => write_fault_line(page, fault),
     }
 }

@@ -8,138 +8,115 @@ ghost use Rattle.std.specs.Io.KnownBytes.{Appends};
 ghost use Rattle.zk_term.specs.Devices.{TookPart};
 ghost use Rattle.zk_inspect.specs.Codes.{IsCodeOf};
 ghost use Rattle.zk_inspect.specs.Listing.{address_line, disassembly, found_text, instruction_text, routine_line, text_text};
-ghost use Rattle.zk_inspect.specs.Written.{Gave};
 
 use crate::code::Code;
 use crate::error::ListError;
 use crate::operands::{write_branch, write_operands, write_store};
+use crate::page::{Page, TargetPage};
 use crate::quoting::write_quoted;
-use crate::writing::{write_address, write_counted, write_texts};
+use crate::writing::{hex_digits_of, write_address, write_texts, zeros_before};
+use itoa::Buffer;
 use zk_code::decode::decode;
 use zk_code::instr::Instr;
 use zk_code::opcode::{Opcode, name};
 use zk_code::routines::local_count;
 use zk_mem::memory::Memory;
-use zk_term::target::{Failed, Target};
+use zk_term::target::Target;
 
 /// Writes the text of an instruction, where it has one.
 #[tactic(auto, unfolding(crate::specs::Listing::text_text))]
-fn write_text<T: Target>(target: &mut T, memory: &Memory, text: Option<u32>) -> Result<(), Failed>
-    ensures { Gave T.taken T.failed (is_err result) target.old target.new
-        (text_text memory.now text) }
+fn write_text<P: Page>(page: &mut P, memory: &Memory, text: Option<u32>)
+    ensures { P.wrote page.old page.new (text_text memory.now text) }
 {
     match text {
-        Some(address) => write_quoted(target, b" ", memory, address),
-        None => Ok(()),
+        Some(address) => {
+            page.write(b" ");
+            write_quoted(page, memory, address);
+        }
+        None => {}
     }
 }
 
 /// Writes the name of an opcode.
-fn write_name<T: Target>(target: &mut T, memory: &Memory, opcode: Opcode) -> Result<(), Failed>
-    ensures { Gave T.taken T.failed (is_err result) target.old target.new
-        (name_of memory.now.version opcode) }
+fn write_name<P: Page>(page: &mut P, memory: &Memory, opcode: Opcode)
+    ensures { P.wrote page.old page.new (name_of memory.now.version opcode) }
 {
     let name = name(opcode, memory.version());
-    write_texts(target, &[name.as_bytes()])
+    page.write(name.as_bytes());
 }
 
 /// Writes an instruction.
-fn write_instruction<T: Target>(
-    target: &mut T,
-    memory: &Memory,
-    instr: &Instr,
-) -> Result<(), Failed>
+fn write_instruction<P: Page>(page: &mut P, memory: &Memory, instr: &Instr)
     requires { instr.now.next ≤ 2 ^ 20 }
-    ensures { Gave T.taken T.failed (is_err result) target.old target.new
-        (instruction_text memory.now instr.now) }
+    ensures { P.wrote page.old page.new (instruction_text memory.now instr.now) }
 {
-    write_name(target, memory, instr.opcode)?;
-    write_operands(memory, instr, target)?;
-    write_store(target, instr.store)?;
-    write_branch(target, instr.branch)?;
-    write_text(target, memory, instr.text)
+    write_name(page, memory, instr.opcode);
+    write_operands(memory, instr, page);
+    write_store(page, instr.store);
+    write_branch(page, instr.branch);
+    write_text(page, memory, instr.text);
 }
 
 /// Writes what stands at an address: an instruction, or a question mark where there is none.
-fn write_found<T: Target>(target: &mut T, memory: &Memory, address: u32) -> Result<(), Failed>
-    ensures { Gave T.taken T.failed (is_err result) target.old target.new
-        (found_text memory.now (instr_at memory.now address)) }
+fn write_found<P: Page>(page: &mut P, memory: &Memory, address: u32)
+    ensures { P.wrote page.old page.new (found_text memory.now (instr_at memory.now address)) }
 {
     match decode(memory, address) {
-        Ok(instr) => write_instruction(target, memory, &instr),
-        Err(_) => write_texts(target, &[b"?"]),
+        Ok(instr) => write_instruction(page, memory, &instr),
+        Err(_) => page.write(b"?"),
     }
 }
 
 /// Writes the line of an address.
-fn write_address_line<T: Target>(
-    target: &mut T,
-    memory: &Memory,
-    address: u32,
-) -> Result<(), Failed>
-    ensures { Gave T.taken T.failed (is_err result) target.old target.new
-        (address_line memory.now address) }
+fn write_address_line<P: Page>(page: &mut P, memory: &Memory, address: u32)
+    ensures { P.wrote page.old page.new (address_line memory.now address) }
 {
-    write_address(target, b"", b"", address)?;
-    write_texts(target, &[b" "])?;
-    write_found(target, memory, address)?;
-    write_texts(target, &[b"\n"])
+    write_address(page, b"", b"", address);
+    page.write(b" ");
+    write_found(page, memory, address);
+    page.write(b"\n");
 }
 
 /// Writes the line of a routine.
-#[tactic(auto, unfolding(crate::specs::Listing::routine_line))]
-fn write_routine_line<T: Target>(
-    target: &mut T,
-    memory: &Memory,
-    routine: u32,
-) -> Result<(), Failed>
-    ensures { Gave T.taken T.failed (is_err result) target.old target.new
-        (routine_line memory.now routine) }
+#[tactic(auto, unfolding(crate::specs::Listing::routine_line, crate::specs::Numbers::address_digits))]
+fn write_routine_line<P: Page>(page: &mut P, memory: &Memory, routine: u32)
+    ensures { P.wrote page.old page.new (routine_line memory.now routine) }
 {
-    let count = local_count(memory, routine).unwrap_or(0) as u32;
-    write_counted(target, b"routine ", routine, b" locals ", count, b"\n")
+    let mut buffer = Buffer::new();
+    let digits = hex_digits_of(routine);
+    let shown = &digits[zeros_before(routine)..];
+    let count = buffer.format(local_count(memory, routine).unwrap_or(0));
+    write_texts(
+        page,
+        &[b"routine ", shown, b" locals ", count.as_bytes(), b"\n"],
+    );
 }
 
 /// Writes the lines of addresses.
-fn write_address_lines<T: Target>(
-    target: &mut T,
-    memory: &Memory,
-    addresses: &[u32],
-) -> Result<(), Failed>
-    ensures { Gave T.taken T.failed (is_err result) target.old target.new
-        (flat_map (address_line memory.now) addresses.now) }
+fn write_address_lines<P: Page>(page: &mut P, memory: &Memory, addresses: &[u32])
+    ensures { P.wrote page.old page.new (flat_map (address_line memory.now) addresses.now) }
 {
     for address in addresses {
-        write_address_line(target, memory, *address)?;
+        write_address_line(page, memory, *address);
     }
-    Ok(())
 }
 
 /// Writes the lines of routines.
-fn write_routine_lines<T: Target>(
-    target: &mut T,
-    memory: &Memory,
-    routines: &[u32],
-) -> Result<(), Failed>
-    ensures { Gave T.taken T.failed (is_err result) target.old target.new
-        (flat_map (routine_line memory.now) routines.now) }
+fn write_routine_lines<P: Page>(page: &mut P, memory: &Memory, routines: &[u32])
+    ensures { P.wrote page.old page.new (flat_map (routine_line memory.now) routines.now) }
 {
     for routine in routines {
-        write_routine_line(target, memory, *routine)?;
+        write_routine_line(page, memory, *routine);
     }
-    Ok(())
 }
 
 /// Writes the lines of a story's code.
 #[tactic(auto, unfolding(crate::specs::Listing::disassembly))]
-fn write_code<T: Target>(target: &mut T, memory: &Memory, code: &Code) -> Result<(), Failed>
-    ensures { Gave T.taken T.failed (is_err result) target.old target.new
-        (disassembly memory.now code.now) }
+fn write_code<P: Page>(page: &mut P, memory: &Memory, code: &Code)
+    ensures { P.wrote page.old page.new (disassembly memory.now code.now) }
 {
-    match write_address_lines(target, memory, code.addresses.as_slice()) {
-        Ok(()) => write_routine_lines(target, memory, code.routines.as_slice()),
-        Err(Failed) => Err(Failed),
-    }
+    write_address_lines(page, memory, code.addresses.as_slice());
+    write_routine_lines(page, memory, code.routines.as_slice());
 }
 
 /// Writes the disassembly of a story, whose code `reach` gave: a line for each address that is reached, ascending, with
@@ -159,8 +136,7 @@ pub fn disassemble<T: Target>(memory: &Memory, code: &Code, target: &mut T) -> R
     ensures failed { T.failed target.new ≡ (is_err result || T.failed target.old) }
     ensures refusal { IfErr result (λ e. e ≡ ListError.Write) }
 {
-    match write_code(target, memory, code) {
-        Ok(()) => Ok(()),
-        Err(Failed) => Err(ListError::Write),
-    }
+    let mut page = TargetPage::new(target);
+    write_code(&mut page, memory, code);
+    page.finish()
 }

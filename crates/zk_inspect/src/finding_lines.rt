@@ -5,25 +5,25 @@ ghost use Rattle.std.specs.List.{flat_map};
 ghost use Rattle.std.specs.Io.KnownBytes.{Appends};
 ghost use Rattle.zk_term.specs.Devices.{TookPart};
 ghost use Rattle.zk_inspect.specs.FindingLines.{finding_line};
-ghost use Rattle.zk_inspect.specs.Written.{Gave};
 
 use crate::error::ListError;
 use crate::finding::Finding;
+use crate::page::{Page, TargetPage};
 use crate::writing::{hex_digits_of, write_texts, zeros_before};
 use itoa::Buffer;
-use zk_term::target::{Failed, Target};
+use zk_term::target::Target;
 
 /// Writes the line of a finding.
 #[tactic(auto, unfolding(crate::specs::FindingLines::finding_line, crate::specs::Numbers::address_digits))]
-fn write_finding<T: Target>(target: &mut T, finding: Finding) -> Result<(), Failed>
-    ensures { Gave T.taken T.failed (is_err result) target.old target.new (finding_line finding) }
+fn write_finding<P: Page>(page: &mut P, finding: Finding)
+    ensures { P.wrote page.old page.new (finding_line finding) }
 {
     let mut buffer = Buffer::new();
     let digits = hex_digits_of(finding.address);
     let number = buffer.format(finding.number.number()).as_bytes();
     let shown = &digits[zeros_before(finding.address)..];
     write_texts(
-        target,
+        page,
         &[
             b"C",
             number,
@@ -33,18 +33,16 @@ fn write_finding<T: Target>(target: &mut T, finding: Finding) -> Result<(), Fail
             finding.number.words(),
             b"\n",
         ],
-    )
+    );
 }
 
 /// Writes the lines of findings.
-fn write_lines<T: Target>(target: &mut T, findings: &[Finding]) -> Result<(), Failed>
-    ensures { Gave T.taken T.failed (is_err result) target.old target.new
-        (flat_map finding_line findings.now) }
+fn write_lines<P: Page>(page: &mut P, findings: &[Finding])
+    ensures { P.wrote page.old page.new (flat_map finding_line findings.now) }
 {
     for finding in findings {
-        write_finding(target, *finding)?;
+        write_finding(page, *finding);
     }
-    Ok(())
 }
 
 /// Writes a line for each finding: its number after a `C`, its byte address of five hexadecimal digits at least, and what is
@@ -57,8 +55,7 @@ pub fn write_findings<T: Target>(findings: &[Finding], target: &mut T) -> Result
     ensures failed { T.failed target.new ≡ (is_err result || T.failed target.old) }
     ensures refusal { IfErr result (λ e. e ≡ ListError.Write) }
 {
-    match write_lines(target, findings) {
-        Ok(()) => Ok(()),
-        Err(Failed) => Err(ListError::Write),
-    }
+    let mut page = TargetPage::new(target);
+    write_lines(&mut page, findings);
+    page.finish()
 }

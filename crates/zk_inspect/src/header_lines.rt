@@ -1,14 +1,13 @@
 // The lines of a header.
 
-ghost use Rattle.std.specs.Prelude.{◌≡◌, ◌++◌, codes, is_err};
+ghost use Rattle.std.specs.Prelude.{◌≡◌};
 ghost use Rattle.std.specs.List.{flat_map};
 ghost use Rattle.zk_inspect.specs.HeaderLines.{common_lines, field_line, header_lines, late_lines, serial_shown, value_text, visible_byte};
-ghost use Rattle.zk_inspect.specs.Written.{Gave};
 
+use crate::page::Page;
 use crate::writing::{hex_digits_of, write_address, write_decimal, write_texts};
 use zk_mem::header::unpack;
 use zk_mem::memory::Memory;
-use zk_term::target::{Failed, Target};
 
 /// What a header says in one of its fields.
 #[derive(Clone, Copy)]
@@ -55,103 +54,81 @@ fn shown_serial(serial: [u8; 6]) -> [u8; 6]
     ]
 }
 
-/// Writes a word after a name: its four digits.
+/// Writes a word: its four digits.
 #[tactic(auto, unfolding(crate::specs::HeaderLines::value_text, crate::specs::Numbers::word_digits))]
-fn write_digits<T: Target>(target: &mut T, name: &[u8], word: u16) -> Result<(), Failed>
-    ensures { Gave T.taken T.failed (is_err result) target.old target.new
-        (name.now ++ codes " " ++ value_text (Value.Word word)) }
+fn write_digits<P: Page>(page: &mut P, word: u16)
+    ensures { P.wrote page.old page.new (value_text (Value.Word word)) }
 {
     let digits = hex_digits_of(word as u32);
-    let shown = &digits[4..];
-    write_texts(target, &[name, b" ", shown])
+    page.write(&digits[4..]);
 }
 
-/// Writes a byte after a name: its two digits.
+/// Writes a byte: its two digits.
 #[tactic(auto, unfolding(crate::specs::HeaderLines::value_text, crate::specs::Numbers::byte_digits))]
-fn write_two_digits<T: Target>(target: &mut T, name: &[u8], byte: u8) -> Result<(), Failed>
-    ensures { Gave T.taken T.failed (is_err result) target.old target.new
-        (name.now ++ codes " " ++ value_text (Value.Byte byte)) }
+fn write_two_digits<P: Page>(page: &mut P, byte: u8)
+    ensures { P.wrote page.old page.new (value_text (Value.Byte byte)) }
 {
     let digits = hex_digits_of(byte as u32);
-    let shown = &digits[6..];
-    write_texts(target, &[name, b" ", shown])
+    page.write(&digits[6..]);
 }
 
-/// Writes a serial number after a name.
-#[tactic(auto, unfolding(crate::specs::HeaderLines::value_text))]
-fn write_serial<T: Target>(target: &mut T, name: &[u8], serial: [u8; 6]) -> Result<(), Failed>
-    ensures { Gave T.taken T.failed (is_err result) target.old target.new
-        (name.now ++ codes " " ++ value_text (Value.Serial serial)) }
-{
-    let digits = shown_serial(serial);
-    let shown = &digits[..];
-    write_texts(target, &[name, b" ", shown])
-}
-
-/// Writes a checksum after a name, and whether it is right.
+/// Writes a checksum, and whether it is right.
 #[tactic(auto, unfolding(crate::specs::HeaderLines::value_text, crate::specs::Numbers::word_digits))]
-fn write_sum<T: Target>(target: &mut T, name: &[u8], sum: u16, right: bool) -> Result<(), Failed>
-    ensures { Gave T.taken T.failed (is_err result) target.old target.new
-        (name.now ++ codes " " ++ value_text (Value.Checksum sum right)) }
+fn write_sum<P: Page>(page: &mut P, sum: u16, right: bool)
+    ensures { P.wrote page.old page.new (value_text (Value.Checksum sum right)) }
 {
     let digits = hex_digits_of(sum as u32);
-    let shown = &digits[4..];
     if right {
-        write_texts(target, &[name, b" ", shown, b" ok"])
+        write_texts(page, &[&digits[4..], b" ok"]);
     } else {
-        write_texts(target, &[name, b" ", shown, b" wrong"])
+        write_texts(page, &[&digits[4..], b" wrong"]);
     }
 }
 
-/// Writes what a field says, after its name.
+/// Writes what a field says.
 #[tactic(auto, unfolding(crate::specs::HeaderLines::value_text))]
-fn write_value<T: Target>(target: &mut T, name: &[u8], value: Value) -> Result<(), Failed>
-    ensures { Gave T.taken T.failed (is_err result) target.old target.new
-        (name.now ++ codes " " ++ value_text value) }
+fn write_value<P: Page>(page: &mut P, value: Value)
+    ensures { P.wrote page.old page.new (value_text value) }
 {
     match value {
-        Value::Number(number) => write_decimal(target, name, b" ", number),
-        Value::Address(address) => write_address(target, name, b" ", address as u32),
-        Value::Word(word) => write_digits(target, name, word),
-        Value::Byte(byte) => write_two_digits(target, name, byte),
-        Value::Serial(serial) => write_serial(target, name, serial),
-        Value::Checksum(sum, right) => write_sum(target, name, sum, right),
+        Value::Number(number) => write_decimal(page, b"", b"", number),
+        Value::Address(address) => write_address(page, b"", b"", address as u32),
+        Value::Word(word) => write_digits(page, word),
+        Value::Byte(byte) => write_two_digits(page, byte),
+        Value::Serial(serial) => page.write(&shown_serial(serial)),
+        Value::Checksum(sum, right) => write_sum(page, sum, right),
     }
 }
 
 /// Writes the line of a field.
-fn write_field<T: Target>(target: &mut T, name: &[u8], value: Value) -> Result<(), Failed>
-    ensures { Gave T.taken T.failed (is_err result) target.old target.new
-        (field_line name.now value) }
+fn write_field<P: Page>(page: &mut P, name: &[u8], value: Value)
+    ensures { P.wrote page.old page.new (field_line name.now value) }
 {
-    match write_value(target, name, value) {
-        Ok(()) => write_texts(target, &[b"\n"]),
-        Err(Failed) => Err(Failed),
-    }
+    page.write(name);
+    page.write(b" ");
+    write_value(page, value);
+    page.write(b"\n");
 }
 
 /// Writes the lines of fields.
-fn write_fields<T: Target>(target: &mut T, fields: &[Field<'_>]) -> Result<(), Failed>
-    ensures { Gave T.taken T.failed (is_err result) target.old target.new
-        (flat_map (λ f. field_line f.name.now f.value) fields.now) }
+fn write_fields<P: Page>(page: &mut P, fields: &[Field<'_>])
+    ensures { P.wrote page.old page.new (flat_map (λ f. field_line f.name.now f.value) fields.now) }
 {
     for field in fields {
-        write_field(target, field.name, field.value)?;
+        write_field(page, field.name, field.value);
     }
-    Ok(())
 }
 
 /// Writes the lines of the fields that every version has.
 #[tactic(auto, unfolding(crate::specs::HeaderLines::common_lines))]
-fn write_common_fields<T: Target>(target: &mut T, memory: &Memory) -> Result<(), Failed>
-    ensures { Gave T.taken T.failed (is_err result) target.old target.new
-        (common_lines memory.now) }
+fn write_common_fields<P: Page>(page: &mut P, memory: &Memory)
+    ensures { P.wrote page.old page.new (common_lines memory.now) }
 {
     let header = memory.header();
     let length = unpack(header.version, header.file_length);
     let sum = Value::Checksum(header.checksum, memory.checksum_ok());
     write_fields(
-        target,
+        page,
         &[
             Field {
                 name: b"version",
@@ -219,15 +196,15 @@ fn write_common_fields<T: Target>(target: &mut T, memory: &Memory) -> Result<(),
 
 /// Writes the lines of the fields that versions from 5 on have.
 #[tactic(auto, unfolding(crate::specs::HeaderLines::late_lines))]
-fn write_late_fields<T: Target>(target: &mut T, memory: &Memory) -> Result<(), Failed>
-    ensures { Gave T.taken T.failed (is_err result) target.old target.new (late_lines memory.now) }
+fn write_late_fields<P: Page>(page: &mut P, memory: &Memory)
+    ensures { P.wrote page.old page.new (late_lines memory.now) }
 {
     let header = memory.header();
     if header.version < 5 {
-        return Ok(());
+        return;
     }
     write_fields(
-        target,
+        page,
         &[
             Field {
                 name: b"alphabet",
@@ -242,13 +219,10 @@ fn write_late_fields<T: Target>(target: &mut T, memory: &Memory) -> Result<(), F
 }
 
 /// Writes the lines of a header.
-#[tactic(auto, unfolding(crate::specs::HeaderLines::header_lines), using(crate::proofs::Outputs::writing_rules))]
-pub(crate) fn write_header<T: Target>(target: &mut T, memory: &Memory) -> Result<(), Failed>
-    ensures { Gave T.taken T.failed (is_err result) target.old target.new
-        (header_lines memory.now) }
+#[tactic(auto, unfolding(crate::specs::HeaderLines::header_lines))]
+pub(crate) fn write_header<P: Page>(page: &mut P, memory: &Memory)
+    ensures { P.wrote page.old page.new (header_lines memory.now) }
 {
-    match write_common_fields(target, memory) {
-        Ok(()) => write_late_fields(target, memory),
-        Err(Failed) => Err(Failed),
-    }
+    write_common_fields(page, memory);
+    write_late_fields(page, memory);
 }

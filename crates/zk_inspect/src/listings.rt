@@ -8,6 +8,7 @@ ghost use Rattle.zk_inspect.specs.DictionaryLines.{dictionary_lines};
 ghost use Rattle.zk_inspect.specs.HeaderLines.{header_lines};
 ghost use Rattle.zk_inspect.specs.MapLines.{map_lines};
 ghost use Rattle.zk_inspect.specs.ObjectLines.{AreObjectLines};
+ghost use Rattle.zk_inspect.specs.Pages.{WroteSome};
 ghost use Rattle.zk_inspect.specs.TreeLines.{AreRows, has_failed};
 ghost use Rattle.zk_inspect.specs.Written.{GaveSome};
 
@@ -18,10 +19,11 @@ use crate::header_lines::write_header;
 use crate::map_lines::write_map;
 use crate::object_lines::write_objects;
 use crate::objects::count_objects;
+use crate::page::{Page, TargetPage};
 use crate::tree_lines::write_tree;
 use std::alloc::Global;
 use zk_mem::memory::Memory;
-use zk_term::target::{Failed, Target};
+use zk_term::target::Target;
 
 /// Writes what the header of a story's file says, a line for each field, by its name (Z-Machine Standards Document 1.1,
 /// section 11.1); also the file's length, and whether the checksum is right. Addresses are byte addresses of five hexadecimal
@@ -34,10 +36,9 @@ pub fn header<T: Target>(memory: &Memory, target: &mut T) -> Result<(), ListErro
     ensures failed { T.failed target.new ≡ (is_err result || T.failed target.old) }
     ensures refusal { IfErr result (λ e. e ≡ ListError.Write) }
 {
-    match write_header(target, memory) {
-        Ok(()) => Ok(()),
-        Err(Failed) => Err(ListError::Write),
-    }
+    let mut page = TargetPage::new(target);
+    write_header(&mut page, memory);
+    page.finish()
 }
 
 /// Writes where the parts of a story begin by its header, a line for each, in the order of their byte addresses; those of one
@@ -51,10 +52,9 @@ pub fn map<T: Target>(memory: &Memory, target: &mut T) -> Result<(), ListError>
     ensures failed { T.failed target.new ≡ (is_err result || T.failed target.old) }
     ensures refusal { IfErr result (λ e. e ≡ ListError.Write) }
 {
-    match write_map(target, memory) {
-        Ok(()) => Ok(()),
-        Err(Failed) => Err(ListError::Write),
-    }
+    let mut page = TargetPage::new(target);
+    write_map(&mut page, memory);
+    page.finish()
 }
 
 /// Writes what the 96 abbreviations stand for, a line for each, between quotes as `disassemble` shows texts; or `! F12`
@@ -68,10 +68,9 @@ pub fn abbreviations<T: Target>(memory: &Memory, target: &mut T) -> Result<(), L
     ensures failed { T.failed target.new ≡ (is_err result || T.failed target.old) }
     ensures refusal { IfErr result (λ e. e ≡ ListError.Write) }
 {
-    match write_abbreviations(target, memory) {
-        Ok(()) => Ok(()),
-        Err(Failed) => Err(ListError::Write),
-    }
+    let mut page = TargetPage::new(target);
+    write_abbreviations(&mut page, memory);
+    page.finish()
 }
 
 /// Writes the separators of the dictionary that the header names, how many entries it has and how long one is, in bytes, and
@@ -86,19 +85,17 @@ pub fn dictionary<T: Target>(memory: &Memory, target: &mut T) -> Result<(), List
     ensures failed { T.failed target.new ≡ (is_err result || T.failed target.old) }
     ensures refusal { IfErr result (λ e. e ≡ ListError.Write) }
 {
-    match write_dictionary(target, memory) {
-        Ok(()) => Ok(()),
-        Err(Failed) => Err(ListError::Write),
-    }
+    let mut page = TargetPage::new(target);
+    write_dictionary(&mut page, memory);
+    page.finish()
 }
 
 /// Writes the lines of objects.
-fn write_all_objects<T: Target>(target: &mut T, memory: &Memory) -> Result<(), Failed>
-    ensures { GaveSome (AreObjectLines memory.now) T.taken T.failed (is_err result) target.old
-        target.new }
+fn write_all_objects<P: Page>(page: &mut P, memory: &Memory)
+    ensures { WroteSome (AreObjectLines memory.now) P.wrote page.old page.new }
 {
     let count = count_objects(memory);
-    write_objects(target, memory, count)
+    write_objects(page, memory, count);
 }
 
 /// Writes a line for each object: its number, its short name, its parent, sibling and first child, its attributes, and its
@@ -111,10 +108,9 @@ pub fn objects<T: Target>(memory: &Memory, target: &mut T) -> Result<(), ListErr
         target.new }
     ensures refusal { IfErr result (λ e. e ≡ ListError.Write) }
 {
-    match write_all_objects(target, memory) {
-        Ok(()) => Ok(()),
-        Err(Failed) => Err(ListError::Write),
-    }
+    let mut page = TargetPage::new(target);
+    write_all_objects(&mut page, memory);
+    page.finish()
 }
 
 /// Writes the tree of objects: each object that has no parent, in the order of their numbers, and below it its children, each
@@ -126,5 +122,13 @@ pub fn tree<T: Target>(alloc: Global, memory: &Memory, target: &mut T) -> Result
         target.new }
 {
     let count = count_objects(memory);
-    write_tree(alloc, memory, count, target)
+    let mut page = TargetPage::new(target);
+    let listed = write_tree(alloc, memory, count, &mut page);
+    match page.finish() {
+        Ok(()) => match listed {
+            Ok(()) => Ok(()),
+            Err(_) => Err(ListError::Memory),
+        },
+        Err(error) => Err(error),
+    }
 }

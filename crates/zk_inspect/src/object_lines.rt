@@ -1,14 +1,14 @@
 // The lines of objects.
 
-ghost use Rattle.std.specs.Prelude.{◌≡◌, ◌≤◌, ◌<◌, ◌+◌, ◌++◌, ◌∷◌, [], is_err, codes, decimal, length, IsOk, if◌then◌else◌};
+ghost use Rattle.std.specs.Prelude.{◌≡◌, ◌≤◌, ◌<◌, ◌+◌, ◌++◌, ◌∷◌, [], codes, decimal, length, IsOk, if◌then◌else◌};
 ghost use Rattle.std.specs.List.{flat_map, range_with_len};
 ghost use Rattle.zk_tables.specs.Attributes.{attribute_at};
 ghost use Rattle.zk_tables.specs.Links.{link_at, parent_of, sibling_of, child_of};
 ghost use Rattle.zk_tables.specs.Properties.{name_of, properties_of};
 ghost use Rattle.zk_tables.specs.PropertyList.{properties_at, properties_from};
 ghost use Rattle.zk_inspect.specs.ObjectLines.{attributes_of, is_set, label_text, links_text, name_text, number_or_none, object_line, properties_or_none, properties_text, property_text, separated};
-ghost use Rattle.zk_inspect.specs.Written.{Gave};
 
+use crate::page::Page;
 use crate::quoting::write_quoted;
 use crate::writing::{write_decimal, write_texts};
 use arrayvec::ArrayVec;
@@ -19,35 +19,26 @@ use zk_tables::attributes::attribute;
 use zk_tables::lists::{Property, read_property};
 use zk_tables::properties::{check_properties, list_address, name};
 use zk_tables::tree::{child, parent, sibling};
-use zk_term::target::{Failed, Target};
 
-/// Writes the name of an object after a space: nothing between quotes where it has none.
+/// Writes the name of an object: nothing between quotes where it has none.
 #[tactic(auto, unfolding(crate::specs::ObjectLines::name_text))]
-fn write_name<T: Target>(target: &mut T, memory: &Memory, object: u16) -> Result<(), Failed>
-    ensures { Gave T.taken T.failed (is_err result) target.old target.new
-        (codes " " ++ name_text memory.now (name_of memory.now object)) }
+fn write_name<P: Page>(page: &mut P, memory: &Memory, object: u16)
+    ensures { P.wrote page.old page.new (name_text memory.now (name_of memory.now object)) }
 {
     match name(memory, object) {
-        Ok(Some(address)) => write_quoted(target, b" ", memory, address),
-        Ok(None) => write_texts(target, &[b" \"\""]),
-        Err(_) => write_texts(target, &[b" \"\""]),
+        Ok(Some(address)) => write_quoted(page, memory, address),
+        Ok(None) => page.write(b"\"\""),
+        Err(_) => page.write(b"\"\""),
     }
 }
 
-/// Writes the number and the name of an object, after a text.
-pub(crate) fn write_label<T: Target>(
-    target: &mut T,
-    before: &[u8],
-    memory: &Memory,
-    object: u16,
-) -> Result<(), Failed>
-    ensures { Gave T.taken T.failed (is_err result) target.old target.new
-        (before.now ++ label_text memory.now object) }
+/// Writes the number and the name of an object.
+pub(crate) fn write_label<P: Page>(page: &mut P, memory: &Memory, object: u16)
+    ensures { P.wrote page.old page.new (label_text memory.now object) }
 {
-    match write_decimal(target, before, b"", object as u32) {
-        Ok(()) => write_name(target, memory, object),
-        Err(Failed) => Err(Failed),
-    }
+    write_decimal(page, b"", b"", object as u32);
+    page.write(b" ");
+    write_name(page, memory, object);
 }
 
 /// The object that a link names, or 0.
@@ -62,9 +53,8 @@ pub(crate) fn number_or_none(link: Result<u16, Fault>) -> u16
 
 /// Writes the links of an object.
 #[tactic(auto, unfolding(crate::specs::ObjectLines::links_text))]
-fn write_links<T: Target>(target: &mut T, memory: &Memory, object: u16) -> Result<(), Failed>
-    ensures { Gave T.taken T.failed (is_err result) target.old target.new
-        (links_text memory.now object) }
+fn write_links<P: Page>(page: &mut P, memory: &Memory, object: u16)
+    ensures { P.wrote page.old page.new (links_text memory.now object) }
 {
     let mut parents = Buffer::new();
     let mut siblings = Buffer::new();
@@ -73,7 +63,7 @@ fn write_links<T: Target>(target: &mut T, memory: &Memory, object: u16) -> Resul
     let sibling = siblings.format(number_or_none(sibling(memory, object)));
     let child = children.format(number_or_none(child(memory, object)));
     write_texts(
-        target,
+        page,
         &[
             b" parent ",
             parent.as_bytes(),
@@ -82,7 +72,7 @@ fn write_links<T: Target>(target: &mut T, memory: &Memory, object: u16) -> Resul
             b" child ",
             child.as_bytes(),
         ],
-    )
+    );
 }
 
 /// Whether an object has an attribute.
@@ -119,68 +109,50 @@ fn attributes_of(memory: &Memory, object: u16) -> ArrayVec<u16, 48>
 }
 
 /// Writes numbers, each after a comma.
-fn write_further_numbers<T: Target>(target: &mut T, numbers: &[u16]) -> Result<(), Failed>
-    ensures { Gave T.taken T.failed (is_err result) target.old target.new
-        (flat_map (λ n. codes "," ++ decimal n) numbers.now) }
+fn write_further_numbers<P: Page>(page: &mut P, numbers: &[u16])
+    ensures { P.wrote page.old page.new (flat_map (λ n. codes "," ++ decimal n) numbers.now) }
 {
     for number in numbers {
-        write_decimal(target, b",", b"", *number as u32)?;
+        write_decimal(page, b",", b"", *number as u32);
     }
-    Ok(())
 }
 
 /// Writes numbers after a text, with commas between them, or a hyphen where there are none.
-fn write_numbers<T: Target>(target: &mut T, before: &[u8], numbers: &[u16]) -> Result<(), Failed>
-    ensures { Gave T.taken T.failed (is_err result) target.old target.new
-        (before.now ++ separated decimal numbers.now) }
+fn write_numbers<P: Page>(page: &mut P, before: &[u8], numbers: &[u16])
+    ensures { P.wrote page.old page.new (before.now ++ separated decimal numbers.now) }
 {
     let [first, rest @ ..] = numbers else {
-        return write_texts(target, &[before, b"-"]);
+        return write_texts(page, &[before, b"-"]);
     };
-    match write_decimal(target, before, b"", *first as u32) {
-        Ok(()) => write_further_numbers(target, rest),
-        Err(Failed) => Err(Failed),
-    }
+    write_decimal(page, before, b"", *first as u32);
+    write_further_numbers(page, rest);
 }
 
 /// Writes the attributes of an object.
-fn write_attributes<T: Target>(target: &mut T, memory: &Memory, object: u16) -> Result<(), Failed>
-    ensures { Gave T.taken T.failed (is_err result) target.old target.new
+fn write_attributes<P: Page>(page: &mut P, memory: &Memory, object: u16)
+    ensures { P.wrote page.old page.new
         (codes " attributes " ++ separated decimal (attributes_of memory.now object)) }
 {
     let attributes = attributes_of(memory, object);
-    write_numbers(target, b" attributes ", attributes.as_slice())
+    write_numbers(page, b" attributes ", attributes.as_slice());
 }
 
 /// Writes a property after a text: its number, and the length of its data.
 #[tactic(auto, unfolding(crate::specs::ObjectLines::property_text))]
-fn write_property<T: Target>(
-    target: &mut T,
-    before: &[u8],
-    property: Property,
-) -> Result<(), Failed>
-    ensures { Gave T.taken T.failed (is_err result) target.old target.new
-        (before.now ++ property_text property) }
+fn write_property<P: Page>(page: &mut P, before: &[u8], property: Property)
+    ensures { P.wrote page.old page.new (before.now ++ property_text property) }
 {
     let mut numbers = Buffer::new();
     let mut lengths = Buffer::new();
     let number = numbers.format(property.number);
     let length = lengths.format(property.length);
-    write_texts(
-        target,
-        &[before, number.as_bytes(), b":", length.as_bytes()],
-    )
+    write_texts(page, &[before, number.as_bytes(), b":", length.as_bytes()]);
 }
 
 /// Writes the properties from a byte address on, each after a comma, where there are so many at most.
-fn write_further_properties<T: Target>(
-    target: &mut T,
-    memory: &Memory,
-    address: u32,
-    most: u32,
-) -> Result<(), Failed>
+fn write_further_properties<P: Page>(page: &mut P, memory: &Memory, address: u32, most: u32)
     requires { IsOk (properties_from memory.now most address) }
-    ensures { Gave T.taken T.failed (is_err result) target.old target.new
+    ensures { P.wrote page.old page.new
         (flat_map (λ p. codes "," ++ property_text p)
         (properties_or_none (properties_from memory.now most address))) }
 {
@@ -188,83 +160,64 @@ fn write_further_properties<T: Target>(
     for _i in 0..most {
         match read_property(memory, at) {
             Ok(Some(property)) => {
-                write_property(target, b",", property)?;
+                write_property(page, b",", property);
                 at = property.end();
             }
-            Ok(None) => return Ok(()),
-            Err(_) => return Ok(()),
+            Ok(None) => return,
+            Err(_) => return,
         }
     }
-    Ok(())
 }
 
 /// Writes the property list at a byte address after a text, with commas between properties, or a hyphen where there are
 /// none.
-fn write_property_list<T: Target>(
-    target: &mut T,
-    before: &[u8],
-    memory: &Memory,
-    address: u32,
-) -> Result<(), Failed>
+fn write_property_list<P: Page>(page: &mut P, before: &[u8], memory: &Memory, address: u32)
     requires { IsOk (properties_at memory.now address) }
-    ensures { Gave T.taken T.failed (is_err result) target.old target.new
+    ensures { P.wrote page.old page.new
         (before.now
         ++ separated property_text (properties_or_none (properties_at memory.now address))) }
 {
     match read_property(memory, address) {
-        Ok(Some(property)) => match write_property(target, before, property) {
-            Ok(()) => {
-                write_further_properties(target, memory, property.end(), memory.data_end() - 1)
-            }
-            Err(Failed) => Err(Failed),
-        },
-        Ok(None) => write_texts(target, &[before, b"-"]),
-        Err(_) => write_texts(target, &[before, b"-"]),
+        Ok(Some(property)) => {
+            write_property(page, before, property);
+            write_further_properties(page, memory, property.end(), memory.data_end() - 1);
+        }
+        Ok(None) => write_texts(page, &[before, b"-"]),
+        Err(_) => write_texts(page, &[before, b"-"]),
     }
 }
 
 /// Writes the properties of an object after a text, or why its property list is none.
-fn write_properties<T: Target>(
-    target: &mut T,
-    before: &[u8],
-    memory: &Memory,
-    object: u16,
-) -> Result<(), Failed>
-    ensures { Gave T.taken T.failed (is_err result) target.old target.new
+fn write_properties<P: Page>(page: &mut P, before: &[u8], memory: &Memory, object: u16)
+    ensures { P.wrote page.old page.new
         (before.now ++ properties_text (properties_of memory.now object)) }
 {
     match list_address(memory, object) {
         Ok(address) => match check_properties(memory, object) {
-            Ok(()) => write_property_list(target, before, memory, address),
-            Err(fault) => write_decimal(target, before, b"! F", fault.number() as u32),
+            Ok(()) => write_property_list(page, before, memory, address),
+            Err(fault) => write_decimal(page, before, b"! F", fault.number() as u32),
         },
-        Err(fault) => write_decimal(target, before, b"! F", fault.number() as u32),
+        Err(fault) => write_decimal(page, before, b"! F", fault.number() as u32),
     }
 }
 
 /// Writes the line of an object.
-fn write_object<T: Target>(target: &mut T, memory: &Memory, object: u16) -> Result<(), Failed>
-    ensures { Gave T.taken T.failed (is_err result) target.old target.new
-        (object_line memory.now object) }
+fn write_object<P: Page>(page: &mut P, memory: &Memory, object: u16)
+    ensures { P.wrote page.old page.new (object_line memory.now object) }
 {
-    write_label(target, b"", memory, object)?;
-    write_links(target, memory, object)?;
-    write_attributes(target, memory, object)?;
-    write_properties(target, b" properties ", memory, object)?;
-    write_texts(target, &[b"\n"])
+    write_label(page, memory, object);
+    write_links(page, memory, object);
+    write_attributes(page, memory, object);
+    write_properties(page, b" properties ", memory, object);
+    page.write(b"\n");
 }
 
 /// Writes the lines of so many objects, from 1 on.
-pub(crate) fn write_objects<T: Target>(
-    target: &mut T,
-    memory: &Memory,
-    count: u16,
-) -> Result<(), Failed>
-    ensures { Gave T.taken T.failed (is_err result) target.old target.new
+pub(crate) fn write_objects<P: Page>(page: &mut P, memory: &Memory, count: u16)
+    ensures { P.wrote page.old page.new
         (flat_map (object_line memory.now) (range_with_len 1 count)) }
 {
     for before in 0..count {
-        write_object(target, memory, before + 1)?;
+        write_object(page, memory, before + 1);
     }
-    Ok(())
 }

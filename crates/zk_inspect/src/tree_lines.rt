@@ -1,18 +1,17 @@
 // The lines of the tree of objects.
 
-ghost use Rattle.std.specs.Prelude.{◌≡◌, ◌<◌, is_err, length, OnOk};
-ghost use Rattle.zk_inspect.specs.TreeLines.{AreRows, again_text, has_failed, indent, row_line, row_text};
-ghost use Rattle.zk_inspect.specs.Written.{Gave, GaveSome};
+ghost use Rattle.std.specs.Prelude.{◌≡◌, ◌<◌, length, OnOk};
+ghost use Rattle.zk_inspect.specs.TreeLines.{AreRows, again_text, indent, row_line, row_text};
+ghost use Rattle.zk_inspect.specs.Pages.{WroteSome};
 
 use crate::address_set::AddressSet;
-use crate::error::ListError;
 use crate::object_lines::{number_or_none, write_label};
+use crate::page::Page;
 use crate::writing::write_texts;
 use itoa::Buffer;
 use std::alloc::{AllocError, Global};
 use zk_mem::memory::Memory;
 use zk_tables::tree::{child, parent, sibling};
-use zk_term::target::{Failed, Target};
 
 /// An object as it stands in the tree.
 #[derive(Clone, Copy)]
@@ -25,56 +24,42 @@ pub(crate) struct Row {
 }
 
 /// Writes two spaces for each level.
-fn write_indent<T: Target>(target: &mut T, level: usize) -> Result<(), Failed>
-    ensures { Gave T.taken T.failed (is_err result) target.old target.new (indent level) }
+fn write_indent<P: Page>(page: &mut P, level: usize)
+    ensures { P.wrote page.old page.new (indent level) }
 {
     for _level in 0..level {
-        write_texts(target, &[b"  "])?;
+        page.write(b"  ");
     }
-    Ok(())
 }
 
 /// Writes an object as it stands in the tree, without the spaces before it.
 #[tactic(auto, unfolding(crate::specs::TreeLines::row_text))]
-fn write_object<T: Target>(target: &mut T, memory: &Memory, row: Row) -> Result<(), Failed>
-    ensures { Gave T.taken T.failed (is_err result) target.old target.new
-        (row_text memory.now row) }
+fn write_object<P: Page>(page: &mut P, memory: &Memory, row: Row)
+    ensures { P.wrote page.old page.new (row_text memory.now row) }
 {
     if row.again {
-        write_number_again(target, row.object)
+        write_number_again(page, row.object)
     } else {
-        write_label(target, b"", memory, row.object)
+        write_label(page, memory, row.object)
     }
 }
 
 /// Writes the number of an object that was listed before.
 #[tactic(auto, unfolding(crate::specs::TreeLines::again_text))]
-fn write_number_again<T: Target>(target: &mut T, object: u16) -> Result<(), Failed>
-    ensures { Gave T.taken T.failed (is_err result) target.old target.new (again_text object) }
+fn write_number_again<P: Page>(page: &mut P, object: u16)
+    ensures { P.wrote page.old page.new (again_text object) }
 {
     let mut buffer = Buffer::new();
-    write_texts(target, &[buffer.format(object).as_bytes(), b" *"])
+    write_texts(page, &[buffer.format(object).as_bytes(), b" *"]);
 }
 
 /// Writes a line of the tree.
-fn write_row<T: Target>(target: &mut T, memory: &Memory, row: Row) -> Result<(), Failed>
-    ensures { Gave T.taken T.failed (is_err result) target.old target.new
-        (row_line memory.now row) }
+fn write_row<P: Page>(page: &mut P, memory: &Memory, row: Row)
+    ensures { P.wrote page.old page.new (row_line memory.now row) }
 {
-    write_indent(target, row.level)?;
-    write_object(target, memory, row)?;
-    write_texts(target, &[b"\n"])
-}
-
-/// Writes a line of the tree, or tells that a write failed.
-fn list_row<T: Target>(target: &mut T, memory: &Memory, row: Row) -> Result<(), ListError>
-    ensures { GaveSome (AreRows memory.now) T.taken T.failed (has_failed result) target.old
-        target.new }
-{
-    match write_row(target, memory, row) {
-        Ok(()) => Ok(()),
-        Err(Failed) => Err(ListError::Write),
-    }
+    write_indent(page, row.level);
+    write_object(page, memory, row);
+    page.write(b"\n");
 }
 
 /// Where a walk over the tree stands.
@@ -116,54 +101,46 @@ impl Walk {
 
     /// Lists an object, if there is one of its number, and goes on: to its child where it is listed for the first time, and
     /// else to where its chain of siblings goes on above.
-    fn step<T: Target>(
+    fn step<P: Page>(
         &mut self,
-        target: &mut T,
+        page: &mut P,
         memory: &Memory,
         object: u16,
-    ) -> Result<Option<u16>, ListError>
+    ) -> Result<Option<u16>, AllocError>
         requires { self.old.count < length self.old.listed }
         ensures kept { OnOk result (self.new.count < length self.new.listed) }
-        ensures rows { GaveSome (AreRows memory.now) T.taken T.failed (has_failed result) target.old
-            target.new }
+        ensures rows { WroteSome (AreRows memory.now) P.wrote page.old page.new }
     {
         if object == 0 || object > self.count {
             return Ok(self.go_beside(memory));
         }
         let again = self.listed.has(object as u32);
         let level = self.above.len();
-        match list_row(
-            target,
+        write_row(
+            page,
             memory,
             Row {
                 level,
                 object,
                 again,
             },
-        ) {
-            Ok(()) => {}
-            Err(error) => return Err(error),
-        }
+        );
         if again {
             return Ok(self.go_beside(memory));
         }
-        match self.go_below(memory, object) {
-            Ok(child) => Ok(Some(child)),
-            Err(_) => Err(ListError::Memory),
-        }
+        Ok(Some(self.go_below(memory, object)?))
     }
 
     /// Lists a root, and the tree below it.
-    fn list_below<T: Target>(
+    fn list_below<P: Page>(
         &mut self,
-        target: &mut T,
+        page: &mut P,
         memory: &Memory,
         root: u16,
-    ) -> Result<(), ListError>
+    ) -> Result<(), AllocError>
         requires { self.old.count < length self.old.listed }
         ensures kept { OnOk result (self.new.count < length self.new.listed) }
-        ensures rows { GaveSome (AreRows memory.now) T.taken T.failed (has_failed result) target.old
-            target.new }
+        ensures rows { WroteSome (AreRows memory.now) P.wrote page.old page.new }
     {
         let mut next = Some(root);
         // each turn lists an object, or ends a chain of siblings that one has begun
@@ -171,10 +148,7 @@ impl Walk {
             let Some(object) = next else {
                 return Ok(());
             };
-            match self.step(target, memory, object) {
-                Ok(further) => next = further,
-                Err(error) => return Err(error),
-            }
+            next = self.step(page, memory, object)?;
         }
         Ok(())
     }
@@ -186,63 +160,52 @@ fn is_root(memory: &Memory, object: u16) -> bool {
 }
 
 /// Lists an object with the tree below it, if it is a root.
-fn list_root<T: Target>(
+fn list_root<P: Page>(
     walk: &mut Walk,
     memory: &Memory,
     object: u16,
-    target: &mut T,
-) -> Result<(), ListError>
+    page: &mut P,
+) -> Result<(), AllocError>
     requires { walk.old.count < length walk.old.listed }
     ensures kept { OnOk result (walk.new.count < length walk.new.listed) }
-    ensures rows { GaveSome (AreRows memory.now) T.taken T.failed (has_failed result) target.old
-        target.new }
+    ensures rows { WroteSome (AreRows memory.now) P.wrote page.old page.new }
 {
     if !is_root(memory, object) {
         return Ok(());
     }
-    match walk.list_below(target, memory, object) {
-        Ok(()) => Ok(()),
-        Err(error) => Err(error),
-    }
+    walk.list_below(page, memory, object)
 }
 
 /// Lists the trees of so many objects.
-fn list_trees<T: Target>(
+fn list_trees<P: Page>(
     walk: &mut Walk,
     memory: &Memory,
     count: u16,
-    target: &mut T,
-) -> Result<(), ListError>
+    page: &mut P,
+) -> Result<(), AllocError>
     requires { walk.old.count < length walk.old.listed }
-    ensures { GaveSome (AreRows memory.now) T.taken T.failed (has_failed result) target.old
-        target.new }
+    ensures { WroteSome (AreRows memory.now) P.wrote page.old page.new }
 {
     for before in 0..count {
-        match list_root(walk, memory, before + 1, target) {
-            Ok(()) => {}
-            Err(error) => return Err(error),
-        }
+        list_root(walk, memory, before + 1, page)?;
     }
     Ok(())
 }
 
 /// Writes the lines of the tree of so many objects.
-pub(crate) fn write_tree<T: Target>(
+pub(crate) fn write_tree<P: Page>(
     alloc: Global,
     memory: &Memory,
     count: u16,
-    target: &mut T,
-) -> Result<(), ListError>
-    ensures { GaveSome (AreRows memory.now) T.taken T.failed (has_failed result) target.old
-        target.new }
+    page: &mut P,
+) -> Result<(), AllocError>
+    ensures { WroteSome (AreRows memory.now) P.wrote page.old page.new }
 {
-    let Ok(listed) = AddressSet::none(alloc, count as usize + 1) else {
-        return Err(ListError::Memory);
-    };
+    let listed = AddressSet::none(alloc, count as usize + 1)?;
     let mut walk = Walk {
         count,
         listed,
         above: Vec::new(alloc),
     };
-    list_trees(&mut walk, memory, count, target)
+    list_trees(&mut walk, memory, count, page)
 }

@@ -1,25 +1,18 @@
-// Texts, numbers and characters, written to a target.
+// Texts, numbers and characters, written to a page.
 
-ghost use Rattle.std.specs.Prelude.{◌≡◌, ◌<◌, ◌++◌, is_err, decimal, map, codes};
-ghost use Rattle.std.specs.List.{concat};
+ghost use Rattle.std.specs.Prelude.{◌≡◌, ◌<◌, ◌++◌, decimal, codes};
+ghost use Rattle.std.specs.List.{flat_map};
 ghost use Rattle.zk_inspect.specs.Numbers.{address_digits, byte_digits, hex_digit, hex_digits, word_digits, zeros_left_out};
-ghost use Rattle.zk_inspect.specs.Written.{Gave};
 
+use crate::page::Page;
 use itoa::Buffer;
-use zk_term::target::{Failed, Target, write_all};
 
-/// Writes texts one after another, up to a write that fails.
-#[tactic(auto, using(crate::proofs::Outputs::writing_rules))]
-pub(crate) fn write_texts<T: Target>(target: &mut T, texts: &[&[u8]]) -> Result<(), Failed>
-    ensures { Gave T.taken T.failed (is_err result) target.old target.new
-        (concat (map (λ t. t.now) texts.now)) }
+/// Writes texts one after another.
+pub(crate) fn write_texts<P: Page>(page: &mut P, texts: &[&[u8]])
+    ensures { P.wrote page.old page.new (flat_map (λ t. t.now) texts.now) }
 {
-    let [first, rest @ ..] = texts else {
-        return Ok(());
-    };
-    match write_all(target, first) {
-        Ok(()) => write_texts(target, rest),
-        Err(Failed) => Err(Failed),
+    for text in texts {
+        page.write(text);
     }
 }
 
@@ -69,72 +62,38 @@ pub(crate) fn zeros_before(address: u32) -> usize
 
 /// Writes an address after two texts: by its hexadecimal digits, five at least.
 #[tactic(auto, unfolding(crate::specs::Numbers::address_digits))]
-pub(crate) fn write_address<T: Target>(
-    target: &mut T,
-    before: &[u8],
-    between: &[u8],
-    address: u32,
-) -> Result<(), Failed>
-    ensures { Gave T.taken T.failed (is_err result) target.old target.new
-        (before.now ++ between.now ++ address_digits address) }
+pub(crate) fn write_address<P: Page>(page: &mut P, before: &[u8], between: &[u8], address: u32)
+    ensures { P.wrote page.old page.new (before.now ++ between.now ++ address_digits address) }
 {
     let digits = hex_digits_of(address);
     let shown = &digits[zeros_before(address)..];
-    write_texts(target, &[before, between, shown])
+    write_texts(page, &[before, between, shown]);
 }
 
 /// Writes a constant after a text: a word by its four hexadecimal digits.
 #[tactic(auto, unfolding(crate::specs::Numbers::word_digits))]
-pub(crate) fn write_word<T: Target>(target: &mut T, before: &[u8], word: u16) -> Result<(), Failed>
-    ensures { Gave T.taken T.failed (is_err result) target.old target.new
-        (before.now ++ codes "#" ++ word_digits word) }
+pub(crate) fn write_word<P: Page>(page: &mut P, before: &[u8], word: u16)
+    ensures { P.wrote page.old page.new (before.now ++ codes "#" ++ word_digits word) }
 {
     let digits = hex_digits_of(word as u32);
     let shown = &digits[4..];
-    write_texts(target, &[before, b"#", shown])
+    write_texts(page, &[before, b"#", shown]);
 }
 
 /// Writes a constant after a text: a byte by its two hexadecimal digits.
 #[tactic(auto, unfolding(crate::specs::Numbers::byte_digits))]
-pub(crate) fn write_byte<T: Target>(target: &mut T, before: &[u8], byte: u8) -> Result<(), Failed>
-    ensures { Gave T.taken T.failed (is_err result) target.old target.new
-        (before.now ++ codes "#" ++ byte_digits byte) }
+pub(crate) fn write_byte<P: Page>(page: &mut P, before: &[u8], byte: u8)
+    ensures { P.wrote page.old page.new (before.now ++ codes "#" ++ byte_digits byte) }
 {
     let digits = hex_digits_of(byte as u32);
     let shown = &digits[6..];
-    write_texts(target, &[before, b"#", shown])
+    write_texts(page, &[before, b"#", shown]);
 }
 
 /// Writes a number after two texts, by its decimal digits.
-pub(crate) fn write_decimal<T: Target>(
-    target: &mut T,
-    before: &[u8],
-    between: &[u8],
-    n: u32,
-) -> Result<(), Failed>
-    ensures { Gave T.taken T.failed (is_err result) target.old target.new
-        (before.now ++ between.now ++ decimal n) }
+pub(crate) fn write_decimal<P: Page>(page: &mut P, before: &[u8], between: &[u8], n: u32)
+    ensures { P.wrote page.old page.new (before.now ++ between.now ++ decimal n) }
 {
     let mut buffer = Buffer::new();
-    write_texts(target, &[before, between, buffer.format(n).as_bytes()])
-}
-
-/// Writes an address and a number between three texts.
-#[tactic(auto, unfolding(crate::specs::Numbers::address_digits))]
-pub(crate) fn write_counted<'a, T: Target>(
-    target: &mut T,
-    before: &'a [u8],
-    address: u32,
-    between: &'a [u8],
-    n: u32,
-    after: &'a [u8],
-) -> Result<(), Failed>
-    ensures { Gave T.taken T.failed (is_err result) target.old target.new
-        (before.now ++ address_digits address ++ between.now ++ decimal n ++ after.now) }
-{
-    let mut buffer = Buffer::new();
-    let digits = hex_digits_of(address);
-    let number = buffer.format(n).as_bytes();
-    let shown = &digits[zeros_before(address)..];
-    write_texts(target, &[before, shown, between, number, after])
+    write_texts(page, &[before, between, buffer.format(n).as_bytes()]);
 }

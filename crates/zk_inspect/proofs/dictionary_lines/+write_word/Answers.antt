@@ -2,23 +2,17 @@ use Rattle.std.proofs.Common.{rules, refl, ◌-◌, length, take, drop}
 use Rattle.std.specs.Prelude.{min}
 use Rattle.std.proofs.lemmas.List.{take_rest}
 use Rattle.zk_text.specs.Extra.{own_characters}
-use Rattle.zk_inspect.proofs.Outputs.{gave_on, gave_first}
+use Rattle.zk_inspect.proofs.Outputs.{wrote_on}
 use Rattle.zk_inspect.proofs.Keyed.{word_end, word_on}
 use Rattle.zk_inspect.proofs.dictionary_lines.+write_word.Goals as goal
 
 pub returns-in_default : goal.returns-in_default
-returns-in_default g t c = word_end g.T.Target.taken g.T.Target.failed c.args.memory.now (own_characters c.args.memory.now) c.args.target.now c.args.characters.now (search rules)
+returns-in_default g t c = word_end g.P.Page.wrote c.args.memory.now (own_characters c.args.memory.now) c.args.page.now c.args.characters.now (g.met.P.Page.nothing c.args.page.now) (search rules)
 
-pub returns-in-Ok : goal.returns-in-Ok
-returns-in-Ok g t c =
+pub returns : goal.returns
+returns g t c =
     let m = c.args.memory.now in
     let rest = take (length c.args.characters.now - 1) (drop 1 c.args.characters.now) in
     let written = rw c.min.ensures at c.write_word.ensures in
-    gave_on g.T.Target.taken g.T.Target.failed _ c.args.target.now _ _ _ _ _ (word_on m (own_characters m) c.args.characters.now 0 c.cut-piece.result.1 c.cut-piece.result.0 _ c.in-len1-up.len_at_least refl c.cut-piece.ensures.piece c.cut-piece.ensures.taken)
-    c.in-Ok.ensures (rw (take_rest rest (min c.cut-piece.result.1 (length rest))) at written)
-
-pub returns-in-Err : goal.returns-in-Err
-returns-in-Err g t c =
-    let m = c.args.memory.now in
-    gave_first g.T.Target.taken g.T.Target.failed c.args.target.now _ _ _ _ (word_on m (own_characters m) c.args.characters.now 0 c.cut-piece.result.1 c.cut-piece.result.0 _ c.in-len1-up.len_at_least refl c.cut-piece.ensures.piece c.cut-piece.ensures.taken)
-    c.in-Err.ensures
+    wrote_on g.P.Page.wrote g.met.P.Page.twice _ _ _ _ _ _ (word_on m (own_characters m) c.args.characters.now 0 c.cut-piece.result.1 c.cut-piece.result.0 _ c.in-len1-up.len_at_least refl c.cut-piece.ensures.piece c.cut-piece.ensures.taken)
+    c.write_piece.ensures (rw (take_rest rest (min c.cut-piece.result.1 (length rest))) at written)

@@ -1,15 +1,11 @@
-use Rattle.std.proofs.Common.{false, arith}
+use Rattle.std.proofs.Common.{arith}
 use Rattle.zk_inspect.specs.DictionaryLines.{separator_text, separators_text}
-use Rattle.zk_inspect.proofs.Numbered.{numbered_all, numbered_failed, numbered_more}
+use Rattle.zk_inspect.proofs.Numbered.{numbered_all, numbered_more}
 use Rattle.zk_inspect.proofs.dictionary_lines.write_separators.Goals as goal
 
 pub loop-index-preserved : goal.loop-index-preserved
-loop-index-preserved g c = numbered_more g.T.Target.taken g.T.Target.failed false c.args.target.now _ _ (separator_text c.args.memory.now c.args.dictionary.now) 0 c.args.dictionary.now.separators c.loop-index.index _ (omega arith) (omega arith) c.loop-index.invariant c.in_ok-write_separator.ensures
-
-pub returns-in_err-write_separator : goal.returns-in_err-write_separator
-unfolding separators_text
-returns-in_err-write_separator g c = numbered_failed g.T.Target.taken g.T.Target.failed c.from_residual.result c.args.target.now _ _ (separator_text c.args.memory.now c.args.dictionary.now) 0 c.args.dictionary.now.separators c.loop-index.index _ (omega arith) (omega arith) c.from_residual.ensures.0 c.loop-index.invariant c.in_err-write_separator.ensures
+loop-index-preserved g c = numbered_more g.P.Page.wrote g.met.P.Page.twice _ _ _ (separator_text c.args.memory.now c.args.dictionary.now) 0 c.args.dictionary.now.separators c.loop-index.index _ (omega arith) (omega arith) c.loop-index.invariant c.write_separator.ensures
 
 pub returns : goal.returns
 unfolding separators_text
-returns g c = numbered_all g.T.Target.taken g.T.Target.failed c.args.target.now _ (separator_text c.args.memory.now c.args.dictionary.now) 0 c.args.dictionary.now.separators c.loop-index.index (omega arith) c.loop-index.invariant
+returns g c = numbered_all g.P.Page.wrote _ _ (separator_text c.args.memory.now c.args.dictionary.now) 0 c.args.dictionary.now.separators c.loop-index.index (omega arith) c.loop-index.invariant

@@ -9,5 +9,5 @@ returns g c = record {
     counted = record { listed = c.count_objects-count.ensures.listed; whole = c.count_objects-count.ensures.whole };
     lines = refl;
   };
-  gave = c.write_objects.ensures;
+  given = c.write_objects.ensures;
 }

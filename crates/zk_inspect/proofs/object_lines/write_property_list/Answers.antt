@@ -2,7 +2,6 @@ use Rattle.std.proofs.Common.{rules, arith, ◌≡◌, ◌≤◌, ◌-◌, suc, 
 use Rattle.std.specs.Prelude.{IsOk}
 use Rattle.zk_mem.specs.Map.{readable_end}
 use Rattle.zk_tables.specs.PropertyList.{properties_from, property_at}
-use Rattle.zk_inspect.proofs.Outputs.{gave_as, gave_on, gave_first}
 use Rattle.zk_inspect.proofs.PropertyLines.{by_first, no_list_fault, reaches_data, rest_is_list, without_first}
 use Rattle.zk_inspect.proofs.object_lines.write_property_list.Goals as goal
 
@@ -17,21 +16,13 @@ write_further_properties-requires g c =
     let size : readable_end m ≡ suc (c.data_end.result - 1) = omega (arith, c.data_end.ensures.value, some) in
     subst (λ (a : ℕ). IsOk (properties_from m (c.data_end.result - 1) a)) (sym c.end.ensures) (rest_is_list m c.args.address (c.data_end.result - 1) c.in-Ok-Some.property size there c.requires)
 
-pub returns-in-Ok : goal.returns-in-Ok
-returns-in-Ok g c =
+pub returns-in-Ok-Some : goal.returns-in-Ok-Some
+returns-in-Ok-Some g c =
     let m = c.args.memory.now in
     let there : property_at m c.args.address ≡ Ok (Some c.in-Ok-Some.property) = search rules in
     let some : 1 ≤ readable_end m = reaches_data m c.args.address c.requires in
     let size : readable_end m ≡ suc (c.data_end.result - 1) = omega (arith, c.data_end.ensures.value, some) in
-    gave_on g.T.Target.taken g.T.Target.failed _ c.args.target.now _ _ _ _ _ (by_first m c.args.before.now c.args.address (c.data_end.result - 1) c.in-Ok-Some.property size there c.requires) c.in-Ok.ensures (rw c.end.ensures at c.write_further_properties.ensures)
-
-pub returns-in-Err-write_property : goal.returns-in-Err-write_property
-returns-in-Err-write_property g c =
-    let m = c.args.memory.now in
-    let there : property_at m c.args.address ≡ Ok (Some c.in-Ok-Some.property) = search rules in
-    let some : 1 ≤ readable_end m = reaches_data m c.args.address c.requires in
-    let size : readable_end m ≡ suc (readable_end m - 1) = omega (arith, some) in
-    gave_first g.T.Target.taken g.T.Target.failed c.args.target.now _ _ _ _ (by_first m c.args.before.now c.args.address (readable_end m - 1) c.in-Ok-Some.property size there c.requires) c.in-Err-write_property.ensures
+    rw (by_first m c.args.before.now c.args.address (c.data_end.result - 1) c.in-Ok-Some.property size there c.requires) (g.met.P.Page.twice _ _ _ _ _ c.write_property.ensures (rw c.end.ensures at c.write_further_properties.ensures))
 
 pub returns-in-Ok-None : goal.returns-in-Ok-None
 returns-in-Ok-None g c =
@@ -39,7 +30,7 @@ returns-in-Ok-None g c =
     let there : property_at m c.args.address ≡ Ok None = search rules in
     let some : 1 ≤ readable_end m = reaches_data m c.args.address c.requires in
     let size : readable_end m ≡ suc (readable_end m - 1) = omega (arith, some) in
-    gave_as g.T.Target.taken g.T.Target.failed _ c.args.target.now _ _ _ (without_first m c.args.before.now c.args.address (readable_end m - 1) size there c.requires) c.write_texts.ensures
+    rw (without_first m c.args.before.now c.args.address (readable_end m - 1) size there c.requires) c.write_texts.ensures
 
 pub returns-in-Err : goal.returns-in-Err
 returns-in-Err g c =
