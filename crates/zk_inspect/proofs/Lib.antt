@@ -2,7 +2,6 @@ pub mod Marking
 pub mod Inside
 pub mod Searching
 pub mod Outputs
-pub mod Ends
 pub mod Quotes
 pub mod OneList
 pub mod Listed

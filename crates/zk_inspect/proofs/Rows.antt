@@ -3,7 +3,7 @@ use Rattle.std.proofs.Common.{◌∙◌, ℕ, List, [], ◌∷◌, ◌++◌, app
 use Rattle.std.proofs.lemmas.Grind.{flat_map-append}
 use Rattle.zk_mem.specs.Map.{MemoryMap}
 use Rattle.zk_inspect.specs.declared.tree_lines.Row.{Row}
-use Rattle.zk_inspect.specs.Pages.{WroteSome}
+use Rattle.zk_term.specs.Pages.{WroteSome}
 use Rattle.zk_inspect.specs.TreeLines.{AreRows, row_line}
 
 pub no_rows : {S : Type 0} (wrote : S → S → List ℕ → Type 0) (m : MemoryMap) (a : S) → wrote a a [] → WroteSome (AreRows m) wrote a a

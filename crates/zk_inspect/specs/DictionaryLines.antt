@@ -15,7 +15,7 @@ use Rattle.zk_text.specs.declared.unit.Unit.{Unit}
 use Rattle.zk_text.specs.declared.unit.Unit.TheVariants.{Code}
 use Rattle.zk_tables.specs.Dictionaries.{dictionary_at, entry_start}
 use Rattle.zk_tables.specs.declared.dictionary.Dictionary.{Dictionary}
-use Rattle.zk_inspect.specs.Numbers.{address_digits}
+use Rattle.zk_term.specs.Numbers.{address_digits}
 use Rattle.zk_inspect.specs.Quoted.{quoted_units}
 
 -- ---- the word of a key

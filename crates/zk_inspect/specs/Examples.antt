@@ -13,7 +13,7 @@ use Rattle.zk_inspect.specs.DictionaryLines.{dictionary_lines, entry_text}
 use Rattle.zk_inspect.specs.HeaderLines.{header_lines}
 use Rattle.zk_inspect.specs.MapLines.{map_lines}
 use Rattle.zk_inspect.specs.ObjectLines.{object_line}
-use Rattle.zk_inspect.specs.Numbers.{address_digits, word_digits, byte_digits}
+use Rattle.zk_term.specs.Numbers.{address_digits, word_digits, byte_digits}
 use Rattle.zk_inspect.specs.TreeLines.{row_line}
 use Rattle.zk_inspect.specs.Tests.{is_undecodable, leads_out}
 use Rattle.zk_inspect.specs.TextTests.{is_of, text_fails}

@@ -6,7 +6,7 @@ use Rattle.zk_mem.specs.Header.{header_of}
 use Rattle.zk_mem.specs.Map.{MemoryMap}
 use Rattle.zk_inspect.specs.declared.header_lines.Value.{Value}
 use Rattle.zk_inspect.specs.declared.header_lines.Value.TheVariants.{Number, Address, Word, Byte, Serial, Checksum}
-use Rattle.zk_inspect.specs.Numbers.{address_digits, word_digits, byte_digits}
+use Rattle.zk_term.specs.Numbers.{address_digits, word_digits, byte_digits}
 
 -- a byte of ASCII that is seen, and a question mark (63) in place of others
 abbrev pub visible_byte : ℕ → ℕ

@@ -1,10 +1,8 @@
 pub mod Lists
 pub mod Codes
 pub mod Search
-pub mod Numbers
 pub mod Listing
 pub mod Written
-pub mod Pages
 pub mod Quoted
 pub mod Objects
 pub mod Texts

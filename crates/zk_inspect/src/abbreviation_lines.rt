@@ -7,11 +7,11 @@ ghost use Rattle.zk_mem.specs.Faults.{fault_number};
 ghost use Rattle.zk_inspect.specs.AbbreviationLines.{abbreviation_line, abbreviation_lines};
 ghost use Rattle.zk_inspect.specs.Listing.{units_text};
 
-use crate::page::Page;
 use crate::quoting::write_meaning;
-use crate::writing::{write_decimal, write_texts};
 use zk_mem::fault::Fault;
 use zk_mem::memory::Memory;
+use zk_term::page::Page;
+use zk_term::writing::{write_decimal, write_texts};
 use zk_text::text::check_abbreviation;
 
 /// Writes a fault in place of a text.

@@ -10,14 +10,14 @@ ghost use Rattle.zk_tables.specs.Dictionaries.{IsDictionaryOf, entry_start};
 ghost use Rattle.zk_inspect.specs.DictionaryLines.{dictionary_lines, entry_front, entry_line, entry_text, fault_line, key_characters, piece_units, separator_text, separators_line, separators_text, size_line, table_lines, word_units};
 ghost use Rattle.zk_inspect.specs.Quoted.{quoted_units};
 
-use crate::page::Page;
 use crate::quoting::write_code;
-use crate::writing::{hex_digits_of, write_decimal, write_texts, zeros_before};
 use arrayvec::ArrayVec;
 use itoa::Buffer;
 use zk_mem::fault::Fault;
 use zk_mem::memory::Memory;
 use zk_tables::dictionary::Dictionary;
+use zk_term::page::Page;
+use zk_term::writing::{hex_digits_of, write_decimal, write_texts, zeros_before};
 use zk_text::alphabet::{Alphabet, Row};
 use zk_text::pieces::Piece;
 
@@ -187,7 +187,7 @@ fn write_key<P: Page>(page: &mut P, memory: &Memory, address: u32)
 }
 
 /// Writes the number and the address of an entry, up to the quote before its word.
-#[tactic(auto, unfolding(crate::specs::DictionaryLines::entry_front, crate::specs::Numbers::address_digits))]
+#[tactic(auto, unfolding(crate::specs::DictionaryLines::entry_front, zk_term::specs::Numbers::address_digits))]
 fn write_front<P: Page>(page: &mut P, index: u16, address: u32)
     ensures { P.wrote page.old page.new (entry_front index address) }
 {

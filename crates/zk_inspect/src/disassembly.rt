@@ -12,16 +12,16 @@ ghost use Rattle.zk_inspect.specs.Listing.{address_line, disassembly, found_text
 use crate::code::Code;
 use crate::error::ListError;
 use crate::operands::{write_branch, write_operands, write_store};
-use crate::page::{Page, TargetPage};
 use crate::quoting::write_quoted;
-use crate::writing::{hex_digits_of, write_address, write_texts, zeros_before};
 use itoa::Buffer;
 use zk_code::decode::decode;
 use zk_code::instr::Instr;
 use zk_code::opcode::{Opcode, name};
 use zk_code::routines::local_count;
 use zk_mem::memory::Memory;
-use zk_term::target::Target;
+use zk_term::page::{Page, TargetPage};
+use zk_term::target::{Failed, Target};
+use zk_term::writing::{hex_digits_of, write_address, write_texts, zeros_before};
 
 /// Writes the text of an instruction, where it has one.
 #[tactic(auto, unfolding(crate::specs::Listing::text_text))]
@@ -78,7 +78,7 @@ fn write_address_line<P: Page>(page: &mut P, memory: &Memory, address: u32)
 }
 
 /// Writes the line of a routine.
-#[tactic(auto, unfolding(crate::specs::Listing::routine_line, crate::specs::Numbers::address_digits))]
+#[tactic(auto, unfolding(crate::specs::Listing::routine_line, zk_term::specs::Numbers::address_digits))]
 fn write_routine_line<P: Page>(page: &mut P, memory: &Memory, routine: u32)
     ensures { P.wrote page.old page.new (routine_line memory.now routine) }
 {
@@ -138,5 +138,8 @@ pub fn disassemble<T: Target>(memory: &Memory, code: &Code, target: &mut T) -> R
 {
     let mut page = TargetPage::new(target);
     write_code(&mut page, memory, code);
-    page.finish()
+    match page.finish() {
+        Ok(()) => Ok(()),
+        Err(Failed) => Err(ListError::Write),
+    }
 }

@@ -6,7 +6,7 @@ ghost use Rattle.zk_inspect.specs.CheckExamples.{EntriesAtTables, EntriesBelowTa
 ghost use Rattle.zk_inspect.specs.LowExamples.{LowInstructions, LowRoutines};
 
 /// Addresses, words and bytes by their digits.
-#[tactic(auto, unfolding(crate::specs::Numbers::hex_digits, crate::specs::Numbers::address_digits, crate::specs::Numbers::word_digits, crate::specs::Numbers::byte_digits))]
+#[tactic(auto, unfolding(zk_term::specs::Numbers::hex_digits, zk_term::specs::Numbers::address_digits, zk_term::specs::Numbers::word_digits, zk_term::specs::Numbers::byte_digits))]
 pub fn numbers_by_example()
     ensures addresses_have_five_digits { AddressesHaveFiveDigits }
     ensures words_have_four_digits { WordsHaveFourDigits }

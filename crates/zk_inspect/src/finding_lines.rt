@@ -8,13 +8,13 @@ ghost use Rattle.zk_inspect.specs.FindingLines.{finding_line};
 
 use crate::error::ListError;
 use crate::finding::Finding;
-use crate::page::{Page, TargetPage};
-use crate::writing::{hex_digits_of, write_texts, zeros_before};
 use itoa::Buffer;
-use zk_term::target::Target;
+use zk_term::page::{Page, TargetPage};
+use zk_term::target::{Failed, Target};
+use zk_term::writing::{hex_digits_of, write_texts, zeros_before};
 
 /// Writes the line of a finding.
-#[tactic(auto, unfolding(crate::specs::FindingLines::finding_line, crate::specs::Numbers::address_digits))]
+#[tactic(auto, unfolding(crate::specs::FindingLines::finding_line, zk_term::specs::Numbers::address_digits))]
 fn write_finding<P: Page>(page: &mut P, finding: Finding)
     ensures { P.wrote page.old page.new (finding_line finding) }
 {
@@ -57,5 +57,8 @@ pub fn write_findings<T: Target>(findings: &[Finding], target: &mut T) -> Result
 {
     let mut page = TargetPage::new(target);
     write_lines(&mut page, findings);
-    page.finish()
+    match page.finish() {
+        Ok(()) => Ok(()),
+        Err(Failed) => Err(ListError::Write),
+    }
 }

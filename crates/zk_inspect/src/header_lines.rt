@@ -4,10 +4,10 @@ ghost use Rattle.std.specs.Prelude.{◌≡◌};
 ghost use Rattle.std.specs.List.{flat_map};
 ghost use Rattle.zk_inspect.specs.HeaderLines.{common_lines, field_line, header_lines, late_lines, serial_shown, value_text, visible_byte};
 
-use crate::page::Page;
-use crate::writing::{hex_digits_of, write_address, write_decimal, write_texts};
 use zk_mem::header::unpack;
 use zk_mem::memory::Memory;
+use zk_term::page::Page;
+use zk_term::writing::{hex_digits_of, write_address, write_decimal, write_texts};
 
 /// What a header says in one of its fields.
 #[derive(Clone, Copy)]
@@ -55,7 +55,7 @@ fn shown_serial(serial: [u8; 6]) -> [u8; 6]
 }
 
 /// Writes a word: its four digits.
-#[tactic(auto, unfolding(crate::specs::HeaderLines::value_text, crate::specs::Numbers::word_digits))]
+#[tactic(auto, unfolding(crate::specs::HeaderLines::value_text, zk_term::specs::Numbers::word_digits))]
 fn write_digits<P: Page>(page: &mut P, word: u16)
     ensures { P.wrote page.old page.new (value_text (Value.Word word)) }
 {
@@ -64,7 +64,7 @@ fn write_digits<P: Page>(page: &mut P, word: u16)
 }
 
 /// Writes a byte: its two digits.
-#[tactic(auto, unfolding(crate::specs::HeaderLines::value_text, crate::specs::Numbers::byte_digits))]
+#[tactic(auto, unfolding(crate::specs::HeaderLines::value_text, zk_term::specs::Numbers::byte_digits))]
 fn write_two_digits<P: Page>(page: &mut P, byte: u8)
     ensures { P.wrote page.old page.new (value_text (Value.Byte byte)) }
 {
@@ -73,7 +73,7 @@ fn write_two_digits<P: Page>(page: &mut P, byte: u8)
 }
 
 /// Writes a checksum, and whether it is right.
-#[tactic(auto, unfolding(crate::specs::HeaderLines::value_text, crate::specs::Numbers::word_digits))]
+#[tactic(auto, unfolding(crate::specs::HeaderLines::value_text, zk_term::specs::Numbers::word_digits))]
 fn write_sum<P: Page>(page: &mut P, sum: u16, right: bool)
     ensures { P.wrote page.old page.new (value_text (Value.Checksum sum right)) }
 {

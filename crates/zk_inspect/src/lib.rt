@@ -19,7 +19,6 @@ mod map_lines;
 mod object_lines;
 mod objects;
 mod operands;
-mod page;
 mod property_lists;
 mod quoting;
 pub mod reach;

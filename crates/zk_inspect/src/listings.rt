@@ -8,7 +8,7 @@ ghost use Rattle.zk_inspect.specs.DictionaryLines.{dictionary_lines};
 ghost use Rattle.zk_inspect.specs.HeaderLines.{header_lines};
 ghost use Rattle.zk_inspect.specs.MapLines.{map_lines};
 ghost use Rattle.zk_inspect.specs.ObjectLines.{AreObjectLines};
-ghost use Rattle.zk_inspect.specs.Pages.{WroteSome};
+ghost use Rattle.zk_term.specs.Pages.{WroteSome};
 ghost use Rattle.zk_inspect.specs.TreeLines.{AreRows, has_failed};
 ghost use Rattle.zk_inspect.specs.Written.{GaveSome};
 
@@ -19,11 +19,11 @@ use crate::header_lines::write_header;
 use crate::map_lines::write_map;
 use crate::object_lines::write_objects;
 use crate::objects::count_objects;
-use crate::page::{Page, TargetPage};
 use crate::tree_lines::write_tree;
 use std::alloc::Global;
 use zk_mem::memory::Memory;
-use zk_term::target::Target;
+use zk_term::page::{Page, TargetPage};
+use zk_term::target::{Failed, Target};
 
 /// Writes what the header of a story's file says, a line for each field, by its name (Z-Machine Standards Document 1.1,
 /// section 11.1); also the file's length, and whether the checksum is right. Addresses are byte addresses of five hexadecimal
@@ -38,7 +38,10 @@ pub fn header<T: Target>(memory: &Memory, target: &mut T) -> Result<(), ListErro
 {
     let mut page = TargetPage::new(target);
     write_header(&mut page, memory);
-    page.finish()
+    match page.finish() {
+        Ok(()) => Ok(()),
+        Err(Failed) => Err(ListError::Write),
+    }
 }
 
 /// Writes where the parts of a story begin by its header, a line for each, in the order of their byte addresses; those of one
@@ -54,7 +57,10 @@ pub fn map<T: Target>(memory: &Memory, target: &mut T) -> Result<(), ListError>
 {
     let mut page = TargetPage::new(target);
     write_map(&mut page, memory);
-    page.finish()
+    match page.finish() {
+        Ok(()) => Ok(()),
+        Err(Failed) => Err(ListError::Write),
+    }
 }
 
 /// Writes what the 96 abbreviations stand for, a line for each, between quotes as `disassemble` shows texts; or `! F12`
@@ -70,7 +76,10 @@ pub fn abbreviations<T: Target>(memory: &Memory, target: &mut T) -> Result<(), L
 {
     let mut page = TargetPage::new(target);
     write_abbreviations(&mut page, memory);
-    page.finish()
+    match page.finish() {
+        Ok(()) => Ok(()),
+        Err(Failed) => Err(ListError::Write),
+    }
 }
 
 /// Writes the separators of the dictionary that the header names, how many entries it has and how long one is, in bytes, and
@@ -87,7 +96,10 @@ pub fn dictionary<T: Target>(memory: &Memory, target: &mut T) -> Result<(), List
 {
     let mut page = TargetPage::new(target);
     write_dictionary(&mut page, memory);
-    page.finish()
+    match page.finish() {
+        Ok(()) => Ok(()),
+        Err(Failed) => Err(ListError::Write),
+    }
 }
 
 /// Writes the lines of objects.
@@ -110,7 +122,10 @@ pub fn objects<T: Target>(memory: &Memory, target: &mut T) -> Result<(), ListErr
 {
     let mut page = TargetPage::new(target);
     write_all_objects(&mut page, memory);
-    page.finish()
+    match page.finish() {
+        Ok(()) => Ok(()),
+        Err(Failed) => Err(ListError::Write),
+    }
 }
 
 /// Writes the tree of objects: each object that has no parent, in the order of their numbers, and below it its children, each

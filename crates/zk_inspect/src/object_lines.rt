@@ -8,9 +8,7 @@ ghost use Rattle.zk_tables.specs.Properties.{name_of, properties_of};
 ghost use Rattle.zk_tables.specs.PropertyList.{properties_at, properties_from};
 ghost use Rattle.zk_inspect.specs.ObjectLines.{attributes_of, is_set, label_text, links_text, name_text, number_or_none, object_line, properties_or_none, properties_text, property_text, separated};
 
-use crate::page::Page;
 use crate::quoting::write_quoted;
-use crate::writing::{write_decimal, write_texts};
 use arrayvec::ArrayVec;
 use itoa::Buffer;
 use zk_mem::fault::Fault;
@@ -19,6 +17,8 @@ use zk_tables::attributes::attribute;
 use zk_tables::lists::{Property, read_property};
 use zk_tables::properties::{check_properties, list_address, name};
 use zk_tables::tree::{child, parent, sibling};
+use zk_term::page::Page;
+use zk_term::writing::{write_decimal, write_texts};
 
 /// Writes the name of an object: nothing between quotes where it has none.
 #[tactic(auto, unfolding(crate::specs::ObjectLines::name_text))]

@@ -5,14 +5,15 @@ ghost use Rattle.std.specs.List.{flat_map};
 ghost use Rattle.zk_code.specs.Operands.{constant_of};
 ghost use Rattle.zk_inspect.specs.Listing.{branch_text, first_text, further_text, jump_text, names_variable, operand_text, operands_text, reference_text, store_text, takes_variable, target_text, variable_text};
 
-use crate::page::Page;
-use crate::writing::{write_address, write_byte, write_decimal, write_texts, write_word};
+use crate::writing::{write_byte, write_word};
 use zk_code::branch::{Branch, Target as Destination};
 use zk_code::instr::Instr;
 use zk_code::opcode::{Assignment, Opcode};
 use zk_code::operands::Operand;
 use zk_code::ways::is_jump;
 use zk_mem::memory::Memory;
+use zk_term::page::Page;
+use zk_term::writing::{write_address, write_decimal, write_texts};
 
 /// Writes a variable after a text.
 #[tactic(auto, unfolding(crate::specs::Listing::variable_text))]

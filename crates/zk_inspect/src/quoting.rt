@@ -7,9 +7,9 @@ ghost use Rattle.zk_text.specs.Extra.{own_characters};
 ghost use Rattle.zk_inspect.specs.Listing.{quoted_bytes, quoted_character, units_text, text_text};
 ghost use Rattle.zk_inspect.specs.Quoted.{quoted_units, units_or_none};
 
-use crate::page::Page;
-use crate::writing::{write_decimal, write_texts};
 use zk_mem::memory::Memory;
+use zk_term::page::Page;
+use zk_term::writing::{write_decimal, write_texts};
 use zk_text::extra::Extra;
 use zk_text::shown::Shown;
 use zk_text::sink::{Sink, SinkFault};

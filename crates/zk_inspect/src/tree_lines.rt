@@ -2,16 +2,16 @@
 
 ghost use Rattle.std.specs.Prelude.{◌≡◌, ◌<◌, length, OnOk};
 ghost use Rattle.zk_inspect.specs.TreeLines.{AreRows, again_text, indent, row_line, row_text};
-ghost use Rattle.zk_inspect.specs.Pages.{WroteSome};
+ghost use Rattle.zk_term.specs.Pages.{WroteSome};
 
 use crate::address_set::AddressSet;
 use crate::object_lines::{number_or_none, write_label};
-use crate::page::Page;
-use crate::writing::write_texts;
 use itoa::Buffer;
 use std::alloc::{AllocError, Global};
 use zk_mem::memory::Memory;
 use zk_tables::tree::{child, parent, sibling};
+use zk_term::page::Page;
+use zk_term::writing::write_texts;
 
 /// An object as it stands in the tree.
 #[derive(Clone, Copy)]

@@ -1,77 +1,13 @@
-// Texts, numbers and characters, written to a page.
+// Constants, written to a page.
 
-ghost use Rattle.std.specs.Prelude.{◌≡◌, ◌<◌, ◌++◌, decimal, codes};
-ghost use Rattle.std.specs.List.{flat_map};
-ghost use Rattle.zk_inspect.specs.Numbers.{address_digits, byte_digits, hex_digit, hex_digits, word_digits, zeros_left_out};
+ghost use Rattle.std.specs.Prelude.{◌≡◌, ◌++◌, codes};
+ghost use Rattle.zk_term.specs.Numbers.{byte_digits, word_digits};
 
-use crate::page::Page;
-use itoa::Buffer;
-
-/// Writes texts one after another.
-pub(crate) fn write_texts<P: Page>(page: &mut P, texts: &[&[u8]])
-    ensures { P.wrote page.old page.new (flat_map (λ t. t.now) texts.now) }
-{
-    for text in texts {
-        page.write(text);
-    }
-}
-
-/// The hexadecimal digit of a number below 16.
-fn hex_digit_of(n: u32) -> u8
-    requires { n < 16 }
-    ensures { result ≡ hex_digit n }
-{
-    if n < 10 {
-        b'0' + n as u8
-    } else {
-        b'a' + (n as u8 - 10)
-    }
-}
-
-/// The hexadecimal digits of a number.
-#[tactic(auto, unfolding(crate::specs::Numbers::hex_digits))]
-pub(crate) fn hex_digits_of(n: u32) -> [u8; 8]
-    ensures { result ≡ hex_digits n }
-{
-    [
-        hex_digit_of(n / 0x1000_0000 % 16),
-        hex_digit_of(n / 0x100_0000 % 16),
-        hex_digit_of(n / 0x10_0000 % 16),
-        hex_digit_of(n / 0x1_0000 % 16),
-        hex_digit_of(n / 0x1000 % 16),
-        hex_digit_of(n / 0x100 % 16),
-        hex_digit_of(n / 0x10 % 16),
-        hex_digit_of(n % 16),
-    ]
-}
-
-/// How many zeros are left out of an address.
-pub(crate) fn zeros_before(address: u32) -> usize
-    ensures { result ≡ zeros_left_out address }
-{
-    if address < 0x10_0000 {
-        3
-    } else if address < 0x100_0000 {
-        2
-    } else if address < 0x1000_0000 {
-        1
-    } else {
-        0
-    }
-}
-
-/// Writes an address after two texts: by its hexadecimal digits, five at least.
-#[tactic(auto, unfolding(crate::specs::Numbers::address_digits))]
-pub(crate) fn write_address<P: Page>(page: &mut P, before: &[u8], between: &[u8], address: u32)
-    ensures { P.wrote page.old page.new (before.now ++ between.now ++ address_digits address) }
-{
-    let digits = hex_digits_of(address);
-    let shown = &digits[zeros_before(address)..];
-    write_texts(page, &[before, between, shown]);
-}
+use zk_term::page::Page;
+use zk_term::writing::{hex_digits_of, write_texts};
 
 /// Writes a constant after a text: a word by its four hexadecimal digits.
-#[tactic(auto, unfolding(crate::specs::Numbers::word_digits))]
+#[tactic(auto, unfolding(zk_term::specs::Numbers::word_digits))]
 pub(crate) fn write_word<P: Page>(page: &mut P, before: &[u8], word: u16)
     ensures { P.wrote page.old page.new (before.now ++ codes "#" ++ word_digits word) }
 {
@@ -81,19 +17,11 @@ pub(crate) fn write_word<P: Page>(page: &mut P, before: &[u8], word: u16)
 }
 
 /// Writes a constant after a text: a byte by its two hexadecimal digits.
-#[tactic(auto, unfolding(crate::specs::Numbers::byte_digits))]
+#[tactic(auto, unfolding(zk_term::specs::Numbers::byte_digits))]
 pub(crate) fn write_byte<P: Page>(page: &mut P, before: &[u8], byte: u8)
     ensures { P.wrote page.old page.new (before.now ++ codes "#" ++ byte_digits byte) }
 {
     let digits = hex_digits_of(byte as u32);
     let shown = &digits[6..];
     write_texts(page, &[before, b"#", shown]);
-}
-
-/// Writes a number after two texts, by its decimal digits.
-pub(crate) fn write_decimal<P: Page>(page: &mut P, before: &[u8], between: &[u8], n: u32)
-    ensures { P.wrote page.old page.new (before.now ++ between.now ++ decimal n) }
-{
-    let mut buffer = Buffer::new();
-    write_texts(page, &[before, between, buffer.format(n).as_bytes()]);
 }

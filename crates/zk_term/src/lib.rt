@@ -7,6 +7,8 @@ pub mod lines;
 pub mod nothing;
 pub mod out;
 pub mod over;
+pub mod page;
 pub mod source;
 pub mod target;
 pub mod windows;
+pub mod writing;

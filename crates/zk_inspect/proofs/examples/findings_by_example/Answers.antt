@@ -2,7 +2,7 @@
 use Rattle.std.proofs.Common.{refl}
 use Rattle.std.specs.Fmt.{digits}
 use Rattle.zk_inspect.specs.FindingLines.{finding_line}
-use Rattle.zk_inspect.specs.Numbers.{hex_digits, address_digits}
+use Rattle.zk_term.specs.Numbers.{hex_digits, address_digits}
 use Rattle.zk_inspect.proofs.examples.findings_by_example.Goals as goal
 
 pub returns-clause-findings_of_tables : goal.returns-clause-findings_of_tables

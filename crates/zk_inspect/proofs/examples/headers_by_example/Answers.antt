@@ -3,7 +3,7 @@ use Rattle.std.proofs.Common.{refl}
 use Rattle.std.specs.Fmt.{digits}
 use Rattle.zk_mem.specs.Header.{header_of, unit_length}
 use Rattle.zk_mem.specs.Checksum.{file_sum, has_right_sum}
-use Rattle.zk_inspect.specs.Numbers.{hex_digits, address_digits, word_digits, byte_digits}
+use Rattle.zk_term.specs.Numbers.{hex_digits, address_digits, word_digits, byte_digits}
 use Rattle.zk_inspect.specs.HeaderLines.{value_text, field_line, common_lines, late_lines, header_lines}
 use Rattle.zk_inspect.specs.MapLines.{count_before, with_places, place_line, map_lines}
 use Rattle.zk_inspect.proofs.examples.headers_by_example.Goals as goal

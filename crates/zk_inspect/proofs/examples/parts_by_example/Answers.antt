@@ -2,7 +2,7 @@
 use Rattle.std.proofs.Common.{refl}
 use Rattle.std.specs.Fmt.{digits}
 use Rattle.zk_inspect.specs.Listing.{variable_text, operand_text, store_text, branch_text, target_text}
-use Rattle.zk_inspect.specs.Numbers.{hex_digits, address_digits, word_digits, byte_digits}
+use Rattle.zk_term.specs.Numbers.{hex_digits, address_digits, word_digits, byte_digits}
 use Rattle.zk_inspect.proofs.examples.parts_by_example.Goals as goal
 
 pub returns-clause-variables_by_number : goal.returns-clause-variables_by_number

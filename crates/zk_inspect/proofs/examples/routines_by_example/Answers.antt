@@ -17,7 +17,7 @@ use Rattle.zk_code.specs.Table.{two_operand, one_operand, zero_operand, variable
 use Rattle.zk_code.specs.Targets.{offset_target, branch_target, jump_target}
 use Rattle.zk_code.specs.Routines.{count_at}
 use Rattle.zk_code.specs.Reach.{constant_jump, jump_address}
-use Rattle.zk_inspect.specs.Numbers.{hex_digits, address_digits, word_digits, byte_digits}
+use Rattle.zk_term.specs.Numbers.{hex_digits, address_digits, word_digits, byte_digits}
 use Rattle.zk_inspect.specs.Listing.{variable_text, operand_text, first_text, operands_text, store_text, target_text, branch_text, quoted_bytes, units_text, text_text, instruction_text, address_line, routine_line, disassembly}
 use Rattle.zk_inspect.proofs.examples.routines_by_example.Goals as goal
 

@@ -12,7 +12,7 @@ use Rattle.zk_text.specs.Meaning.{values, abbreviation, text_units}
 use Rattle.zk_text.specs.Pieces.{pieces_past}
 use Rattle.zk_text.specs.Words.{z_characters}
 use Rattle.zk_text.specs.Shown.{shown, shown_all}
-use Rattle.zk_inspect.specs.Numbers.{hex_digits, address_digits, word_digits, byte_digits}
+use Rattle.zk_term.specs.Numbers.{hex_digits, address_digits, word_digits, byte_digits}
 use Rattle.zk_inspect.specs.Listing.{quoted_bytes, units_text}
 use Rattle.zk_tables.specs.Layout.{layout_of, is_entry_in, is_entry, entry_of}
 use Rattle.zk_tables.specs.PropertyList.{list_byte}

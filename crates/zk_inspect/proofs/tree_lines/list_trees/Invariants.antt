@@ -1,6 +1,6 @@
 use Rattle.std.proofs.Common.{◌<◌, length}
 use Rattle.zk_inspect.specs.TreeLines.{AreRows}
-use Rattle.zk_inspect.specs.Pages.{WroteSome}
+use Rattle.zk_term.specs.Pages.{WroteSome}
 use Rattle.zk_inspect.proofs.tree_lines.list_trees.Given as goal
 
 abbrev pub invariant-loop-before : goal.invariant-loop-before

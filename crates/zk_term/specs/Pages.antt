@@ -2,7 +2,13 @@
 use Rattle.std.specs.Prelude.{◌≡◌, ℕ, Bool, true, false, List, [], ◌++◌, Option}
 use Rattle.std.proofs.Common.{◌∙◌, append_assoc, append-nil, refl, sym, ap}
 use Rattle.std.proofs.KnownBytes.{Appends-nil, Appends-trans}
+use Rattle.std.specs.Io.KnownBytes.{Appends}
 use Rattle.zk_term.specs.Devices.{PassedOn, TookPart}
+
+-- by whether a write has failed: all of it, or a first part
+abbrev pub Wrote : Bool → Option (List ℕ) → Option (List ℕ) → List ℕ → Type 0
+Wrote false old new text = Appends old new text
+Wrote true old new text = TookPart old new text
 
 -- what a page tells of itself: the bytes that its target took, where it tells them, those that wait to go there, whether a
 -- write to the target has failed, and whether the page has met one that failed

@@ -1,15 +1,13 @@
-// Where a listing is written.
+// Where lines are written.
 
-ghost use Rattle.std.specs.Prelude.{◌≡◌, ◌||◌, [], List, ℕ, false, is_err, IfErr};
-ghost use Rattle.zk_inspect.specs.Pages.{Given, Sheet};
-ghost use Rattle.zk_inspect.specs.Written.{Wrote};
+ghost use Rattle.std.specs.Prelude.{◌≡◌, ◌||◌, [], List, ℕ, false, is_err};
+ghost use Rattle.zk_term.specs.Pages.{Given, Sheet, Wrote};
 
-use crate::error::ListError;
+use crate::target::{Failed, Target, write_all};
 use arrayvec::ArrayVec;
-use zk_term::target::{Failed, Target, write_all};
 
-/// Takes the bytes of a listing.
-pub(crate) trait Page {
+/// Takes the bytes of lines.
+pub trait Page {
     ghost use Rattle.std.specs.Prelude.{List, ℕ, [], ◌++◌};
 
     // what came of a page that was given bytes
@@ -28,14 +26,14 @@ pub(crate) trait Page {
 /// A page over a target: bytes wait, at most 1,024, and go out together where there is no room for more, and at `finish`.
 /// Once a write has failed nothing more is written to the target.
 #[derive(Drop)]
-pub(crate) struct TargetPage<'a, T> {
+pub struct TargetPage<'a, T> {
     target: &'a mut T,
     waiting: ArrayVec<u8, 1024>,
     failed: bool,
 }
 
 impl<'a, T> TargetPage<'a, T> {
-    pub(crate) fn new(target: &'a mut T) -> TargetPage<'a, T>
+    pub fn new(target: &'a mut T) -> TargetPage<'a, T>
         ensures target { result.target ≡ target.entry }
         ensures waiting { result.waiting.items ≡ [] }
         ensures failed { result.failed ≡ false }
@@ -51,9 +49,8 @@ impl<'a, T> TargetPage<'a, T> {
 impl<'a, T: Target> TargetPage<'a, T> {
     /// Gives the target what waits, if no write has failed before. Then all that the page was given has been written, or it
     /// refuses.
-    pub(crate) fn finish(&mut self) -> Result<(), ListError>
+    pub fn finish(&mut self) -> Result<(), Failed>
         ensures target { self.new.target.ghost_name ≡ self.old.target.ghost_name }
-        ensures refusal { IfErr result (λ e. e ≡ ListError.Write) }
         ensures ended { (start : Sheet) (text : List ℕ) → start.waiting ≡ []
             → start.failed ≡ false
             → Given start (record {
@@ -65,11 +62,11 @@ impl<'a, T: Target> TargetPage<'a, T> {
             × (T.failed self.new.target.now ≡ (is_err result || start.broken)) }
     {
         if self.failed {
-            return Err(ListError::Write);
+            return Err(Failed);
         }
         match write_all(self.target, self.waiting.as_slice()) {
             Ok(()) => Ok(()),
-            Err(Failed) => Err(ListError::Write),
+            Err(Failed) => Err(Failed),
         }
     }
 }
@@ -77,7 +74,7 @@ impl<'a, T: Target> TargetPage<'a, T> {
 impl<'a, T: Target> Page for TargetPage<'a, T> {
     ghost use Rattle.std.specs.Prelude.{◌≡◌, refl};
     ghost use Rattle.std.proofs.Common.{◌∙◌};
-    ghost use Rattle.zk_inspect.specs.Pages.{Given, given_nothing, given_twice};
+    ghost use Rattle.zk_term.specs.Pages.{Given, given_nothing, given_twice};
 
     ghost wrote = { λ a b s. (b.target.ghost_name ≡ a.target.ghost_name) × Given
         (record {

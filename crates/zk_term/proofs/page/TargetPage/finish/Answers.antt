@@ -1,5 +1,5 @@
-use Rattle.zk_inspect.proofs.Ends.{ended_all, ended_before, ended_part}
-use Rattle.zk_inspect.proofs.page.TargetPage.finish.Goals as goal
+use Rattle.zk_term.proofs.Pages.{ended_all, ended_before, ended_part}
+use Rattle.zk_term.proofs.page.TargetPage.finish.Goals as goal
 
 pub returns-then-self-clause-ended : goal.returns-then-self-clause-ended
 returns-then-self-clause-ended g c start text none sound given = ended_before start _ text sound c.if-self.true none given

@@ -3,8 +3,7 @@ use Rattle.std.proofs.Common.{◌≡◌, ◌∙◌, ℕ, Bool, true, false, List
 use Rattle.std.proofs.KnownBytes.{Appends-trans}
 use Rattle.std.specs.Io.KnownBytes.{Appends}
 use Rattle.zk_term.specs.Devices.{TookPart}
-use Rattle.zk_inspect.specs.Pages.{Given, GivenBy, Sheet}
-use Rattle.zk_inspect.specs.Written.{Wrote}
+use Rattle.zk_term.specs.Pages.{Given, GivenBy, Sheet, Wrote}
 
 by_failed : (x y : Bool) (a b : Sheet) (text : List ℕ) → x ≡ false → y ≡ true → a.waiting ≡ [] → GivenBy x y a b text → TookPart a.taken b.taken text × (b.broken ≡ true)
 by_failed false true a b text e f w h = (record { part = h.0.part; rest = h.0.rest; whole = rw w at h.0.whole; takes = h.0.takes }, h.1)

@@ -1,6 +1,6 @@
 use Rattle.std.proofs.Common.{◌≡◌, ◌∙◌, ap, refl}
-use Rattle.zk_inspect.proofs.Ends.{sent_all, sent_first, sent_part}
-use Rattle.zk_inspect.proofs.page.TargetPagePage.write.Goals as goal
+use Rattle.zk_term.proofs.Pages.{sent_all, sent_first, sent_part}
+use Rattle.zk_term.proofs.page.TargetPagePage.write.Goals as goal
 
 pub returns-in-Err-write_all : goal.returns-in-Err-write_all
 returns-in-Err-write_all g c =
