@@ -111,23 +111,22 @@ rest_is_list m a k p is there h =
     let f = first_one m k a p v.0 there (ap (λ (i : ℕ). properties_from m i a) (sym is) ∙ v.1) in
     rw f.1 refl
 
-pub by_first : (m : MemoryMap) (b : List ℕ) (a k : ℕ) (p : Property) → readable_end m ≡ suc k → property_at m a ≡ Ok (Some p) → IsOk (properties_at m a)
-    → b ++ separated property_text (properties_or_none (properties_at m a)) ≡ (b ++ property_text p) ++ flat_map behind_comma (properties_or_none (properties_from m k (p.address + p.length)))
+pub by_first : (m : MemoryMap) (a k : ℕ) (p : Property) → readable_end m ≡ suc k → property_at m a ≡ Ok (Some p) → IsOk (properties_at m a)
+    → separated property_text (properties_or_none (properties_at m a)) ≡ property_text p ++ flat_map behind_comma (properties_or_none (properties_from m k (p.address + p.length)))
 unfolding properties_at
-by_first m b a k p is there h =
+by_first m a k p is there h =
     let v = value_of (properties_at m a) h in
     let f = first_one m k a p v.0 there (ap (λ (i : ℕ). properties_from m i a) (sym is) ∙ v.1) in
-    ap (λ (r : Result (List Property) Fault). b ++ separated property_text (properties_or_none r)) v.1
-    ∙ ap (λ (l : List Property). b ++ separated property_text l) f.2
-    ∙ sym (append_assoc b (property_text p) (flat_map behind_comma f.0))
-    ∙ ap (λ (r : Result (List Property) Fault). (b ++ property_text p) ++ flat_map behind_comma (properties_or_none r)) (sym f.1)
+    ap (λ (r : Result (List Property) Fault). separated property_text (properties_or_none r)) v.1
+    ∙ ap (λ (l : List Property). separated property_text l) f.2
+    ∙ ap (λ (r : Result (List Property) Fault). property_text p ++ flat_map behind_comma (properties_or_none r)) (sym f.1)
 
-pub without_first : (m : MemoryMap) (b : List ℕ) (a k : ℕ) → readable_end m ≡ suc k → property_at m a ≡ Ok None → IsOk (properties_at m a) → b ++ separated property_text (properties_or_none (properties_at m a)) ≡ b ++ codes "-"
+pub without_first : (m : MemoryMap) (a k : ℕ) → readable_end m ≡ suc k → property_at m a ≡ Ok None → IsOk (properties_at m a) → separated property_text (properties_or_none (properties_at m a)) ≡ codes "-"
 unfolding properties_at
-without_first m b a k is there h =
+without_first m a k is there h =
     let v = value_of (properties_at m a) h in
     let none = no_more m k a v.0 there (ap (λ (i : ℕ). properties_from m i a) (sym is) ∙ v.1) in
-    ap (λ (r : Result (List Property) Fault). b ++ separated property_text (properties_or_none r)) v.1 ∙ ap (λ (l : List Property). b ++ separated property_text l) none
+    ap (λ (r : Result (List Property) Fault). separated property_text (properties_or_none r)) v.1 ∙ ap (λ (l : List Property). separated property_text l) none
 
 pub no_list_fault : (m : MemoryMap) (a k : ℕ) (f : Fault) → readable_end m ≡ suc k → property_at m a ≡ Err f → IsOk (properties_at m a) → ⊥
 unfolding properties_at
@@ -145,17 +144,17 @@ pub without_list : (m : MemoryMap) (o : ℕ) (f : Fault) → list_of m o ≡ Err
 unfolding properties_of
 without_list m o f h = rw h refl
 
-pub text_of_list : (b : List ℕ) (r s : Result (List Property) Fault) → r ≡ s → IsOk s → b ++ properties_text r ≡ b ++ separated property_text (properties_or_none s)
+pub text_of_list : (r s : Result (List Property) Fault) → r ≡ s → IsOk s → properties_text r ≡ separated property_text (properties_or_none s)
 unfolding properties_text
-text_of_list b r (Ok ps) e h = rw e refl
-text_of_list b r (Err f) e h = absurd cc
+text_of_list r (Ok ps) e h = rw e refl
+text_of_list r (Err f) e h = absurd cc
 
-pub text_of_fault : (b : List ℕ) (r : Result (List Property) Fault) (f : Fault) → r ≡ Err f → b ++ properties_text r ≡ (b ++ codes "! F") ++ decimal (fault_number f)
+pub text_of_fault : (r : Result (List Property) Fault) (f : Fault) → r ≡ Err f → properties_text r ≡ codes "! F" ++ decimal (fault_number f)
 unfolding properties_text
-text_of_fault b r f e = rw e (sym (append_assoc b (codes "! F") (decimal (fault_number f))))
+text_of_fault r f e = rw e refl
 
 -- the first of some things with commas between them, and the others
-pub first_separated : {A : Type 0} (f : A → List ℕ) (b : List ℕ) (xs : List A) (d : A) → 1 ≤ length xs
-    → b ++ separated f xs ≡ ((b ++ []) ++ f (get_or xs 0 d)) ++ flat_map (λ y. codes "," ++ f y) (take (length xs - 1) (drop 1 xs))
-first_separated {A} f b [] d le = absurd (omega arith)
-first_separated {A} f b (x ∷ xs) d le = rw (append-nil, take_rest) (sym (append_assoc b (f x) (flat_map (λ y. codes "," ++ f y) xs)))
+pub first_separated : {A : Type 0} (f : A → List ℕ) (xs : List A) (d : A) → 1 ≤ length xs
+    → separated f xs ≡ f (get_or xs 0 d) ++ flat_map (λ y. codes "," ++ f y) (take (length xs - 1) (drop 1 xs))
+first_separated {A} f [] d le = absurd (omega arith)
+first_separated {A} f (x ∷ xs) d le = rw take_rest refl

@@ -18,7 +18,7 @@ use zk_text::text::check_abbreviation;
 fn write_fault<P: Page>(page: &mut P, fault: Fault)
     ensures { P.wrote page.old page.new (codes "! F" ++ decimal (fault_number fault)) }
 {
-    write_decimal(page, b"! F", b"", fault.number() as u32);
+    write_decimal(page, b"! F", fault.number() as u32);
 }
 
 /// Writes what the text of an abbreviation prints, or why it prints nothing.
@@ -48,7 +48,7 @@ fn write_abbreviation<P: Page>(page: &mut P, memory: &Memory, number: u16)
     requires { number < 96 }
     ensures { P.wrote page.old page.new (abbreviation_line memory.now number) }
 {
-    write_decimal(page, b"", b"", number as u32);
+    write_decimal(page, b"", number as u32);
     page.write(b" ");
     write_meaning_of(page, memory, number);
     page.write(b"\n");

@@ -71,7 +71,7 @@ fn write_found<P: Page>(page: &mut P, memory: &Memory, address: u32)
 fn write_address_line<P: Page>(page: &mut P, memory: &Memory, address: u32)
     ensures { P.wrote page.old page.new (address_line memory.now address) }
 {
-    write_address(page, b"", b"", address);
+    write_address(page, b"", address);
     page.write(b" ");
     write_found(page, memory, address);
     page.write(b"\n");

@@ -91,8 +91,8 @@ fn write_value<P: Page>(page: &mut P, value: Value)
     ensures { P.wrote page.old page.new (value_text value) }
 {
     match value {
-        Value::Number(number) => write_decimal(page, b"", b"", number),
-        Value::Address(address) => write_address(page, b"", b"", address as u32),
+        Value::Number(number) => write_decimal(page, b"", number),
+        Value::Address(address) => write_address(page, b"", address as u32),
         Value::Word(word) => write_digits(page, word),
         Value::Byte(byte) => write_two_digits(page, byte),
         Value::Serial(serial) => page.write(&shown_serial(serial)),

@@ -36,7 +36,7 @@ fn write_name<P: Page>(page: &mut P, memory: &Memory, object: u16)
 pub(crate) fn write_label<P: Page>(page: &mut P, memory: &Memory, object: u16)
     ensures { P.wrote page.old page.new (label_text memory.now object) }
 {
-    write_decimal(page, b"", b"", object as u32);
+    write_decimal(page, b"", object as u32);
     page.write(b" ");
     write_name(page, memory, object);
 }
@@ -113,28 +113,27 @@ fn write_further_numbers<P: Page>(page: &mut P, numbers: &[u16])
     ensures { P.wrote page.old page.new (flat_map (λ n. codes "," ++ decimal n) numbers.now) }
 {
     for number in numbers {
-        write_decimal(page, b",", b"", *number as u32);
+        write_decimal(page, b",", *number as u32);
     }
 }
 
-/// Writes numbers after a text, with commas between them, or a hyphen where there are none.
-fn write_numbers<P: Page>(page: &mut P, before: &[u8], numbers: &[u16])
-    ensures { P.wrote page.old page.new (before.now ++ separated decimal numbers.now) }
+/// Writes numbers with commas between them, or a hyphen where there are none.
+fn write_numbers<P: Page>(page: &mut P, numbers: &[u16])
+    ensures { P.wrote page.old page.new (separated decimal numbers.now) }
 {
     let [first, rest @ ..] = numbers else {
-        return write_texts(page, &[before, b"-"]);
+        return page.write(b"-");
     };
-    write_decimal(page, before, b"", *first as u32);
+    write_decimal(page, b"", *first as u32);
     write_further_numbers(page, rest);
 }
 
 /// Writes the attributes of an object.
 fn write_attributes<P: Page>(page: &mut P, memory: &Memory, object: u16)
-    ensures { P.wrote page.old page.new
-        (codes " attributes " ++ separated decimal (attributes_of memory.now object)) }
+    ensures { P.wrote page.old page.new (separated decimal (attributes_of memory.now object)) }
 {
     let attributes = attributes_of(memory, object);
-    write_numbers(page, b" attributes ", attributes.as_slice());
+    write_numbers(page, attributes.as_slice());
 }
 
 /// Writes a property after a text: its number, and the length of its data.
@@ -169,35 +168,32 @@ fn write_further_properties<P: Page>(page: &mut P, memory: &Memory, address: u32
     }
 }
 
-/// Writes the property list at a byte address after a text, with commas between properties, or a hyphen where there are
-/// none.
-fn write_property_list<P: Page>(page: &mut P, before: &[u8], memory: &Memory, address: u32)
+/// Writes the property list at a byte address, with commas between properties, or a hyphen where there are none.
+fn write_property_list<P: Page>(page: &mut P, memory: &Memory, address: u32)
     requires { IsOk (properties_at memory.now address) }
     ensures { P.wrote page.old page.new
-        (before.now
-        ++ separated property_text (properties_or_none (properties_at memory.now address))) }
+        (separated property_text (properties_or_none (properties_at memory.now address))) }
 {
     match read_property(memory, address) {
         Ok(Some(property)) => {
-            write_property(page, before, property);
+            write_property(page, b"", property);
             write_further_properties(page, memory, property.end(), memory.data_end() - 1);
         }
-        Ok(None) => write_texts(page, &[before, b"-"]),
-        Err(_) => write_texts(page, &[before, b"-"]),
+        Ok(None) => page.write(b"-"),
+        Err(_) => page.write(b"-"),
     }
 }
 
-/// Writes the properties of an object after a text, or why its property list is none.
-fn write_properties<P: Page>(page: &mut P, before: &[u8], memory: &Memory, object: u16)
-    ensures { P.wrote page.old page.new
-        (before.now ++ properties_text (properties_of memory.now object)) }
+/// Writes the properties of an object, or why its property list is none.
+fn write_properties<P: Page>(page: &mut P, memory: &Memory, object: u16)
+    ensures { P.wrote page.old page.new (properties_text (properties_of memory.now object)) }
 {
     match list_address(memory, object) {
         Ok(address) => match check_properties(memory, object) {
-            Ok(()) => write_property_list(page, before, memory, address),
-            Err(fault) => write_decimal(page, before, b"! F", fault.number() as u32),
+            Ok(()) => write_property_list(page, memory, address),
+            Err(fault) => write_decimal(page, b"! F", fault.number() as u32),
         },
-        Err(fault) => write_decimal(page, before, b"! F", fault.number() as u32),
+        Err(fault) => write_decimal(page, b"! F", fault.number() as u32),
     }
 }
 
@@ -207,8 +203,10 @@ fn write_object<P: Page>(page: &mut P, memory: &Memory, object: u16)
 {
     write_label(page, memory, object);
     write_links(page, memory, object);
+    page.write(b" attributes ");
     write_attributes(page, memory, object);
-    write_properties(page, b" properties ", memory, object);
+    page.write(b" properties ");
+    write_properties(page, memory, object);
     page.write(b"\n");
 }
 

@@ -21,11 +21,13 @@ fn write_variable<P: Page>(page: &mut P, before: &[u8], number: u8)
     ensures { P.wrote page.old page.new (before.now ++ variable_text number) }
 {
     if number == 0 {
-        write_texts(page, &[before, b"sp"])
+        write_texts(page, &[before, b"sp"]);
     } else if number < 16 {
-        write_decimal(page, before, b"l", number as u32)
+        page.write(before);
+        write_decimal(page, b"l", number as u32);
     } else {
-        write_decimal(page, before, b"g", (number - 16) as u32)
+        page.write(before);
+        write_decimal(page, b"g", (number - 16) as u32);
     }
 }
 
@@ -60,9 +62,12 @@ fn write_destination<P: Page>(page: &mut P, before: &[u8], destination: Destinat
     match destination {
         Destination::ReturnFalse => write_texts(page, &[before, b"rfalse"]),
         Destination::ReturnTrue => write_texts(page, &[before, b"rtrue"]),
-        Destination::At(address) => write_address(page, before, b"", address),
-        Destination::Below(distance) => write_address(page, before, b"-", distance),
-        Destination::Past(address) => write_address(page, before, b"", address),
+        Destination::At(address) => write_address(page, before, address),
+        Destination::Below(distance) => {
+            page.write(before);
+            write_address(page, b"-", distance);
+        }
+        Destination::Past(address) => write_address(page, before, address),
     }
 }
 
@@ -116,7 +121,7 @@ fn write_jump<P: Page>(page: &mut P, operand: Operand, destination: Option<u32>)
     ensures { P.wrote page.old page.new (32 ∷ jump_text operand destination) }
 {
     match destination {
-        Some(address) => write_address(page, b" ", b"", address),
+        Some(address) => write_address(page, b" ", address),
         None => write_operand(page, b" ", operand),
     }
 }

@@ -148,6 +148,6 @@ pub(crate) fn write_quoted<P: Page>(page: &mut P, memory: &Memory, address: u32)
 {
     match check_text(memory, address) {
         Ok(_) => write_meaning(page, memory, address),
-        Err(fault) => write_decimal(page, b"! F", b"", fault.number() as u32),
+        Err(fault) => write_decimal(page, b"! F", fault.number() as u32),
     }
 }

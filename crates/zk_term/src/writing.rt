@@ -60,20 +60,20 @@ pub fn zeros_before(address: u32) -> usize
     }
 }
 
-/// Writes an address after two texts: by its hexadecimal digits, five at least.
+/// Writes an address after a text: by its hexadecimal digits, five at least.
 #[tactic(auto, unfolding(crate::specs::Numbers::address_digits))]
-pub fn write_address<P: Page>(page: &mut P, before: &[u8], between: &[u8], address: u32)
-    ensures { P.wrote page.old page.new (before.now ++ between.now ++ address_digits address) }
+pub fn write_address<P: Page>(page: &mut P, before: &[u8], address: u32)
+    ensures { P.wrote page.old page.new (before.now ++ address_digits address) }
 {
     let digits = hex_digits_of(address);
     let shown = &digits[zeros_before(address)..];
-    write_texts(page, &[before, between, shown]);
+    write_texts(page, &[before, shown]);
 }
 
-/// Writes a number after two texts, by its decimal digits.
-pub fn write_decimal<P: Page>(page: &mut P, before: &[u8], between: &[u8], n: u32)
-    ensures { P.wrote page.old page.new (before.now ++ between.now ++ decimal n) }
+/// Writes a number after a text, by its decimal digits.
+pub fn write_decimal<P: Page>(page: &mut P, before: &[u8], n: u32)
+    ensures { P.wrote page.old page.new (before.now ++ decimal n) }
 {
     let mut buffer = Buffer::new();
-    write_texts(page, &[before, between, buffer.format(n).as_bytes()]);
+    write_texts(page, &[before, buffer.format(n).as_bytes()]);
 }

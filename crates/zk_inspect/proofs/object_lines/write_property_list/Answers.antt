@@ -22,7 +22,7 @@ returns-in-Ok-Some g c =
     let there : property_at m c.args.address ≡ Ok (Some c.in-Ok-Some.property) = search rules in
     let some : 1 ≤ readable_end m = reaches_data m c.args.address c.requires in
     let size : readable_end m ≡ suc (c.data_end.result - 1) = omega (arith, c.data_end.ensures.value, some) in
-    rw (by_first m c.args.before.now c.args.address (c.data_end.result - 1) c.in-Ok-Some.property size there c.requires) (g.met.P.Page.twice _ _ _ _ _ c.write_property.ensures (rw c.end.ensures at c.write_further_properties.ensures))
+    rw (by_first m c.args.address (c.data_end.result - 1) c.in-Ok-Some.property size there c.requires) (g.met.P.Page.twice _ _ _ _ _ c.write_property.ensures (rw c.end.ensures at c.write_further_properties.ensures))
 
 pub returns-in-Ok-None : goal.returns-in-Ok-None
 returns-in-Ok-None g c =
@@ -30,7 +30,7 @@ returns-in-Ok-None g c =
     let there : property_at m c.args.address ≡ Ok None = search rules in
     let some : 1 ≤ readable_end m = reaches_data m c.args.address c.requires in
     let size : readable_end m ≡ suc (readable_end m - 1) = omega (arith, some) in
-    rw (without_first m c.args.before.now c.args.address (readable_end m - 1) size there c.requires) c.write_texts.ensures
+    rw (without_first m c.args.address (readable_end m - 1) size there c.requires) c.write.ensures
 
 pub returns-in-Err : goal.returns-in-Err
 returns-in-Err g c =
