@@ -144,6 +144,6 @@ pub fn tree<T: Target>(alloc: Global, memory: &Memory, target: &mut T) -> Result
             Ok(()) => Ok(()),
             Err(_) => Err(ListError::Memory),
         },
-        Err(error) => Err(error),
+        Err(Failed) => Err(ListError::Write),
     }
 }
