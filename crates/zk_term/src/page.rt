@@ -1,7 +1,7 @@
 // Where lines are written.
 
 ghost use Rattle.std.specs.Prelude.{◌≡◌, ◌||◌, [], List, ℕ, false, is_err};
-ghost use Rattle.zk_term.specs.Pages.{Given, Sheet, Wrote};
+ghost use Rattle.zk_term.specs.Pages.{Given, Sheet, Wrote, sheet};
 
 use crate::target::{Failed, Target, write_all};
 use arrayvec::ArrayVec;
@@ -53,12 +53,9 @@ impl<'a, T: Target> TargetPage<'a, T> {
         ensures target { self.new.target.ghost_name ≡ self.old.target.ghost_name }
         ensures ended { (start : Sheet) (text : List ℕ) → start.waiting ≡ []
             → start.failed ≡ false
-            → Given start (record {
-              taken = T.taken self.old.target.now;
-              waiting = self.old.waiting.items;
-              broken = T.failed self.old.target.now;
-              failed = self.old.failed;
-            }) text → Wrote (is_err result) start.taken (T.taken self.new.target.now) text
+            → Given start
+            (sheet T.taken T.failed self.old.target.now self.old.waiting.items self.old.failed)
+            text → Wrote (is_err result) start.taken (T.taken self.new.target.now) text
             × (T.failed self.new.target.now ≡ (is_err result || start.broken)) }
     {
         if self.failed {
@@ -74,21 +71,11 @@ impl<'a, T: Target> TargetPage<'a, T> {
 impl<'a, T: Target> Page for TargetPage<'a, T> {
     ghost use Rattle.std.specs.Prelude.{◌≡◌, refl};
     ghost use Rattle.std.proofs.Common.{◌∙◌};
-    ghost use Rattle.zk_term.specs.Pages.{Given, given_nothing, given_twice};
+    ghost use Rattle.zk_term.specs.Pages.{Given, given_nothing, given_twice, sheet};
 
     ghost wrote = { λ a b s. (b.target.ghost_name ≡ a.target.ghost_name) × Given
-        (record {
-          taken = T.taken a.target.now;
-          waiting = a.waiting.items;
-          broken = T.failed a.target.now;
-          failed = a.failed;
-        })
-        (record {
-          taken = T.taken b.target.now;
-          waiting = b.waiting.items;
-          broken = T.failed b.target.now;
-          failed = b.failed;
-        }) s };
+        (sheet T.taken T.failed a.target.now a.waiting.items a.failed)
+        (sheet T.taken T.failed b.target.now b.waiting.items b.failed) s };
 
     fn write(&mut self, bytes: &[u8]) {
         if self.failed {
