@@ -3,43 +3,31 @@ use Rattle.std.proofs.Common.{◌≡◌, ◌∙◌, ℕ, Bool, true, false, List
 use Rattle.std.proofs.KnownBytes.{Appends-trans}
 use Rattle.std.specs.Io.KnownBytes.{Appends}
 use Rattle.zk_term.specs.Devices.{TookPart}
-use Rattle.zk_inspect.specs.Pages.{Given, GivenBy, Sheet}
+use Rattle.zk_inspect.specs.Pages.{Given, Sheet}
 use Rattle.zk_inspect.specs.Written.{Wrote}
-
-by_failed : (x y : Bool) (a b : Sheet) (text : List ℕ) → x ≡ false → y ≡ true → a.waiting ≡ [] → GivenBy x y a b text → TookPart a.taken b.taken text × (b.broken ≡ true)
-by_failed false true a b text e f w h = (record { part = h.0.part; rest = h.0.rest; whole = rw w at h.0.whole; takes = h.0.takes }, h.1)
-by_failed false false a b text e f w h = absurd cc
-by_failed true y a b text e f w h = absurd cc
-
-by_whole : (x y : Bool) (a b : Sheet) (text : List ℕ) → x ≡ false → y ≡ false → a.waiting ≡ [] → GivenBy x y a b text
-    → (part : List ℕ) × (text ≡ part ++ b.waiting) × Appends a.taken b.taken part × (b.broken ≡ a.broken)
-by_whole false false a b text e f w h = (h.0.part, rw w at h.0.whole, h.0.takes, h.1)
-by_whole false true a b text e f w h = absurd cc
-by_whole true y a b text e f w h = absurd cc
 
 -- a write had failed before
 pub ended_before : (a b : Sheet) (text : List ℕ) → a.failed ≡ false → b.failed ≡ true → a.waiting ≡ [] → Given a b text → Wrote true a.taken b.taken text × (b.broken ≡ true)
-ended_before a b text e f w h = by_failed a.failed b.failed a b text e f w h.by
+ended_before a b text e f w h = let k = rw (e, f) at h.by in (record { part = k.0.part; rest = k.0.rest; whole = ap (λ (l : List ℕ). l ++ text) (sym w) ∙ k.0.whole; takes = k.0.takes }, k.1)
 
 -- what waited was taken
 pub ended_all : (a b : Sheet) (u : Option (List ℕ)) (v : Bool) (text : List ℕ) → a.failed ≡ false → b.failed ≡ false → a.waiting ≡ [] → Given a b text → Appends b.taken u b.waiting → v ≡ b.broken → Wrote false a.taken u text × (v ≡ a.broken)
 ended_all a b u v text e f w h takes same =
-    let k = by_whole a.failed b.failed a b text e f w h.by in
-    let all = Appends-trans a.taken b.taken u k.0 b.waiting k.2 takes in
-    (rw (← k.1) at all, same ∙ k.3)
+    let k = rw (e, f) at h.by in
+    let whole : text ≡ k.0.part ++ b.waiting = ap (λ (l : List ℕ). l ++ text) (sym w) ∙ k.0.whole in
+    (rw whole (Appends-trans a.taken b.taken u k.0.part b.waiting k.0.takes takes), same ∙ k.1)
 
 -- a first part of it was taken
 pub ended_part : (a b : Sheet) (u : Option (List ℕ)) (v : Bool) (text : List ℕ) → a.failed ≡ false → b.failed ≡ false → a.waiting ≡ [] → Given a b text → TookPart b.taken u b.waiting → v ≡ true → Wrote true a.taken u text × (v ≡ true)
 ended_part a b u v text e f w h took broken =
-    let k = by_whole a.failed b.failed a b text e f w h.by in (
-      record {
-        part = k.0 ++ took.part;
-        rest = took.rest;
-        whole = k.1 ∙ ap (λ (l : List ℕ). k.0 ++ l) took.whole ∙ sym (append_assoc k.0 took.part took.rest);
-        takes = Appends-trans a.taken b.taken u k.0 took.part k.2 took.takes;
-      },
-      broken,
-    )
+    let k = rw (e, f) at h.by in
+    let whole : text ≡ k.0.part ++ b.waiting = ap (λ (l : List ℕ). l ++ text) (sym w) ∙ k.0.whole in
+    (record {
+      part = k.0.part ++ took.part;
+      rest = took.rest;
+      whole = whole ∙ ap (λ (l : List ℕ). k.0.part ++ l) took.whole ∙ sym (append_assoc k.0.part took.part took.rest);
+      takes = Appends-trans a.taken b.taken u k.0.part took.part k.0.takes took.takes;
+    }, broken)
 
 -- what waited could not all be taken
 pub sent_part : (a b : Sheet) (w bytes : List ℕ) → w ≡ a.waiting → a.failed ≡ false → b.failed ≡ true → TookPart a.taken b.taken w → b.broken ≡ true → Given a b bytes
