@@ -21,13 +21,15 @@ ended_all a b u v text e f w h takes same =
 pub ended_part : (a b : Sheet) (u : Option (List ℕ)) (v : Bool) (text : List ℕ) → a.failed ≡ false → b.failed ≡ false → a.waiting ≡ [] → Given a b text → TookPart b.taken u b.waiting → v ≡ true → Wrote true a.taken u text × (v ≡ true)
 ended_part a b u v text e f w h took broken =
     let k = rw (e, f) at h.by in
-    let whole : text ≡ k.0.part ++ b.waiting = ap (λ (l : List ℕ). l ++ text) (sym w) ∙ k.0.whole in
-    (record {
-      part = k.0.part ++ took.part;
-      rest = took.rest;
-      whole = whole ∙ ap (λ (l : List ℕ). k.0.part ++ l) took.whole ∙ sym (append_assoc k.0.part took.part took.rest);
-      takes = Appends-trans a.taken b.taken u k.0.part took.part k.0.takes took.takes;
-    }, broken)
+    let whole : text ≡ k.0.part ++ b.waiting = ap (λ (l : List ℕ). l ++ text) (sym w) ∙ k.0.whole in (
+      record {
+        part = k.0.part ++ took.part;
+        rest = took.rest;
+        whole = whole ∙ ap (λ (l : List ℕ). k.0.part ++ l) took.whole ∙ sym (append_assoc k.0.part took.part took.rest);
+        takes = Appends-trans a.taken b.taken u k.0.part took.part k.0.takes took.takes;
+      },
+      broken,
+    )
 
 -- what waited could not all be taken
 pub sent_part : (a b : Sheet) (w bytes : List ℕ) → w ≡ a.waiting → a.failed ≡ false → b.failed ≡ true → TookPart a.taken b.taken w → b.broken ≡ true → Given a b bytes

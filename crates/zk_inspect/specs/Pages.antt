@@ -12,6 +12,9 @@ pub record Sheet : Type 0 where
   pub broken : Bool
   pub failed : Bool
 
+abbrev pub sheet : {S : Type 0} → (S → Option (List ℕ)) → (S → Bool) → S → List ℕ → Bool → Sheet
+sheet {S} taken has_failed target waiting failed = record { taken = taken target; waiting = waiting; broken = has_failed target; failed = failed }
+
 -- bytes were given to a page, by whether it has met a failed write before and after that: its target took the first of them
 -- after those that waited, and the others wait; or it took a first part; or nothing was done
 abbrev pub GivenBy : Bool → Bool → Sheet → Sheet → List ℕ → Type 0

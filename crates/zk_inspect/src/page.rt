@@ -1,7 +1,7 @@
 // Where a listing is written.
 
 ghost use Rattle.std.specs.Prelude.{◌≡◌, ◌||◌, [], List, ℕ, false, is_err, IfErr};
-ghost use Rattle.zk_inspect.specs.Pages.{Given, Sheet};
+ghost use Rattle.zk_inspect.specs.Pages.{Given, Sheet, sheet};
 ghost use Rattle.zk_inspect.specs.Written.{Wrote};
 
 use crate::error::ListError;
@@ -56,12 +56,9 @@ impl<'a, T: Target> TargetPage<'a, T> {
         ensures refusal { IfErr result (λ e. e ≡ ListError.Write) }
         ensures ended { (start : Sheet) (text : List ℕ) → start.waiting ≡ []
             → start.failed ≡ false
-            → Given start (record {
-              taken = T.taken self.old.target.now;
-              waiting = self.old.waiting.items;
-              broken = T.failed self.old.target.now;
-              failed = self.old.failed;
-            }) text → Wrote (is_err result) start.taken (T.taken self.new.target.now) text
+            → Given start
+            (sheet T.taken T.failed self.old.target.now self.old.waiting.items self.old.failed)
+            text → Wrote (is_err result) start.taken (T.taken self.new.target.now) text
             × (T.failed self.new.target.now ≡ (is_err result || start.broken)) }
     {
         if self.failed {
@@ -77,21 +74,11 @@ impl<'a, T: Target> TargetPage<'a, T> {
 impl<'a, T: Target> Page for TargetPage<'a, T> {
     ghost use Rattle.std.specs.Prelude.{◌≡◌, refl};
     ghost use Rattle.std.proofs.Common.{◌∙◌};
-    ghost use Rattle.zk_inspect.specs.Pages.{Given, given_nothing, given_twice};
+    ghost use Rattle.zk_inspect.specs.Pages.{Given, given_nothing, given_twice, sheet};
 
     ghost wrote = { λ a b s. (b.target.ghost_name ≡ a.target.ghost_name) × Given
-        (record {
-          taken = T.taken a.target.now;
-          waiting = a.waiting.items;
-          broken = T.failed a.target.now;
-          failed = a.failed;
-        })
-        (record {
-          taken = T.taken b.target.now;
-          waiting = b.waiting.items;
-          broken = T.failed b.target.now;
-          failed = b.failed;
-        }) s };
+        (sheet T.taken T.failed a.target.now a.waiting.items a.failed)
+        (sheet T.taken T.failed b.target.now b.waiting.items b.failed) s };
 
     fn write(&mut self, bytes: &[u8]) {
         if self.failed {
