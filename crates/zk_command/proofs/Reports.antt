@@ -1,7 +1,8 @@
 -- What a device is given of a report.
-use Rattle.std.proofs.Common.{◌≡◌, inl, inr, ℕ, Bool, List, [], ◌++◌, true, refl, sym, subst, append_assoc, append-nil}
+use Rattle.std.proofs.Common.{◌≡◌, inl, inr, ℕ, Bool, List, [], ◌++◌, true, refl, sym, subst, append_assoc, append-nil, false}
 use Rattle.std.proofs.KnownBytes.{Appends-nil}
 use Rattle.zk_term.specs.Devices.{Device, Took}
+use Rattle.zk_term.specs.Pages.{Wrote}
 use Rattle.zk_term.proofs.Shown.{took_twice}
 use Rattle.zk_command.specs.declared.exit.Exit.{Exit}
 use Rattle.zk_command.specs.LastLine.{IsExplained, TookExplained, words_line, last_line}
@@ -30,3 +31,22 @@ cut_off exit a b e h = reported exit a b b h (took_past b (last_line exit) e)
 -- words on an ending that can be explained
 pub explained : (exit : Exit) (a b : Device) (apart : Bool) (words : List ℕ) → IsExplained exit → Took a b (words_line apart words) → TookExplained exit [] a b
 explained exit a b apart words h k = inr (h, (apart, (words, subst (λ (t : List ℕ). Took a b t) (sym (append-nil (words_line apart words))) k)))
+
+-- a device that had not failed took what was written, or a first part of it where a write has failed
+pub took_by : (e : Bool) (a b : Device) (text : List ℕ) → a.failed ≡ false → Wrote e a.taken b.taken text → b.failed ≡ e → Took a b text
+took_by false a b text sound h same = record {
+  part = text;
+  rest = [];
+  whole = sym (append-nil text);
+  takes = h;
+  all = λ f. (sound, refl);
+  none = λ f. absurd cc;
+}
+took_by true a b text sound h same = record {
+  part = h.part;
+  rest = h.rest;
+  whole = h.whole;
+  takes = h.takes;
+  all = λ f. absurd cc;
+  none = λ f. absurd cc;
+}

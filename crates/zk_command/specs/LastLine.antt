@@ -1,5 +1,5 @@
 -- The last line on standard error.
-use Rattle.std.specs.Prelude.{◌⊎◌, Bool, ℕ, ◌+◌, ◌/◌, ◌%◌, ◌^◌, List, [], ◌∷◌, ◌++◌, map, drop, codes, decimal, nat_lt, if◌then◌else◌}
+use Rattle.std.specs.Prelude.{◌⊎◌, Bool, ℕ, List, [], ◌∷◌, ◌++◌, codes, decimal, if◌then◌else◌}
 use Rattle.std.specs.IoError.{error_kind}
 use Rattle.std.specs.declared.io.ErrorKind.{ErrorKind}
 use Rattle.std.specs.declared.io.ErrorKind.TheVariants as kind
@@ -9,26 +9,11 @@ use Rattle.zk_mem.specs.Faults.{fault_number}
 use Rattle.zk_mem.specs.Story.{refusal_number}
 use Rattle.zk_state.specs.Limits.{limit_number}
 use Rattle.zk_term.specs.Devices.{Device, Took}
+use Rattle.zk_term.specs.Numbers.{address_digits}
 use Rattle.zk_vm.specs.declared.stop.Stop.{Stop}
 use Rattle.zk_vm.specs.declared.stop.Stop.TheVariants.{Quit, Fault, Limit, EndOfInput, Read, Write, Memory}
 use Rattle.zk_command.specs.declared.exit.Exit.{Exit}
 use Rattle.zk_command.specs.declared.exit.Exit.TheVariants.{Unread, Refused, Stopped, Found}
-
--- the hexadecimal digit of a number below 16: 0 to 9 (48 on) and a to f (97 on)
-abbrev pub hex_digit : ℕ → ℕ
-hex_digit n = if nat_lt n 10 then 48 + n else 87 + n
-
--- the eight hexadecimal digits of a number of 32 bits
-abbrev pub hex_digits : ℕ → List ℕ
-hex_digits n = map (λ k. hex_digit (n / 16 ^ k % 16)) (7 ∷ 6 ∷ 5 ∷ 4 ∷ 3 ∷ 2 ∷ 1 ∷ 0 ∷ [])
-
--- how many zeros are left out of eight digits, so that five are left at least
-abbrev pub zeros_left_out : ℕ → ℕ
-zeros_left_out n = if nat_lt n 0x10_0000 then 3 else if nat_lt n 0x100_0000 then 2 else if nat_lt n 0x1000_0000 then 1 else 0
-
--- an address: its hexadecimal digits, at least five
-abbrev pub address_digits : ℕ → List ℕ
-address_digits a = drop (zeros_left_out a) (hex_digits a)
 
 -- a line of the program, which ends with a new line (10)
 abbrev pub line : List ℕ → List ℕ

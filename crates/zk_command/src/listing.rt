@@ -13,7 +13,6 @@ ghost use Rattle.zk_command.specs.declared.listing.Listing.TheVariants as listin
 
 use crate::about::About;
 use crate::exit::Exit;
-use crate::gathered::Gathered;
 use crate::opening::open_story;
 use crate::report::report_listing;
 use crate::verdict::verdict;
@@ -26,7 +25,7 @@ use zk_inspect::listings::{abbreviations, dictionary, header, map, objects, tree
 use zk_inspect::reach::reach;
 use zk_mem::memory::{Memory, Setup};
 use zk_mem::story::Story;
-use zk_term::target::{Failed, Target, write_all};
+use zk_term::target::{Target, write_all};
 use zk_vm::stop::Stop;
 
 /// How many states to go back to the header's fields speak of where a story is listed: what `play` has without `--undo`.
@@ -198,20 +197,6 @@ fn exit_after(listed: Result<bool, ListError>) -> Exit
     }
 }
 
-/// Writes a listing to the screen, some of it at a time, and tells how that ends. Once a write has failed nothing more is
-/// written.
-fn list_memory<S: Target>(alloc: Global, memory: &Memory, listing: Listing, screen: &mut S) -> Exit
-    requires { IsStart memory.now }
-    ensures { IsListed listing memory.now result }
-{
-    let mut gathered = Gathered::new(screen);
-    let listed = list(alloc, memory, listing, &mut gathered);
-    match gathered.finish() {
-        Ok(()) => exit_after(listed),
-        Err(Failed) => Exit::Stopped(Stop::Write),
-    }
-}
-
 /// Lists a story.
 fn list_story<S: Target>(alloc: Global, story: Story, listing: Listing, screen: &mut S) -> Exit
     requires { refusal story ≡ None }
@@ -221,7 +206,7 @@ fn list_story<S: Target>(alloc: Global, story: Story, listing: Listing, screen: 
         undo_states: UNDO_STATES,
     };
     match Memory::start(alloc, story, setup) {
-        Ok(memory) => list_memory(alloc, &memory, listing, screen),
+        Ok(memory) => exit_after(list(alloc, &memory, listing, screen)),
         Err(_) => Exit::Stopped(Stop::Memory),
     }
 }

@@ -1,9 +1,9 @@
 // The last lines and the status of a play.
 
-ghost use Rattle.std.specs.Prelude.{◌≡◌, ◌<◌, false, is_err, map, [], IfOk, OnSome};
-ghost use Rattle.std.specs.List.{concat};
+ghost use Rattle.std.specs.Prelude.{◌≡◌, false, is_err, [], IfOk, OnSome};
+ghost use Rattle.std.specs.List.{flat_map};
 ghost use Rattle.zk_term.specs.Devices.{Took, device};
-ghost use Rattle.zk_command.specs.LastLine.{IsExplained, TookExplained, cause_at, hex_digit, hex_digits, last_line, line, refused_line, stop_line, unread_line, words_line, zeros_left_out};
+ghost use Rattle.zk_command.specs.LastLine.{IsExplained, TookExplained, cause_at, last_line, line, refused_line, stop_line, unread_line, words_line};
 ghost use Rattle.zk_command.specs.Status.{exit_status};
 
 use crate::about::About;
@@ -16,70 +16,27 @@ use std::io::{self, ErrorKind};
 use zk_mem::fault::Fault;
 use zk_mem::story::OpenError;
 use zk_state::refusal::Limit;
-use zk_term::target::{Failed, Target, write_all};
+use zk_term::page::{Page, TargetPage};
+use zk_term::target::{Failed, Target};
+use zk_term::writing::{hex_digits_of, write_texts, zeros_before};
 use zk_vm::limits::Limits;
 use zk_vm::stop::Stop;
 
 /// Writes texts one after another, up to a write that fails.
-fn write_texts<E: Target>(errors: &mut E, texts: &[&[u8]]) -> Result<(), Failed>
+#[tactic(auto, using(crate::proofs::Reports::took_by))]
+fn write_together<E: Target>(errors: &mut E, texts: &[&[u8]]) -> Result<(), Failed>
     requires { E.failed errors.old ≡ false }
     ensures text { Took (device E.taken E.failed errors.old) (device E.taken E.failed errors.new)
-        (concat (map (λ t. t.now) texts.now)) }
+        (flat_map (λ t. t.now) texts.now) }
     ensures failed { E.failed errors.new ≡ is_err result }
 {
-    let [first, rest @ ..] = texts else {
-        return Ok(());
-    };
-    match write_all(errors, first) {
-        Ok(()) => write_texts(errors, rest),
-        Err(Failed) => Err(Failed),
-    }
-}
-
-/// The hexadecimal digit of a number below 16.
-fn hex_digit_of(n: u32) -> u8
-    requires { n < 16 }
-    ensures { result ≡ hex_digit n }
-{
-    if n < 10 {
-        b'0' + n as u8
-    } else {
-        b'a' + (n as u8 - 10)
-    }
-}
-
-/// The hexadecimal digits of a number.
-fn hex_digits_of(n: u32) -> [u8; 8]
-    ensures { result ≡ hex_digits n }
-{
-    [
-        hex_digit_of(n / 0x1000_0000 % 16),
-        hex_digit_of(n / 0x100_0000 % 16),
-        hex_digit_of(n / 0x10_0000 % 16),
-        hex_digit_of(n / 0x1_0000 % 16),
-        hex_digit_of(n / 0x1000 % 16),
-        hex_digit_of(n / 0x100 % 16),
-        hex_digit_of(n / 0x10 % 16),
-        hex_digit_of(n % 16),
-    ]
-}
-
-/// How many zeros are left out of an address.
-fn zeros_before(a: u32) -> usize
-    ensures { result ≡ zeros_left_out a }
-{
-    if a < 0x10_0000 {
-        3
-    } else if a < 0x100_0000 {
-        2
-    } else if a < 0x1000_0000 {
-        1
-    } else {
-        0
-    }
+    let mut page = TargetPage::new(errors);
+    write_texts(&mut page, texts);
+    page.finish()
 }
 
 /// Writes a numbered cause at an address.
+#[tactic(auto, unfolding(zk_term::specs::Numbers::address_digits))]
 fn write_cause<E: Target>(errors: &mut E, cause: &[u8], number: u8, a: u32) -> Result<(), Failed>
     requires { E.failed errors.old ≡ false }
     ensures { Took (device E.taken E.failed errors.old) (device E.taken E.failed errors.new)
@@ -89,7 +46,7 @@ fn write_cause<E: Target>(errors: &mut E, cause: &[u8], number: u8, a: u32) -> R
     let digits = hex_digits_of(a);
     let number = decimal.format(number).as_bytes();
     let address = &digits[zeros_before(a)..];
-    write_texts(errors, &[b"zkit: ", cause, number, b" at ", address, b"\n"])
+    write_together(errors, &[b"zkit: ", cause, number, b" at ", address, b"\n"])
 }
 
 /// Writes a line of the program.
@@ -99,7 +56,7 @@ fn write_line<E: Target>(errors: &mut E, text: &[u8]) -> Result<(), Failed>
         (line text.now) }
     ensures failed { E.failed errors.new ≡ is_err result }
 {
-    write_texts(errors, &[b"zkit: ", text, b"\n"])
+    write_together(errors, &[b"zkit: ", text, b"\n"])
 }
 
 /// Writes a line in words, after a new line where the screen does not stand at the start of a line.
@@ -110,9 +67,9 @@ fn write_words_line<E: Target>(errors: &mut E, apart: bool, text: &[u8]) -> Resu
     ensures failed { E.failed errors.new ≡ is_err result }
 {
     if apart {
-        return write_texts(errors, &[b"\n", b"zkit: ", text, b"\n"]);
+        return write_together(errors, &[b"\n", b"zkit: ", text, b"\n"]);
     }
-    write_texts(errors, &[b"zkit: ", text, b"\n"])
+    write_together(errors, &[b"zkit: ", text, b"\n"])
 }
 
 fn write_stop<E: Target>(errors: &mut E, stop: &Stop) -> Result<(), Failed>
@@ -140,7 +97,7 @@ fn write_refusal<E: Target>(errors: &mut E, error: &OpenError) -> Result<(), Fai
         _ => {
             let mut decimal = Buffer::new();
             let number = decimal.format(error.number()).as_bytes();
-            write_texts(errors, &[b"zkit: ", b"refused ", number, b"\n"])
+            write_together(errors, &[b"zkit: ", b"refused ", number, b"\n"])
         }
     }
 }
