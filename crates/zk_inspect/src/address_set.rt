@@ -80,6 +80,5 @@ pub(crate) fn unmarked(alloc: Global, bound: u32) -> Result<AddressSet, AllocErr
     ensures size { IfOk result (λ marks. length marks ≡ bound) }
     ensures none { IfOk result (λ marks. (a : ℕ) → IsMarked marks a → ⊥) }
 {
-    let marks = AddressSet::none(alloc, bound as usize)?;
-    Ok(marks)
+    AddressSet::none(alloc, bound as usize)
 }

@@ -30,8 +30,7 @@ use zk_mem::memory::Memory;
 fn find_wrong_checksum(alloc: Global, memory: &Memory) -> Result<Addresses, AllocError>
     ensures { IfOk result (IsListOf (Finds memory.now Number.Checksum)) }
 {
-    let list = Addresses::only_if(alloc, !memory.checksum_ok(), 0x1c)?;
-    Ok(list)
+    Addresses::only_if(alloc, !memory.checksum_ok(), 0x1c)
 }
 
 /// Where the length stands, if it is past the file's end.
@@ -39,8 +38,7 @@ fn find_length_past_end(alloc: Global, memory: &Memory) -> Result<Addresses, All
     ensures { IfOk result (IsListOf (Finds memory.now Number.Length)) }
 {
     let stated = unpack(memory.version(), memory.header().file_length);
-    let list = Addresses::only_if(alloc, stated > memory.len(), 0x1a)?;
-    Ok(list)
+    Addresses::only_if(alloc, stated > memory.len(), 0x1a)
 }
 
 /// Whether there is no instruction at an address.
@@ -201,8 +199,7 @@ fn find_undecodable(
 {
     memory.has_bytes();
     let question = CodeQuestion::Undecodable;
-    let list = list_code(alloc, memory, ends, question, code.addresses.as_slice())?;
-    Ok(list)
+    list_code(alloc, memory, ends, question, code.addresses.as_slice())
 }
 
 /// The addresses of reached instructions that lead out of the story.
@@ -218,8 +215,7 @@ fn find_leading_out(
 {
     memory.has_bytes();
     let question = CodeQuestion::LeadsOut;
-    let list = list_code(alloc, memory, ends, question, code.addresses.as_slice())?;
-    Ok(list)
+    list_code(alloc, memory, ends, question, code.addresses.as_slice())
 }
 
 /// The addresses of reached instructions that a run may rewrite.
@@ -235,8 +231,7 @@ fn find_low(
 {
     memory.has_bytes();
     let question = CodeQuestion::Low;
-    let list = list_code(alloc, memory, ends, question, code.addresses.as_slice())?;
-    Ok(list)
+    list_code(alloc, memory, ends, question, code.addresses.as_slice())
 }
 
 /// The entries of objects with a link past the last.
@@ -248,8 +243,7 @@ fn find_leading_past(
     requires { AreObjects memory.now objects.now }
     ensures { IfOk result (IsListOf (Finds memory.now Number.ObjectLinks)) }
 {
-    let list = list_objects(alloc, memory, objects, Question::Links)?;
-    Ok(list)
+    list_objects(alloc, memory, objects, Question::Links)
 }
 
 /// The entries of objects whose chain of children repeats one.
@@ -261,8 +255,7 @@ fn find_repeating(
     requires { AreObjects memory.now objects.now }
     ensures { IfOk result (IsListOf (Finds memory.now Number.ChainWithARepeat)) }
 {
-    let list = list_objects(alloc, memory, objects, Question::Chain)?;
-    Ok(list)
+    list_objects(alloc, memory, objects, Question::Chain)
 }
 
 /// The entries of objects whose property list does not lie in data.
@@ -275,8 +268,7 @@ fn find_without_list(
     ensures { IfOk result (IsListOf (Finds memory.now Number.PropertyList)) }
 {
     memory.has_bytes();
-    let list = list_objects(alloc, memory, objects, Question::Properties)?;
-    Ok(list)
+    list_objects(alloc, memory, objects, Question::Properties)
 }
 
 /// What a story has that may be wrong.

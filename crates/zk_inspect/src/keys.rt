@@ -20,8 +20,7 @@ pub(crate) fn find_bad_dictionary(alloc: Global, memory: &Memory) -> Result<Addr
     memory.has_bytes();
     let address = memory.header().dictionary as u32;
     let is_bad = address != 0 && Dictionary::at(memory, address).is_err();
-    let list = Addresses::only_if(alloc, is_bad, address)?;
-    Ok(list)
+    Addresses::only_if(alloc, is_bad, address)
 }
 
 /// The first entry, counted from 0, whose key does not come before the next one.
@@ -74,10 +73,7 @@ pub(crate) fn find_unordered(alloc: Global, memory: &Memory) -> Result<Addresses
         return Ok(Addresses::new(alloc));
     }
     match Dictionary::at(memory, address) {
-        Ok(dictionary) => {
-            let list = list_fall(alloc, memory, dictionary)?;
-            Ok(list)
-        }
+        Ok(dictionary) => { list_fall(alloc, memory, dictionary) }
         Err(_) => Ok(Addresses::new(alloc)),
     }
 }

@@ -112,8 +112,7 @@ fn list_failing(
     ensures { IfOk result (IsListOf (λ a. text_fails memory.now marks.now kind a ≡ true)) }
 {
     let failing = mark_failing(alloc, memory, marks, kind)?;
-    let list = failing.list(alloc)?;
-    Ok(list)
+    failing.list(alloc)
 }
 
 /// The addresses of texts that have no end in the story, or that use an abbreviation without one, and the words of the
@@ -126,8 +125,7 @@ pub(crate) fn find_past_end(
     requires { AreTextMarks memory.now marks.now }
     ensures { IfOk result (IsListOf (Finds memory.now Number.TextPastTheEnd)) }
 {
-    let list = list_failing(alloc, memory, marks, TextFault::PastEnd)?;
-    Ok(list)
+    list_failing(alloc, memory, marks, TextFault::PastEnd)
 }
 
 /// The addresses of abbreviations that use one, and of texts that use such an abbreviation.
@@ -139,6 +137,5 @@ pub(crate) fn find_nested(
     requires { AreTextMarks memory.now marks.now }
     ensures { IfOk result (IsListOf (Finds memory.now Number.NestedAbbreviation)) }
 {
-    let list = list_failing(alloc, memory, marks, TextFault::Nested)?;
-    Ok(list)
+    list_failing(alloc, memory, marks, TextFault::Nested)
 }

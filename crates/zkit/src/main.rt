@@ -174,8 +174,7 @@ fn answer(rt: &HostRuntime, words: &[String]) -> u8 {
 
 /// The words that the program is called with, its name first.
 fn read_words(rt: &HostRuntime) -> io::Result<Vec<String>> {
-    let words = env::args(rt)?.collect(rt.alloc())?;
-    Ok(words)
+    env::args(rt)?.collect(rt.alloc())
 }
 
 fn main(rt: HostRuntime) -> ExitCode {

@@ -1,3 +1,4 @@
+use Rattle.std.proofs.lemmas.Result.{IfOk-weaker}
 use Rattle.std.proofs.Common.{◌∙◌, ◌*◌, ap₂, sym}
 use Rattle.zk_mem.specs.Header.{unit_length}
 use Rattle.zk_mem.specs.declared.header.Header.{Header}
@@ -5,6 +6,6 @@ use Rattle.zk_inspect.proofs.Checks.{length_past_end}
 use Rattle.zk_inspect.proofs.checking.find_length_past_end.Goals as goal
 
 pub returns : goal.returns
-returns c =
+returns c = IfOk-weaker _ _ _ (λ list is.
     let stated = c.unpack-stated.ensures.value ∙ ap₂ (λ v (h : Header). unit_length v * h.file_length) (c.version.ensures.value ∙ c.version.ensures.file) c.header.ensures in
-    length_past_end c.args.memory.now c.in_ok-list.list c.len.result c.unpack-stated.result (c.len.ensures.value ∙ sym c.len.ensures.same) stated c.in_ok-list.ensures
+    length_past_end c.args.memory.now list c.len.result c.unpack-stated.result (c.len.ensures.value ∙ sym c.len.ensures.same) stated is) c.only_if.ensures
