@@ -7,7 +7,6 @@ pub mod GivenCodes
 pub mod Inside
 pub mod Keys
 pub mod Later
-pub mod LaterSteps
 pub mod Lines
 pub mod Behaviours
 pub mod OpenTables

@@ -24,7 +24,7 @@ use Rattle.zk_step.specs.Restarts.{windows_closed}
 use Rattle.zk_step.specs.Routing.{Texts}
 use Rattle.zk_step.specs.Status.{status_units}
 use Rattle.zk_step.proofs.Later.{Later, later_then, later_if, status_units_later}
-use Rattle.zk_step.proofs.LaterSteps.{carried_out_later, character_answered_later, line_answered_later, result_answered_later, resumed_later}
+use Rattle.zk_step.proofs.Sweep.{carried_out_later, character_answered_later, line_answered_later, result_answered_later, resumed_later}
 use Rattle.zk_vm.specs.declared.waiting.Waiting.{Waiting}
 use Rattle.zk_vm.specs.Answers.{Answer, answer_settled, answered, answered_by, codes_of, file_of, first_code, is_kept, restored_from, restored_to, truth_word}
 use Rattle.zk_vm.specs.Step.{State, Step, back_to, fetched, goes_to, kept_answer, led_to, settled, step, view_before, waits_by, with_kept}

@@ -71,8 +71,8 @@ Onward GoesOn next waits = next
 Onward (WaitsFor w) next waits = waits w
 Onward (StopsBy stop) next waits = Unit {0}
 
--- so it is in each state of a segment from which a step is made, and where the segment waits; nothing is said after a step
--- that is the last
+-- so it is in each state of a segment from which a step is made, and something else where the segment waits; nothing is said
+-- after a step that is the last
 abbrev pub EachStep : (State → Type 0) → (State → Bool) → (State → Waiting → Type 0) → ℕ → State → Type 0
 EachStep At is_last Rest zero s = Unit {0}
 EachStep At is_last Rest (suc left) s =
@@ -86,7 +86,7 @@ EachOfRun At is_last ends l (a ∷ answers) s =
     (λ t w. ends t w a ≡ false → Onward (verdict_of t (answered t w a)) (EachOfRun At is_last ends l answers (state_after t (answered t w a))) (λ v. Unit {0}))
     (l.steps - s.steps) (record s { due = [] })
 
--- so it is in the whole run
+-- no step is the last, and no answer, where something is said of the whole run
 abbrev pub never : State → Bool
 never s = false
 

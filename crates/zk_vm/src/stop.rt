@@ -18,7 +18,7 @@ pub enum Stop {
     Read,
     /// The screen or the transcript can't be written.
     Write,
-    /// There is no memory for a state that is kept.
+    /// There is no memory for a state that is kept or for a saved game.
     Memory,
 }
 
