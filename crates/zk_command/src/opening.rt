@@ -38,7 +38,7 @@ fn read_pieces<R: Read>(reader: &mut R, bytes: &mut Vec<u8>) -> io::Result<()>
 }
 
 /// The bytes of a story's file, as many as a story may have and one more.
-fn read_story<R: Read + Drop>(alloc: Global, reader: R) -> io::Result<Vec<u8>>
+pub fn read_story<R: Read + Drop>(alloc: Global, reader: R) -> io::Result<Vec<u8>>
     ensures { IfOk result (λ v. IfSome (R.remaining reader) (λ file. v.items ≡ bytes_read file)) }
 {
     // room for the longest, of which as much is used as there are bytes

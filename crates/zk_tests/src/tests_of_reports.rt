@@ -5,7 +5,7 @@ use crate::tests_same::same;
 use std::io::Read;
 use std::process::Abort;
 use std::test::Fail;
-use zk_command::playing::read_story;
+use zk_command::opening::read_story;
 use zk_mem::story::{OpenError, Story};
 
 /// Compares why bytes are no story.
