@@ -174,7 +174,8 @@ fn answer(rt: &HostRuntime, words: &[String]) -> u8 {
 
 /// The words that the program is called with, its name first.
 fn read_words(rt: &HostRuntime) -> io::Result<Vec<String>> {
-    env::args(rt)?.collect(rt.alloc())
+    let words = env::args(rt)?.collect(rt.alloc())?;
+    Ok(words)
 }
 
 fn main(rt: HostRuntime) -> ExitCode {
