@@ -1,7 +1,7 @@
 // Plays, lists and checks Z-machine stories.
 #![tactic(auto)]
 
-ghost use Rattle.std.specs.Prelude.{◌≡◌, ◌⊎◌};
+ghost use Rattle.std.specs.Prelude.{◌≡◌, ◌⊎◌, false};
 ghost use Rattle.clap.specs.Words.{kind_of};
 ghost use Rattle.zk_vm.specs.Bounds.{AreInRange};
 ghost use Rattle.zk_command.specs.CommandLine.{usage_status};
@@ -23,7 +23,40 @@ use zk_command::script::ScriptFile;
 use zk_command::settings::Settings;
 use zk_command::watched::Watched;
 use zk_term::over::Over;
+use zk_term::target::Target;
+use zk_vm::slot::SaveSlot;
 use zk_vm::stop::Stop;
+
+/// Plays the story in a file, with its transcript in a script and its saved game in a slot, and answers the program's
+/// status.
+fn play_with<T: Target + Drop, K: SaveSlot + Drop>(
+    rt: &HostRuntime,
+    about: &About,
+    settings: Settings,
+    script: T,
+    slot: K,
+) -> u8
+    requires in_range { AreInRange settings.limits }
+    requires script_works { T.failed script ≡ false }
+{
+    let mut errors = Over::new(rt.stderr());
+    let mut devices = Devices {
+        input: Over::new(Watched::new(rt.stdin(), &about.input)),
+        screen: Over::new(Watched::new(io::writer(rt), &about.screen)),
+        script,
+        slot,
+    };
+    match File::open(rt, about.path) {
+        Err(error) => report(
+            rt.alloc(),
+            &Exit::Unread(error),
+            &settings.limits,
+            about,
+            &mut errors,
+        ),
+        Ok(file) => play_and_report(rt.alloc(), file, about, settings, &mut devices, &mut errors),
+    }
+}
 
 /// Plays the story in a file, with its saved game and its transcript in others where these are named, and answers the
 /// program's status.
@@ -37,30 +70,8 @@ fn play(
     requires { AreInRange settings.limits }
 {
     let about = About::new(path, script.unwrap_or(""));
-    let mut errors = Over::new(rt.stderr());
-    let mut devices = Devices {
-        input: Over::new(Watched::new(rt.stdin(), &about.input)),
-        screen: Over::new(Watched::new(io::writer(rt), &about.screen)),
-        script: ScriptFile::new(rt, script, &about.script),
-        slot: SaveFile::new(rt, save),
-    };
-    match File::open(rt, path) {
-        Err(error) => report(
-            rt.alloc(),
-            &Exit::Unread(error),
-            &settings.limits,
-            &about,
-            &mut errors,
-        ),
-        Ok(file) => play_and_report(
-            rt.alloc(),
-            file,
-            &about,
-            settings,
-            &mut devices,
-            &mut errors,
-        ),
-    }
+    let file = ScriptFile::new(rt, script, &about.script);
+    play_with(rt, &about, settings, file, SaveFile::new(rt, save))
 }
 
 /// Lists the story in a file, and answers the program's status.
