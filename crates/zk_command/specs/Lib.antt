@@ -5,3 +5,4 @@ pub mod Status
 pub mod Listing
 pub mod Verdict
 pub mod SaveFiles
+pub mod ScriptFiles

@@ -1,10 +1,9 @@
 // A story, from its file to its devices.
 
-ghost use Rattle.std.specs.Prelude.{◌≡◌, false, None};
-ghost use Rattle.zk_mem.specs.Story.{refusal};
+ghost use Rattle.std.specs.Prelude.{◌≡◌, false};
 ghost use Rattle.zk_term.specs.Devices.{device};
 ghost use Rattle.zk_vm.specs.Bounds.{AreInRange};
-ghost use Rattle.zk_command.specs.Playing.{EndsPlay, IsPlayedBy, IsReported, IsRun, Work, play_on};
+ghost use Rattle.zk_command.specs.Playing.{EndsPlay, IsReported, Work, play_on};
 
 use crate::about::About;
 use crate::astray::Astray;
@@ -15,7 +14,6 @@ use crate::settings::Settings;
 use std::alloc::Global;
 use std::io::Read;
 use zk_mem::fault::Fault;
-use zk_mem::story::Story;
 use zk_term::source::Source;
 use zk_term::target::{Failed, Target};
 use zk_vm::machine::Machine;
@@ -42,53 +40,6 @@ fn note_target(about: &About, machine: &Machine, stop: &Stop) {
     }
 }
 
-/// Plays a machine up to its stop. First the script is given no bytes, so that a file is made of it before the run.
-fn play_machine<I: Source, S: Target, T: Target, K: SaveSlot>(
-    alloc: Global,
-    machine: &mut Machine,
-    devices: &mut Devices<I, S, T, K>,
-) -> Stop
-    requires free { machine.old.waiting ≡ None }
-    requires works { Work I.failed S.failed T.failed devices.old }
-    ensures { IsPlayedBy (play_on I.left I.failed I.ends I.fails S.taken S.failed T.taken T.failed
-        K.held K.keeps devices.old devices.new) machine.old result }
-{
-    match devices.script.write(&[]) {
-        Err(Failed) => Stop::Write,
-        Ok(_) => play(
-            alloc,
-            &mut devices.input,
-            &mut devices.screen,
-            &mut devices.script,
-            &mut devices.slot,
-            machine,
-        ),
-    }
-}
-
-/// Plays a story up to its stop.
-fn play_story<I: Source, S: Target, T: Target, K: SaveSlot>(
-    alloc: Global,
-    story: Story,
-    about: &About,
-    settings: Settings,
-    devices: &mut Devices<I, S, T, K>,
-) -> Stop
-    requires in_range { AreInRange settings.limits }
-    requires works { Work I.failed S.failed T.failed devices.old }
-    ensures { IsRun (play_on I.left I.failed I.ends I.fails S.taken S.failed T.taken T.failed
-        K.held K.keeps devices.old devices.new) story settings result }
-{
-    match Machine::start(alloc, story, settings.seed, settings.limits, settings.view) {
-        Err(_) => Stop::Memory,
-        Ok(mut machine) => {
-            let stop = play_machine(alloc, &mut machine, devices);
-            note_target(about, &machine, &stop);
-            stop
-        }
-    }
-}
-
 /// Plays the story that a reader gives: the lines of the input answer its reads, and the slot keeps its saved game.
 pub fn play_file<R: Read + Drop, I: Source, S: Target, T: Target, K: SaveSlot>(
     alloc: Global,
@@ -102,10 +53,29 @@ pub fn play_file<R: Read + Drop, I: Source, S: Target, T: Target, K: SaveSlot>(
     ensures { EndsPlay (play_on I.left I.failed I.ends I.fails S.taken S.failed T.taken T.failed
         K.held K.keeps devices.old devices.new) (R.remaining reader) settings result }
 {
-    match open_story(alloc, reader, about) {
-        Err(exit) => exit,
-        Ok(story) => Exit::Stopped(play_story(alloc, story, about, settings, devices)),
-    }
+    let story = match open_story(alloc, reader, about) {
+        Ok(story) => story,
+        Err(exit) => return exit,
+    };
+    let Settings { seed, limits, view } = settings;
+    let mut machine = match Machine::start(alloc, story, seed, limits, view) {
+        Ok(machine) => machine,
+        Err(_) => return Exit::Stopped(Stop::Memory),
+    };
+    // a write of no bytes makes the script's file before the run
+    let stop = match devices.script.write(&[]) {
+        Err(Failed) => Stop::Write,
+        Ok(_) => play(
+            alloc,
+            &mut devices.input,
+            &mut devices.screen,
+            &mut devices.script,
+            &mut devices.slot,
+            &mut machine,
+        ),
+    };
+    note_target(about, &machine, &stop);
+    Exit::Stopped(stop)
 }
 
 /// Plays the story that a reader gives, reports how that ends, and answers the program's status.

@@ -1,6 +1,7 @@
 // The file of a transcript.
 
 ghost use Rattle.std.specs.Prelude.{◌≡◌, ◌≤◌, ◌<◌, false, length, IfOk};
+ghost use Rattle.zk_command.specs.ScriptFiles.{failed_in};
 
 use crate::watched::{Notes, Watched};
 use std::fs::File;
@@ -21,7 +22,7 @@ pub struct ScriptFile<'a> {
 
 impl<'a> ScriptFile<'a> {
     pub fn new(rt: &'a HostRuntime, path: Option<&'a str>, notes: &'a Notes) -> ScriptFile<'a>
-        ensures { result.failed ≡ false }
+        ensures { failed_in result.path result.failed ≡ false }
     {
         ScriptFile {
             rt,
@@ -36,7 +37,7 @@ impl<'a> ScriptFile<'a> {
     /// Drops bytes, and tells which option is missing.
     fn drop_bytes(&mut self, bytes: &[u8]) -> usize
         ensures count { result ≡ length bytes.now }
-        ensures failed { self.new.failed ≡ self.old.failed }
+        ensures path { self.new.path ≡ self.old.path }
     {
         if !self.told && !bytes.is_empty() {
             self.told = true;
@@ -77,12 +78,13 @@ fn write_to<'a>(
 
 impl Target for ScriptFile<'_> {
     ghost use Rattle.std.specs.Prelude.{◌≡◌, None, true};
+    ghost use Rattle.zk_command.specs.ScriptFiles.{failed_in};
 
     ghost taken = { λ _. None };
 
-    ghost failed = { λ s. s.failed };
+    ghost failed = { λ s. failed_in s.path s.failed };
 
-    ghost fails = { λ _ s. s.failed ≡ true };
+    ghost fails = { λ _ s. failed_in s.path s.failed ≡ true };
 
     fn write(&mut self, bytes: &[u8]) -> Result<usize, Failed> {
         let Some(path) = self.path else {

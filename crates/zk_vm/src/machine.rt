@@ -281,14 +281,14 @@ impl Machine {
         ensures limits { self.new.limits ≡ self.old.limits }
     {
         if is_read(wait) {
-            return self.wait_behind_view(wait, instruction, screen);
+            return self.wait_after_view(wait, instruction, screen);
         }
         self.waiting = Some(Waiting { wait, instruction });
         Err(Ok(asked_by(wait)))
     }
 
     /// Shows the view and waits for a line or a character, where there may be one more read.
-    fn wait_behind_view<S: Screen>(
+    fn wait_after_view<S: Screen>(
         &mut self,
         wait: Wait,
         instruction: Instr,

@@ -29,7 +29,7 @@ use zk_vm::stop::Stop;
 
 /// Plays the story in a file, with its transcript in a script and its saved game in a slot, and answers the program's
 /// status.
-fn play_with<T: Target + Drop, K: SaveSlot + Drop>(
+fn play<T: Target + Drop, K: SaveSlot + Drop>(
     rt: &HostRuntime,
     about: &About,
     settings: Settings,
@@ -56,22 +56,6 @@ fn play_with<T: Target + Drop, K: SaveSlot + Drop>(
         ),
         Ok(file) => play_and_report(rt.alloc(), file, about, settings, &mut devices, &mut errors),
     }
-}
-
-/// Plays the story in a file, with its saved game and its transcript in others where these are named, and answers the
-/// program's status.
-fn play(
-    rt: &HostRuntime,
-    path: &str,
-    save: Option<&str>,
-    script: Option<&str>,
-    settings: Settings,
-) -> u8
-    requires { AreInRange settings.limits }
-{
-    let about = About::new(path, script.unwrap_or(""));
-    let file = ScriptFile::new(rt, script, &about.script);
-    play_with(rt, &about, settings, file, SaveFile::new(rt, save))
 }
 
 /// Lists the story in a file, and answers the program's status.
@@ -172,7 +156,11 @@ fn answer(rt: &HostRuntime, words: &[String]) -> u8 {
             },
         ) => match option_on_story(rt, story, save, script) {
             Some(option) => tell_usage(rt, &story_named(rt.alloc(), option)),
-            None => play(rt, story, save, script, settings),
+            None => {
+                let about = About::new(story, script.unwrap_or(""));
+                let file = ScriptFile::new(rt, script, &about.script);
+                play(rt, &about, settings, file, SaveFile::new(rt, save))
+            }
         },
         Ok(Choice::Show { story, listing }) => list(rt, story, listing),
         Err(error) => {
@@ -194,7 +182,7 @@ fn main(rt: HostRuntime) -> ExitCode {
         Ok(words) => answer(&rt, words.as_slice()),
         Err(error) if error.kind() == io::ErrorKind::OutOfMemory => out_of_memory(&rt),
         Err(_) => {
-            let _ = eprintln!(rt; "zkit: the words behind the program's name are no text");
+            let _ = eprintln!(rt; "zkit: the words after the program's name are no text");
             1
         }
     };

@@ -1,5 +1,5 @@
 use Rattle.zk_vm.proofs.Advancing.{sound_viewed, view_settles}
-use Rattle.zk_vm.proofs.machine.Machine.wait_behind_view.Goals as goal
+use Rattle.zk_vm.proofs.machine.Machine.wait_after_view.Goals as goal
 
 pub invariant_of-self-2 : goal.invariant_of-self-2
 invariant_of-self-2 g c =
