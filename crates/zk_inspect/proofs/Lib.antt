@@ -23,3 +23,4 @@ pub mod PropertyLines
 pub mod Keyed
 pub mod Rows
 pub mod FindingLaw
+pub mod StoryNames

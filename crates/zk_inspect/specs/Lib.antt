@@ -15,6 +15,8 @@ pub mod Siblings
 pub mod ListMarks
 pub mod Parts
 pub mod HeaderLines
+pub mod Ifid
+pub mod NameExamples
 pub mod MapLines
 pub mod AbbreviationLines
 pub mod ObjectLines

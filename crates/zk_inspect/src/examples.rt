@@ -3,6 +3,7 @@
 ghost use Rattle.zk_inspect.specs.Examples.{AddressesHaveFiveDigits, WordsHaveFourDigits, FindingsOfTables, FindingsOfTextsAndCode, VariablesByNumber, OperandsByType, StoresBehindAnArrow, BranchesBehindAMark, LinesOfOperands, LinesOfBranches, LinesOfVariables, LinesOfJumps, LinesOfTexts, CharactersBetweenQuotes, LinesOfRoutines, RoutinesBehindCode, HeadersAreLines, MapsAreInOrder, AbbreviationsAreLines, NoTableNoLines, DictionariesAreLines, KeysAreWords, ObjectsAreLines, ListsPastTheEnd, UndecodableAddresses, LeadingOut, KindsOfFaults, TextsThatFail, RowsAreIndented, RowsAgain};
 ghost use Rattle.zk_inspect.specs.ListExamples.{FindingsAreLines, AllAbbreviationsAreLines, KeysAreInOrder, KeysBeginEntries, LinksPastTheLast, QuestionsOnObjects, LateObjectsAreLines};
 ghost use Rattle.zk_inspect.specs.CheckExamples.{EntriesAtTables, EntriesBelowTables, LinksLeadPast, NoTableNoObjects, TextsByConstants, WordsAreAddresses, WordsPastTheEnd};
+ghost use Rattle.zk_inspect.specs.NameExamples.{NamesByHeaders, NamesInFiles};
 ghost use Rattle.zk_inspect.specs.LowExamples.{LowInstructions, LowRoutines};
 
 /// Addresses, words and bytes by their digits.
@@ -51,6 +52,13 @@ pub fn routines_by_example()
 pub fn headers_by_example()
     ensures headers_are_lines { HeadersAreLines }
     ensures maps_are_in_order { MapsAreInOrder }
+{}
+
+/// What catalogues name a story by (Treaty of Babel).
+#[tactic(auto, unfolding(crate::specs::Ifid::first_name, crate::specs::Ifid::name_in_front, crate::specs::Ifid::name_length, crate::specs::Ifid::header_name, crate::specs::Ifid::ifid_line, zk_term::specs::Numbers::hex_digits, zk_term::specs::Numbers::word_digits))]
+pub fn names_by_example()
+    ensures names_in_files { NamesInFiles }
+    ensures names_by_headers { NamesByHeaders }
 {}
 
 /// Abbreviations (Standard, section 3.3).

@@ -12,6 +12,7 @@ pub mod examples;
 pub mod finding;
 pub mod finding_lines;
 mod header_lines;
+mod ifid;
 mod keys;
 pub mod laws;
 pub mod listings;

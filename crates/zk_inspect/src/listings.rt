@@ -1,4 +1,5 @@
-// Listings of a story's header, of where its parts begin, of its abbreviations, its dictionary and its objects.
+// Listings of a story's header, of where its parts begin, of its abbreviations, its dictionary and its objects,
+// and of its name in catalogues.
 
 ghost use Rattle.std.specs.Prelude.{◌≡◌, ◌||◌, is_err, IfErr, OnErr, OnOk};
 ghost use Rattle.std.specs.Io.KnownBytes.{Appends};
@@ -6,6 +7,7 @@ ghost use Rattle.zk_term.specs.Devices.{TookPart};
 ghost use Rattle.zk_inspect.specs.AbbreviationLines.{abbreviation_lines};
 ghost use Rattle.zk_inspect.specs.DictionaryLines.{dictionary_lines};
 ghost use Rattle.zk_inspect.specs.HeaderLines.{header_lines};
+ghost use Rattle.zk_inspect.specs.Ifid.{ifid_line};
 ghost use Rattle.zk_inspect.specs.MapLines.{map_lines};
 ghost use Rattle.zk_inspect.specs.ObjectLines.{AreObjectLines};
 ghost use Rattle.zk_term.specs.Pages.{WroteSome};
@@ -16,6 +18,7 @@ use crate::abbreviation_lines::write_abbreviations;
 use crate::dictionary_lines::write_dictionary;
 use crate::error::ListError;
 use crate::header_lines::write_header;
+use crate::ifid::write_ifid;
 use crate::map_lines::write_map;
 use crate::object_lines::write_objects;
 use crate::objects::count_objects;
@@ -38,6 +41,25 @@ pub fn header<T: Target>(memory: &Memory, target: &mut T) -> Result<(), ListErro
 {
     let mut page = TargetPage::new(target);
     write_header(&mut page, memory);
+    match page.finish() {
+        Ok(()) => Ok(()),
+        Err(Failed) => Err(ListError::Write),
+    }
+}
+
+/// Writes the line with what catalogues name the story by (Treaty of Babel): the first name in its file, between `UUID://` and
+/// `//`, of 8 to 63 letters, digits and hyphens; or else `ZCODE`, the release, the serial number and, for a serial number of
+/// 1990 or later, the checksum. Or, where a write fails, it writes a first part of that, and refuses.
+pub fn ifid<T: Target>(memory: &Memory, target: &mut T) -> Result<(), ListError>
+    ensures all { OnOk result
+        (Appends (T.taken target.old) (T.taken target.new) (ifid_line memory.now)) }
+    ensures part { OnErr result
+        (TookPart (T.taken target.old) (T.taken target.new) (ifid_line memory.now)) }
+    ensures failed { T.failed target.new ≡ (is_err result || T.failed target.old) }
+    ensures refusal { IfErr result (λ e. e ≡ ListError.Write) }
+{
+    let mut page = TargetPage::new(target);
+    write_ifid(&mut page, memory);
     match page.finish() {
         Ok(()) => Ok(()),
         Err(Failed) => Err(ListError::Write),
