@@ -86,6 +86,8 @@ impl Target for ScriptFile<'_> {
 
     ghost fails = { λ _ s. failed_in s.path s.failed ≡ true };
 
+    ghost whole = { λ _. Unit {0} };
+
     fn write(&mut self, bytes: &[u8]) -> Result<usize, Failed> {
         let Some(path) = self.path else {
             return Ok(self.drop_bytes(bytes));
@@ -97,5 +99,9 @@ impl Target for ScriptFile<'_> {
                 Err(Failed)
             }
         }
+    }
+
+    fn flush(&mut self) -> Result<(), Failed> {
+        Ok(())
     }
 }

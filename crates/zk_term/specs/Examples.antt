@@ -5,6 +5,7 @@ use Rattle.zk_term.specs.declared.lines.Over.TheVariants as over
 use Rattle.zk_term.specs.declared.windows.Window.TheVariants.{Lower, Upper}
 use Rattle.zk_term.specs.Characters.{characters_of, line_codes}
 use Rattle.zk_term.specs.Lines.{Heard, heard}
+use Rattle.zk_term.specs.Wrapping.{wrapped}
 use Rattle.zk_term.specs.Windows.{Windows, first_windows, split, window_selected, cleared, unsplit, line_erased, cursor_set, next_row, printed, row_text}
 
 -- ---- characters (Unicode Standard, table 3-7)
@@ -256,3 +257,63 @@ TextsOfRows =
     × (row_text (printed (codes "z") (cursor_set 1 80 (upper_window 1))) 1 ≡ replicate 79 32 ++ 122 ∷ [])
     × (row_text (printed (replicate 82 120) (upper_window 2)) 1 ≡ replicate 80 120)
     × (row_text (printed (replicate 82 120) (upper_window 2)) 2 ≡ [])
+
+-- ---- wrapped text
+
+-- words go into a line while they fit, up to its last column
+abbrev pub WordsFillALine : Type 0
+WordsFillALine =
+    (wrapped 10 (codes "abcd efghi") ≡ codes "abcd efghi")
+    × (wrapped 10 (codes "abcd efghij") ≡ codes "abcd" ++ 10 ∷ codes "efghij")
+    × (wrapped 5 (codes "aa bb cc d e ff")
+    ≡ codes "aa bb" ++ 10 ∷ codes "cc d" ++ 10 ∷ codes "e ff")
+
+-- a word that is longer than a line stands in a line of its own
+abbrev pub LongWordsStandAlone : Type 0
+LongWordsStandAlone =
+    (wrapped 5 (codes "ab abcdefgh cd") ≡ codes "ab" ++ 10 ∷ codes "abcdefgh" ++ 10 ∷ codes "cd")
+    × (wrapped 5 (codes "abcdefgh c") ≡ codes "abcdefgh" ++ 10 ∷ codes "c")
+    × (wrapped 5 (codes "abcdefgh") ≡ codes "abcdefgh")
+
+-- a character of two, three or four bytes takes one column (an A with two dots, a euro sign, an emoji)
+abbrev pub CharactersAreColumns : Type 0
+CharactersAreColumns =
+    (wrapped 5 (0xc3 ∷ 0x84 ∷ codes "bc d") ≡ 0xc3 ∷ 0x84 ∷ codes "bc d")
+    × (wrapped 4 (0xc3 ∷ 0x84 ∷ codes "bc d") ≡ 0xc3 ∷ 0x84 ∷ codes "bc" ++ 10 ∷ codes "d")
+    × (wrapped 4 (codes "ab " ++ 0xe2 ∷ 0x82 ∷ 0xac ∷ []) ≡ codes "ab " ++ 0xe2 ∷ 0x82 ∷ 0xac ∷ [])
+    × (wrapped 4 (codes "ab " ++ 0xf0 ∷ 0x9f ∷ 0x98 ∷ 0x80 ∷ codes "c")
+    ≡ codes "ab" ++ 10 ∷ 0xf0 ∷ 0x9f ∷ 0x98 ∷ 0x80 ∷ codes "c")
+
+-- one space alone gives way to a new line: others stay, also at the front of a line
+abbrev pub SpacesInARow : Type 0
+SpacesInARow =
+    (wrapped 6 (codes "abcd  ef") ≡ codes "abcd " ++ 10 ∷ codes "ef")
+    × (wrapped 4 (codes "abcd  ef") ≡ codes "abcd" ++ 10 ∷ codes " ef")
+    × (wrapped 5 (codes "  ab c") ≡ codes "  ab" ++ 10 ∷ codes "c")
+    × (wrapped 3 (codes "abc ") ≡ codes "abc" ++ 10 ∷ [])
+    × (wrapped 4 (codes "abc ") ≡ codes "abc ")
+
+-- a line with a bar at its front stays as it is, and a bar elsewhere is a letter
+abbrev pub RowsAreNotWrapped : Type 0
+RowsAreNotWrapped =
+    (wrapped 5 (codes "| Score: 10 |") ≡ codes "| Score: 10 |")
+    × (wrapped 4 (codes "a |b c") ≡ codes "a |b" ++ 10 ∷ codes "c")
+    × (wrapped 4 (codes " | a b") ≡ codes " | a" ++ 10 ∷ codes "b")
+    × (wrapped 5 (codes "| a b c" ++ 10 ∷ codes "ab c d")
+    ≡ codes "| a b c" ++ 10 ∷ codes "ab c" ++ 10 ∷ codes "d")
+
+-- each line of a text begins at its first column
+abbrev pub LinesBeginAnew : Type 0
+LinesBeginAnew =
+    (wrapped 5 [] ≡ [])
+    × (wrapped 5 (10 ∷ []) ≡ 10 ∷ [])
+    × (wrapped 5 (codes "a" ++ 10 ∷ 10 ∷ codes "b") ≡ codes "a" ++ 10 ∷ 10 ∷ codes "b")
+    × (wrapped 5 (codes "abc" ++ 10 ∷ codes "de fg") ≡ codes "abc" ++ 10 ∷ codes "de fg")
+    × (wrapped 5 (codes "abc de" ++ 10 ∷ codes "fgh ij")
+    ≡ codes "abc" ++ 10 ∷ codes "de" ++ 10 ∷ codes "fgh" ++ 10 ∷ codes "ij")
+
+-- bytes that begin no character take no column, but a word of more than 1,023 bytes does not fit
+abbrev pub WordsOfManyBytes : Type 0
+WordsOfManyBytes =
+    (wrapped 5 (97 ∷ 32 ∷ replicate 1023 128) ≡ 97 ∷ 32 ∷ replicate 1023 128)
+    × (wrapped 5 (97 ∷ 32 ∷ replicate 1024 128) ≡ 97 ∷ 10 ∷ replicate 1024 128)

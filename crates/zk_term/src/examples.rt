@@ -2,6 +2,7 @@
 
 ghost use Rattle.zk_term.specs.Examples.{CharactersOfEachLength, StrayBytes, CodesOfALine, QuestionMarks, CodesByAnOwnTable, LongLines, NewLinesEndLines, ReturnsBeforeNewLines, TooManyBytes};
 ghost use Rattle.zk_term.specs.Examples.{WindowsAtTheStart, CharactersOfARow, NewLinesGoDown, TheLastColumn, BelowTheHeight, SplitsEmptyRows, HeightsOfSplits, SplitsAndTheCursor, SelectedWindows, CursorsOnTheGrid, RestsOfRows, ClearedWindows, UnsplitWindows, TextsOfRows};
+ghost use Rattle.zk_term.specs.Examples.{CharactersAreColumns, LinesBeginAnew, LongWordsStandAlone, RowsAreNotWrapped, SpacesInARow, WordsFillALine, WordsOfManyBytes};
 
 /// The characters of bytes in UTF-8, and bytes that are none.
 pub fn characters_by_example()
@@ -52,4 +53,16 @@ pub fn erasures_by_example()
     ensures rests_of_rows { RestsOfRows }
     ensures cleared_windows { ClearedWindows }
     ensures unsplit_windows { UnsplitWindows }
+{}
+
+/// Text that is wrapped at words.
+#[tactic(auto, unfolding(crate::specs::Wrapping::further_words, crate::specs::Wrapping::wrapped))]
+pub fn wrapped_by_example()
+    ensures words_fill_a_line { WordsFillALine }
+    ensures long_words_stand_alone { LongWordsStandAlone }
+    ensures characters_are_columns { CharactersAreColumns }
+    ensures spaces_in_a_row { SpacesInARow }
+    ensures rows_are_not_wrapped { RowsAreNotWrapped }
+    ensures lines_begin_anew { LinesBeginAnew }
+    ensures words_of_many_bytes { WordsOfManyBytes }
 {}

@@ -1,8 +1,9 @@
-// Laws of the lines of an input and of the upper window.
+// Laws of the lines of an input, of the upper window and of text that is wrapped.
 
 ghost use Rattle.zk_term.specs.Characters.{CharactersAreSpelled, CharactersAreDetermined};
 ghost use Rattle.zk_term.specs.Lines.{AreLines};
 ghost use Rattle.zk_term.specs.WindowLaws.{CharactersStandInARow, PrintsKeepTheSplit, PrintsKeepTheRowsBelow, PrintsFollowOneAnother, SplitsEmptyThePast, KeepsTheCursor, SpacesAtTheEndGo, ClearedRowsHaveNoText};
+ghost use Rattle.zk_term.specs.WrappingLaws.{CharactersTakeColumns, LinesAreFull, LinesAreWithin, LinesAreWrappedOneByOne, OnlySpacesBecomeNewLines, RowsStay};
 
 /// The characters of bytes are those that the bytes spell.
 pub fn characters_are_spelled()
@@ -49,4 +50,23 @@ pub fn cursors_stay_near_the_grid()
 pub fn rows_have_texts()
     ensures spaces { SpacesAtTheEndGo }
     ensures cleared { ClearedRowsHaveNoText }
+{}
+
+/// Where a text is wrapped, spaces become new lines, and nothing else is changed.
+pub fn only_spaces_become_new_lines()
+    ensures { OnlySpacesBecomeNewLines }
+{}
+
+/// Each line of a text is wrapped by itself. A row of the upper window stays as it is. The lines that come of another
+/// line are within the width, but for single words, and none has room for the word with which the next one begins.
+pub fn lines_are_wrapped()
+    ensures each { LinesAreWrappedOneByOne }
+    ensures rows { RowsStay }
+    ensures within { LinesAreWithin }
+    ensures full { LinesAreFull }
+{}
+
+/// A character takes a column, however many bytes it has.
+pub fn characters_take_columns()
+    ensures { CharactersTakeColumns }
 {}

@@ -1,14 +1,17 @@
 // The devices that a story is played on.
 #![tactic(auto)]
 
+pub mod echo;
 pub mod examples;
 pub mod laws;
 pub mod lines;
 pub mod nothing;
+pub mod open_line;
 pub mod out;
 pub mod over;
 pub mod page;
 pub mod source;
 pub mod target;
 pub mod windows;
+pub mod wrapped;
 pub mod writing;

@@ -51,6 +51,19 @@ impl Out {
         }
     }
 
+    /// Gives all bytes that wait to a target, which then holds nothing back; or where a write fails a first part of them.
+    /// `Failed` says that the last write failed.
+    pub fn end<T: Target>(&mut self, target: &mut T) -> Result<(), Failed>
+        ensures all { OnOk result (Appends (T.taken target.old) (T.taken target.new) self.old) }
+        ensures none { OnOk result (self.new ≡ []) }
+        ensures whole { OnOk result (T.whole target.new) }
+        ensures part { OnErr result (TookPart (T.taken target.old) (T.taken target.new) self.old) }
+        ensures failed { T.failed target.new ≡ (is_err result || T.failed target.old) }
+    {
+        self.flush(target)?;
+        target.flush()
+    }
+
     /// Adds the UTF-8 of a character to the bytes that wait. Where there is no room for it these go out first, or
     /// where a write fails a first part of them. `Failed` says that the last write failed.
     pub fn put<T: Target>(&mut self, target: &mut T, c: char) -> Result<(), Failed>

@@ -21,6 +21,9 @@ pub trait Target {
     // that a write that failed led from the one to the other
     ghost fails: { Self → Self → Type 0 };
 
+    // that nothing is held back
+    ghost whole: { Self → Type 0 };
+
     /// Takes bytes from the front of `bytes`, at least one where there is one, and says how many. A
     /// write that fails takes none.
     fn write(&mut self, bytes: &[u8]) -> Result<usize, Failed>
@@ -29,6 +32,13 @@ pub trait Target {
         ensures bytes { WriteAppends (taken self.old) (taken self.new) result bytes.now }
         ensures failed { failed self.new ≡ (is_err result || failed self.old) }
         ensures fails { OnErr result (fails self.old self.new) };
+
+    /// Gives out what it holds back, if anything.
+    fn flush(&mut self) -> Result<(), Failed>
+        ensures bytes { taken self.new ≡ taken self.old }
+        ensures failed { failed self.new ≡ (is_err result || failed self.old) }
+        ensures fails { OnErr result (fails self.old self.new) }
+        ensures whole { OnOk result (whole self.new) };
 }
 
 /// Writes all bytes, or where a write fails a first part of them. `Failed` says that the last write failed.

@@ -46,7 +46,7 @@ impl<'a, S, T> Console<'a, S, T> {
 }
 
 impl<'a, S: Target, T: Target> Console<'a, S, T> {
-    /// Gives both targets what waits for them.
+    /// Gives both targets what waits for them, and has them hold nothing back.
     pub fn finish(&mut self)
         ensures screen { self.new.screen.ghost_name ≡ self.old.screen.ghost_name }
         ensures script { self.new.script.ghost_name ≡ self.old.script.ghost_name }
@@ -67,19 +67,20 @@ impl<'a, S: Target, T: Target> Console<'a, S, T> {
               either = S.failed self.new.screen.now || T.failed self.new.script.now;
             }) [] [] }
         ensures no_text { self.new.failed ≡ false → self.new.to_screen ≡ [] }
+        ensures whole { self.new.failed ≡ false → S.whole self.new.screen.now }
         ensures no_script { self.new.failed ≡ false → self.new.to_script ≡ [] }
     {
         if self.failed {
             return;
         }
-        match self.to_screen.flush(self.screen) {
+        match self.to_screen.end(self.screen) {
             Ok(()) => {}
             Err(Failed) => {
                 self.failed = true;
                 return;
             }
         }
-        match self.to_script.flush(self.script) {
+        match self.to_script.end(self.script) {
             Ok(()) => {}
             Err(Failed) => self.failed = true,
         }

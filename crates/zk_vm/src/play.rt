@@ -100,9 +100,10 @@ fn bring<K: SaveSlot>(alloc: Global, slot: &mut K, machine: &mut Machine) -> Res
     Ok(())
 }
 
-/// Runs a story up to its next event, a read or a saved game, or its stop. Where a write has failed the machine is
-/// closed with `Write`.
-fn run_on<S: Target, T: Target>(
+/// Runs a story up to its next event, a read or a saved game, or its stop. Text goes out as UTF-8, some of it at a time: when
+/// it returns, all text up to there is written. Once a write has failed nothing more is written to either target, and the
+/// machine is closed with `Write`. It is not waiting, and neither target has failed.
+pub fn run_on<S: Target, T: Target>(
     screen: &mut S,
     script: &mut T,
     machine: &mut Machine,
@@ -130,6 +131,7 @@ fn run_on<S: Target, T: Target>(
     ensures steps { OnOk result ((machine.old.state.steps ≤ machine.new.state.steps)
         × (machine.new.state.steps < machine.new.limits.steps)) }
     ensures runs { OnOk result (machine.new.stopped ≡ None) }
+    ensures whole { (S.failed screen.new || T.failed script.new) ≡ false → S.whole screen.new }
     ensures limits { machine.new.limits ≡ machine.old.limits }
     ensures within { IsWithin machine.new.limits machine.new.state }
 {
@@ -144,9 +146,9 @@ fn run_on<S: Target, T: Target>(
 }
 
 /// Runs a story up to its next read, or its stop; the slot keeps and gives saved games on the way.
-/// Text goes out as UTF-8, some of it at a time: when it returns, and before the slot is asked, all text up to there is written. Once a write has failed
-/// nothing more is written to either target, the slot is not asked, and the machine is closed with `Write`; what
-/// went out is a first part of the text. Where there is no memory for a saved game or a state that is to be kept,
+/// Text goes out as UTF-8, some of it at a time: when it returns, and before the slot is asked, all text up to there is
+/// written, and the screen holds nothing back. Once a write has failed nothing more is written to either target, the
+/// slot is not asked, and the machine is closed with `Write`; what went out is a first part of the text. Where there is no memory for a saved game or a state that is to be kept,
 /// the stop is `Memory`. The machine is not waiting, and neither target has failed.
 pub fn turn<S: Target, T: Target, K: SaveSlot>(
     alloc: Global,
@@ -169,6 +171,7 @@ pub fn turn<S: Target, T: Target, K: SaveSlot>(
     ensures reads { OnOk result (machine.new.state.reads < 16777216) }
     ensures same_reads { OnOk result (machine.new.state.reads ≡ machine.old.state.reads) }
     ensures runs { OnOk result (machine.new.stopped ≡ None) }
+    ensures whole { (S.failed screen.new || T.failed script.new) ≡ false → S.whole screen.new }
     ensures limits { machine.new.limits ≡ machine.old.limits }
     ensures within { IsWithin machine.new.limits machine.new.state }
 {
@@ -276,6 +279,7 @@ pub fn play<R: Source, S: Target, T: Target, K: SaveSlot>(
         (T.taken script.old) (T.taken script.new) }
     ensures read_failed { R.failed reader.new ≡ true → result ≡ Stop.Read }
     ensures stopped { machine.new.stopped ≡ Some result }
+    ensures whole { (S.failed screen.new || T.failed script.new) ≡ false → S.whole screen.new }
     ensures limits { machine.new.limits ≡ machine.old.limits }
     ensures within { IsWithin machine.new.limits machine.new.state }
 {

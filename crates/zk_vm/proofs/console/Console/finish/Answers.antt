@@ -10,32 +10,32 @@ pub returns-in-Err-clause-written : goal.returns-in-Err-clause-written
 returns-in-Err-clause-written g c =
     screen_failed _ _ _ c.if-self.false refl (ap (λ (b : Bool). b || g.T.Target.failed c.args.self.now.script.now) c.in-Err.ensures.failed) refl refl c.in-Err.ensures.part
 
-pub returns-in-Ok-flush-clause-written : goal.returns-in-Ok-flush-clause-written
-returns-in-Ok-flush-clause-written g c =
+pub returns-in-Ok-end-clause-written : goal.returns-in-Ok-end-clause-written
+returns-in-Ok-end-clause-written g c =
     let screen = ap (λ (b : Bool). b || g.T.Target.failed c.args.self.now.script.now) c.in-Ok.ensures.failed in
-    let script = ap (λ (b : Bool). g.S.Target.failed c.flush.new.target || b) c.in-Ok-flush.ensures.failed in
+    let script = ap (λ (b : Bool). g.S.Target.failed c.end.new.target || b) c.in-Ok-end.ensures.failed in
     written_twice _ _ _ _ _ _ _
     (screen_flushed _ (record {
-      screen = g.S.Target.taken c.flush.new.target;
-      to_screen = c.flush.new.self;
+      screen = g.S.Target.taken c.end.new.target;
+      to_screen = c.end.new.self;
       script = g.T.Target.taken c.args.self.now.script.now;
       to_script = c.args.self.now.to_script;
       failed = c.args.self.now.failed;
-      either = g.S.Target.failed c.flush.new.target || g.T.Target.failed c.args.self.now.script.now;
+      either = g.S.Target.failed c.end.new.target || g.T.Target.failed c.args.self.now.script.now;
     }) c.if-self.false refl screen refl refl c.in-Ok.ensures.all c.in-Ok.ensures.none)
-    (script_flushed _ _ c.if-self.false refl script refl refl c.in-Ok-flush.ensures.all c.in-Ok-flush.ensures.none)
+    (script_flushed _ _ c.if-self.false refl script refl refl c.in-Ok-end.ensures.all c.in-Ok-end.ensures.none)
 
-pub returns-in-Err-flush-clause-written : goal.returns-in-Err-flush-clause-written
-returns-in-Err-flush-clause-written g c =
+pub returns-in-Err-end-clause-written : goal.returns-in-Err-end-clause-written
+returns-in-Err-end-clause-written g c =
     let screen = ap (λ (b : Bool). b || g.T.Target.failed c.args.self.now.script.now) c.in-Ok.ensures.failed in
-    let script = ap (λ (b : Bool). g.S.Target.failed c.flush.new.target || b) c.in-Err-flush.ensures.failed ∙ or-true _ in
+    let script = ap (λ (b : Bool). g.S.Target.failed c.end.new.target || b) c.in-Err-end.ensures.failed ∙ or-true _ in
     written_twice _ _ _ _ _ _ _
     (screen_flushed _ (record {
-      screen = g.S.Target.taken c.flush.new.target;
-      to_screen = c.flush.new.self;
+      screen = g.S.Target.taken c.end.new.target;
+      to_screen = c.end.new.self;
       script = g.T.Target.taken c.args.self.now.script.now;
       to_script = c.args.self.now.to_script;
       failed = c.args.self.now.failed;
-      either = g.S.Target.failed c.flush.new.target || g.T.Target.failed c.args.self.now.script.now;
+      either = g.S.Target.failed c.end.new.target || g.T.Target.failed c.args.self.now.script.now;
     }) c.if-self.false refl screen refl refl c.in-Ok.ensures.all c.in-Ok.ensures.none)
-    (script_failed _ _ _ c.if-self.false refl script refl refl c.in-Err-flush.ensures.part)
+    (script_failed _ _ _ c.if-self.false refl script refl refl c.in-Err-end.ensures.part)

@@ -1,0 +1,5 @@
+use Rattle.zk_term.proofs.WrappedLines.{characters_take_columns}
+use Rattle.zk_term.proofs.laws.characters_take_columns.Goals as goal
+
+pub returns : goal.returns
+returns c = characters_take_columns

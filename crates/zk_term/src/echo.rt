@@ -1,0 +1,87 @@
+// A source whose bytes are shown.
+
+ghost use Rattle.std.specs.Prelude.{◌≡◌, ◌<◌, ◌||◌, length, is_err, take, IfOk, OnErr, false};
+ghost use Rattle.std.specs.Io.{ReadsAtMost};
+ghost use Rattle.std.specs.Io.KnownBytes.{ReadConsumes};
+ghost use Rattle.zk_term.specs.Devices.{TookPart};
+ghost use Rattle.zk_term.specs.Echoes.{shown_of};
+
+use crate::source::Source;
+use crate::target::{Failed, Target, write_all};
+
+/// A source over another, which shows what it gives, where that is asked for: each byte when it is read, so that a line is
+/// shown when it is asked for and not before. A last line that has no new line gets one. What can't be shown is left out.
+#[derive(Drop)]
+pub struct Echo<I, S> {
+    input: I,
+    screen: S,
+    is_on: bool,
+    // the last byte that was shown was no new line
+    in_line: bool,
+}
+
+impl<I, S> Echo<I, S> {
+    pub fn new(input: I, screen: S, is_on: bool) -> Echo<I, S>
+        ensures { result ≡ record { input = input; screen = screen; is_on = is_on; in_line = false } }
+    {
+        Echo {
+            input,
+            screen,
+            is_on,
+            in_line: false,
+        }
+    }
+}
+
+impl<I, S: Target> Echo<I, S> {
+    /// Shows what was read, or a new line at the end of the input.
+    fn show(&mut self, bytes: &[u8])
+        ensures input { self.new.input ≡ self.old.input }
+        ensures shown { TookPart (S.taken self.old.screen) (S.taken self.new.screen)
+            (shown_of bytes.now self.old.in_line) }
+    {
+        let _ = match bytes {
+            [] if self.in_line => write_all(&mut self.screen, b"\n"),
+            _ => write_all(&mut self.screen, bytes),
+        };
+        self.in_line = match bytes {
+            [.., last] => *last != b'\n',
+            [] => false,
+        };
+    }
+}
+
+impl<I: Source, S: Target> Echo<I, S> {
+    /// Reads one byte, and shows it.
+    fn read_shown(&mut self, buffer: &mut [u8]) -> Result<usize, Failed>
+        requires room { 0 < length buffer.old }
+        ensures count { ReadsAtMost result buffer.new }
+        ensures bytes { ReadConsumes (I.left self.old.input) (I.left self.new.input) result buffer.new }
+        ensures failed { I.failed self.new.input ≡ (is_err result || I.failed self.old.input) }
+        ensures fails { OnErr result (I.fails self.old.input self.new.input) }
+        ensures ends { IfOk result (λ n. n ≡ 0 → I.ends self.old.input self.new.input) }
+        ensures shown { IfOk result (λ n. TookPart (S.taken self.old.screen) (S.taken self.new.screen)
+            (shown_of (take n buffer.new) self.old.in_line)) }
+    {
+        let count = self.input.read(&mut buffer[..1])?;
+        self.show(&buffer[..count]);
+        Ok(count)
+    }
+}
+
+impl<I: Source, S: Target> Source for Echo<I, S> {
+    ghost left = { λ e. I.left e.input };
+
+    ghost failed = { λ e. I.failed e.input };
+
+    ghost fails = { λ a b. I.fails a.input b.input };
+
+    ghost ends = { λ a b. I.ends a.input b.input };
+
+    fn read(&mut self, buffer: &mut [u8]) -> Result<usize, Failed> {
+        if self.is_on && !buffer.is_empty() {
+            return self.read_shown(buffer);
+        }
+        self.input.read(buffer)
+    }
+}

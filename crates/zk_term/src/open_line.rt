@@ -1,0 +1,240 @@
+// The line that is open while a text is wrapped at words.
+
+ghost use Rattle.std.specs.Prelude.{◌≡◌, ◌<◌, ◌≤◌, ◌||◌, ◌++◌, [], ◌∷◌, length, nat_eq, if◌then◌else◌, Some, is_err, true, false, IfOk, OnOk, OnErr};
+ghost use Rattle.std.specs.Io.KnownBytes.{Appends};
+ghost use Rattle.zk_term.specs.Devices.{TookPart};
+ghost use Rattle.zk_term.specs.OpenLines.{Begins, BreaksLine, EndsLine, HoldsBy, HoldsOn, IsFullFor, IsOpen, Takes, TakesAmongWords, TakesInLine};
+ghost use Rattle.zk_term.specs.WrappedTargets.{HasTaken};
+ghost use Rattle.zk_term.specs.Wrapping.{columns, is_space};
+
+use crate::page::{Page, TargetPage};
+use crate::target::{Failed, Target, write_all};
+use arrayvec::ArrayVec;
+
+/// What has come of an open line: nothing, the front of a row of the upper window, or words.
+#[derive(Clone, Copy, PartialEq, Eq, Drop)]
+pub enum Kind {
+    Empty,
+    Row,
+    Words,
+}
+
+/// The open line of a text that is wrapped. The last word that has come is held back with the space before it, as long
+/// as it fits in the line: the first word never is. `room` is how many columns are left after it.
+#[derive(Drop)]
+pub struct Line {
+    width: usize,
+    kind: Kind,
+    room: usize,
+    held: ArrayVec<u8, 1024>,
+}
+
+/// How many columns a byte takes.
+fn columns_of(byte: u8) -> usize
+    ensures value { result ≡ columns (byte ∷ []) }
+    ensures few { result ≤ 1 }
+{
+    if byte < 128 || 191 < byte { 1 } else { 0 }
+}
+
+/// How many columns bytes take.
+fn all_columns_of(bytes: &[u8]) -> usize
+    ensures value { result ≡ columns bytes.now }
+    ensures within { result ≤ length bytes.now }
+{
+    bytes
+        .iter()
+        .filter(|byte| **byte < 128 || 191 < **byte)
+        .count()
+}
+
+/// What a line is that begins with a byte.
+fn kind_by(byte: u8) -> Kind
+    ensures { result ≡ (if nat_eq byte 124 then Kind.Row else Kind.Words) }
+{
+    if byte == b'|' { Kind::Row } else { Kind::Words }
+}
+
+impl Line {
+    /// A line of which nothing has come.
+    pub fn new(width: usize) -> Line
+        ensures open { IsOpen result [] [] }
+        ensures width { result.width ≡ width }
+    {
+        Line {
+            width,
+            kind: Kind::Empty,
+            room: width,
+            held: ArrayVec::new(),
+        }
+    }
+
+    /// Takes a space: the word that is held back goes out, and the space is held back in its place. Where there is no
+    /// room for it, a new line goes out.
+    fn take_space<P: Page>(&mut self, page: &mut P)
+        ensures width { self.new.width ≡ self.old.width }
+        ensures taken { TakesAmongWords P.wrote self.old self.new page.old page.new 32 }
+    {
+        page.write(self.held.as_slice());
+        self.held.clear();
+        if self.room == 0 {
+            page.write(b"\n");
+            self.room = self.width;
+            return;
+        }
+        self.held.push(b' ');
+        self.room -= 1;
+    }
+
+    /// Holds a byte back behind a word that is held back, if the word still fits. `false` says that it does not.
+    fn hold(&mut self, byte: u8) -> bool
+        ensures held { result ≡ true → HoldsOn self.old self.new byte }
+        ensures full { result ≡ false → IsFullFor self.old self.new byte }
+    {
+        let columns = columns_of(byte);
+        if self.room < columns {
+            return false;
+        }
+        match self.held.try_push(byte) {
+            Ok(()) => {
+                self.room -= columns;
+                true
+            }
+            Err(_) => false,
+        }
+    }
+
+    /// Gives out a word that is held back in a line of its own, with the byte after it.
+    fn break_line<P: Page>(&mut self, page: &mut P, byte: u8)
+        requires { 0 < length self.old.held.items }
+        ensures { BreaksLine P.wrote self.old self.new page.old page.new byte }
+    {
+        let word = &self.held.as_slice()[1..];
+        let taken = all_columns_of(word) + columns_of(byte);
+        page.write(b"\n");
+        page.write(word);
+        page.write(&[byte]);
+        self.held.clear();
+        self.room = self.width.saturating_sub(taken);
+    }
+
+    /// Takes a byte of a word.
+    fn take_letter<P: Page>(&mut self, page: &mut P, byte: u8)
+        ensures width { self.new.width ≡ self.old.width }
+        ensures taken { is_space byte ≡ false
+            → TakesAmongWords P.wrote self.old self.new page.old page.new byte }
+    {
+        if self.held.is_empty() {
+            self.room = self.room.saturating_sub(columns_of(byte));
+            page.write(&[byte]);
+            return;
+        }
+        if !self.hold(byte) {
+            self.break_line(page, byte);
+        }
+    }
+
+    /// Takes a byte of a line of words.
+    fn take_among_words<P: Page>(&mut self, page: &mut P, byte: u8)
+        ensures width { self.new.width ≡ self.old.width }
+        ensures taken { TakesAmongWords P.wrote self.old self.new page.old page.new byte }
+    {
+        if byte == b' ' {
+            self.take_space(page);
+        } else {
+            self.take_letter(page, byte);
+        }
+    }
+
+    /// Looks at the first byte of a line, whether it is a bar.
+    fn begin(&mut self, byte: u8)
+        ensures width { self.new.width ≡ self.old.width }
+        ensures taken { HoldsBy self.old.kind self.old.held.items → Begins self.old self.new byte }
+    {
+        if let Kind::Empty = self.kind {
+            self.room = self.width;
+            self.kind = kind_by(byte);
+        }
+    }
+
+    /// Takes a byte that is no new line.
+    fn take_in_line<P: Page>(&mut self, page: &mut P, byte: u8)
+        ensures width { self.new.width ≡ self.old.width }
+        ensures taken { TakesInLine P.wrote self.old self.new page.old page.new byte }
+    {
+        self.begin(byte);
+        match self.kind {
+            Kind::Row => page.write(&[byte]),
+            Kind::Empty | Kind::Words => self.take_among_words(page, byte),
+        }
+    }
+
+    /// Takes a new line: what is held back goes out before it.
+    fn take_new_line<P: Page>(&mut self, page: &mut P)
+        ensures { EndsLine P.wrote self.old self.new page.old page.new }
+    {
+        page.write(self.held.as_slice());
+        page.write(b"\n");
+        self.held.clear();
+        self.kind = Kind::Empty;
+    }
+
+    /// Takes a byte.
+    fn take<P: Page>(&mut self, page: &mut P, byte: u8)
+        ensures width { self.new.width ≡ self.old.width }
+        ensures taken { Takes P.wrote self.old self.new page.old page.new (byte ∷ []) }
+    {
+        if byte == b'\n' {
+            self.take_new_line(page);
+        } else {
+            self.take_in_line(page, byte);
+        }
+    }
+
+    /// Takes bytes.
+    fn take_all<P: Page>(&mut self, page: &mut P, bytes: &[u8])
+        ensures width { self.new.width ≡ self.old.width }
+        ensures taken { Takes P.wrote self.old self.new page.old page.new bytes.now }
+    {
+        for byte in bytes {
+            self.take(page, *byte);
+        }
+    }
+
+    /// Takes bytes of a text, and gives a target what goes out, or where a write fails a first part of it.
+    pub fn write_to<T: Target>(&mut self, target: &mut T, bytes: &[u8]) -> Result<usize, Failed>
+        ensures count { IfOk result (λ n. n ≡ length bytes.now) }
+        ensures width { self.new.width ≡ self.old.width }
+        ensures written { HasTaken (Some self.old) (Some self.new) (T.taken target.old)
+            (T.taken target.new) result bytes.now }
+        ensures failed { T.failed target.new ≡ (is_err result || T.failed target.old) }
+    {
+        let mut page = TargetPage::new(target);
+        self.take_all(&mut page, bytes);
+        match page.finish() {
+            Ok(()) => Ok(bytes.len()),
+            Err(Failed) => Err(Failed),
+        }
+    }
+
+    /// Gives a target what is held back, or where a write fails a first part. The next text begins a line.
+    pub fn end<T: Target>(&mut self, target: &mut T) -> Result<(), Failed>
+        ensures width { self.new.width ≡ self.old.width }
+        ensures all { OnOk result
+            (Appends (T.taken target.old) (T.taken target.new) self.old.held.items) }
+        ensures none { OnOk result (self.new.held.items ≡ []) }
+        ensures anew { OnOk result (IsOpen self.new [] []) }
+        ensures part { OnErr result
+            (TookPart (T.taken target.old) (T.taken target.new) self.old.held.items) }
+        ensures failed { T.failed target.new ≡ (is_err result || T.failed target.old) }
+    {
+        match write_all(target, self.held.as_slice()) {
+            Ok(()) => {
+                self.held.clear();
+                self.kind = Kind::Empty;
+                Ok(())
+            }
+            Err(Failed) => Err(Failed),
+        }
+    }
+}
