@@ -1,15 +1,17 @@
 -- What clap finds in the words of the command line.
-use Rattle.std.proofs.Common.{◌≡◌, ◌∙◌, ℕ, List, Option, Some, None, IfNone, IfSome, codes, refl, sym, ap, ap₂, subst, Bool, true, false}
-use Rattle.std.specs.Prelude.{SomeIff, IsSomeAnd, option_map, unwrap_or}
+use Rattle.std.proofs.Common.{◌≡◌, ◌∙◌, ◌<◌, ◌≤◌, ℕ, zero, suc, List, [], ◌∷◌, length, take, get_or, Option, Some, None, IfNone, IfSome, codes, refl, sym, ap, ap₂, arith, subst, Bool, true, false}
+use Rattle.std.specs.Prelude.{SomeIff, IsSomeAnd, map, option_map, unwrap_or}
 use Rattle.std.specs.Str.{bytes_eq}
 use Rattle.std.proofs.lemmas.Slice.Eq.{bytes_eq-Decides}
-use Rattle.clap.specs.Words.{App, HasMatchesOf, Row, Text, first_of, is_simple, is_simple_and_free, subcommand_name_of, subcommand_of, subcommand_rows_of}
+use Rattle.clap.specs.Words.{App, HasMatchesOf, Row, Text, all_of, first_of, is_simple, is_simple_and_free, subcommand_name_of, subcommand_of, subcommand_rows_of, with_rule}
 use Rattle.clap.proofs.OnLiterals.{clap_on_literals}
 use Rattle.clap.specs.declared.ArgMatches.{ArgMatches}
 use Rattle.zk_command.specs.declared.settings.Settings.{Settings}
-use Rattle.zk_command.specs.CommandLine.{Asks, IsNumberIn, Says, SaysSettings, SaysNumber, SaysStory, command_line, flag_said, number_in}
+use Rattle.zk_command.specs.CommandLine.{Asks, IsNumberIn, MaySayNumber, Says, SaysListing, SaysSettings, SaysNumber, SaysStory, command_line, flag_said, number_in, option_rule, with_rules}
 use Rattle.zk_command.specs.declared.choice.Choice.{Choice}
+use Rattle.zk_command.specs.declared.choice.CommandOption.{CommandOption}
 use Rattle.zk_command.specs.declared.choice.Choice.TheVariants.{Play, Show}
+use Rattle.zk_command.specs.declared.listing.Listing.{Listing}
 use Rattle.zk_command.specs.declared.listing.Listing.TheVariants.{Info, Code, Findings}
 
 -- the command line is simple in clap's sense
@@ -21,6 +23,16 @@ command_line_is_simple = refl
 pub command_line_is_free : is_simple_and_free command_line ≡ true
 unfolding clap_on_literals
 command_line_is_free = refl
+
+-- one option more
+pub rules_more : (a : App) (os : List CommandOption) (i : ℕ) (d : CommandOption) → i < length os
+    → with_rules a (map option_rule (take (suc i) os)) ≡ with_rule (with_rules a (map option_rule (take i os))) (option_rule (get_or os i d))
+rules_more a [] i d h = absurd (omega arith)
+rules_more a (o ∷ os) zero d h = refl
+rules_more a (o ∷ os) (suc i) d h = rules_more (with_rule a (option_rule o)) os i d (omega arith)
+
+pub rules_from : (a b : App) (os : List CommandOption) → a ≡ b → with_rules a (map option_rule os) ≡ with_rules b (map option_rule os)
+rules_from a b os e = ap (λ (c : App). with_rules c (map option_rule os)) e
 
 -- a number that was read of an option's text
 pub number_said : (rows : List Row) (option : Text) (least most : ℕ) (word : Text) (o : Option ℕ) → first_of option rows ≡ Some word
@@ -70,6 +82,12 @@ number_not_said rows option least most word None e h =
     λ n said. h (subst (λ (o : Option Text). IsSomeAnd o (λ w. IsNumberIn least most w × (number_in w ≡ n))) e said).0
 number_not_said rows option least most word (Some n) e h = tt
 
+-- an option whose text is no number in the range says neither a number nor none
+pub none_may_be_said : (rows : List Row) (option : Text) (least most : ℕ) (word : Text) → first_of option rows ≡ Some word
+    → (IsNumberIn least most word → ⊥) → (w : Option ℕ) → MaySayNumber rows option least most w → ⊥
+none_may_be_said rows option least most word e none None h = let both : None ≡ Some word = sym h ∙ e in absurd cc
+none_may_be_said rows option least most word e none (Some n) h = number_not_said rows option least most word None e none n h
+
 -- a flag by its text
 pub flag_by : (rows : List Row) (name word : Text) (b : Bool) → first_of name rows ≡ Some word → b ≡ bytes_eq word (codes "true") → b ≡ flag_said (first_of name rows)
 flag_by rows name word b e is = is ∙ sym (ap flag_said e)
@@ -88,19 +106,34 @@ same_name name known test = let d = bytes_eq-Decides name known in d.0 test
 other_name : (name known : Text) → bytes_eq name known ≡ false → name ≡ known → ⊥
 other_name name known test e = let d = bytes_eq-Decides name known in let both : false ≡ true = sym test ∙ d.1 e in absurd cc
 
--- without a path, a settings or a command of this name nothing is said
-pub no_story_said : (name : Text) (rows : List Row) → ((path : List ℕ) → SaysStory rows path → ⊥) → (c : Choice) → Says name rows c → ⊥
-no_story_said name rows none (Play story save script m) h = none story.now h.1
-no_story_said name rows none (Show story listing) h = none story.now h.0
+-- `play` lists nothing
+no_listing : (rows : List Row) (listing : Listing) → SaysListing (codes "play") rows listing → ⊥
+no_listing rows (Info sections) h = other_name (codes "play") (codes "info") refl h.0
+no_listing rows Code h = other_name (codes "play") (codes "disasm") refl h
+no_listing rows Findings h = other_name (codes "play") (codes "check") refl h
+
+-- without a path or settings `play` asks for nothing
+pub no_story_said : (rows : List Row) → ((path : List ℕ) → SaysStory rows path → ⊥) → (c : Choice) → Says (codes "play") rows c → ⊥
+no_story_said rows none (Play story save script m) h = none story.now h.1
+no_story_said rows none (Show stories listing) h = no_listing rows listing h.1
 
 pub no_settings_said : (rows : List Row) → ((m : Settings) → SaysSettings rows m → ⊥) → (c : Choice) → Says (codes "play") rows c → ⊥
 no_settings_said rows none (Play story save script m) h = none m h.4
-no_settings_said rows none (Show story (Info sections)) h = other_name (codes "play") (codes "info") refl h.1.0
-no_settings_said rows none (Show story Code) h = other_name (codes "play") (codes "disasm") refl h.1
-no_settings_said rows none (Show story Findings) h = other_name (codes "play") (codes "check") refl h.1
+no_settings_said rows none (Show stories listing) h = no_listing rows listing h.1
 
-pub no_command : (name : Text) (rows : List Row) → bytes_eq name (codes "play") ≡ false → bytes_eq name (codes "info") ≡ false → bytes_eq name (codes "disasm") ≡ false → bytes_eq name (codes "check") ≡ false → (c : Choice) → Says name rows c → ⊥
-no_command name rows p i d k (Play story save script m) h = other_name name (codes "play") p h.0
-no_command name rows p i d k (Show story (Info sections)) h = other_name name (codes "info") i h.1.0
-no_command name rows p i d k (Show story Code) h = other_name name (codes "disasm") d h.1
-no_command name rows p i d k (Show story Findings) h = other_name name (codes "check") k h.1
+-- without stories, or by a name of no listing, nothing is listed
+pub no_stories : (name : Text) (rows : List Row) (paths : List Text) → bytes_eq name (codes "play") ≡ false → paths ≡ unwrap_or (all_of (codes "STORY") rows) [] → length paths ≡ 0 → (c : Choice) → Says name rows c → ⊥
+no_stories name rows paths p is none (Play story save script m) h = other_name name (codes "play") p h.0
+no_stories name rows paths p is none (Show stories listing) h =
+    let both : length (map (λ s. s.now) stories.items) ≡ 0 = ap length (h.0.1 ∙ sym is) ∙ none in
+    let some : 1 ≤ 0 = rw both at h.0.0 in
+    absurd (omega arith)
+
+pub no_command : (name : Text) (rows : List Row) → bytes_eq name (codes "play") ≡ false → ((l : Listing) → SaysListing name rows l → ⊥) → (c : Choice) → Says name rows c → ⊥
+no_command name rows p none (Play story save script m) h = other_name name (codes "play") p h.0
+no_command name rows p none (Show stories listing) h = none listing h.1
+
+pub no_listing_said : (name : Text) (rows : List Row) → bytes_eq name (codes "info") ≡ false → bytes_eq name (codes "disasm") ≡ false → bytes_eq name (codes "check") ≡ false → (l : Listing) → SaysListing name rows l → ⊥
+no_listing_said name rows i d k (Info sections) h = other_name name (codes "info") i h.0
+no_listing_said name rows i d k Code h = other_name name (codes "disasm") d h
+no_listing_said name rows i d k Findings h = other_name name (codes "check") k h

@@ -1,10 +1,10 @@
 -- What the words of the command line ask for, by clap's function of the words for a simple command.
-use Rattle.std.specs.Prelude.{◌≡◌, ◌⊎◌, ◌≤◌, ◌||◌, ℕ, Bool, true, false, not, List, [], ◌∷◌, Option, Some, None, codes, option_map, if◌then◌else◌, IsSomeAnd}
+use Rattle.std.specs.Prelude.{◌≡◌, ◌⊎◌, ◌≤◌, ◌||◌, ℕ, Bool, true, false, not, List, [], ◌∷◌, Option, Some, None, codes, length, map, option_map, unwrap_or, if◌then◌else◌, IsSomeAnd}
 use Rattle.std.specs.Str.Parse.{IsNumeral, digits_value, without_leading_plus}
-use Rattle.clap.specs.Words.{App, HasKind, Row, Rule, Text, fault_of, first_of, kind_of, new_app, new_rule, subcommand_of, with_rule, with_subcommand}
+use Rattle.clap.specs.Words.{App, HasKind, Row, Rule, Text, all_of, fault_of, first_of, kind_of, new_app, new_rule, subcommand_of, with_rule, with_subcommand}
 use Rattle.std.specs.Str.{bytes_eq}
 use Rattle.clap.specs.Simple.{on_top}
-use Rattle.clap.specs.declared.builder.action.ArgAction.TheVariants.{SetTrue}
+use Rattle.clap.specs.declared.builder.action.ArgAction.TheVariants.{Append, SetTrue}
 use Rattle.clap.specs.declared.Error.{Error}
 use Rattle.clap.specs.declared.error.ErrorKind.{ErrorKind}
 use Rattle.clap.specs.declared.error.ErrorKind.TheVariants as kind
@@ -14,6 +14,9 @@ use Rattle.zk_step.specs.declared.game_state.View.{View}
 use Rattle.zk_step.specs.declared.game_state.View.TheVariants.{Plain, Upper}
 use Rattle.zk_command.specs.declared.settings.Settings.{Settings}
 use Rattle.zk_command.specs.declared.choice.Choice.{Choice}
+use Rattle.zk_command.specs.declared.choice.CommandOption.{CommandOption}
+use Rattle.zk_command.specs.declared.choice.Form.{Form}
+use Rattle.zk_command.specs.declared.choice.Form.TheVariants.{Number, Flag}
 use Rattle.zk_command.specs.declared.choice.Choice.TheVariants.{Play, Show}
 use Rattle.zk_command.specs.declared.listing.Listing.{Listing}
 use Rattle.zk_command.specs.declared.listing.Listing.TheVariants.{Info, Code, Findings}
@@ -27,32 +30,68 @@ number_option name default = record (new_rule name) { long = Some name; value_na
 abbrev pub story_word : Rule
 story_word = record (new_rule (codes "STORY")) { required = true }
 
--- the option `--name FILE`
-abbrev pub file_option : Text → Rule
-file_option name = record (new_rule name) { long = Some name; value_names = 1 }
+-- the paths of stories, one or more
+abbrev pub story_words : Rule
+story_words = record story_word { action = Some Append }
+
+-- the option `--name VALUE`, which may be left out
+abbrev pub value_option : Text → Rule
+value_option name = record (new_rule name) { long = Some name; value_names = 1 }
 
 -- the flag `--name`
 abbrev pub flag : Text → Rule
 flag name = record (new_rule name) { long = Some name; action = Some SetTrue }
 
--- `play [--frames n] [--words n] [--undo n] [--steps n] [--seed n] [--save FILE] [--script FILE] [--upper] STORY`
-abbrev pub play_command : App
-play_command = with_rule (with_rule (with_rule (with_rule (with_rule (with_rule (with_rule (with_rule (with_rule (new_app (codes "play")) (number_option (codes "frames") (codes "1024")))
-    (number_option (codes "words") (codes "16384"))) (number_option (codes "undo") (codes "16"))) (number_option (codes "steps") (codes "10000000"))) (number_option (codes "seed") (codes "1")))
-    (file_option (codes "save"))) (file_option (codes "script"))) (flag (codes "upper"))) story_word
+-- an option by its form
+abbrev pub option_by : Text → Form → Rule
+option_by name (Number default) = number_option name default.now
+option_by name Flag = flag name
+option_by name _ = value_option name
 
--- `info [--header] [--map] [--abbreviations] [--dictionary] [--objects] [--tree] STORY`
+abbrev pub option_rule : CommandOption → Rule
+option_rule o = option_by o.name.now o.form
+
+-- a command with rules, one after another
+abbrev pub with_rules : App → List Rule → App
+with_rules a [] = a
+with_rules a (r ∷ rs) = with_rules (with_rule a r) rs
+
+-- `play [--frames n] [--words n] [--undo n] [--steps n] [--seed n] [--save FILE] [--script FILE] [--upper] [--width n] [--echo] STORY`
+abbrev pub play_command : App
+play_command = with_rules (new_app (codes "play")) (
+    number_option (codes "frames") (codes "1024")
+    ∷ number_option (codes "words") (codes "16384")
+    ∷ number_option (codes "undo") (codes "16")
+    ∷ number_option (codes "steps") (codes "10000000")
+    ∷ number_option (codes "seed") (codes "1")
+    ∷ value_option (codes "save")
+    ∷ value_option (codes "script")
+    ∷ flag (codes "upper")
+    ∷ value_option (codes "width")
+    ∷ flag (codes "echo")
+    ∷ story_word
+    ∷ [])
+
+-- `info [--header] [--map] [--abbreviations] [--dictionary] [--objects] [--tree] [--ifid] STORY..`
 abbrev pub info_command : App
-info_command = with_rule (with_rule (with_rule (with_rule (with_rule (with_rule (with_rule (new_app (codes "info")) (flag (codes "header")))
-    (flag (codes "map"))) (flag (codes "abbreviations"))) (flag (codes "dictionary"))) (flag (codes "objects"))) (flag (codes "tree"))) story_word
+info_command = with_rules (new_app (codes "info")) (
+    flag (codes "header")
+    ∷ flag (codes "map")
+    ∷ flag (codes "abbreviations")
+    ∷ flag (codes "dictionary")
+    ∷ flag (codes "objects")
+    ∷ flag (codes "tree")
+    ∷ flag (codes "ifid")
+    ∷ story_words
+    ∷ [])
 
 -- `disasm STORY`
 abbrev pub disasm_command : App
 disasm_command = with_rule (new_app (codes "disasm")) story_word
 
--- `check STORY`
+-- `check STORY..`
 abbrev pub check_command : App
-check_command = with_rule (new_app (codes "check")) story_word
+check_command = with_rule (new_app (codes "check")) story_words
 
 -- zkit's command line: these commands; help and the version are clap's
 abbrev pub command_line : App
@@ -74,6 +113,11 @@ pub record IsNumberIn (least most : ℕ) (word : Text) : Type 0 where
 abbrev pub SaysNumber : List Row → Text → ℕ → ℕ → ℕ → Type 0
 SaysNumber rows option least most n = IsSomeAnd (first_of option rows) (λ word. IsNumberIn least most word × (number_in word ≡ n))
 
+-- the same of an option that may be left out
+abbrev pub MaySayNumber : List Row → Text → ℕ → ℕ → Option ℕ → Type 0
+MaySayNumber rows option least most None = first_of option rows ≡ None
+MaySayNumber rows option least most (Some n) = SaysNumber rows option least most n
+
 -- what clap found says the limits of a run
 pub record SaysLimits (rows : List Row) (l : Limits) : Type 0 where
   pub frames : SaysNumber rows (codes "frames") 1 65535 l.frames
@@ -90,40 +134,49 @@ flag_said (Some word) = bytes_eq word (codes "true")
 abbrev pub view_said : List Row → View
 view_said rows = if flag_said (first_of (codes "upper") rows) then Upper else Plain
 
--- what clap found says the settings of a run: its limits, its seed, which is any number of 64 bits, and its view
+-- what clap found says the settings of a run: its limits, its seed, which is any number of 64 bits, its view, the columns of
+-- the screen, and whether what is read is shown
 pub record SaysSettings (rows : List Row) (m : Settings) : Type 0 where
   pub limits : SaysLimits rows m.limits
   pub seed : SaysNumber rows (codes "seed") 0 18446744073709551615 m.seed
   pub view : m.view ≡ view_said rows
+  pub width : MaySayNumber rows (codes "width") 20 255 m.width
+  pub echo : m.echo ≡ flag_said (first_of (codes "echo") rows)
 
 -- the sections that the flags of `info` ask for: the header where none is given
 abbrev pub sections_said : List Row → Sections
 sections_said rows =
     let given = λ (name : Text). flag_said (first_of name rows) in
     record {
-      header = given (codes "header") || not (given (codes "map") || (given (codes "abbreviations") || (given (codes "dictionary") || (given (codes "objects") || given (codes "tree")))));
+      header = given (codes "header") || not (given (codes "map") || (given (codes "abbreviations") || (given (codes "dictionary") || (given (codes "objects") || (given (codes "tree") || given (codes "ifid"))))));
       map = given (codes "map");
       abbreviations = given (codes "abbreviations");
       dictionary = given (codes "dictionary");
       objects = given (codes "objects");
       tree = given (codes "tree");
+      ifid = given (codes "ifid");
     }
 
 -- the path of a story
 abbrev pub SaysStory : List Row → Text → Type 0
 SaysStory rows path = first_of (codes "STORY") rows ≡ Some path
 
--- what clap found for a command says a choice
+-- the paths of stories, one at least
+abbrev pub SaysStories : List Row → List Text → Type 0
+SaysStories rows paths = (1 ≤ length paths) × (paths ≡ unwrap_or (all_of (codes "STORY") rows) [])
+
+-- what clap found for a command says what is listed
 abbrev pub SaysListing : Text → List Row → Listing → Type 0
 SaysListing name rows (Info sections) = (name ≡ codes "info") × (sections ≡ sections_said rows)
 SaysListing name rows Code = name ≡ codes "disasm"
 SaysListing name rows Findings = name ≡ codes "check"
 
+-- what clap found for a command says a choice
 abbrev pub Says : Text → List Row → Choice → Type 0
 Says name rows (Play story save script m) =
     (name ≡ codes "play") × SaysStory rows story.now × (option_map (λ s. s.now) save ≡ first_of (codes "save") rows)
     × (option_map (λ s. s.now) script ≡ first_of (codes "script") rows) × SaysSettings rows m
-Says name rows (Show story listing) = SaysStory rows story.now × SaysListing name rows listing
+Says name rows (Show stories listing) = SaysStories rows (map (λ s. s.now) stories.items) × SaysListing name rows listing
 
 -- the words ask for a choice: clap finds a command in them that says it
 pub record Asks (words : List Text) (c : Choice) : Type 0 where
@@ -148,4 +201,4 @@ IsRefusedWith words e =
 -- the limits of a choice lie in their ranges
 abbrev pub HasLimits : Choice → Type 0
 HasLimits (Play story save script m) = AreInRange m.limits
-HasLimits (Show story listing) = Unit {0}
+HasLimits (Show stories listing) = Unit {0}

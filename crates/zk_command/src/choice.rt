@@ -1,13 +1,15 @@
 // What the words of the command line ask for.
 
-ghost use Rattle.std.specs.Prelude.{◌≡◌, ◌≤◌, ℕ, List, codes, IfErr, IfNone, IfOk, IfSome, OnErr, SomeIff, false, map};
-ghost use Rattle.clap.specs.Words.{app_of, new_app, with_rule, first_of, found_of, kind_of, rows_of, rule_of};
+ghost use Rattle.std.specs.Prelude.{◌≡◌, ◌≤◌, ℕ, List, codes, IfErr, IfNone, IfOk, IfSome, OnErr, SomeIff, Option, false, [], map, unwrap_or};
+ghost use Rattle.std.specs.Str.{bytes_eq};
+ghost use Rattle.clap.specs.Words.{App, all_of, app_of, new_app, with_rule, first_of, found_of, kind_of, rows_of, rule_of};
 ghost use Rattle.clap.specs.declared.Command.TheViews.{out-Command as fields_of};
 ghost use Rattle.zk_vm.specs.Bounds.{AreInRange};
 ghost use Rattle.zk_vm.specs.declared.limits.Limits.{Limits};
 ghost use Rattle.zk_command.specs.declared.choice.Choice.{Choice};
+ghost use Rattle.zk_command.specs.declared.listing.Listing.{Listing};
 ghost use Rattle.zk_command.specs.declared.settings.Settings.{Settings};
-ghost use Rattle.zk_command.specs.CommandLine.{Asks, HasLimits, IsNumberIn, IsRefusedWith, Says, SaysLimits, SaysSettings, SaysNumber, SaysStory, check_command, command_line, disasm_command, file_option, flag, flag_said, info_command, number_in, number_option, play_command, sections_said, story_word, usage_status, view_said};
+ghost use Rattle.zk_command.specs.CommandLine.{Asks, HasLimits, IsNumberIn, IsRefusedWith, MaySayNumber, Says, SaysLimits, SaysListing, SaysSettings, SaysNumber, SaysStory, check_command, command_line, disasm_command, flag_said, info_command, number_in, option_rule, play_command, sections_said, story_word, story_words, usage_status, view_said, with_rules};
 
 use crate::listing::{Listing, Sections};
 use crate::settings::Settings;
@@ -36,45 +38,141 @@ pub enum Choice<'a> {
         script: Option<&'a str>,
         settings: Settings,
     },
-    /// To list the story in a file.
+    /// To list the stories in files, one at least.
     Show {
-        story: &'a str,
+        stories: Vec<&'a str>,
         listing: Listing,
     },
 }
 
-/// An option that takes a number.
-fn number_option_of<'a>(alloc: Global, name: &'a str, default: &'a str, help: &'a str) -> Arg<'a>
-    ensures rule { rule_of result ≡ number_option name.entry.now default.entry.now }
-    ensures local { result.global ≡ false }
-{
-    Arg::new(alloc, name)
-        .long(name)
-        .value_name("n")
-        .default_value(default)
-        .help(help)
+/// How an option is given.
+#[derive(Clone, Copy)]
+pub(crate) enum Form {
+    /// With a number; without the option it is another.
+    Number(&'static str),
+    /// With a number, or not at all.
+    NumberIfAny,
+    /// With a file's path, or not at all.
+    File,
+    /// Without a value.
+    Flag,
 }
 
-/// An option that takes a file's path.
-fn file_option_of<'a>(alloc: Global, name: &'a str, help: &'a str) -> Arg<'a>
-    ensures rule { rule_of result ≡ file_option name.entry.now }
-    ensures local { result.global ≡ false }
-{
-    Arg::new(alloc, name)
-        .long(name)
-        .value_name("FILE")
-        .help(help)
+/// An option of a command.
+#[derive(Clone, Copy)]
+pub(crate) struct CommandOption {
+    name: &'static str,
+    form: Form,
+    help: &'static str,
 }
 
-/// An option without a value.
-fn flag_of<'a>(alloc: Global, name: &'a str, help: &'a str) -> Arg<'a>
-    ensures rule { rule_of result ≡ flag name.entry.now }
+/// The options of `play`.
+const PLAY_OPTIONS: [CommandOption; 10] = [
+    CommandOption {
+        name: "frames",
+        form: Form::Number("1024"),
+        help: "The most routines that may be open at once, 1 to 65535",
+    },
+    CommandOption {
+        name: "words",
+        form: Form::Number("16384"),
+        help: "The most words that the open routines may hold, 0 to 65535",
+    },
+    CommandOption {
+        name: "undo",
+        form: Form::Number("16"),
+        help: "How many states can be gone back to, 0 to 64",
+    },
+    CommandOption {
+        name: "steps",
+        form: Form::Number("10000000"),
+        help: "The most instructions without reading, 1 to 1000000000",
+    },
+    CommandOption {
+        name: "seed",
+        form: Form::Number("1"),
+        help: "What begins the random numbers, 0 to 18446744073709551615",
+    },
+    CommandOption {
+        name: "save",
+        form: Form::File,
+        help: "The file that the game is saved to and restored from; a save replaces what it held; without it there are no saved games",
+    },
+    CommandOption {
+        name: "script",
+        form: Form::File,
+        help: "The file of the transcript, emptied at the start and filled once the story turns its transcript on",
+    },
+    CommandOption {
+        name: "upper",
+        form: Form::Flag,
+        help: "Shows the status line and the upper window, on lines of their own",
+    },
+    CommandOption {
+        name: "width",
+        form: Form::NumberIfAny,
+        help: "Wraps the screen's lines at spaces, so that they have at most this many columns, 20 to 255",
+    },
+    CommandOption {
+        name: "echo",
+        form: Form::Flag,
+        help: "Shows each line that is read, for input from a pipe",
+    },
+];
+
+/// The options of `info`.
+const INFO_OPTIONS: [CommandOption; 7] = [
+    CommandOption {
+        name: "header",
+        form: Form::Flag,
+        help: "Lists what the header says",
+    },
+    CommandOption {
+        name: "map",
+        form: Form::Flag,
+        help: "Lists where the parts of the story begin",
+    },
+    CommandOption {
+        name: "abbreviations",
+        form: Form::Flag,
+        help: "Lists the abbreviations",
+    },
+    CommandOption {
+        name: "dictionary",
+        form: Form::Flag,
+        help: "Lists the words of the dictionary",
+    },
+    CommandOption {
+        name: "objects",
+        form: Form::Flag,
+        help: "Lists the objects with their properties",
+    },
+    CommandOption {
+        name: "tree",
+        form: Form::Flag,
+        help: "Lists the tree of objects",
+    },
+    CommandOption {
+        name: "ifid",
+        form: Form::Flag,
+        help: "Lists the IFID, by which catalogues name the story",
+    },
+];
+
+/// An option, as clap has it.
+fn option_of<'a>(alloc: Global, option: CommandOption) -> Arg<'a>
+    ensures rule { rule_of result ≡ option_rule option }
     ensures local { result.global ≡ false }
 {
-    Arg::new(alloc, name)
-        .long(name)
-        .action(ArgAction::SetTrue)
-        .help(help)
+    let arg = Arg::new(alloc, option.name)
+        .long(option.name)
+        .help(option.help);
+    match option.form {
+        Form::Number(default) => arg.value_name("n").default_value(default),
+        Form::NumberIfAny => arg.value_name("n"),
+        Form::File => arg.value_name("FILE"),
+        Form::Flag => arg.action(ArgAction::SetTrue),
+    }
 }
 
 /// The path of the story.
@@ -99,6 +197,32 @@ fn with_arg<'a>(command: Command<'a>, arg: Arg<'a>) -> Result<Command<'a>, Alloc
     command.arg(arg)
 }
 
+/// The paths of stories.
+fn story_words_of<'a>(alloc: Global) -> Arg<'a>
+    ensures rule { rule_of result ≡ story_words }
+    ensures local { result.global ≡ false }
+{
+    story_word_of(alloc).action(ArgAction::Append)
+}
+
+/// A command with options as well.
+fn with_options<'a>(
+    alloc: Global,
+    command: Command<'a>,
+    options: &[CommandOption],
+) -> Result<Command<'a>, AllocError>
+    requires local { (fields_of command).has_globals ≡ false }
+    ensures shape { IfOk result (λ c. (a : App) → app_of command.entry ≡ a
+        → app_of c ≡ with_rules a (map option_rule options.now)) }
+    ensures local { IfOk result (λ c. (fields_of c).has_globals ≡ false) }
+{
+    let mut command = command;
+    for option in options {
+        command = with_arg(command, option_of(alloc, *option))?;
+    }
+    Ok(command)
+}
+
 /// A command with its description and an example.
 fn described<'a>(alloc: Global, name: &'a str, about: &'a str, example: &'a str) -> Command<'a>
     ensures shape { app_of result ≡ new_app name.entry.now }
@@ -114,24 +238,7 @@ fn play_command_of<'a>(alloc: Global) -> Result<Command<'a>, AllocError>
 {
     let example = "Example: zkit play --steps 50000000 story.z5";
     let command = described(alloc, "play", "Plays a story", example);
-    let help = "The most routines that may be open at once, 1 to 65535";
-    let command = with_arg(command, number_option_of(alloc, "frames", "1024", help))?;
-    let help = "The most words that the open routines may hold, 0 to 65535";
-    let command = with_arg(command, number_option_of(alloc, "words", "16384", help))?;
-    let help = "How many states can be gone back to, 0 to 64";
-    let command = with_arg(command, number_option_of(alloc, "undo", "16", help))?;
-    let help = "The most instructions without reading, 1 to 1000000000";
-    let command = with_arg(command, number_option_of(alloc, "steps", "10000000", help))?;
-    let help = "What begins the random numbers, 0 to 18446744073709551615";
-    let command = with_arg(command, number_option_of(alloc, "seed", "1", help))?;
-    let help =
-        "The file that the game is saved to and restored from; a save replaces what it held; without it there are no saved games";
-    let command = with_arg(command, file_option_of(alloc, "save", help))?;
-    let help =
-        "The file of the transcript, emptied at the start and filled once the story turns its transcript on";
-    let command = with_arg(command, file_option_of(alloc, "script", help))?;
-    let help = "Shows the status line and the upper window, on lines of their own";
-    let command = with_arg(command, flag_of(alloc, "upper", help))?;
+    let command = with_options(alloc, command, &PLAY_OPTIONS)?;
     with_arg(command, story_word_of(alloc))
 }
 
@@ -140,26 +247,11 @@ fn info_command_of<'a>(alloc: Global) -> Result<Command<'a>, AllocError>
     ensures shape { IfOk result (λ c. app_of c ≡ info_command) }
     ensures local { IfOk result (λ c. (fields_of c).has_globals ≡ false) }
 {
-    let about = "Lists the tables of a story; without an option, what its header says";
-    let command = described(
-        alloc,
-        "info",
-        about,
-        "Example: zkit info --dictionary story.z5",
-    );
-    let help = "Lists what the header says";
-    let command = with_arg(command, flag_of(alloc, "header", help))?;
-    let help = "Lists where the parts of the story begin";
-    let command = with_arg(command, flag_of(alloc, "map", help))?;
-    let help = "Lists the abbreviations";
-    let command = with_arg(command, flag_of(alloc, "abbreviations", help))?;
-    let help = "Lists the words of the dictionary";
-    let command = with_arg(command, flag_of(alloc, "dictionary", help))?;
-    let help = "Lists the objects with their properties";
-    let command = with_arg(command, flag_of(alloc, "objects", help))?;
-    let help = "Lists the tree of objects";
-    let command = with_arg(command, flag_of(alloc, "tree", help))?;
-    with_arg(command, story_word_of(alloc))
+    let about = "Lists the tables of stories; without an option, what their headers say";
+    let example = "Example: zkit info --dictionary story.z5";
+    let command = described(alloc, "info", about, example);
+    let command = with_options(alloc, command, &INFO_OPTIONS)?;
+    with_arg(command, story_words_of(alloc))
 }
 
 /// The command `disasm`.
@@ -167,7 +259,7 @@ fn disasm_command_of<'a>(alloc: Global) -> Result<Command<'a>, AllocError>
     ensures shape { IfOk result (λ c. app_of c ≡ disasm_command) }
     ensures local { IfOk result (λ c. (fields_of c).has_globals ≡ false) }
 {
-    let about = "Lists the instructions of a story that it can come to";
+    let about = "Lists the instructions that a run of a story can reach";
     let command = described(alloc, "disasm", about, "Example: zkit disasm story.z5");
     with_arg(command, story_word_of(alloc))
 }
@@ -177,9 +269,9 @@ fn check_command_of<'a>(alloc: Global) -> Result<Command<'a>, AllocError>
     ensures shape { IfOk result (λ c. app_of c ≡ check_command) }
     ensures local { IfOk result (λ c. (fields_of c).has_globals ≡ false) }
 {
-    let about = "Lists what is wrong with a story, and ends with status 6 where something is";
+    let about = "Lists what is wrong with stories, and ends with status 6 where something is";
     let command = described(alloc, "check", about, CHECK_HELP);
-    with_arg(command, story_word_of(alloc))
+    with_arg(command, story_words_of(alloc))
 }
 
 /// zkit's command line.
@@ -319,8 +411,25 @@ fn view_of(play: &ArgMatches<'_>) -> View
     }
 }
 
+/// The columns of the screen that the options of `play` say.
+fn width_of(alloc: Global, play: &ArgMatches<'_>) -> Result<Option<u8>, Error>
+    ensures says { IfOk result
+        (λ w. MaySayNumber (rows_of (found_of play.now)) (codes "width") 20 255 w) }
+    ensures mistake { IfErr result (λ e. 1 ≤ usage_status (kind_of e)) }
+    ensures says_none { OnErr result ((w : Option ℕ)
+        → MaySayNumber (rows_of (found_of play.now)) (codes "width") 20 255 w → ⊥) }
+{
+    let Some(word) = play.get_str("width") else {
+        return Ok(None);
+    };
+    match number_from(word, 20, 255) {
+        Some(width) => Ok(Some(width as u8)),
+        None => Err(out_of_range(alloc, "width", 20, 255)),
+    }
+}
+
 /// The settings of a run that the options of `play` say.
-fn manner_of(alloc: Global, play: &ArgMatches<'_>) -> Result<Settings, Error>
+fn settings_of(alloc: Global, play: &ArgMatches<'_>) -> Result<Settings, Error>
     ensures says { IfOk result (λ m. SaysSettings (rows_of (found_of play.now)) m) }
     ensures in_range { IfOk result (λ m. AreInRange m.limits) }
     ensures mistake { IfErr result (λ e. 1 ≤ usage_status (kind_of e)) }
@@ -334,8 +443,19 @@ fn manner_of(alloc: Global, play: &ArgMatches<'_>) -> Result<Settings, Error>
     let Some(seed) = number_of(play, "seed", 0, 18_446_744_073_709_551_615) else {
         return Err(out_of_range(alloc, "seed", 0, 18_446_744_073_709_551_615));
     };
+    let width = match width_of(alloc, play) {
+        Ok(width) => width,
+        Err(error) => return Err(error),
+    };
     let view = view_of(play);
-    Ok(Settings { limits, seed, view })
+    let echo = has_flag(play, "echo");
+    Ok(Settings {
+        limits,
+        seed,
+        view,
+        width,
+        echo,
+    })
 }
 
 /// The path of the story.
@@ -368,7 +488,7 @@ fn choose_play<'a>(
         Ok(story) => story,
         Err(error) => return Err(error),
     };
-    let settings = match manner_of(alloc, play) {
+    let settings = match settings_of(alloc, play) {
         Ok(settings) => settings,
         Err(error) => return Err(error),
     };
@@ -391,7 +511,8 @@ fn sections_of(info: &ArgMatches<'_>) -> Sections
     let dictionary = has_flag(info, "dictionary");
     let objects = has_flag(info, "objects");
     let tree = has_flag(info, "tree");
-    let others = map || abbreviations || dictionary || objects || tree;
+    let ifid = has_flag(info, "ifid");
+    let others = map || abbreviations || dictionary || objects || tree || ifid;
     Sections {
         header: has_flag(info, "header") || !others,
         map,
@@ -399,70 +520,66 @@ fn sections_of(info: &ArgMatches<'_>) -> Sections
         dictionary,
         objects,
         tree,
+        ifid,
     }
 }
 
-/// What the words after `info` ask for.
-fn choose_info<'a>(command: &mut Command<'_>, info: &ArgMatches<'a>) -> Result<Choice<'a>, Error>
-    ensures says { IfOk result (λ c. Says (codes "info") (rows_of (found_of info.now)) c) }
-    ensures in_range { IfOk result (λ c. HasLimits c) }
-    ensures mistake { IfErr result (λ e. 1 ≤ usage_status (kind_of e)) }
-    ensures says_none { OnErr result
-        ((c : Choice) → Says (codes "info") (rows_of (found_of info.now)) c → ⊥) }
+/// What a command lists, by its name and what clap found for it.
+fn listing_of(name: &str, found: &ArgMatches<'_>) -> Option<Listing>
+    ensures says { IfSome result (λ l. SaysListing name.now (rows_of (found_of found.now)) l) }
+    ensures says_none { IfNone result
+        ((l : Listing) → SaysListing name.now (rows_of (found_of found.now)) l → ⊥) }
 {
-    match story_of(command, info) {
-        Ok(story) => {
-            let listing = Listing::Info(sections_of(info));
-            Ok(Choice::Show { story, listing })
-        }
-        Err(error) => Err(error),
+    if name == "info" {
+        Some(Listing::Info(sections_of(found)))
+    } else if name == "disasm" {
+        Some(Listing::Code)
+    } else if name == "check" {
+        Some(Listing::Findings)
+    } else {
+        None
     }
 }
 
-/// What the words after `disasm` ask for.
-fn choose_disasm<'a>(
+/// What a command that is not `play` asks for, by its name, what clap found for it, and the stories that it names.
+fn choose_listing<'a>(
     command: &mut Command<'_>,
-    disasm: &ArgMatches<'a>,
+    name: &str,
+    found: &ArgMatches<'a>,
+    stories: Vec<&'a str>,
 ) -> Result<Choice<'a>, Error>
-    ensures says { IfOk result (λ c. Says (codes "disasm") (rows_of (found_of disasm.now)) c) }
+    requires other { bytes_eq name.now (codes "play") ≡ false }
+    requires stories { map (λ s. s.now) stories.items
+        ≡ unwrap_or (all_of (codes "STORY") (rows_of (found_of found.now))) [] }
+    ensures says { IfOk result (λ c. Says name.now (rows_of (found_of found.now)) c) }
     ensures in_range { IfOk result (λ c. HasLimits c) }
     ensures mistake { IfErr result (λ e. 1 ≤ usage_status (kind_of e)) }
     ensures says_none { OnErr result
-        ((c : Choice) → Says (codes "disasm") (rows_of (found_of disasm.now)) c → ⊥) }
+        ((c : Choice) → Says name.now (rows_of (found_of found.now)) c → ⊥) }
 {
-    match story_of(command, disasm) {
-        Ok(story) => Ok(Choice::Show {
-            story,
-            listing: Listing::Code,
-        }),
-        Err(error) => Err(error),
+    match listing_of(name, found) {
+        Some(listing) if !stories.is_empty() => Ok(Choice::Show { stories, listing }),
+        Some(_) => {
+            let text = "the story's path is missing";
+            Err(usage_error(command, ErrorKind::MissingRequiredArgument, text))
+        }
+        None => {
+            let text = "the commands are 'play', 'info', 'disasm' and 'check'";
+            Err(usage_error(command, ErrorKind::InvalidSubcommand, text))
+        }
     }
 }
 
-/// What the words after `check` ask for.
-fn choose_check<'a>(command: &mut Command<'_>, check: &ArgMatches<'a>) -> Result<Choice<'a>, Error>
-    ensures says { IfOk result (λ c. Says (codes "check") (rows_of (found_of check.now)) c) }
-    ensures in_range { IfOk result (λ c. HasLimits c) }
-    ensures mistake { IfErr result (λ e. 1 ≤ usage_status (kind_of e)) }
-    ensures says_none { OnErr result
-        ((c : Choice) → Says (codes "check") (rows_of (found_of check.now)) c → ⊥) }
-{
-    match story_of(command, check) {
-        Ok(story) => Ok(Choice::Show {
-            story,
-            listing: Listing::Findings,
-        }),
-        Err(error) => Err(error),
-    }
-}
-
-/// What a command asks for, by its name and what clap found for it.
+/// What a command asks for, by its name, what clap found for it, and the stories that it names.
 fn choose_by<'a>(
     alloc: Global,
     command: &mut Command<'_>,
     name: &str,
     found: &ArgMatches<'a>,
+    stories: Vec<&'a str>,
 ) -> Result<Choice<'a>, Error>
+    requires stories { map (λ s. s.now) stories.items
+        ≡ unwrap_or (all_of (codes "STORY") (rows_of (found_of found.now))) [] }
     ensures says { IfOk result (λ c. Says name.now (rows_of (found_of found.now)) c) }
     ensures in_range { IfOk result (λ c. HasLimits c) }
     ensures mistake { IfErr result (λ e. 1 ≤ usage_status (kind_of e)) }
@@ -471,16 +588,21 @@ fn choose_by<'a>(
 {
     if name == "play" {
         choose_play(alloc, command, found)
-    } else if name == "info" {
-        choose_info(command, found)
-    } else if name == "disasm" {
-        choose_disasm(command, found)
-    } else if name == "check" {
-        choose_check(command, found)
     } else {
-        let text = "the commands are 'play', 'info', 'disasm' and 'check'";
-        Err(usage_error(command, ErrorKind::InvalidSubcommand, text))
+        choose_listing(command, name, found, stories)
     }
+}
+
+/// The stories that a command names.
+fn stories_of<'a>(alloc: Global, found: &ArgMatches<'a>) -> Result<Vec<&'a str>, AllocError>
+    ensures { IfOk result (λ v. map (λ s. s.now) v.items
+        ≡ unwrap_or (all_of (codes "STORY") (rows_of (found_of found.now))) []) }
+{
+    let mut list = Vec::new(alloc);
+    if let Some(stories) = found.get_strs("STORY") {
+        list.extend_from_slice(stories)?;
+    }
+    Ok(list)
 }
 
 /// What the words ask for, the first of which is the program's name.
@@ -495,13 +617,14 @@ pub fn choose<'a>(alloc: Global, words: &'a [&'a str]) -> Result<Choice<'a>, Err
         let text = "a command is missing";
         return Err(usage_error(&mut command, ErrorKind::MissingSubcommand, text));
     };
-    match choose_by(alloc, &mut command, name, found) {
+    let stories = stories_of(alloc, found)?;
+    match choose_by(alloc, &mut command, name, found, stories) {
         Ok(choice) => Ok(choice),
         Err(error) => Err(error),
     }
 }
 
-/// The program's status after an error of the command line: 0 for help and the version, 5 for want of memory, and
+/// The program's status after an error of the command line: 0 for help and the version, 5 where there is no memory, and
 /// else 1.
 pub fn usage_status_of(error: &Error) -> u8
     ensures { result ≡ usage_status (kind_of error.now) }

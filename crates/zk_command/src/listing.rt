@@ -21,7 +21,7 @@ use std::io::Read;
 use zk_inspect::disassembly::disassemble;
 use zk_inspect::error::ListError;
 use zk_inspect::finding_lines::write_findings;
-use zk_inspect::listings::{abbreviations, dictionary, header, map, objects, tree};
+use zk_inspect::listings::{abbreviations, dictionary, header, ifid, map, objects, tree};
 use zk_inspect::reach::reach;
 use zk_mem::memory::{Memory, Setup};
 use zk_mem::story::Story;
@@ -40,16 +40,18 @@ pub enum Section {
     Dictionary,
     Objects,
     Tree,
+    Ifid,
 }
 
 /// The sections in the order in which they are shown.
-const SECTIONS: [Section; 6] = [
+const SECTIONS: [Section; 7] = [
     Section::Header,
     Section::Map,
     Section::Abbreviations,
     Section::Dictionary,
     Section::Objects,
     Section::Tree,
+    Section::Ifid,
 ];
 
 /// Which sections are shown.
@@ -61,6 +63,7 @@ pub struct Sections {
     pub dictionary: bool,
     pub objects: bool,
     pub tree: bool,
+    pub ifid: bool,
 }
 
 impl Sections {
@@ -73,6 +76,7 @@ impl Sections {
             Section::Dictionary => self.dictionary,
             Section::Objects => self.objects,
             Section::Tree => self.tree,
+            Section::Ifid => self.ifid,
         }
     }
 }
@@ -97,6 +101,7 @@ fn title(section: Section) -> &'static [u8] {
         Section::Dictionary => b"[dictionary]\n",
         Section::Objects => b"[objects]\n",
         Section::Tree => b"[tree]\n",
+        Section::Ifid => b"[ifid]\n",
     }
 }
 
@@ -117,6 +122,7 @@ fn list_section<T: Target>(
         Section::Dictionary => dictionary(memory, target),
         Section::Objects => objects(memory, target),
         Section::Tree => tree(alloc, memory, target),
+        Section::Ifid => ifid(memory, target),
     }
 }
 

@@ -57,7 +57,12 @@ pub fn play_file<R: Read + Drop, I: Source, S: Target, T: Target, K: SaveSlot>(
         Ok(story) => story,
         Err(exit) => return exit,
     };
-    let Settings { seed, limits, view } = settings;
+    let Settings {
+        seed,
+        limits,
+        view,
+        ..
+    } = settings;
     let mut machine = match Machine::start(alloc, story, seed, limits, view) {
         Ok(machine) => machine,
         Err(_) => return Exit::Stopped(Stop::Memory),

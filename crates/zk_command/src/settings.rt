@@ -12,4 +12,9 @@ pub struct Settings {
     pub seed: u64,
     /// What is shown of the status line and the upper window.
     pub view: View,
+    /// How many columns the screen's lines have, 20 to 255: longer ones are broken at a space. Lines stay as they are
+    /// without it.
+    pub width: Option<u8>,
+    /// Whether lines that are read are shown after the prompt.
+    pub echo: bool,
 }

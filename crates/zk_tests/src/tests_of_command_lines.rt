@@ -29,6 +29,8 @@ fn a_manner_is_asked_for(rt: HostRuntime) {
         limits: AMPLE,
         seed: 1,
         view: View::Plain,
+        width: None,
+        echo: false,
     };
     let words = ["zkit", "play", "hello.z3"];
     same(&rt, manner_asked(alloc, words.as_slice()), Some(plain));
@@ -48,4 +50,11 @@ fn a_manner_is_asked_for(rt: HostRuntime) {
         ..plain
     };
     same(&rt, manner_asked(alloc, words.as_slice()), Some(upper));
+    let words = ["zkit", "play", "--echo", "--width", "20", "hello.z3"];
+    let narrow = Settings {
+        width: Some(20),
+        echo: true,
+        ..plain
+    };
+    same(&rt, manner_asked(alloc, words.as_slice()), Some(narrow));
 }

@@ -9,6 +9,7 @@ ghost use Rattle.zk_command.specs.CommandLine.{usage_status};
 use clap::Error;
 use clap::error::ErrorKind;
 use std::fs::{self, File};
+use std::io::Printer;
 use std::process::ExitCode;
 use std::{env, io};
 use zk_command::about::About;
@@ -22,10 +23,22 @@ use zk_command::save_file::SaveFile;
 use zk_command::script::ScriptFile;
 use zk_command::settings::Settings;
 use zk_command::watched::Watched;
+use zk_term::echo::Echo;
 use zk_term::over::Over;
-use zk_term::target::Target;
+use zk_term::target::{Failed, Target, write_all};
+use zk_term::wrapped::Wrapped;
 use zk_vm::slot::SaveSlot;
 use zk_vm::stop::Stop;
+
+/// Standard output.
+fn screen_of<'a>(
+    rt: &'a HostRuntime,
+    about: &'a About,
+) -> Over<Watched<'a, Printer<'a, HostRuntime>>>
+    ensures { result.failed ≡ false }
+{
+    Over::new(Watched::new(io::writer(rt), &about.screen))
+}
 
 /// Plays the story in a file, with its transcript in a script and its saved game in a slot, and answers the program's
 /// status.
@@ -41,8 +54,12 @@ fn play<T: Target + Drop, K: SaveSlot + Drop>(
 {
     let mut errors = Over::new(rt.stderr());
     let mut devices = Devices {
-        input: Over::new(Watched::new(rt.stdin(), &about.input)),
-        screen: Over::new(Watched::new(io::writer(rt), &about.screen)),
+        input: Echo::new(
+            Over::new(Watched::new(rt.stdin(), &about.input)),
+            screen_of(rt, about),
+            settings.echo,
+        ),
+        screen: Wrapped::new(screen_of(rt, about), settings.width),
         script,
         slot,
     };
@@ -58,21 +75,34 @@ fn play<T: Target + Drop, K: SaveSlot + Drop>(
     }
 }
 
-/// Lists the story in a file, and answers the program's status.
-fn list(rt: &HostRuntime, path: &str, listing: Listing) -> u8 {
+/// Writes the line with a story's path, before its listing.
+fn write_path<S: Target>(screen: &mut S, path: &str) -> Result<(), Failed> {
+    write_all(screen, path.as_bytes())?;
+    write_all(screen, b":\n")
+}
+
+/// Lists the story in a file, after its path where it is one of several, and answers the program's status.
+fn list(rt: &HostRuntime, path: &str, listing: Listing, is_one_of_several: bool) -> u8 {
     let mut errors = Over::new(rt.stderr());
     let about = About::new(path, "");
+    let mut screen = screen_of(rt, &about);
+    if is_one_of_several && write_path(&mut screen, path).is_err() {
+        let exit = Exit::Stopped(Stop::Write);
+        return report_listing(rt.alloc(), &exit, &about, &mut errors);
+    }
     match File::open(rt, path) {
         Err(error) => report_listing(rt.alloc(), &Exit::Unread(error), &about, &mut errors),
-        Ok(file) => list_and_report(
-            rt.alloc(),
-            file,
-            &about,
-            listing,
-            &mut Over::new(Watched::new(io::writer(rt), &about.screen)),
-            &mut errors,
-        ),
+        Ok(file) => list_and_report(rt.alloc(), file, &about, listing, &mut screen, &mut errors),
     }
+}
+
+/// Lists the stories in files, and answers the greatest status.
+fn list_each(rt: &HostRuntime, stories: &[&str], listing: Listing) -> u8 {
+    let mut status = 0;
+    for path in stories {
+        status = list(rt, path, listing, stories.len() > 1).max(status);
+    }
+    status
 }
 
 /// Tells that there is no memory, and answers the program's status.
@@ -162,7 +192,7 @@ fn answer(rt: &HostRuntime, words: &[String]) -> u8 {
                 play(rt, &about, settings, file, SaveFile::new(rt, save))
             }
         },
-        Ok(Choice::Show { story, listing }) => list(rt, story, listing),
+        Ok(Choice::Show { stories, listing }) => list_each(rt, stories.as_slice(), listing),
         Err(error) => {
             let status = tell_usage(rt, &error);
             tell_command(rt, words.as_slice(), &error);
