@@ -1,0 +1,4 @@
+pub mod Looseness
+pub mod Handling
+pub mod Hearing
+pub mod Exporting

@@ -1,0 +1,85 @@
+// The numbers by which C is told.
+
+ghost use Rattle.std.specs.Prelude.{◌≡◌};
+ghost use Rattle.zk_c.specs.Numbers.{address_number, event_number, reason_number, refused_number, status_number, answer_number, turn_number};
+
+use crate::play::Refusal;
+use zk_vm::stop::{Event, Stop};
+
+/// What is asked for.
+fn event_number(event: Event) -> u32
+    ensures { result ≡ event_number event }
+{
+    match event {
+        Event::Line => 1,
+        Event::Char => 2,
+        Event::Save => 3,
+        Event::Restore => 4,
+    }
+}
+
+/// What a turn asks for, and 0 where the story has stopped.
+pub fn turn_number(turned: Result<Event, Stop>) -> u32
+    ensures { result ≡ turn_number turned }
+{
+    match turned {
+        Ok(event) => event_number(event),
+        Err(_) => 0,
+    }
+}
+
+/// Why an answer is refused.
+pub fn refused_number(refusal: Refusal) -> u32
+    ensures { result ≡ refused_number refusal }
+{
+    match refusal {
+        Refusal::NotAwaited => 1,
+        Refusal::NotALine => 2,
+        Refusal::Memory => 4,
+    }
+}
+
+/// How an answer was taken: 0 where it was.
+pub fn answer_number(answered: Result<(), Refusal>) -> u32
+    ensures { result ≡ answer_number answered }
+{
+    match answered {
+        Ok(()) => 0,
+        Err(refusal) => refused_number(refusal),
+    }
+}
+
+/// Why a story has stopped, and 0 where it has not.
+pub fn status_number(stopped: Option<Stop>) -> u32
+    ensures { result ≡ status_number stopped }
+{
+    match stopped {
+        None => 0,
+        Some(Stop::Quit) => 1,
+        Some(Stop::Fault(_, _)) => 2,
+        Some(Stop::Limit(_, _)) => 3,
+        Some(Stop::EndOfInput | Stop::Read) => 4,
+        Some(Stop::Write | Stop::Memory) => 5,
+    }
+}
+
+/// The number of the fault or the limit that has stopped a story, and 0 where none has.
+pub fn reason_number(stopped: Option<Stop>) -> u32
+    ensures { result ≡ reason_number stopped }
+{
+    match stopped {
+        Some(Stop::Fault(_, fault)) => fault.number() as u32,
+        Some(Stop::Limit(_, limit)) => limit.number() as u32,
+        _ => 0,
+    }
+}
+
+/// The byte address of the instruction that has stopped a story by a fault or a limit, and 0 where none has.
+pub fn address_number(stopped: Option<Stop>) -> u32
+    ensures { result ≡ address_number stopped }
+{
+    match stopped {
+        Some(Stop::Fault(address, _) | Stop::Limit(address, _)) => address,
+        _ => 0,
+    }
+}

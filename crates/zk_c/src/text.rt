@@ -1,0 +1,83 @@
+// Text that waits to be taken.
+
+ghost use Rattle.std.specs.Prelude.{◌≡◌, [], Some, false};
+ghost use Rattle.zk_c.specs.Texts.{IsTaken};
+
+use std::alloc::Global;
+use std::collections::VecDeque;
+use std::io::{Read, Write};
+use std::marker::Model;
+use zk_term::target::{Failed, Target};
+
+/// UTF-8 that was written and is not taken yet. Contracts see the bytes that wait, and whether there was no memory for
+/// more.
+#[derive(Drop)]
+pub struct Text {
+    bytes: VecDeque<u8>,
+    failed: bool,
+}
+
+impl Model for Text {
+    ghost use Rattle.std.specs.Prelude.{Some};
+    ghost use Rattle.zk_term.specs.Devices.{Device};
+
+    ghost Value = { Device };
+
+    ghost view = { λ t. record { taken = Some t.bytes.items; failed = t.failed } };
+}
+
+impl Text {
+    /// No text.
+    pub fn new(alloc: Global) -> Text
+        ensures { result ≡ record { taken = Some []; failed = false } }
+    {
+        Text {
+            bytes: VecDeque::new(alloc),
+            failed: false,
+        }
+    }
+
+    /// Whether there was no memory for some text.
+    pub fn has_failed(&self) -> bool
+        ensures { result ≡ self.now.failed }
+    {
+        self.failed
+    }
+
+    /// Takes bytes from the front into a buffer, at most as many as it has room for, and says how many: none where none
+    /// wait or there is no room.
+    pub fn take(&mut self, buffer: &mut [u8]) -> usize
+        ensures { IsTaken self.old self.new buffer.new result }
+    {
+        match self.bytes.read(buffer) {
+            Ok(count) => count,
+            Err(_) => unreachable!(),
+        }
+    }
+}
+
+impl Target for Text {
+    ghost use Rattle.std.specs.Prelude.{◌≡◌, true};
+
+    ghost taken = { λ t. t.taken };
+
+    ghost failed = { λ t. t.failed };
+
+    ghost fails = { λ _ t. t.failed ≡ true };
+
+    ghost whole = { λ _. Unit {0} };
+
+    fn write(&mut self, bytes: &[u8]) -> Result<usize, Failed> {
+        match self.bytes.write(bytes) {
+            Ok(count) => Ok(count),
+            Err(_) => {
+                self.failed = true;
+                Err(Failed)
+            }
+        }
+    }
+
+    fn flush(&mut self) -> Result<(), Failed> {
+        Ok(())
+    }
+}

@@ -1,0 +1,170 @@
+/* Plays a story: the lines of standard input answer it, its text goes to standard output. The last saved game is kept in
+ * memory.
+ *
+ *     play STORY <LINES
+ *
+ * The status is that of `zkit play`. */
+#include <stdio.h>
+#include <stdlib.h>
+
+#include "zkit.h"
+
+enum { LONGEST_STORY = 524289, LONGEST_LINE = 65535 };
+
+/* What comes of what the story asks for. */
+enum { ANSWERED, NO_MORE_INPUT, NOT_READ };
+
+struct saved {
+    uint8_t *bytes;
+    size_t length;
+};
+
+/* The bytes of a file, or null. */
+static uint8_t *read_story(const char *path, size_t *length) {
+    FILE *file = fopen(path, "rb");
+    uint8_t *bytes = malloc(LONGEST_STORY);
+    if (file && bytes)
+        *length = fread(bytes, 1, LONGEST_STORY, file);
+    if (!file || ferror(file)) {
+        free(bytes);
+        bytes = NULL;
+    }
+    if (file)
+        fclose(file);
+    return bytes;
+}
+
+static void show_text(zkit *game) {
+    uint8_t buffer[4096];
+    size_t count;
+    while ((count = zkit_text(game, buffer, sizeof buffer)) > 0)
+        fwrite(buffer, 1, count, stdout);
+    fflush(stdout);
+}
+
+/* Reads a line without its end, and says its length. */
+static int read_line(uint8_t *line, size_t *length) {
+    int byte;
+    *length = 0;
+    while ((byte = getchar()) != EOF && byte != '\n') {
+        if (*length == LONGEST_LINE)
+            return NOT_READ;
+        line[(*length)++] = (uint8_t)byte;
+    }
+    if (ferror(stdin))
+        return NOT_READ;
+    if (byte == EOF && *length == 0)
+        return NO_MORE_INPUT;
+    if (byte == '\n' && *length > 0 && line[*length - 1] == '\r')
+        --*length;
+    return ANSWERED;
+}
+
+/* The number of the first character of a line of UTF-8, and 10 where it has none. */
+static uint32_t first_character(const uint8_t *bytes, size_t length) {
+    if (length == 0)
+        return 10;
+    if (bytes[0] < 0x80)
+        return bytes[0];
+    size_t count = bytes[0] < 0xe0 ? 2 : bytes[0] < 0xf0 ? 3 : 4;
+    uint32_t character = bytes[0] & (0x7f >> count);
+    for (size_t i = 1; i < count && i < length; i++)
+        character = character << 6 | (bytes[i] & 0x3f);
+    return character;
+}
+
+/* Keeps the saved game that waits for it, and tells whether it is kept. */
+static void keep(zkit *game, struct saved *saved) {
+    uint8_t none = 0;
+    size_t length = 0;
+    uint32_t kept = 0;
+    if (zkit_image(game, &none, 0, &length) == ZKIT_NO_ROOM) {
+        uint8_t *bytes = malloc(length);
+        if (bytes && zkit_image(game, bytes, length, &length) == ZKIT_DONE) {
+            free(saved->bytes);
+            saved->bytes = bytes;
+            saved->length = length;
+            kept = 1;
+        } else {
+            free(bytes);
+        }
+    }
+    zkit_saved(game, kept);
+}
+
+/* Answers a read by the next line of the input. */
+static int answer_read(zkit *game, uint32_t asked) {
+    static uint8_t line[LONGEST_LINE];
+    size_t length = 0;
+    int came = read_line(line, &length);
+    if (came != ANSWERED)
+        return came;
+    if (asked == ZKIT_AWAITS_LINE)
+        zkit_line(game, line, length);
+    else
+        zkit_character(game, first_character(line, length));
+    return ANSWERED;
+}
+
+/* Answers what the story asks for. */
+static int answer(zkit *game, uint32_t asked, struct saved *saved) {
+    if (asked == ZKIT_AWAITS_LINE || asked == ZKIT_AWAITS_CHARACTER)
+        return answer_read(game, asked);
+    if (asked == ZKIT_AWAITS_SAVE)
+        keep(game, saved);
+    else if (saved->bytes)
+        zkit_restore(game, saved->bytes, saved->length);
+    else
+        zkit_restore_none(game);
+    return ANSWERED;
+}
+
+/* Plays a story up to its stop, or as far as there is input. */
+static int play(zkit *game) {
+    struct saved saved = {NULL, 0};
+    int came = ANSWERED;
+    while (came == ANSWERED) {
+        uint32_t asked = zkit_turn(game);
+        show_text(game);
+        if (asked == ZKIT_STOPPED)
+            break;
+        came = answer(game, asked, &saved);
+    }
+    free(saved.bytes);
+    return came;
+}
+
+/* Tells why the story has stopped, as `zkit play` does, and answers the status. */
+static int report(zkit *game, int came) {
+    uint32_t status = zkit_status(game);
+    if (came == NOT_READ) {
+        fprintf(stderr, "zkit: read failed\n");
+        return 4;
+    }
+    if (status == ZKIT_FAULT || status == ZKIT_LIMIT)
+        fprintf(stderr, "zkit: %s %u at %05x\n", status == ZKIT_FAULT ? "fault" : "limit", (unsigned)zkit_reason(game),
+                (unsigned)zkit_address(game));
+    if (status == ZKIT_OUT_OF_MEMORY)
+        fprintf(stderr, "zkit: out of memory\n");
+    return status == ZKIT_QUIT ? 0 : (int)status;
+}
+
+int main(int count, char **words) {
+    zkit game = ZKIT_CLOSED;
+    size_t length = 0;
+    uint8_t *story = count == 2 ? read_story(words[1], &length) : NULL;
+    if (!story) {
+        fprintf(stderr, "usage: play STORY <LINES\n");
+        return 4;
+    }
+    uint32_t refused =
+        zkit_open(&game, story, length, 1, ZKIT_FRAMES, ZKIT_WORDS, ZKIT_UNDO, ZKIT_STEPS, 0);
+    free(story);
+    if (refused != ZKIT_OPENED) {
+        fprintf(stderr, "zkit: refused %u\n", (unsigned)refused);
+        return 1;
+    }
+    int status = report(&game, play(&game));
+    zkit_close(&game);
+    return status;
+}
