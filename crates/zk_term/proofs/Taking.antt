@@ -1,16 +1,16 @@
 -- Bytes that a reader of lines takes from a source, one after another.
-use Rattle.std.proofs.Common.{◌≡◌, ◌≢◌, ◌≤◌, ◌<◌, ℕ, suc, ◌+◌, ◌-◌, Bool, true, false, List, [], ◌∷◌, ◌++◌, length, take, drop, get_or, Option, Some, None, append_assoc, drop-cons, add-one, refl, sym, ◌∙◌, ap, arith, length-drop, length-append, Ok, Err, inl, inr, ⊎_elim, lit≤, cond, nat_lt}
+use Rattle.std.proofs.Common.{◌≡◌, ◌≢◌, ◌≤◌, ◌<◌, ℕ, suc, ◌+◌, ◌-◌, Bool, true, false, List, [], ◌∷◌, ◌++◌, length, take, drop, get_or, Option, Some, None, append_assoc, drop-cons, add-one, refl, sym, ◌∙◌, ap, subst, arith, length-drop, length-append, Ok, Err, inl, inr, ⊎_elim, lit≤, cond, nat_lt}
 use Rattle.std.proofs.lemmas.List.{length-take, length-take-le, take-take, take_all, take_at, take-append-le, append-nil}
 use Rattle.std.proofs.lemmas.Bool.{ne_eqb, cases_lt}
 use Rattle.std.proofs.lemmas.Bool.Decides.{nat_tests}
+use Rattle.std.specs.List.{concat}
 use Rattle.std.specs.Str.Lines.{strip_carriage_return}
 use Rattle.arrayvec.specs.ArrayVec.{ArrayVec}
 use Rattle.zk_term.specs.declared.lines.Over.TheVariants as over
 use Rattle.zk_text.specs.Extra.{ExtraTable}
 use Rattle.zk_term.specs.Characters.{line_codes}
-use Rattle.zk_term.specs.Lines.{heard, Reading, Gives, GivesEach, GivesLine, IsPlain, is_new_line}
+use Rattle.zk_term.specs.Lines.{Reading, Gives, GivesEach, GivesLine, IsPlain, is_new_line, AreGiven, Reads, Takes, TakesByte, TakesPlain}
 use Rattle.zk_term.proofs.Cutting.{cut_codes}
-use Rattle.zk_term.proofs.Hearing.{are_lines}
 
 -- ---- one byte
 
@@ -70,7 +70,7 @@ gives_on r m r' left leftm left' xs ys h k = λ bytes e.
     let n = k g.0 g.1 in
     (n.0, n.1, g.2 ∙ ap (λ zs. xs ++ zs) n.2 ∙ sym (append_assoc xs ys (r'.ahead ++ n.0)))
 
-plain_on : (xs : List ℕ) (b : ℕ) → IsPlain xs → is_new_line b ≡ false → IsPlain (xs ++ b ∷ [])
+pub plain_on : (xs : List ℕ) (b : ℕ) → IsPlain xs → is_new_line b ≡ false → IsPlain (xs ++ b ∷ [])
 plain_on [] b h e = (e, tt)
 plain_on (x ∷ xs) b h e = (h.0, plain_on xs b h.1 e)
 
@@ -124,4 +124,45 @@ taken_failed r m r' left leftm left' failed sound n kept t h g e = λ bytes k.
 pub taken_long : (r r' : Reading) (left left' : Option (List ℕ)) (failed sound : Type 0) (n : ℕ) (kept : List ℕ) → Taken r left r' left' n kept → n ≡ 65536 → sound → GivesLine r left r' left' failed sound (Err over.Failed)
 taken_long r r' left left' failed sound n kept t h e = λ bytes k.
     let all = t.gives bytes k in
-    (all.0, all.1, inr (e, ap heard all.2 ∙ are_lines.too_long t.front (r'.ahead ++ all.0) t.plain (t.long ∙ h)))
+    (all.0, all.1, inr (e, record { part = t.front; whole = all.2; plain = t.plain; long = t.long ∙ h }))
+
+-- ---- what reads give
+
+given_on : {S : Type 0} (gives : S → S → List ℕ → Type 0) (parts : List (List ℕ)) (a b c : S) (part : List ℕ) → AreGiven gives a b parts → gives b c part → AreGiven gives a c (parts ++ part ∷ [])
+given_on {S} gives [] a b c part h k = (c, (subst (λ (s : S). gives s c part) h k, refl))
+given_on {S} gives (first ∷ parts) a b c part h k = (h.0, (h.1.0, given_on gives parts h.0 b c part h.1.1 k))
+
+concat_on : (parts : List (List ℕ)) (part : List ℕ) → concat (parts ++ part ∷ []) ≡ concat parts ++ part
+concat_on [] part = append-nil part
+concat_on (first ∷ parts) part = ap (λ l. first ++ l) (concat_on parts part) ∙ sym (append_assoc first (concat parts) part)
+
+one_on : (bytes ahead : List ℕ) (b : ℕ) → bytes ++ b ∷ ahead ≡ (bytes ++ b ∷ []) ++ ahead
+one_on bytes ahead b = sym (append_assoc bytes (b ∷ []) ahead)
+
+takes_on : {S : Type 0} (gives : S → S → List ℕ → Type 0) (s m t : S) (ahead mid new bytes : List ℕ) (b : ℕ) → Takes gives s m ahead mid bytes → TakesByte gives m t mid new b → Takes gives s t ahead new (bytes ++ b ∷ [])
+takes_on {S} gives s m t ahead mid new bytes b (inl (e, h)) (inl (f, k)) = inl (f ∙ e, h ∙ ap (λ l. bytes ++ l) k ∙ one_on bytes new b)
+takes_on {S} gives s m t ahead mid new bytes b (inl (e, h)) (inr (none, gave)) =
+    inr (record { parts = []; mid = m; given = e; last = b ∷ new; gave = gave }, (ap (λ l. l ++ b ∷ new) (h ∙ ap (λ l. bytes ++ l) none ∙ append-nil bytes) ∙ one_on bytes new b, omega arith))
+takes_on {S} gives s m t ahead mid new bytes b (inr (r, (whole, few))) (inl (f, k)) =
+    inr (record { parts = r.parts; mid = r.mid; given = r.given; last = r.last; gave = subst (λ (x : S). gives r.mid x r.last) (sym f) r.gave }, (whole ∙ ap (λ l. bytes ++ l) k ∙ one_on bytes new b, omega (arith, ap length k)))
+takes_on {S} gives s m t ahead mid new bytes b (inr (r, (whole, few))) (inr (none, gave)) =
+    let before : ahead ++ (concat r.parts ++ r.last) ≡ bytes = whole ∙ ap (λ l. bytes ++ l) none ∙ append-nil bytes in
+    inr (record { parts = r.parts ++ r.last ∷ []; mid = m; given = given_on gives r.parts s r.mid m r.last r.given r.gave; last = b ∷ new; gave = gave },
+        (ap (λ l. ahead ++ (l ++ b ∷ new)) (concat_on r.parts r.last) ∙ sym (append_assoc ahead (concat r.parts ++ r.last) (b ∷ new)) ∙ ap (λ l. l ++ b ∷ new) before ∙ one_on bytes new b, omega arith))
+
+pub plain_none : {S : Type 0} (gives : S → S → List ℕ → Type 0) (s : S) (ahead : List ℕ) → TakesPlain gives s s ahead ahead 0
+plain_none {S} gives s ahead = record { bytes = []; taken = inl (refl, refl); plain = tt; many = refl }
+
+pub plain_more : {S : Type 0} (gives : S → S → List ℕ → Type 0) (s m t : S) (ahead mid new : List ℕ) (n b : ℕ) → TakesPlain gives s m ahead mid n → TakesByte gives m t mid new b → b ≢ 10 → TakesPlain gives s t ahead new (n + 1)
+plain_more {S} gives s m t ahead mid new n b h k e = record {
+  bytes = h.bytes ++ b ∷ [];
+  taken = takes_on gives s m t ahead mid new h.bytes b h.taken k;
+  plain = plain_on h.bytes b h.plain (ne_eqb b 10 e);
+  many = omega (arith, length-append h.bytes (b ∷ []), h.many);
+}
+
+pub byte_ahead : {S : Type 0} (gives : S → S → List ℕ → Type 0) (s : S) (ahead new : List ℕ) (b : ℕ) → ahead ≡ b ∷ new → TakesByte gives s s ahead new b
+byte_ahead {S} gives s ahead new b h = inl (refl, h)
+
+pub byte_read : {S : Type 0} (gives : S → S → List ℕ → Type 0) (s t : S) (ahead mid new : List ℕ) (b : ℕ) → ahead ≡ [] → gives s t mid → mid ≡ b ∷ new → TakesByte gives s t ahead new b
+byte_read {S} gives s t ahead mid new b none gave h = inr (none, subst (λ (l : List ℕ). gives s t l) h gave)

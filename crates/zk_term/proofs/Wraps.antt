@@ -207,19 +207,18 @@ at_the_end Words width room (b ∷ word) h =
     ∙ word_that_fits width (room + columns (32 ∷ word) - 0) room word [] (omega (arith, columns_space word)) h.2 (omega (arith, columns_space word))
     ∙ append-nil (32 ∷ word))
 
-pub open_line : (line : Line) (text out : List ℕ) → ((rest : List ℕ) → wrapped line.width (text ++ rest) ≡ out ++ rest_of_text line rest) → HoldsBy line.kind line.held.items → IsOpen line text out
-open_line line text out later held = record {
-  whole = ap (wrapped line.width) (sym (append-nil text)) ∙ later [] ∙ ap (λ l. out ++ l) (at_the_end line.kind line.width line.room line.held.items held);
+pub open_line : (shown : List ℕ → List ℕ) (line : Line) (text out : List ℕ) → ((rest : List ℕ) → shown (text ++ rest) ≡ out ++ rest_of_text line rest) → HoldsBy line.kind line.held.items → IsOpen shown line text out
+open_line shown line text out later held = record {
+  whole = ap shown (sym (append-nil text)) ∙ later [] ∙ ap (λ l. out ++ l) (at_the_end line.kind line.width line.room line.held.items held);
   later = later;
   held = held;
 }
 
 -- bytes go out at a byte of a text that is open
-goes_on : (old new : Line) (text out more : List ℕ) (b : ℕ) → IsOpen old text out → new.width ≡ old.width → HoldsBy new.kind new.held.items → ((rest : List ℕ) → rest_of_text old (b ∷ rest) ≡ more ++ rest_of_text new rest) → IsOpen new (text ++ b ∷ []) (out ++ more)
-goes_on old new text out more b is_open width held on =
-    open_line new (text ++ b ∷ []) (out ++ more) (λ rest.
-    ap (λ w. wrapped w ((text ++ b ∷ []) ++ rest)) width
-    ∙ ap (wrapped old.width) (append_assoc text (b ∷ []) rest)
+goes_on : (shown : List ℕ → List ℕ) (old new : Line) (text out more : List ℕ) (b : ℕ) → IsOpen shown old text out → HoldsBy new.kind new.held.items → ((rest : List ℕ) → rest_of_text old (b ∷ rest) ≡ more ++ rest_of_text new rest) → IsOpen shown new (text ++ b ∷ []) (out ++ more)
+goes_on shown old new text out more b is_open held on =
+    open_line shown new (text ++ b ∷ []) (out ++ more) (λ rest.
+    ap shown (append_assoc text (b ∷ []) rest)
     ∙ is_open.later (b ∷ rest)
     ∙ ap (λ l. out ++ l) (on rest)
     ∙ sym (append_assoc out more (rest_of_text new rest))) held
@@ -229,8 +228,17 @@ at_the_front : (line : Line) (rest : List ℕ) → line.kind ≡ Empty → rest_
 unfolding wrapped
 at_the_front line rest e = let p = parts is_new_line rest in rw (e, p.are) refl
 
-pub line_at_the_front : (line : Line) → line.kind ≡ Empty → line.held.items ≡ [] → IsOpen line [] []
-line_at_the_front line kind none = open_line line [] [] (λ rest. sym (at_the_front line rest kind)) (rw kind none)
+pub line_at_the_front : (line : Line) → line.kind ≡ Empty → line.held.items ≡ [] → IsOpen (wrapped line.width) line [] []
+line_at_the_front line kind none = open_line (wrapped line.width) line [] [] (λ rest. sym (at_the_front line rest kind)) (rw kind none)
+
+holds_none : (kind : Kind) (held : List ℕ) → held ≡ [] → HoldsBy kind held
+holds_none Empty held e = e
+holds_none Row held e = e
+holds_none Words held e = rw e tt
+
+-- a line that holds nothing back goes on
+pub line_goes_by_itself : (line : Line) → line.held.items ≡ [] → IsOpen (rest_of_text line) line [] []
+line_goes_by_itself line none = open_line (rest_of_text line) line [] [] (λ rest. refl) (holds_none line.kind line.held.items none)
 
 at_a_new_line : (line : Line) (rest : List ℕ) → HoldsBy line.kind line.held.items → rest_of_text line (10 ∷ rest) ≡ (line.held.items ++ 10 ∷ []) ++ wrapped line.width rest
 unfolding wrapped
@@ -242,7 +250,7 @@ at_a_new_line line rest h =
 pub line_ends : {S : Type 0} (wrote : S → S → List ℕ → Type 0) (old new : Line) (a b : S) → EndsLine wrote old new a b → Takes wrote old new a b (10 ∷ [])
 line_ends {S} wrote old new a b h = record {
   text = old.held.items ++ 10 ∷ [];
-  is = λ text out is_open. goes_on old new text out (old.held.items ++ 10 ∷ []) 10 is_open h.width (rw h.kind h.held) (λ rest.
+  is = λ shown text out is_open. goes_on shown old new text out (old.held.items ++ 10 ∷ []) 10 is_open (rw h.kind h.held) (λ rest.
       at_a_new_line old rest is_open.held ∙ ap (λ l. (old.held.items ++ 10 ∷ []) ++ l) (ap (λ w. wrapped w rest) (sym h.width) ∙ sym (at_the_front new rest h.kind)));
   given = h.wrote_all;
 }
@@ -257,18 +265,18 @@ in_the_line old new b more rest e h =
 pub line_goes_on : {S : Type 0} (wrote : S → S → List ℕ → Type 0) (old new : Line) (a b : S) (byte : ℕ) → is_new_line byte ≡ false → TakesInLine wrote old new a b byte → Takes wrote old new a b (byte ∷ [])
 line_goes_on {S} wrote old new a b byte e h = record {
   text = h.text;
-  is = λ text out is_open. let k = h.is is_open.held in goes_on old new text out h.text byte is_open k.width k.held (λ rest. in_the_line old new byte h.text rest e k);
+  is = λ shown text out is_open. let k = h.is is_open.held in goes_on shown old new text out h.text byte is_open k.held (λ rest. in_the_line old new byte h.text rest e k);
   given = h.given;
 }
 
 -- ---- one byte after another
 
 pub takes_nothing : {S : Type 0} (wrote : S → S → List ℕ → Type 0) → ((a : S) → wrote a a []) → (line : Line) (a : S) → Takes wrote line line a a []
-takes_nothing {S} wrote nothing line a = record { text = []; is = λ text out is_open. rw (append-nil text, append-nil out) is_open; given = nothing a }
+takes_nothing {S} wrote nothing line a = record { text = []; is = λ shown text out is_open. rw (append-nil text, append-nil out) is_open; given = nothing a }
 
 pub takes_twice : {S : Type 0} (wrote : S → S → List ℕ → Type 0) → ((a b c : S) (s t : List ℕ) → wrote a b s → wrote b c t → wrote a c (s ++ t)) → (x y z : Line) (a b c : S) (s t : List ℕ) → Takes wrote x y a b s → Takes wrote y z b c t → Takes wrote x z a c (s ++ t)
 takes_twice {S} wrote twice x y z a b c s t h k = record {
   text = h.text ++ k.text;
-  is = λ text out is_open. rw (← append_assoc text s t, ← append_assoc out h.text k.text) (k.is (text ++ s) (out ++ h.text) (h.is text out is_open));
+  is = λ shown text out is_open. rw (← append_assoc text s t, ← append_assoc out h.text k.text) (k.is shown (text ++ s) (out ++ h.text) (h.is shown text out is_open));
   given = twice a b c h.text k.text h.given k.given;
 }

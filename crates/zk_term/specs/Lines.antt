@@ -1,6 +1,6 @@
 -- The lines of an input.
 use Rattle.std.specs.Prelude.{◌≡◌, ◌⊎◌, ◌<◌, ℕ, Bool, true, false, List, [], ◌∷◌, ◌++◌, length, Option, Some, None, Result, Ok, Err, nat_lt, nat_eq, if◌then◌else◌}
-use Rattle.std.specs.List.{list_all, slice_split, AllByRecursion}
+use Rattle.std.specs.List.{list_all, slice_split, AllByRecursion, concat}
 use Rattle.std.specs.Str.Lines.{lines_of_parts, strip_carriage_return}
 use Rattle.arrayvec.specs.ArrayVec.{ArrayVec}
 use Rattle.zk_text.specs.Extra.{ExtraTable, is_input_code}
@@ -99,6 +99,51 @@ pub record BreaksOff (bytes later : List ℕ) : Type 0 where
   pub plain : IsPlain part
   pub short : is_short part ≡ true
 
+-- too many bytes came without a new line: just so many were taken, and this is what comes later
+pub record IsTooLong (bytes later : List ℕ) : Type 0 where
+  pub part : List ℕ
+  pub whole : bytes ≡ part ++ later
+  pub plain : IsPlain part
+  pub long : length part ≡ 65536
+
+-- ---- what reads give
+
+-- reads gave these bytes each, one after another
+abbrev pub AreGiven : {S : Type 0} → (S → S → List ℕ → Type 0) → S → S → List (List ℕ) → Type 0
+AreGiven {S} gives before after [] = after ≡ before
+AreGiven {S} gives before after (part ∷ parts) = (mid : S) × (gives before mid part × AreGiven gives mid after parts)
+
+-- the last of some reads, and those before it
+pub record Reads {S : Type 0} (gives : S → S → List ℕ → Type 0) (before after : S) : Type 0 where
+  pub parts : List (List ℕ)
+  pub mid : S
+  pub given : AreGiven gives before mid parts
+  pub last : List ℕ
+  pub gave : gives mid after last
+
+-- Bytes were taken of what was read ahead, and of what more reads gave, of which none was made in vain: the last of them gave
+-- at least one of the bytes.
+abbrev pub Takes : {S : Type 0} → (S → S → List ℕ → Type 0) → S → S → List ℕ → List ℕ → List ℕ → Type 0
+Takes {S} gives before after ahead ahead' bytes =
+    ((after ≡ before) × (ahead ≡ bytes ++ ahead'))
+    ⊎ ((r : Reads gives before after) × ((ahead ++ (concat r.parts ++ r.last) ≡ bytes ++ ahead') × (length ahead' < length r.last)))
+
+-- so many bytes were taken, and none of them is a new line
+pub record TakesPlain {S : Type 0} (gives : S → S → List ℕ → Type 0) (before after : S) (ahead ahead' : List ℕ) (count : ℕ) : Type 0 where
+  pub bytes : List ℕ
+  pub taken : Takes gives before after ahead ahead' bytes
+  pub plain : IsPlain bytes
+  pub many : length bytes ≡ count
+
+-- a line is too long, whether its source tells its bytes or not
+abbrev pub MeetsBound : {S : Type 0} → (S → S → List ℕ → Type 0) → S → S → Reading → Reading → Type 0
+MeetsBound {S} gives before after r r' = TakesPlain gives before after r.ahead r'.ahead 65536
+
+-- one byte was taken: of what was read ahead, or of a read where there was nothing
+abbrev pub TakesByte : {S : Type 0} → (S → S → List ℕ → Type 0) → S → S → List ℕ → List ℕ → ℕ → Type 0
+TakesByte {S} gives before after ahead ahead' b =
+    ((after ≡ before) × (ahead ≡ b ∷ ahead')) ⊎ ((ahead ≡ []) × gives before after (b ∷ ahead'))
+
 -- the last that a source did was a read that failed, and its reader has no byte read ahead
 pub record ReadFailed {S : Type 0} (fails : S → S → Type 0) (failed : S → Bool) (source : S) (reading : Reading) : Type 0 where
   pub just : HasJust fails source
@@ -110,17 +155,17 @@ pub record ReadFailed {S : Type 0} (fails : S → S → Type 0) (failed : S → 
 abbrev pub Hears : ExtraTable → List ℕ → List ℕ → Option Over → Type 0 → Type 0 → Input → Type 0
 Hears t bytes later how failed sound (input.Line codes) = (line : List ℕ) × IsNextLine bytes later line how × (codes.items ≡ line_codes t line)
 Hears t bytes later how failed sound input.End = (bytes ≡ []) × (later ≡ [])
-Hears t bytes later how failed sound input.Failed = (failed × BreaksOff bytes later) ⊎ (sound × (heard bytes ≡ nothing_more over.Failed))
+Hears t bytes later how failed sound input.Failed = (failed × BreaksOff bytes later) ⊎ (sound × IsTooLong bytes later)
 
 -- the codes of an answer are codes that may be typed
 abbrev pub HasInputCodes : Input → Type 0
 HasInputCodes (input.Line codes) = AllByRecursion (λ c. is_input_code c ≡ true) codes.items
 HasInputCodes _ = Unit {0}
 
--- a read has failed at an answer Failed alone, and else none has
-abbrev pub FailsAlone : Type 0 → Type 0 → Input → Type 0
-FailsAlone failed sound input.Failed = failed ⊎ sound
-FailsAlone failed sound _ = sound
+-- a read has failed at an answer Failed alone, where the line is not too long, and else none has
+abbrev pub FailsAlone : Type 0 → Type 0 → Type 0 → Input → Type 0
+FailsAlone failed sound too_long input.Failed = failed ⊎ (sound × too_long)
+FailsAlone failed sound too_long _ = sound
 
 -- ---- one step of it
 
@@ -128,7 +173,7 @@ FailsAlone failed sound _ = sound
 abbrev pub HearsBytes : List ℕ → List ℕ → Option Over → Type 0 → Type 0 → Result (ArrayVec ℕ) Over → Type 0
 HearsBytes bytes later how failed sound (Ok kept) = (line : List ℕ) × IsNextLine bytes later line how × ((t : ExtraTable) → line_codes t kept.items ≡ line_codes t line)
 HearsBytes bytes later how failed sound (Err over.End) = (bytes ≡ []) × (later ≡ [])
-HearsBytes bytes later how failed sound (Err over.Failed) = (failed × BreaksOff bytes later) ⊎ (sound × (heard bytes ≡ nothing_more over.Failed))
+HearsBytes bytes later how failed sound (Err over.Failed) = (failed × BreaksOff bytes later) ⊎ (sound × IsTooLong bytes later)
 
 -- a reader and its source, which tells its bytes or not, give some bytes
 abbrev pub Gives : Reading → Option (List ℕ) → Reading → Option (List ℕ) → List ℕ → Type 0

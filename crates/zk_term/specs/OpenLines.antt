@@ -6,7 +6,7 @@ use Rattle.zk_term.specs.declared.open_line.Kind.TheVariants.{Empty, Row, Words}
 use Rattle.zk_term.specs.declared.open_line.Line.{Line}
 use Rattle.zk_term.specs.Lines.{is_new_line}
 use Rattle.zk_term.specs.Pages.{WroteSome}
-use Rattle.zk_term.specs.Wrapping.{is_space, columns, all_words, wrapped_line, wrapped}
+use Rattle.zk_term.specs.Wrapping.{is_space, columns, all_words, wrapped_line}
 
 -- no byte of a word is a space
 abbrev pub HasNoSpace : List ℕ → Type 0
@@ -50,11 +50,11 @@ rest_of_text line rest =
     join_with_byte 10
     (from_open (rest_of_line line) line.width (slice_split is_new_line rest))
 
--- Of a text these bytes have gone out, and the open line holds the rest of it back; and the line knows enough of the
--- text for whatever comes later.
-pub record IsOpen (line : Line) (text out : List ℕ) : Type 0 where
-  pub whole : wrapped line.width text ≡ out ++ line.held.items
-  pub later : (rest : List ℕ) → wrapped line.width (text ++ rest) ≡ out ++ rest_of_text line rest
+-- Of a text, as it is shown, these bytes have gone out, and the open line holds the rest back; and the line knows enough
+-- of the text for whatever comes later.
+pub record IsOpen (shown : List ℕ → List ℕ) (line : Line) (text out : List ℕ) : Type 0 where
+  pub whole : shown text ≡ out ++ line.held.items
+  pub later : (rest : List ℕ) → shown (text ++ rest) ≡ out ++ rest_of_text line rest
   pub held : HoldsBy line.kind line.held.items
 
 -- ---- the line's own steps
@@ -126,6 +126,6 @@ module _ {S : Type 0} (wrote : S → S → List ℕ → Type 0) (old new : Line)
   -- at any bytes
   abbrev pub Takes : List ℕ → Type 0
   Takes bytes =
-      WroteSome (λ more. (text out : List ℕ) → IsOpen old text out
-      → IsOpen new (text ++ bytes) (out ++ more))
+      WroteSome (λ more. (shown : List ℕ → List ℕ) (text out : List ℕ)
+      → IsOpen shown old text out → IsOpen shown new (text ++ bytes) (out ++ more))
       wrote before after

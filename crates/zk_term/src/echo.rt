@@ -1,10 +1,9 @@
 // A source whose bytes are shown.
 
-ghost use Rattle.std.specs.Prelude.{◌≡◌, ◌<◌, ◌||◌, length, is_err, take, IfOk, OnErr, false};
+ghost use Rattle.std.specs.Prelude.{◌≡◌, ◌<◌, ◌≤◌, ◌||◌, length, is_err, take, IfOk, OnErr, false};
 ghost use Rattle.std.specs.Io.{ReadsAtMost};
 ghost use Rattle.std.specs.Io.KnownBytes.{ReadConsumes};
-ghost use Rattle.zk_term.specs.Devices.{TookPart};
-ghost use Rattle.zk_term.specs.Echoes.{shown_of};
+ghost use Rattle.zk_term.specs.Echoes.{in_line_after, shown_of, TookAll};
 
 use crate::source::Source;
 use crate::target::{Failed, Target, write_all};
@@ -34,34 +33,45 @@ impl<I, S> Echo<I, S> {
 }
 
 impl<I, S: Target> Echo<I, S> {
-    /// Shows what was read, or a new line at the end of the input.
+    /// Shows a byte that was read, or none at the end of the input: then a new line, where the last line has none.
     fn show(&mut self, bytes: &[u8])
+        requires { length bytes.now ≤ 1 }
         ensures input { self.new.input ≡ self.old.input }
-        ensures shown { TookPart (S.taken self.old.screen) (S.taken self.new.screen)
-            (shown_of bytes.now self.old.in_line) }
+        ensures is_on { self.new.is_on ≡ self.old.is_on }
+        ensures shown { TookAll (S.taken self.old.screen) (S.taken self.new.screen)
+            (S.failed self.new.screen) (shown_of bytes.now self.old.in_line) }
+        ensures in_line { self.new.in_line ≡ in_line_after bytes.now }
     {
         let _ = match bytes {
             [] if self.in_line => write_all(&mut self.screen, b"\n"),
             _ => write_all(&mut self.screen, bytes),
         };
         self.in_line = match bytes {
-            [.., last] => *last != b'\n',
+            [byte, ..] => *byte != b'\n',
             [] => false,
         };
     }
 }
 
 impl<I: Source, S: Target> Echo<I, S> {
-    /// Reads one byte, and shows it.
+    /// Reads one byte, and shows it. Where the read fails nothing is shown.
     fn read_shown(&mut self, buffer: &mut [u8]) -> Result<usize, Failed>
         requires room { 0 < length buffer.old }
         ensures count { ReadsAtMost result buffer.new }
         ensures bytes { ReadConsumes (I.left self.old.input) (I.left self.new.input) result buffer.new }
         ensures failed { I.failed self.new.input ≡ (is_err result || I.failed self.old.input) }
         ensures fails { OnErr result (I.fails self.old.input self.new.input) }
+        ensures gives { IfOk result
+            (λ n. I.gives self.old.input self.new.input (take n buffer.new)) }
         ensures ends { IfOk result (λ n. n ≡ 0 → I.ends self.old.input self.new.input) }
-        ensures shown { IfOk result (λ n. TookPart (S.taken self.old.screen) (S.taken self.new.screen)
+        ensures is_on { self.new.is_on ≡ self.old.is_on }
+        ensures one { IfOk result (λ n. n ≤ 1) }
+        ensures shown { IfOk result (λ n. TookAll (S.taken self.old.screen)
+            (S.taken self.new.screen) (S.failed self.new.screen)
             (shown_of (take n buffer.new) self.old.in_line)) }
+        ensures in_line { IfOk result (λ n. self.new.in_line ≡ in_line_after (take n buffer.new)) }
+        ensures unshown { OnErr result ((self.new.screen ≡ self.old.screen)
+            × (self.new.in_line ≡ self.old.in_line)) }
     {
         let count = self.input.read(&mut buffer[..1])?;
         self.show(&buffer[..count]);
@@ -75,6 +85,8 @@ impl<I: Source, S: Target> Source for Echo<I, S> {
     ghost failed = { λ e. I.failed e.input };
 
     ghost fails = { λ a b. I.fails a.input b.input };
+
+    ghost gives = { λ a b bytes. I.gives a.input b.input bytes };
 
     ghost ends = { λ a b. I.ends a.input b.input };
 

@@ -7,7 +7,7 @@ ghost use Rattle.zk_text.specs.Extra.{is_input_code};
 ghost use Rattle.zk_term.specs.Characters.{character_length, character_of, character_step, typed_code, line_codes};
 ghost use Rattle.zk_term.specs.declared.lines.Over.{Over};
 ghost use Rattle.zk_term.specs.Devices.{HasJust};
-ghost use Rattle.zk_term.specs.Lines.{Reading, ReadFailed, GivesEach, GivesLine, GoesBy, FailsAlone, Hears, HasInputCodes, IsOverAfter, over_input};
+ghost use Rattle.zk_term.specs.Lines.{Reading, ReadFailed, GivesEach, GivesLine, GoesBy, FailsAlone, Hears, HasInputCodes, IsOverAfter, MeetsBound, over_input, TakesByte};
 
 use crate::source::Source;
 use crate::target::Failed;
@@ -171,6 +171,7 @@ impl Lines {
         ensures room { IfOk result (λ _. 0 < length self.new.ahead) }
         ensures bytes { GivesEach (λ _. []) self.old (S.left source.old) self.new
             (S.left source.new) result }
+        ensures gives { IfOk result (λ _. S.gives source.old source.new self.new.ahead) }
         ensures over { self.new.over ≡ self.old.over }
         ensures goes { GoesBy (ReadFailed S.fails S.failed source.new self.new)
             (HasJust S.ends source.new) (S.failed source.new ≡ S.failed source.old) result }
@@ -198,11 +199,13 @@ impl Lines {
         byte
     }
 
-    /// The next byte of the input.
+    /// The next byte of the input: the source is asked where none is left of what it gave.
     #[tactic(auto, using(crate::proofs::Taking::gives_ahead, crate::proofs::Taking::gives_then))]
     fn next_byte<S: Source>(&mut self, source: &mut S) -> Result<u8, Over>
         ensures bytes { GivesEach (λ b. b ∷ []) self.old (S.left source.old) self.new
             (S.left source.new) result }
+        ensures taken { IfOk result
+            (λ b. TakesByte S.gives source.old source.new self.old.ahead self.new.ahead b) }
         ensures over { self.new.over ≡ self.old.over }
         ensures goes { GoesBy (ReadFailed S.fails S.failed source.new self.new)
             (HasJust S.ends source.new) (S.failed source.new ≡ S.failed source.old) result }
@@ -225,8 +228,9 @@ impl Lines {
         ensures none { OnErr result (self.new.over ≡ None) }
         ensures ends { self.new.over ≡ Some Over.End → HasJust S.ends source.new }
         ensures goes { GoesBy (ReadFailed S.fails S.failed source.new self.new
-            ⊎ (S.failed source.new ≡ S.failed source.old)) (HasJust S.ends source.new)
-            (S.failed source.new ≡ S.failed source.old) result }
+            ⊎ ((S.failed source.new ≡ S.failed source.old)
+            × MeetsBound S.gives source.old source.new self.old self.new))
+            (HasJust S.ends source.new) (S.failed source.new ≡ S.failed source.old) result }
     {
         let mut line = ArrayVec::new();
         for taken in 0..TOO_LONG {
@@ -257,8 +261,8 @@ impl Lines {
     /// 255th code of a line is dropped.
     ///
     /// `End` says that the last read gave no bytes. `Failed` says that the last read failed, and what had come
-    /// of a line is lost, or that no read failed and 65,536 bytes came without a new line; more are not waited
-    /// for. After `End` or `Failed` the answer stays the same, and after a last line without a new line it is `End`: the
+    /// of a line is lost, or that no read failed and 65,536 bytes came without a new line: just so many are taken, and the
+    /// source is not asked for more. After `End` or `Failed` the answer stays the same, and after a last line without a new line it is `End`: the
     /// source is not asked again.
     ///
     /// `Lines` reads ahead of the line that it answers: it is to be given the same source each time.
@@ -272,8 +276,10 @@ impl Lines {
             (S.failed source.new ≡ S.failed source.old) result }
         ensures next { self.old.over ≡ None → IsOverAfter result self.new.over }
         ensures codes { HasInputCodes result }
-        ensures failed { FailsAlone (ReadFailed S.fails S.failed source.new self.new)
-            (S.failed source.new ≡ S.failed source.old) result }
+        ensures failed { self.old.over ≡ None → FailsAlone
+            (ReadFailed S.fails S.failed source.new self.new)
+            (S.failed source.new ≡ S.failed source.old)
+            (MeetsBound S.gives source.old source.new self.old self.new) result }
         ensures ends { self.old.over ≡ None → self.new.over ≡ Some Over.End
             → HasJust S.ends source.new }
     {

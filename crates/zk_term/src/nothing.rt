@@ -8,13 +8,15 @@ use crate::target::{Failed, Target};
 pub struct Nothing;
 
 impl Source for Nothing {
-    ghost use Rattle.std.specs.Prelude.{Some, [], false};
+    ghost use Rattle.std.specs.Prelude.{◌≡◌, Some, [], false};
 
     ghost left = { λ _. Some [] };
 
     ghost failed = { λ _. false };
 
     ghost fails = { λ _ _. ⊥ };
+
+    ghost gives = { λ _ _ bytes. bytes ≡ [] };
 
     ghost ends = { λ _ _. Unit {0} };
 
@@ -41,4 +43,6 @@ impl Target for Nothing {
     fn flush(&mut self) -> Result<(), Failed> {
         Ok(())
     }
+
+    fn begin_line(&mut self) {}
 }

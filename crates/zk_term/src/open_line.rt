@@ -3,9 +3,9 @@
 ghost use Rattle.std.specs.Prelude.{◌≡◌, ◌<◌, ◌≤◌, ◌||◌, ◌++◌, [], ◌∷◌, length, nat_eq, if◌then◌else◌, Some, is_err, true, false, IfOk, OnOk, OnErr};
 ghost use Rattle.std.specs.Io.KnownBytes.{Appends};
 ghost use Rattle.zk_term.specs.Devices.{TookPart};
-ghost use Rattle.zk_term.specs.OpenLines.{Begins, BreaksLine, EndsLine, HoldsBy, HoldsOn, IsFullFor, IsOpen, Takes, TakesAmongWords, TakesInLine};
+ghost use Rattle.zk_term.specs.OpenLines.{Begins, BreaksLine, EndsLine, HoldsBy, HoldsOn, IsFullFor, IsOpen, rest_of_text, Takes, TakesAmongWords, TakesInLine};
 ghost use Rattle.zk_term.specs.WrappedTargets.{HasTaken};
-ghost use Rattle.zk_term.specs.Wrapping.{columns, is_space};
+ghost use Rattle.zk_term.specs.Wrapping.{columns, is_space, wrapped};
 
 use crate::page::{Page, TargetPage};
 use crate::target::{Failed, Target, write_all};
@@ -58,7 +58,7 @@ fn kind_by(byte: u8) -> Kind
 impl Line {
     /// A line of which nothing has come.
     pub fn new(width: usize) -> Line
-        ensures open { IsOpen result [] [] }
+        ensures open { IsOpen (wrapped width) result [] [] }
         ensures width { result.width ≡ width }
     {
         Line {
@@ -217,13 +217,16 @@ impl Line {
         }
     }
 
-    /// Gives a target what is held back, or where a write fails a first part. The next text begins a line.
-    pub fn end<T: Target>(&mut self, target: &mut T) -> Result<(), Failed>
+    /// Gives a target what is held back, or where a write fails a first part. The line goes on: a word of which something has
+    /// gone out stays in it.
+    pub fn flush<T: Target>(&mut self, target: &mut T) -> Result<(), Failed>
         ensures width { self.new.width ≡ self.old.width }
+        ensures kind { self.new.kind ≡ self.old.kind }
+        ensures room { self.new.room ≡ self.old.room }
         ensures all { OnOk result
             (Appends (T.taken target.old) (T.taken target.new) self.old.held.items) }
         ensures none { OnOk result (self.new.held.items ≡ []) }
-        ensures anew { OnOk result (IsOpen self.new [] []) }
+        ensures open { OnOk result (IsOpen (rest_of_text self.new) self.new [] []) }
         ensures part { OnErr result
             (TookPart (T.taken target.old) (T.taken target.new) self.old.held.items) }
         ensures failed { T.failed target.new ≡ (is_err result || T.failed target.old) }
@@ -231,10 +234,19 @@ impl Line {
         match write_all(target, self.held.as_slice()) {
             Ok(()) => {
                 self.held.clear();
-                self.kind = Kind::Empty;
                 Ok(())
             }
             Err(Failed) => Err(Failed),
         }
+    }
+
+    /// The next text begins a line, since this one was ended elsewhere. Nothing is held back.
+    pub fn restart(&mut self)
+        requires { self.old.held.items ≡ [] }
+        ensures width { self.new.width ≡ self.old.width }
+        ensures none { self.new.held.items ≡ [] }
+        ensures open { IsOpen (wrapped self.new.width) self.new [] [] }
+    {
+        self.kind = Kind::Empty;
     }
 }

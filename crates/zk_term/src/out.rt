@@ -59,6 +59,7 @@ impl Out {
         ensures whole { OnOk result (T.whole target.new) }
         ensures part { OnErr result (TookPart (T.taken target.old) (T.taken target.new) self.old) }
         ensures failed { T.failed target.new ≡ (is_err result || T.failed target.old) }
+        ensures fails { OnErr result (HasJust T.fails target.new) }
     {
         self.flush(target)?;
         target.flush()

@@ -1,27 +1,30 @@
 // Sources and targets over std's readers and writers.
 
 ghost use Rattle.std.specs.Prelude.{◌≡◌, false, true};
-ghost use Rattle.std.specs.Io.KnownBytes.{IsAtEnd};
+ghost use Rattle.std.specs.Io.KnownBytes.{Consumes, IsAtEnd};
 
 use crate::source::Source;
 use crate::target::{Failed, Target};
 use std::io::{Read, Write};
 
 /// A source over a reader, or a target over a writer. Each error of it is a failure, and so is a write
-/// that takes none of some bytes.
+/// that takes none of some bytes. A writer may hold bytes back until it is flushed: `flushed` says that it was, and that
+/// nothing was written since.
 #[derive(Drop)]
 pub struct Over<T> {
     inner: T,
     failed: bool,
+    flushed: bool,
 }
 
 impl<T> Over<T> {
     pub fn new(inner: T) -> Over<T>
-        ensures { result ≡ record { inner = inner; failed = false } }
+        ensures { result ≡ record { inner = inner; failed = false; flushed = false } }
     {
         Over {
             inner,
             failed: false,
+            flushed: false,
         }
     }
 
@@ -39,6 +42,8 @@ impl<R: Read> Source for Over<R> {
     ghost failed = { λ o. o.failed };
 
     ghost fails = { λ _ o. o.failed ≡ true };
+
+    ghost gives = { λ a b bytes. Consumes (R.remaining a.inner) (R.remaining b.inner) bytes };
 
     ghost ends = { λ _ o. IsAtEnd (R.remaining o.inner) };
 
@@ -60,9 +65,10 @@ impl<W: Write> Target for Over<W> {
 
     ghost fails = { λ _ o. o.failed ≡ true };
 
-    ghost whole = { λ _. Unit {0} };
+    ghost whole = { λ o. o.flushed ≡ true };
 
     fn write(&mut self, bytes: &[u8]) -> Result<usize, Failed> {
+        self.flushed = false;
         match self.inner.write(bytes) {
             Ok(n) if n > 0 || bytes.is_empty() => Ok(n),
             _ => {
@@ -73,6 +79,17 @@ impl<W: Write> Target for Over<W> {
     }
 
     fn flush(&mut self) -> Result<(), Failed> {
-        Ok(())
+        match self.inner.flush() {
+            Ok(()) => {
+                self.flushed = true;
+                Ok(())
+            }
+            Err(_) => {
+                self.failed = true;
+                Err(Failed)
+            }
+        }
     }
+
+    fn begin_line(&mut self) {}
 }

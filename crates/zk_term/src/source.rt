@@ -1,6 +1,6 @@
 // Where bytes come from.
 
-ghost use Rattle.std.specs.Prelude.{◌≡◌, ◌<◌, ◌||◌, length, is_err, IfOk, OnErr};
+ghost use Rattle.std.specs.Prelude.{◌≡◌, ◌<◌, ◌||◌, length, is_err, take, IfOk, OnErr};
 ghost use Rattle.std.specs.Io.{ReadsAtMost};
 ghost use Rattle.std.specs.Io.KnownBytes.{ReadConsumes};
 
@@ -19,6 +19,9 @@ pub trait Source {
     // that a read that failed led from the one to the other
     ghost fails: { Self → Self → Type 0 };
 
+    // that a read that gave these bytes led from the one to the other
+    ghost gives: { Self → Self → List ℕ → Type 0 };
+
     // that a read without bytes, at the end of the input, led from the one to the other
     ghost ends: { Self → Self → Type 0 };
 
@@ -29,5 +32,6 @@ pub trait Source {
         ensures bytes { ReadConsumes (left self.old) (left self.new) result buffer.new }
         ensures failed { failed self.new ≡ (is_err result || failed self.old) }
         ensures fails { OnErr result (fails self.old self.new) }
+        ensures gives { IfOk result (λ n. gives self.old self.new (take n buffer.new)) }
         ensures ends { 0 < length buffer.new → IfOk result (λ n. n ≡ 0 → ends self.old self.new) };
 }

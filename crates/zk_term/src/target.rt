@@ -1,7 +1,7 @@
 // Where bytes go.
 
 ghost use Rattle.std.specs.Prelude.{◌≡◌, ◌≤◌, ◌<◌, ◌||◌, length, is_err, IfOk, OnOk, OnErr, encode_utf8};
-ghost use Rattle.std.specs.Io.KnownBytes.{Appends, WriteAppends};
+ghost use Rattle.std.specs.Io.KnownBytes.{Appends, Keeps, WriteAppends};
 ghost use Rattle.zk_term.specs.Devices.{HasJust, TookPart};
 
 /// A read or a write that failed.
@@ -33,12 +33,20 @@ pub trait Target {
         ensures failed { failed self.new ≡ (is_err result || failed self.old) }
         ensures fails { OnErr result (fails self.old self.new) };
 
-    /// Gives out what it holds back, if anything.
+    /// Gives out what it holds back, if anything. The line that is open goes on.
     fn flush(&mut self) -> Result<(), Failed>
-        ensures bytes { taken self.new ≡ taken self.old }
+        ensures bytes { Keeps (taken self.old) (taken self.new) }
         ensures failed { failed self.new ≡ (is_err result || failed self.old) }
         ensures fails { OnErr result (fails self.old self.new) }
         ensures whole { OnOk result (whole self.new) };
+
+    /// What comes next begins a line, since the open one was ended elsewhere, as by a line that was typed at a terminal.
+    /// Nothing is held back.
+    fn begin_line(&mut self)
+        requires whole { whole self.old }
+        ensures bytes { taken self.new ≡ taken self.old }
+        ensures failed { failed self.new ≡ failed self.old }
+        ensures whole { whole self.new };
 }
 
 /// Writes all bytes, or where a write fails a first part of them. `Failed` says that the last write failed.

@@ -1,8 +1,8 @@
 // A target whose lines are wrapped at words.
 
 ghost use Rattle.std.specs.Prelude.{◌≡◌, ◌<◌, ◌≤◌, ◌||◌, [], length, is_err, IsSome, IfOk, OnOk};
-ghost use Rattle.std.specs.Io.KnownBytes.{WriteAppends};
-ghost use Rattle.zk_term.specs.WrappedTargets.{HasEnded, HasTaken, HasWritten, HoldsNothing, told, width_of};
+ghost use Rattle.std.specs.Io.KnownBytes.{Keeps, WriteAppends};
+ghost use Rattle.zk_term.specs.WrappedTargets.{from_a_line, StaysOpen, HasFlushed, HasTaken, HasWritten, HoldsNothing, in_open_line, told, width_of};
 
 use crate::open_line::Line;
 use crate::target::{Failed, Target};
@@ -20,7 +20,8 @@ impl<T: Target> Wrapped<T> {
     pub fn new(target: T, width: Option<u8>) -> Wrapped<T>
         ensures inner { result.inner ≡ target }
         ensures width { width_of result.line ≡ width }
-        ensures written { HasWritten (T.taken target) [] result.line (T.taken result.inner) }
+        ensures written { HasWritten (from_a_line width) (T.taken target) [] result.line
+            (T.taken result.inner) }
     {
         match width {
             None => Wrapped {
@@ -55,20 +56,20 @@ impl<T: Target> Wrapped<T> {
         }
     }
 
-    /// Gives out what it holds back, and so does the target behind. The next text begins a line.
-    pub fn end_text(&mut self) -> Result<(), Failed>
-        ensures width { width_of self.new.line ≡ width_of self.old.line }
-        ensures written { HasEnded self.old.line (T.taken self.old.inner)
+    /// Gives out what it holds back, and so does the target behind. The open line goes on.
+    pub fn give_out(&mut self) -> Result<(), Failed>
+        ensures same { StaysOpen self.old.line self.new.line }
+        ensures written { HasFlushed self.old.line (T.taken self.old.inner)
             (T.taken self.new.inner) result }
-        ensures anew { OnOk result
-            (HasWritten (T.taken self.new.inner) [] self.new.line (T.taken self.new.inner)) }
+        ensures goes_on { OnOk result (HasWritten (in_open_line self.new.line)
+            (T.taken self.new.inner) [] self.new.line (T.taken self.new.inner)) }
         ensures whole { OnOk result (HoldsNothing self.new.line × T.whole self.new.inner) }
-        ensures told { told self.new.line (T.taken self.new.inner)
-            ≡ told self.old.line (T.taken self.old.inner) }
+        ensures told { Keeps (told self.old.line (T.taken self.old.inner))
+            (told self.new.line (T.taken self.new.inner)) }
         ensures failed { T.failed self.new.inner ≡ (is_err result || T.failed self.old.inner) }
     {
         if let Some(line) = &mut self.line {
-            match line.end(&mut self.inner) {
+            match line.flush(&mut self.inner) {
                 Ok(()) => {}
                 Err(Failed) => return Err(Failed),
             }
@@ -76,6 +77,23 @@ impl<T: Target> Wrapped<T> {
         match self.inner.flush() {
             Ok(()) => Ok(()),
             Err(Failed) => Err(Failed),
+        }
+    }
+
+    /// The next text begins a line, since the open one was ended elsewhere. Nothing is held back.
+    pub fn restart(&mut self)
+        requires { HoldsNothing self.old.line × T.whole self.old.inner }
+        ensures width { width_of self.new.line ≡ width_of self.old.line }
+        ensures anew { HasWritten (from_a_line (width_of self.new.line)) (T.taken self.new.inner)
+            [] self.new.line (T.taken self.new.inner) }
+        ensures whole { HoldsNothing self.new.line × T.whole self.new.inner }
+        ensures told { told self.new.line (T.taken self.new.inner)
+            ≡ told self.old.line (T.taken self.old.inner) }
+        ensures failed { T.failed self.new.inner ≡ T.failed self.old.inner }
+    {
+        self.inner.begin_line();
+        if let Some(line) = &mut self.line {
+            line.restart();
         }
     }
 }
@@ -97,6 +115,10 @@ impl<T: Target> Target for Wrapped<T> {
     }
 
     fn flush(&mut self) -> Result<(), Failed> {
-        self.end_text()
+        self.give_out()
+    }
+
+    fn begin_line(&mut self) {
+        self.restart();
     }
 }
