@@ -1,6 +1,7 @@
 // Saved games are restored.
 
 ghost use Rattle.std.specs.Prelude.{◌≡◌, ◌<◌, ◌≤◌, ◌^◌, length, Ok, Err, IfOk, IfErr, MatchResult};
+ghost use Rattle.std.specs.Result.{result_err};
 ghost use Rattle.zk_state.specs.Frames.{bounds_of};
 ghost use Rattle.zk_save.specs.Loading.{restored};
 ghost use Rattle.zk_save.specs.Counted.{parts_cut, CanRestore};
@@ -80,6 +81,16 @@ fn checked<'a>(file: &'a [u8], memory: &Memory, frames: &Frames) -> Result<Parts
         return Err(RestoreError::Limit(Limit::Words));
     }
     Ok(parts)
+}
+
+/// Why a file would not be restored, if so (see `restore`).
+pub fn refusal(file: &[u8], memory: &Memory, frames: &Frames) -> Option<RestoreError>
+    ensures { result ≡ result_err (restored file.now memory.now frames.now) }
+{
+    match checked(file, memory, frames) {
+        Ok(_) => None,
+        Err(error) => Some(error),
+    }
 }
 
 /// Restores a saved game (Quetzal 1.4; Standard, section 15, `restore`): its dynamic memory and its frames

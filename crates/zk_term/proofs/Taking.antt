@@ -9,7 +9,7 @@ use Rattle.arrayvec.specs.ArrayVec.{ArrayVec}
 use Rattle.zk_term.specs.declared.lines.Over.TheVariants as over
 use Rattle.zk_text.specs.Extra.{ExtraTable}
 use Rattle.zk_term.specs.Characters.{line_codes}
-use Rattle.zk_term.specs.Lines.{Reading, Gives, GivesEach, GivesLine, IsPlain, is_new_line, AreGiven, Reads, Takes, TakesByte, TakesPlain}
+use Rattle.zk_term.specs.Lines.{Reading, Gives, GivesEach, GivesLine, IsPlain, is_new_line, AreGiven, Takes, TakesByte, TakesPlain}
 use Rattle.zk_term.proofs.Cutting.{cut_codes}
 
 -- ---- one byte
@@ -147,8 +147,10 @@ takes_on {S} gives s m t ahead mid new bytes b (inr (r, (whole, few))) (inl (f, 
     inr (record { parts = r.parts; mid = r.mid; given = r.given; last = r.last; gave = subst (λ (x : S). gives r.mid x r.last) (sym f) r.gave }, (whole ∙ ap (λ l. bytes ++ l) k ∙ one_on bytes new b, omega (arith, ap length k)))
 takes_on {S} gives s m t ahead mid new bytes b (inr (r, (whole, few))) (inr (none, gave)) =
     let before : ahead ++ (concat r.parts ++ r.last) ≡ bytes = whole ∙ ap (λ l. bytes ++ l) none ∙ append-nil bytes in
-    inr (record { parts = r.parts ++ r.last ∷ []; mid = m; given = given_on gives r.parts s r.mid m r.last r.given r.gave; last = b ∷ new; gave = gave },
-        (ap (λ l. ahead ++ (l ++ b ∷ new)) (concat_on r.parts r.last) ∙ sym (append_assoc ahead (concat r.parts ++ r.last) (b ∷ new)) ∙ ap (λ l. l ++ b ∷ new) before ∙ one_on bytes new b, omega arith))
+    inr (
+      record { parts = r.parts ++ r.last ∷ []; mid = m; given = given_on gives r.parts s r.mid m r.last r.given r.gave; last = b ∷ new; gave = gave },
+      (ap (λ l. ahead ++ (l ++ b ∷ new)) (concat_on r.parts r.last) ∙ sym (append_assoc ahead (concat r.parts ++ r.last) (b ∷ new)) ∙ ap (λ l. l ++ b ∷ new) before ∙ one_on bytes new b, omega arith),
+    )
 
 pub plain_none : {S : Type 0} (gives : S → S → List ℕ → Type 0) (s : S) (ahead : List ℕ) → TakesPlain gives s s ahead ahead 0
 plain_none {S} gives s ahead = record { bytes = []; taken = inl (refl, refl); plain = tt; many = refl }

@@ -8,7 +8,7 @@ use Rattle.zk_step.specs.Laws.{fixed_parts}
 use Rattle.zk_fast.specs.Caches.{IsCacheOf}
 use Rattle.zk_step.specs.declared.game_state.GameState.{GameState}
 use Rattle.zk_step.specs.Instructions.{carried_out}
-use Rattle.zk_step.specs.Routing.{Texts, no_text}
+use Rattle.zk_step.specs.Routing.{Texts, no_text, text_joined}
 use Rattle.zk_fast.specs.QuietSteps.{IsRefused, IsRefusedAfter, IsQuietStep, QuietSteps}
 use Rattle.zk_fast.specs.QuietSteps.QuietSteps.{none, more}
 use Rattle.zk_vm.specs.declared.limits.Limits.{Limits}
@@ -17,7 +17,7 @@ use Rattle.zk_vm.specs.declared.stop.Stop.{Stop}
 use Rattle.zk_vm.specs.declared.waiting.Waiting.{Waiting}
 use Rattle.zk_vm.specs.Going.{GoesAhead, IsAhead, IsHalted, StopsAhead, behind_strides, steps_left, stop_by}
 use Rattle.zk_vm.specs.Halts.{ComesToKeepAt, Halt, IsLeftBy, event_of}
-use Rattle.zk_vm.specs.Outcome.{Segment, Session, segment}
+use Rattle.zk_vm.specs.Outcome.{Leads, Segment, Session, segment}
 use Rattle.zk_vm.specs.Step.{State, goes_by, step, state_after, text_of, text_within, verdict_of}
 use Rattle.zk_vm.specs.Step.Verdict.{GoesOn, StopsBy}
 use Rattle.zk_vm.specs.Sound.{IsOfStory, IsSound, state_seen}
@@ -67,6 +67,17 @@ segment_ahead _ k _ _ _ _ (more {n} {w} {v} {end} {place} {next} {last} stride r
     rw count (segment_step (n + k) s (record s { game = v; place = next; steps = s.steps + 1 }) one.after one.goes one.shows
     ∙ segment_ahead n k v end next last rest (record s { game = v; place = next; steps = s.steps + 1 }) refl refl
     ∙ ap (segment k) (more_behind s v end next last n))
+
+-- they lead on, and show nothing
+pub leads_ahead : (n : ℕ) (w end : GameState) (place last : ℕ) → QuietSteps n w place end last → (s : State) → s.game ≡ w → s.place ≡ place → Leads n s (behind_strides s n end last) no_text
+leads_ahead _ _ _ _ _ (none {w} {place}) s here there =
+    let e : behind_strides s zero w place ≡ s = rw (← here, ← there) (none_behind s) in (sym e, refl)
+leads_ahead _ _ _ _ _ (more {n} {w} {v} {end} {place} {next} {last} stride rest) s here there =
+    let now : IsQuietStep s.game s.place v next = rw (here, there) stride in
+    let one = stride_step s v next now in
+    let mid : State = record s { game = v; place = next; steps = s.steps + 1 } in
+    let inner : Leads n mid (behind_strides s (suc n) end last) no_text = subst (λ (t : State). Leads n mid t no_text) (more_behind s v end next last n) (leads_ahead n v end next last rest mid refl refl) in
+    (no_text, one.goes, subst (λ (t : State). Leads n t (behind_strides s (suc n) end last) no_text) (sym one.after) inner, ap (λ (t : Texts). text_joined t no_text) (sym one.shows))
 
 pub left_ahead : (old new : Session) (ahead : GoesAhead old new) → new.state.steps ≤ new.limits.steps → steps_left old ≡ steps_left new
 left_ahead old new ahead few =

@@ -1,5 +1,5 @@
 -- Steps of a machine up to an event or a stop.
-use Rattle.std.proofs.Common.{◌≡◌, ◌∙◌, ◌≤◌, ◌<◌, inl, inr, ℕ, suc, ◌+◌, ◌-◌, List, [], ◌++◌, Option, Some, None, Result, Ok, Err, refl, ap, sym, subst, arith}
+use Rattle.std.proofs.Common.{◌≡◌, ◌∙◌, ◌≤◌, ◌<◌, ◌⊎◌, inl, inr, Bool, true, false, ℕ, suc, ◌+◌, ◌-◌, List, [], ◌++◌, Option, Some, None, Result, Ok, Err, refl, ap, sym, subst, arith}
 use Rattle.zk_state.specs.declared.refusal.Limit.TheVariants.{Steps}
 use Rattle.zk_step.specs.Routing.{Texts, no_text, on_script, text_joined}
 use Rattle.zk_vm.specs.declared.stop.Event.{Event}
@@ -7,7 +7,7 @@ use Rattle.zk_vm.specs.declared.stop.Stop.{Stop}
 use Rattle.zk_vm.specs.declared.stop.Stop.TheVariants as stops
 use Rattle.zk_vm.specs.declared.waiting.Waiting.{Waiting}
 use Rattle.zk_vm.specs.Going.{IsHalted, steps_left}
-use Rattle.zk_vm.specs.Halts.{ComesToKeepAt, Halt, IsKeeping, IsLeftAs, IsLeftAt, IsLeftBy, IsRun, IsStep, event_of, halt_by}
+use Rattle.zk_vm.specs.Halts.{ComesToKeepAt, EndsAtStep, FailsAt, Halt, IsCutOff, LeadsOn, ShowsLast, StopsAtOnce, IsKeeping, IsLeftAs, IsLeftAt, IsLeftBy, IsRun, IsStep, event_of, halt_by}
 use Rattle.zk_vm.specs.Outcome.{Leads, Segment, Session, behind_due, ended, ran, segment, segment_by, segment_of}
 use Rattle.zk_vm.specs.Step.{State, step, state_after, text_of, verdict_of}
 use Rattle.zk_vm.specs.Step.Verdict.{GoesOn}
@@ -161,3 +161,58 @@ halted_waits old new event Shown (inl h) = go (steps_left old).end h.0 h.1
     go (Ok w) e left = (w, ap (λ (s : Session). s.waiting) left)
     go (Err stop) e left = absurd cc
 halted_waits old new event Shown (inr h) = let never = h.0 in absurd cc
+
+-- ---- a screen that has failed
+
+-- what the transcript was still to get comes first
+leads_due : (old : Session) (before last : Texts) (to : State) → LeadsOn (told_due old) before last to → LeadsOn old (text_joined (on_script old.state.due) before) last to
+leads_due old before last to h = record {
+  runs = h.runs;
+  steps = h.steps;
+  few = h.few;
+  end = h.end;
+  behind = h.behind;
+  leads = h.leads;
+  goes = h.goes;
+  there = h.there;
+  shown_before = ap (text_joined (on_script old.state.due)) h.shown_before;
+  shown_last = h.shown_last;
+}
+
+fails_due : {S : Type 0} (shows : S → S → List ℕ → List ℕ → Type 0) (twice : (a b c : S) (s t u v : List ℕ) → shows a b s u → shows b c t v → shows a c (s ++ t) (u ++ v)) (failed : S → Bool) (a b c : S) (due : List ℕ) (before last : Texts)
+    → shows a b [] due → failed b ≡ false → FailsAt shows failed b c before last → FailsAt shows failed a c (text_joined (on_script due) before) last
+fails_due {S} shows twice failed a b c due before last first works h = (h.0, (twice a b h.0 [] before.screen due before.script first h.1.0, λ e. h.1.1 works, h.1.2, h.1.3))
+
+pub run_cut : {S : Type 0} (shows : S → S → List ℕ → List ℕ → Type 0) (twice : (a b c : S) (s t u v : List ℕ) → shows a b s u → shows b c t v → shows a c (s ++ t) (u ++ v)) (failed : S → Bool) (a b c : S) (old mid new : Session) (stop : Stop)
+    → shows a b [] old.state.due → failed b ≡ false → IsCutOff LeadsOn shows failed b c (told_due old) mid (Err stop) → new.stopped ≡ Some stop → new.waiting ≡ mid.waiting → new.limits ≡ old.limits → new.state ≡ mid.state → IsCutOff ShowsLast shows failed a c old new (Err stop) × (new.stopped ≡ Some stops.Write)
+run_cut {S} shows twice failed a b c old mid new stop first works (tells, free, (before, (last, (shown, fails)))) stopped waiting limits same =
+    let is : stop ≡ stops.Write = cc in (
+      (tells, waiting ∙ free, (text_joined (on_script old.state.due) before, (last, (inl (subst (LeadsOn old (text_joined (on_script old.state.due) before) last) (sym same) (leads_due old before last mid.state shown)), fails_due shows twice failed a b c old.state.due before last first works fails)))),
+      stopped ∙ ap Some is,
+    )
+
+pub never_cut : {S : Type 0} (shows : S → S → List ℕ → List ℕ → Type 0) (failed : S → Bool) (b c : S) (old new : Session) (event : Event) (Shown : Texts → Type 0) → IsHalted old new (Ok event) Shown ⊎ IsCutOff LeadsOn shows failed b c old new (Ok event) → IsHalted old new (Ok event) Shown
+never_cut {S} shows failed b c old new event Shown (inl h) = h
+never_cut {S} shows failed b c old new event Shown (inr h) = let never = h.0 in absurd cc
+
+-- the transcript has failed, before any step
+pub run_untold : {S : Type 0} (shows : S → S → List ℕ → List ℕ → Type 0) (nothing : (a : S) → shows a a [] []) (failed : S → Bool) (a b : S) (old new : Session) → old.stopped ≡ None → shows a b [] old.state.due → failed b ≡ true → new.waiting ≡ None → new.state ≡ record old.state { due = [] }
+    → IsCutOff ShowsLast shows failed a b old new (Err stops.Write)
+run_untold {S} shows nothing failed a b old new runs first broken free there = (refl, free, (no_text, (on_script old.state.due, (inr (runs, refl, refl, there), (a, (nothing a, λ e. e, first, broken))))))
+
+pub once_due : {S : Type 0} (shows : S → S → List ℕ → List ℕ → Type 0) (twice : (a b c : S) (s t u v : List ℕ) → shows a b s u → shows b c t v → shows a c (s ++ t) (u ++ v)) (failed : S → Bool) (a b c : S) (old : Session) (answer : Halt)
+    → shows a b [] old.state.due → failed b ≡ false → StopsAtOnce shows failed b c (told_due old) answer → StopsAtOnce shows failed a c old answer
+once_due {S} shows twice failed a b c old answer first works h = λ sound broken. go (h works broken)
+  where
+    go : (answer ≡ Err stops.Write) ⊎ ((before : Texts) × ((last : Texts) × (EndsAtStep (told_due old) before last answer × FailsAt shows failed b c before last)))
+        → (answer ≡ Err stops.Write) ⊎ ((before : Texts) × ((last : Texts) × (EndsAtStep old before last answer × FailsAt shows failed a c before last)))
+    go (inl e) = inl e
+    go (inr (before, (last, (ends, fails)))) = inr (text_joined (on_script old.state.due) before, (last, (record {
+      steps = ends.steps;
+      few = ends.few;
+      end = ends.end;
+      behind = ends.behind;
+      leads = ends.leads;
+      shown_before = ap (text_joined (on_script old.state.due)) ends.shown_before;
+      ends = ends.ends;
+    }, fails_due shows twice failed a b c old.state.due before last first works fails)))

@@ -1,5 +1,5 @@
 -- Turn after turn.
-use Rattle.std.proofs.Common.{◌≡◌, ◌∙◌, ◌≤◌, ◌<◌, ◌⊎◌, ◌||◌, inl, inr, ℕ, ◌+◌, ◌-◌, Bool, true, false, List, [], ◌∷◌, ◌++◌, append_assoc, append-nil, Option, Some, None, Result, Ok, Err, refl, ap, sym, subst, arith, length}
+use Rattle.std.proofs.Common.{◌≡◌, ◌∙◌, ◌≤◌, ◌<◌, ◌⊎◌, ◌||◌, inl, inr, ℕ, suc, ◌+◌, ◌-◌, Bool, true, false, List, [], ◌∷◌, ◌++◌, append_assoc, append-nil, Option, Some, None, Result, Ok, Err, refl, ap, sym, subst, arith, length}
 use Rattle.std.specs.List.{AllByRecursion}
 use Rattle.zk_text.specs.Extra.{is_input_code}
 use Rattle.zk_term.specs.declared.lines.Over.{Over}
@@ -7,12 +7,12 @@ use Rattle.zk_term.specs.declared.lines.Over.TheVariants.{End, Failed}
 use Rattle.arrayvec.specs.ArrayVec.{ArrayVec}
 use Rattle.zk_term.specs.Devices.{HasJust, Shows}
 use Rattle.zk_term.specs.declared.lines.Input.TheVariants as input
-use Rattle.zk_term.specs.Lines.{Heard, heard, ended_lines, behind, is_short, nothing_more, over_input, BreaksOff, IsNextLine, IsPlain}
+use Rattle.zk_term.specs.Lines.{Heard, heard, ended_lines, behind, is_short, nothing_more, over_input, BreaksOff, IsNextLine, IsPlain, IsTooLong, MeetsBound, Reading}
 use Rattle.zk_term.proofs.Hearing.{are_lines}
 use Rattle.zk_term.proofs.Shown.{shows_twice, shows_past, shows_nothing}
 use Rattle.zk_step.specs.declared.ending.Wait.{Wait}
 use Rattle.zk_step.specs.declared.ending.Wait.TheVariants as wait
-use Rattle.zk_step.specs.Routing.{Texts, no_text, text_joined}
+use Rattle.zk_step.specs.Routing.{Texts, no_text, on_script, text_joined}
 use Rattle.zk_vm.specs.declared.stop.Event.{Event}
 use Rattle.zk_vm.specs.declared.stop.Event.TheVariants as event
 use Rattle.zk_vm.specs.declared.stop.Stop.{Stop}
@@ -20,9 +20,14 @@ use Rattle.zk_vm.specs.declared.stop.Stop.TheVariants.{Write, Memory}
 use Rattle.zk_vm.specs.declared.waiting.Waiting.{Waiting}
 use Rattle.zk_vm.specs.Answers.{Answer, first_code, answered}
 use Rattle.zk_vm.specs.Answers.Answer.{Typed, GameKept, File}
-use Rattle.zk_vm.specs.Halts.{event_by, event_of, event_waited, is_read_event, ComesToKeep, IsLeftAs}
-use Rattle.zk_vm.specs.Outcome.{Outcome, Session, Segment, ended, followed, outcome, segment_of, segment_by, ran, given, given_to, given_all, shown_up_to, with_stop}
-use Rattle.zk_vm.specs.Plays.{codes_read, AsksForLine, AsksForFile, IsSlotAnswer, IsLastSlot, AreSlotAnswers, IsServed, ShowsOfRun, IsRunOn, AsksForNoFile, EndsTurn, IsLeftByTurn, EndsTurnOrFails, TookTexts, IsTurn, stop_behind, stop_waiting, IsOutcomeOn, CanBeGiven, FoundNoLine, IsLastRead, IsNoLine, IsAnswered, ArePlayed, IsLastAnswered, IsHeard, IsPlayed, IsPlay}
+use Rattle.zk_vm.specs.Going.{steps_left as steps_of}
+use Rattle.zk_vm.specs.Halts.{event_by, event_of, event_waited, is_read_event, ComesToKeep, IsLeftAs, ShowsUpTo}
+use Rattle.zk_vm.specs.Step.{State, step, state_after, text_of, verdict_of}
+use Rattle.zk_vm.specs.Step.Verdict.{GoesOn}
+use Rattle.zk_vm.specs.Outcome.{Outcome, Session, Segment, segment, ended, followed, outcome, segment_of, segment_by, ran, given, given_to, given_all, shown_up_to, with_stop}
+use Rattle.zk_vm.proofs.Halting.{segment_is, told_due}
+use Rattle.zk_vm.proofs.Runs.{no_text_behind, same_text, segment_leads}
+use Rattle.zk_vm.specs.Plays.{codes_read, AsksForLine, AsksForFile, IsSlotAnswer, IsLastSlot, AreSlotAnswers, IsServed, ShowsOfRun, IsRunOn, AsksForNoFile, EndsTurn, IsLeftByTurn, EndsTurnOrFails, TookTexts, IsTurn, stop_behind, stop_waiting, IsOutcomeOn, IsOutcomeBy, AreAnswers, SlotTells, SourceTells, ReadsCodes, ReadsLine, FoundNoLine, IsLeftAlone, IsLastRead, IsAnswered, IsLastAnswered, IsHeard, IsPlayed, IsPlay}
 
 -- a character is a line's first code
 char_to : (x : Wait) (w : Waiting) (s : Session) (codes : List ℕ) → w.wait ≡ x → event_by x ≡ event.Char → given_to (Some w) s (Typed (first_code codes ∷ [])) ≡ given_to (Some w) s (Typed codes)
@@ -134,31 +139,26 @@ stopped_as m s (Some y) stop e left = left.0 ∙ e
 
 -- ---- answers of a slot
 
-slot_asks : {K : Type 0} (held : K → Option (Option (List ℕ))) (keeps : K → List ℕ → Option Bool) (before after : K) (s : Session) (a : Answer) → IsSlotAnswer held keeps before after s a → AsksForFile s
-slot_asks held keeps before after s (Typed codes) h = absurd h
-slot_asks held keeps before after s (GameKept true) h = inl h.0
-slot_asks held keeps before after s (GameKept false) h = inl h.0
-slot_asks held keeps before after s (File file) h = inr h.0
-
-slot_can : {K : Type 0} (held : K → Option (Option (List ℕ))) (keeps : K → List ℕ → Option Bool) (before after : K) (s : Session) (a : Answer) → IsSlotAnswer held keeps before after s a → CanBeGiven a
-slot_can held keeps before after s (Typed codes) h = absurd h
-slot_can held keeps before after s (GameKept kept) h = tt
-slot_can held keeps before after s (File file) h = tt
-
-slots_can : {K : Type 0} (held : K → Option (Option (List ℕ))) (keeps : K → List ℕ → Option Bool) (unwritten : Bool) (answers : List Answer) (before after : K) (s : Session) → AreSlotAnswers held keeps unwritten before after s answers → AllByRecursion CanBeGiven answers
-unfolding AreSlotAnswers
-slots_can held keeps unwritten [] before after s h = tt
-slots_can held keeps unwritten (a ∷ answers) before after s h = (slot_can held keeps before h.0 (ran s) a h.1.0, slots_can held keeps unwritten answers h.0 after (given (ran s) a) h.1.1)
+slot_asks : {K : Type 0} (tells : SlotTells K) (before after : K) (s : Session) (a : Answer) → IsSlotAnswer tells before after s a → AsksForFile s
+slot_asks tells before after s (Typed codes) h = absurd h
+slot_asks tells before after s (GameKept true) h = inl h.0
+slot_asks tells before after s (GameKept false) h = inl h.0
+slot_asks tells before after s (File file) h = inr h.0
 
 -- ---- a turn that goes on
 
-last_stopped : {K : Type 0} (held : K → Option (Option (List ℕ))) (unwritten : Bool) (before after : K) (m s : Session) (stop : Stop) → m.stopped ≡ Some stop → IsLastSlot held unwritten before after m → IsLastSlot held unwritten before after s
-last_stopped held unwritten before after m s stop e (inl h) = inl h
-last_stopped held unwritten before after m s stop e (inr h) = absurd (no_wait m stop e (file_asked m h.1))
+last_stopped : {K : Type 0} (tells : SlotTells K) (unwritten : Bool) (before after : K) (m s : Session) (stop : Stop) → m.stopped ≡ Some stop → IsLastSlot tells unwritten before after m → IsLastSlot tells unwritten before after s
+last_stopped tells unwritten before after m s stop e (inl h) = inl h
+last_stopped tells unwritten before after m s stop e (inr h) = absurd (no_wait m stop e (file_asked m h.1))
+
+shows_runs : (s : Session) (text : Texts) → ShowsUpTo s text → s.stopped ≡ None
+shows_runs s text (before, (last, (to, (inl h, e)))) = h.runs
+shows_runs s text (before, (last, (to, (inr h, e)))) = h.0
 
 shows_stopped : (m s : Session) (stop : Stop) (text : Texts) → m.stopped ≡ Some stop → s.stopped ≡ Some stop → ShowsOfRun m text → ShowsOfRun s text
 shows_stopped m s stop text e f (inl h) = inl (h ∙ stopped_text m stop e ∙ sym (stopped_text s stop f))
-shows_stopped m s stop text e f (inr h) = absurd (no_keeping m stop text e h)
+shows_stopped m s stop text e f (inr (inl h)) = absurd (no_keeping m stop text e h)
+shows_stopped m s stop text e f (inr (inr h)) = absurd (not_both m.stopped stop (shows_runs m text h) e)
 
 ends_stopped : (unwritten : Bool) (m s : Session) (stop : Stop) (answer : Result Event Stop) (text : Texts) → m.stopped ≡ Some stop → s.stopped ≡ Some stop → EndsTurnOrFails unwritten m answer text → EndsTurnOrFails unwritten s answer text
 ends_stopped true m s stop answer text e f h = (h.0, shows_stopped m s stop text e f h.1)
@@ -179,36 +179,36 @@ left_stopped : (unwritten : Bool) (m s new : Session) (stop : Stop) (answer : Re
 left_stopped unwritten m s new stop (Ok e) text k ends h = absurd (no_wait m stop k (waits_for (segment_of m).end e (sym (turn_asks unwritten m e text ends).1)))
 left_stopped unwritten m s new stop (Err x) text k ends h = h
 
-turn_stopped : {K : Type 0} (held : K → Option (Option (List ℕ))) (keeps : K → List ℕ → Option Bool) (before after : K) (m s new : Session) (stop : Stop) (answer : Result Event Stop) (unwritten : Bool) (Shown : Texts → Texts → Type 0) (answers : List Answer) (text : Texts)
-    → m.stopped ≡ Some stop → s.stopped ≡ Some stop → AreSlotAnswers held keeps unwritten before after m answers → EndsTurnOrFails unwritten (given_all answers m) answer text → IsLeftByTurn new (given_all answers m) answer → Shown (shown_up_to answers m) text
-    → IsTurn (AreSlotAnswers held keeps unwritten before after s) s new answer unwritten Shown
+turn_stopped : {K : Type 0} (tells : SlotTells K) (before after : K) (m s new : Session) (stop : Stop) (answer : Result Event Stop) (unwritten : Bool) (Shown : Texts → Texts → Type 0) (answers : List Answer) (text : Texts)
+    → m.stopped ≡ Some stop → s.stopped ≡ Some stop → AreSlotAnswers tells unwritten before after m answers → EndsTurnOrFails unwritten (given_all answers m) answer text → IsLeftByTurn new (given_all answers m) answer → Shown (shown_up_to answers m) text
+    → IsTurn (AreSlotAnswers tells unwritten before after s) s new answer unwritten Shown
 unfolding AreSlotAnswers given_all shown_up_to
-turn_stopped held keeps before after m s new stop answer unwritten Shown [] text e f gives ends left shown = record {
+turn_stopped tells before after m s new stop answer unwritten Shown [] text e f gives ends left shown = record {
   answers = [];
-  gives = last_stopped held unwritten before after m s stop e gives;
+  gives = last_stopped tells unwritten before after m s stop e gives;
   text = text;
   ends = ends_stopped unwritten m s stop answer text e f ends;
   left = left_stopped unwritten m s new stop answer text e ends left;
   shown = shown;
 }
-turn_stopped held keeps before after m s new stop answer unwritten Shown (a ∷ answers) text e f gives ends left shown =
-    absurd (no_wait m stop e (file_asked m (slot_asks held keeps before gives.0 (ran m) a gives.1.0)))
+turn_stopped tells before after m s new stop answer unwritten Shown (a ∷ answers) text e f gives ends left shown =
+    absurd (no_wait m stop e (file_asked m (slot_asks tells before gives.0 (ran m) a gives.1.0)))
 
-turn_left_by : {K : Type 0} (held : K → Option (Option (List ℕ))) (keeps : K → List ℕ → Option Bool) (before after : K) (m s new : Session) (answer : Result Event Stop) (unwritten : Bool) (Shown : Texts → Texts → Type 0) (x : Option Stop)
-    → s.stopped ≡ x → IsLeftAs m s x → IsTurn (AreSlotAnswers held keeps unwritten before after m) m new answer unwritten Shown → IsTurn (AreSlotAnswers held keeps unwritten before after s) s new answer unwritten Shown
-turn_left_by held keeps before after m s new answer unwritten Shown None e left t = subst (λ (n : Session). IsTurn (AreSlotAnswers held keeps unwritten before after n) n new answer unwritten Shown) left t
-turn_left_by held keeps before after m s new answer unwritten Shown (Some stop) e left t = turn_stopped held keeps before after m s new stop answer unwritten Shown t.answers t.text left.0 e t.gives t.ends t.left t.shown
+turn_left_by : {K : Type 0} (tells : SlotTells K) (before after : K) (m s new : Session) (answer : Result Event Stop) (unwritten : Bool) (Shown : Texts → Texts → Type 0) (x : Option Stop)
+    → s.stopped ≡ x → IsLeftAs m s x → IsTurn (AreSlotAnswers tells unwritten before after m) m new answer unwritten Shown → IsTurn (AreSlotAnswers tells unwritten before after s) s new answer unwritten Shown
+turn_left_by tells before after m s new answer unwritten Shown None e left t = subst (λ (n : Session). IsTurn (AreSlotAnswers tells unwritten before after n) n new answer unwritten Shown) left t
+turn_left_by tells before after m s new answer unwritten Shown (Some stop) e left t = turn_stopped tells before after m s new stop answer unwritten Shown t.answers t.text left.0 e t.gives t.ends t.left t.shown
 
 -- texts that are these
 abbrev pub AreTexts : Texts → Texts → Texts → Texts → Type 0
 AreTexts first second a b = (a ≡ first) × (b ≡ second)
 
 -- a turn after an answer of a slot
-turn_behind : {K : Type 0} (held : K → Option (Option (List ℕ))) (keeps : K → List ℕ → Option Bool) (before mid after : K) (s new : Session) (answer : Result Event Stop) (unwritten : Bool) (a : Answer) (first second : Texts)
-    → IsSlotAnswer held keeps before mid (ran s) a → IsTurn (AreSlotAnswers held keeps unwritten mid after (given (ran s) a)) (given (ran s) a) new answer unwritten (AreTexts first second)
-    → IsTurn (AreSlotAnswers held keeps unwritten before after s) s new answer unwritten (AreTexts (text_joined (segment_of s).text first) second)
+turn_behind : {K : Type 0} (tells : SlotTells K) (before mid after : K) (s new : Session) (answer : Result Event Stop) (unwritten : Bool) (a : Answer) (first second : Texts)
+    → IsSlotAnswer tells before mid (ran s) a → IsTurn (AreSlotAnswers tells unwritten mid after (given (ran s) a)) (given (ran s) a) new answer unwritten (AreTexts first second)
+    → IsTurn (AreSlotAnswers tells unwritten before after s) s new answer unwritten (AreTexts (text_joined (segment_of s).text first) second)
 unfolding AreSlotAnswers given_all shown_up_to
-turn_behind held keeps before mid after s new answer unwritten a first second is t = record {
+turn_behind tells before mid after s new answer unwritten a first second is t = record {
   answers = a ∷ t.answers;
   gives = (mid, (is, t.gives));
   text = t.text;
@@ -218,56 +218,50 @@ turn_behind held keeps before mid after s new answer unwritten a first second is
 }
 
 -- a turn with no answer
-pub turn_alone : {K : Type 0} (held : K → Option (Option (List ℕ))) (keeps : K → List ℕ → Option Bool) (before after : K) (s new : Session) (answer : Result Event Stop) (unwritten : Bool) (text : Texts)
-    → IsLastSlot held unwritten before after s → EndsTurnOrFails unwritten s answer text → IsLeftByTurn new s answer → IsTurn (AreSlotAnswers held keeps unwritten before after s) s new answer unwritten (AreTexts no_text text)
+pub turn_alone : {K : Type 0} (tells : SlotTells K) (before after : K) (s new : Session) (answer : Result Event Stop) (unwritten : Bool) (text : Texts)
+    → IsLastSlot tells unwritten before after s → EndsTurnOrFails unwritten s answer text → IsLeftByTurn new s answer → IsTurn (AreSlotAnswers tells unwritten before after s) s new answer unwritten (AreTexts no_text text)
 unfolding AreSlotAnswers given_all shown_up_to
-turn_alone held keeps before after s new answer unwritten text last ends left = record { answers = []; gives = last; text = text; ends = ends; left = left; shown = (refl, refl) }
-
-same_text : (a b c : Texts) → text_joined a (text_joined b c) ≡ text_joined (text_joined a b) c
-same_text a b c = rw (append_assoc a.screen b.screen c.screen, append_assoc a.script b.script c.script) refl
-
-pub no_text_behind : (t : Texts) → text_joined t no_text ≡ t
-no_text_behind t = rw (append-nil t.screen, append-nil t.script) refl
+turn_alone tells before after s new answer unwritten text last ends left = record { answers = []; gives = last; text = text; ends = ends; left = left; shown = (refl, refl) }
 
 -- a text was shown, and a turn from here on is, after it, the whole turn
-pub record TurnSoFar {K : Type 0} (held : K → Option (Option (List ℕ))) (keeps : K → List ℕ → Option Bool) (start now : Session) (slot0 slot1 : K) (screen0 screen1 script0 script1 : Option (List ℕ)) : Type 0 where
+pub record TurnSoFar {K : Type 0} (tells : SlotTells K) (start now : Session) (slot0 slot1 : K) (screen0 screen1 script0 script1 : Option (List ℕ)) : Type 0 where
   pub text : Texts
   pub screen : Shows (record { taken = screen0; failed = false }) (record { taken = screen1; failed = false }) text.screen
   pub script : Shows (record { taken = script0; failed = false }) (record { taken = script1; failed = false }) text.script
-  pub rest : (after : K) (new : Session) (answer : Result Event Stop) (unwritten : Bool) (first second : Texts) → IsTurn (AreSlotAnswers held keeps unwritten slot1 after now) now new answer unwritten (AreTexts first second)
-      → IsTurn (AreSlotAnswers held keeps unwritten slot0 after start) start new answer unwritten (AreTexts (text_joined text first) second)
+  pub rest : (after : K) (new : Session) (answer : Result Event Stop) (unwritten : Bool) (first second : Texts) → IsTurn (AreSlotAnswers tells unwritten slot1 after now) now new answer unwritten (AreTexts first second)
+      → IsTurn (AreSlotAnswers tells unwritten slot0 after start) start new answer unwritten (AreTexts (text_joined text first) second)
 
-pub turn_begins : {K : Type 0} (held : K → Option (Option (List ℕ))) (keeps : K → List ℕ → Option Bool) (start : Session) (slot : K) (screen script : Option (List ℕ)) → TurnSoFar held keeps start start slot slot screen screen script script
-turn_begins held keeps start slot screen script = record {
+pub turn_begins : {K : Type 0} (tells : SlotTells K) (start : Session) (slot : K) (screen script : Option (List ℕ)) → TurnSoFar tells start start slot slot screen screen script script
+turn_begins tells start slot screen script = record {
   text = no_text;
   screen = shows_nothing _;
   script = shows_nothing _;
   rest = λ after new answer unwritten first second t. t;
 }
 
-pub turn_served : {K : Type 0} (held : K → Option (Option (List ℕ))) (keeps : K → List ℕ → Option Bool) (start now mid next : Session) (slot0 slot1 slot2 : K) (screen0 screen1 screen2 script0 script1 script2 : Option (List ℕ))
-    → TurnSoFar held keeps start now slot0 slot1 screen0 screen1 script0 script1 → mid ≡ ran now → IsServed held keeps slot1 slot2 mid next
+pub turn_served : {K : Type 0} (tells : SlotTells K) (start now mid next : Session) (slot0 slot1 slot2 : K) (screen0 screen1 screen2 script0 script1 script2 : Option (List ℕ))
+    → TurnSoFar tells start now slot0 slot1 screen0 screen1 script0 script1 → mid ≡ ran now → IsServed tells slot1 slot2 mid next
     → Shows (record { taken = screen1; failed = false }) (record { taken = screen2; failed = false }) (segment_of now).text.screen → Shows (record { taken = script1; failed = false }) (record { taken = script2; failed = false }) (segment_of now).text.script
-    → TurnSoFar held keeps start next slot0 slot2 screen0 screen2 script0 script2
-turn_served held keeps start now mid next slot0 slot1 slot2 screen0 screen1 screen2 script0 script1 script2 s same served screen script = record {
+    → TurnSoFar tells start next slot0 slot2 screen0 screen2 script0 script2
+turn_served tells start now mid next slot0 slot1 slot2 screen0 screen1 screen2 script0 script1 script2 s same served screen script = record {
   text = text_joined s.text (segment_of now).text;
   screen = shows_twice _ _ _ _ _ s.screen screen;
   script = shows_twice _ _ _ _ _ s.script script;
   rest = λ after new answer unwritten first second t.
-      let is = subst (λ (m : Session). IsSlotAnswer held keeps slot1 slot2 m served.answer) same served.is in
+      let is = subst (λ (m : Session). IsSlotAnswer tells slot1 slot2 m served.answer) same served.is in
       let left = subst (λ (m : Session). IsLeftAs next (given m served.answer) (given m served.answer).stopped) same served.left in
-      let here = turn_left_by held keeps slot2 after next (given (ran now) served.answer) new answer unwritten (AreTexts first second) (given (ran now) served.answer).stopped refl left t in
-      let one = turn_behind held keeps slot1 slot2 after now new answer unwritten served.answer first second is here in
-      subst (λ (u : Texts). IsTurn (AreSlotAnswers held keeps unwritten slot0 after start) start new answer unwritten (AreTexts u second)) (same_text s.text (segment_of now).text first)
+      let here = turn_left_by tells slot2 after next (given (ran now) served.answer) new answer unwritten (AreTexts first second) (given (ran now) served.answer).stopped refl left t in
+      let one = turn_behind tells slot1 slot2 after now new answer unwritten served.answer first second is here in
+      subst (λ (u : Texts). IsTurn (AreSlotAnswers tells unwritten slot0 after start) start new answer unwritten (AreTexts u second)) (same_text s.text (segment_of now).text first)
       (s.rest after new answer unwritten (text_joined (segment_of now).text first) second one);
 }
 
-pub turn_ends : {K : Type 0} (held : K → Option (Option (List ℕ))) (keeps : K → List ℕ → Option Bool) (start now new : Session) (slot0 slot1 slot2 : K) (screen0 screen1 screen2 script0 script1 script2 : Option (List ℕ)) (answer : Result Event Stop) (unwritten : Bool) (text : Texts)
-    → TurnSoFar held keeps start now slot0 slot1 screen0 screen1 script0 script1 → IsLastSlot held unwritten slot1 slot2 now → EndsTurnOrFails unwritten now answer text → IsLeftByTurn new now answer
+pub turn_ends : {K : Type 0} (tells : SlotTells K) (start now new : Session) (slot0 slot1 slot2 : K) (screen0 screen1 screen2 script0 script1 script2 : Option (List ℕ)) (answer : Result Event Stop) (unwritten : Bool) (text : Texts)
+    → TurnSoFar tells start now slot0 slot1 screen0 screen1 script0 script1 → IsLastSlot tells unwritten slot1 slot2 now → EndsTurnOrFails unwritten now answer text → IsLeftByTurn new now answer
     → Shows (record { taken = screen1; failed = false }) (record { taken = screen2; failed = unwritten }) text.screen → Shows (record { taken = script1; failed = false }) (record { taken = script2; failed = unwritten }) text.script
-    → IsTurn (AreSlotAnswers held keeps unwritten slot0 slot2 start) start new answer unwritten (TookTexts screen0 screen2 script0 script2 unwritten)
-turn_ends held keeps start now new slot0 slot1 slot2 screen0 screen1 screen2 script0 script1 script2 answer unwritten text s last ends left screen script =
-    let t = s.rest slot2 new answer unwritten no_text text (turn_alone held keeps slot1 slot2 now new answer unwritten text last ends left) in
+    → IsTurn (AreSlotAnswers tells unwritten slot0 slot2 start) start new answer unwritten (TookTexts screen0 screen2 script0 script2 unwritten)
+turn_ends tells start now new slot0 slot1 slot2 screen0 screen1 screen2 script0 script1 script2 answer unwritten text s last ends left screen script =
+    let t = s.rest slot2 new answer unwritten no_text text (turn_alone tells slot1 slot2 now new answer unwritten text last ends left) in
     let first = t.shown.0 ∙ no_text_behind s.text in
     record {
       answers = t.answers;
@@ -408,63 +402,96 @@ pub outcome_on : (a : Answer) (answers : List Answer) (end : Stop) (s : Session)
 unfolding outcome
 outcome_on a answers end s w e = rw e refl
 
-outcome_all : {K : Type 0} (held : K → Option (Option (List ℕ))) (keeps : K → List ℕ → Option Bool) (unwritten : Bool) (answers : List Answer) (before after : K) (s : Session) (end : Stop) → AreSlotAnswers held keeps unwritten before after s answers
+outcome_all : {K : Type 0} (tells : SlotTells K) (unwritten : Bool) (answers : List Answer) (before after : K) (s : Session) (end : Stop) → AreSlotAnswers tells unwritten before after s answers
     → outcome answers end s ≡ shown_before (shown_up_to answers s) (outcome [] end (given_all answers s))
 unfolding AreSlotAnswers given_all shown_up_to
-outcome_all held keeps unwritten [] before after s end h = refl
-outcome_all held keeps unwritten (a ∷ answers) before after s end h =
-    let w = file_asked s (slot_asks held keeps before h.0 (ran s) a h.1.0) in
-    outcome_on a answers end s w.0 w.1 ∙ ap (shown_before (segment_of s).text) (outcome_all held keeps unwritten answers h.0 after (given (ran s) a) end h.1.1) ∙ same_shown (segment_of s).text (shown_up_to answers (given (ran s) a)) _
+outcome_all tells unwritten [] before after s end h = refl
+outcome_all tells unwritten (a ∷ answers) before after s end h =
+    let w = file_asked s (slot_asks tells before h.0 (ran s) a h.1.0) in
+    outcome_on a answers end s w.0 w.1 ∙ ap (shown_before (segment_of s).text) (outcome_all tells unwritten answers h.0 after (given (ran s) a) end h.1.1) ∙ same_shown (segment_of s).text (shown_up_to answers (given (ran s) a)) _
 
 -- ---- an answer in front
 
-on_outcome : (a : Answer) (answers : List Answer) (over : Over) (IsLast : Type 0) (s : Session) (w : Waiting) (o : Outcome) → (segment_of s).end ≡ Ok w → IsOutcomeOn answers over IsLast (given (ran s) a) o → IsOutcomeOn (a ∷ answers) over IsLast s (shown_before (segment_of s).text o)
+on_outcome : (a : Answer) (answers : List Answer) (over : Over) (Last Last' Lacking Lacking' : Type 0) (s : Session) (w : Waiting) (o : Outcome) → (segment_of s).end ≡ Ok w → (Last → Last') → (Lacking → Lacking')
+    → IsOutcomeOn answers over Last Lacking (given (ran s) a) o → IsOutcomeOn (a ∷ answers) over Last' Lacking' s (shown_before (segment_of s).text o)
 unfolding given_all shown_up_to
-on_outcome a answers over IsLast s w o e (inl h) = inl (ap (shown_before (segment_of s).text) h.0 ∙ sym (outcome_on a answers _ s w e), h.1)
-on_outcome a answers over IsLast s w o e (inr h) = inr (h.0, (h.1.0, (h.1.1.0, ap (text_joined (segment_of s).text) h.1.1.1 ∙ same_text (segment_of s).text (shown_up_to answers (given (ran s) a)) h.1.0)))
+on_outcome a answers over Last Last' Lacking Lacking' s w o e last lacking (inl h) = inl (ap (shown_before (segment_of s).text) h.0 ∙ sym (outcome_on a answers _ s w e), last h.1)
+on_outcome a answers over Last Last' Lacking Lacking' s w o e last lacking (inr h) =
+    inr (h.0, lacking h.1, (h.2.0, (h.2.1.0, ap (text_joined (segment_of s).text) h.2.1.1 ∙ same_text (segment_of s).text (shown_up_to answers (given (ran s) a)) h.2.0)))
 
-answered_one : {R : Type 0} (ends fails : R → R → Type 0) (failed : R → Bool) (start mid last : R) (unwritten : Bool) (a : Answer) (s : Session) (w : Waiting) → (segment_of s).end ≡ Ok w → CanBeGiven a → (IsNoLine a → mid ≡ start)
-    → (o : Outcome) → IsAnswered ends fails failed mid last unwritten (given (ran s) a) o → IsAnswered ends fails failed start last unwritten s (shown_before (segment_of s).text o)
+shown_first : (a : Answer) (answers : List Answer) (s : Session) (first : Texts) → first ≡ shown_up_to answers (given (ran s) a) → text_joined (segment_of s).text first ≡ shown_up_to (a ∷ answers) s
+unfolding shown_up_to
+shown_first a answers s first e = ap (text_joined (segment_of s).text) e
+
+last_behind : (a : Answer) (answers : List Answer) (s : Session) (Last : List Answer → Session → Type 0) → Last (a ∷ answers) (given_all answers (given (ran s) a)) → Last (a ∷ answers) (given_all (a ∷ answers) s)
 unfolding given_all
-answered_one {R} ends fails failed start mid last unwritten a s w e can same o p =
-    (a ∷ p.0, (p.1.0, ((can, p.1.1.0), ((λ none asks. p.1.1.1.0 none.1 asks ∙ same none.0), on_outcome a p.0 p.1.0 _ s w o e p.1.1.1.1))))
+last_behind a answers s Last h = h
 
-answered_slots : {K : Type 0} (held : K → Option (Option (List ℕ))) (keeps : K → List ℕ → Option Bool) (unwritten : Bool) {R : Type 0} (ends fails : R → R → Type 0) (failed : R → Bool) (start last : R) (never : Bool) (answers : List Answer) (before after : K) (s : Session) → AreSlotAnswers held keeps unwritten before after s answers
-    → (o : Outcome) → IsAnswered ends fails failed start last never (given_all answers s) o → IsAnswered ends fails failed start last never s (shown_before (shown_up_to answers s) o)
+answers_slot : {K X : Type 0} (tells : SlotTells K) (Reads : X → X → Session → List ℕ → Type 0) (unwritten : Bool) (before mid after : K) (x y : X) (s : Session) (a : Answer) (answers : List Answer)
+    → IsSlotAnswer tells before mid (ran s) a → AreAnswers tells Reads unwritten mid after x y (given (ran s) a) answers → AreAnswers tells Reads unwritten before after x y s (a ∷ answers)
+unfolding AreAnswers
+answers_slot tells Reads unwritten before mid after x y s (Typed codes) answers h p = absurd h
+answers_slot tells Reads unwritten before mid after x y s (GameKept kept) answers h p = (mid, (h, p))
+answers_slot tells Reads unwritten before mid after x y s (File file) answers h p = (mid, (h, p))
+
+answers_line : {K X : Type 0} (tells : SlotTells K) (Reads : X → X → Session → List ℕ → Type 0) (unwritten : Bool) (before after : K) (x mid y : X) (s : Session) (codes : List ℕ) (answers : List Answer)
+    → AsksForLine (ran s) → Reads x mid (ran s) codes → AreAnswers tells Reads unwritten before after mid y (given (ran s) (Typed codes)) answers → AreAnswers tells Reads unwritten before after x y s (Typed codes ∷ answers)
+unfolding AreAnswers
+answers_line tells Reads unwritten before after x mid y s codes answers asks read p = (mid, (asks, read, p))
+
+pub answers_alone : {K X : Type 0} (tells : SlotTells K) (Reads : X → X → Session → List ℕ → Type 0) (unwritten : Bool) (answers : List Answer) (before after : K) (x : X) (s : Session) → AreSlotAnswers tells unwritten before after s answers → AreAnswers tells Reads unwritten before after x x s answers
+unfolding AreSlotAnswers AreAnswers
+answers_alone tells Reads unwritten [] before after x s h = (h, refl)
+answers_alone tells Reads unwritten (a ∷ answers) before after x s h = answers_slot tells Reads unwritten before h.0 after x x s a answers h.1.0 (answers_alone tells Reads unwritten answers h.0 after x (given (ran s) a) h.1.1)
+
+-- what holds after the last answer holds with one more in front
+pub record Stays (Last : List Answer → Session → Type 0) (Lacking : List Answer → Type 0) : Type 0 where
+  pub last : (a : Answer) (answers : List Answer) (end : Session) → Last answers end → Last (a ∷ answers) end
+  pub lacking : (a : Answer) (answers : List Answer) → Lacking answers → Lacking (a ∷ answers)
+
+by_slot : {K X : Type 0} (tells : SlotTells K) (Reads : X → X → Session → List ℕ → Type 0) (unwritten : Bool) (before mid after : K) (x y : X) (over : Over) (Last : List Answer → Session → Type 0) (Lacking : List Answer → Type 0) → Stays Last Lacking → (s : Session) (a : Answer) → IsSlotAnswer tells before mid (ran s) a
+    → (o : Outcome) (first : Texts) → IsOutcomeBy tells Reads unwritten mid after x y over Last Lacking (given (ran s) a) o first → IsOutcomeBy tells Reads unwritten before after x y over Last Lacking s (shown_before (segment_of s).text o) (text_joined (segment_of s).text first)
+by_slot tells Reads unwritten before mid after x y over Last Lacking stays s a is o first (answers, (are, shown, on)) =
+    let w = file_asked s (slot_asks tells before mid (ran s) a is) in
+    (a ∷ answers, (answers_slot tells Reads unwritten before mid after x y s a answers is are, shown_first a answers s first shown,
+    on_outcome a answers over (Last answers (given_all answers (given (ran s) a))) (Last (a ∷ answers) (given_all (a ∷ answers) s)) (Lacking answers) (Lacking (a ∷ answers)) s w.0 o w.1 (λ h. last_behind a answers s Last (stays.last a answers _ h)) (stays.lacking a answers) on))
+
+by_slots : {K X : Type 0} (tells : SlotTells K) (Reads : X → X → Session → List ℕ → Type 0) (unwritten : Bool) (answers : List Answer) (before mid after : K) (x y : X) (over : Over) (Last : List Answer → Session → Type 0) (Lacking : List Answer → Type 0) → Stays Last Lacking → (s : Session) → AreSlotAnswers tells false before mid s answers → (AsksForFile (ran (given_all answers s)) → ⊥)
+    → (o : Outcome) (first : Texts) → IsOutcomeBy tells Reads unwritten mid after x y over Last Lacking (given_all answers s) o first → IsOutcomeBy tells Reads unwritten before after x y over Last Lacking s (shown_before (shown_up_to answers s) o) (text_joined (shown_up_to answers s) first)
 unfolding AreSlotAnswers given_all shown_up_to
-answered_slots held keeps unwritten ends fails failed start last never [] before after s h o p = p
-answered_slots held keeps unwritten ends fails failed start last never (a ∷ answers) before after s h o p =
-    let w = file_asked s (slot_asks held keeps before h.0 (ran s) a h.1.0) in
-    subst (IsAnswered ends fails failed start last never s) (same_shown (segment_of s).text (shown_up_to answers (given (ran s) a)) o)
-    (answered_one ends fails failed start start last never a s w.0 w.1 (slot_can held keeps before h.0 (ran s) a h.1.0) (λ n. refl) (shown_before (shown_up_to answers (given (ran s) a)) o) (answered_slots held keeps unwritten ends fails failed start last never answers h.0 after (given (ran s) a) h.1.1 o p))
+by_slots {K} tells Reads unwritten [] before mid after x y over Last Lacking stays s (inl h) none o first p = subst (λ (k : K). IsOutcomeBy tells Reads unwritten k after x y over Last Lacking s o first) h p
+by_slots tells Reads unwritten [] before mid after x y over Last Lacking stays s (inr h) none o first p = absurd (none h.1)
+by_slots tells Reads unwritten (a ∷ answers) before mid after x y over Last Lacking stays s h none o first p =
+    let rest = shown_up_to answers (given (ran s) a) in
+    let inner = by_slots tells Reads unwritten answers h.0 mid after x y over Last Lacking stays (given (ran s) a) h.1.1 none o first p in
+    let all = by_slot tells Reads unwritten before h.0 after x y over Last Lacking stays s a h.1.0 (shown_before rest o) (text_joined rest first) inner in
+    subst (λ (u : Texts). IsOutcomeBy tells Reads unwritten before after x y over Last Lacking s (shown_before (text_joined (segment_of s).text rest) o) u) (same_text (segment_of s).text rest first)
+    (subst (λ (q : Outcome). IsOutcomeBy tells Reads unwritten before after x y over Last Lacking s q (text_joined (segment_of s).text (text_joined rest first))) (same_shown (segment_of s).text rest o) all)
 
-slot_played : {K : Type 0} (held : K → Option (Option (List ℕ))) (keeps : K → List ℕ → Option Bool) (unwritten : Bool) (before mid after : K) (lines left : List (List ℕ)) (s : Session) (a : Answer) (answers : List Answer)
-    → IsSlotAnswer held keeps before mid (ran s) a → ArePlayed held keeps unwritten mid after lines left (given (ran s) a) answers → ArePlayed held keeps unwritten before after lines left s (a ∷ answers)
-unfolding ArePlayed
-slot_played held keeps unwritten before mid after lines left s (Typed codes) answers h p = absurd h
-slot_played held keeps unwritten before mid after lines left s (GameKept kept) answers h p = (mid, (h, p))
-slot_played held keeps unwritten before mid after lines left s (File file) answers h p = (mid, (h, p))
+by_line : {K X : Type 0} (tells : SlotTells K) (Reads : X → X → Session → List ℕ → Type 0) (unwritten : Bool) (before after : K) (x mid y : X) (over : Over) (Last Last' : List Answer → Session → Type 0) (Lacking Lacking' : List Answer → Type 0) (s : Session) (codes : List ℕ) → AsksForLine (ran s) → Reads x mid (ran s) codes
+    → ((answers : List Answer) (end : Session) → Last answers end → Last' (Typed codes ∷ answers) end) → ((answers : List Answer) → Lacking answers → Lacking' (Typed codes ∷ answers))
+    → (o : Outcome) (first : Texts) → IsOutcomeBy tells Reads unwritten before after mid y over Last Lacking (given (ran s) (Typed codes)) o first → IsOutcomeBy tells Reads unwritten before after x y over Last' Lacking' s (shown_before (segment_of s).text o) (text_joined (segment_of s).text first)
+by_line tells Reads unwritten before after x mid y over Last Last' Lacking Lacking' s codes asks read last lacking o first (answers, (are, shown, on)) =
+    let w = line_asked s asks in
+    (Typed codes ∷ answers, (answers_line tells Reads unwritten before after x mid y s codes answers asks read are, shown_first (Typed codes) answers s first shown,
+    on_outcome (Typed codes) answers over (Last answers (given_all answers (given (ran s) (Typed codes)))) (Last' (Typed codes ∷ answers) (given_all (Typed codes ∷ answers) s)) (Lacking answers) (Lacking' (Typed codes ∷ answers)) s w.0 o w.1 (λ h. last_behind (Typed codes) answers s Last' (last answers _ h)) (lacking answers) on))
 
-played_alone : {K : Type 0} (held : K → Option (Option (List ℕ))) (keeps : K → List ℕ → Option Bool) (unwritten : Bool) (answers : List Answer) (before after : K) (lines : List (List ℕ)) (s : Session) → AreSlotAnswers held keeps unwritten before after s answers → ArePlayed held keeps unwritten before after lines lines s answers
-unfolding AreSlotAnswers ArePlayed
-played_alone held keeps unwritten [] before after lines s h = (h, refl)
-played_alone held keeps unwritten (a ∷ answers) before after lines s h = slot_played held keeps unwritten before h.0 after lines lines s a answers h.1.0 (played_alone held keeps unwritten answers h.0 after lines (given (ran s) a) h.1.1)
+-- ---- what is told of a source
 
-played_slot : {K : Type 0} (held : K → Option (Option (List ℕ))) (keeps : K → List ℕ → Option Bool) (before mid after : K) (bytes later : List ℕ) (failed unwritten : Bool) (s : Session) (a : Answer) → IsSlotAnswer held keeps before mid (ran s) a
-    → (o : Outcome) → IsPlayed held keeps mid after bytes later failed unwritten (given (ran s) a) o → IsPlayed held keeps before after bytes later failed unwritten s (shown_before (segment_of s).text o)
-unfolding given_all
-played_slot held keeps before mid after bytes later failed unwritten s a h o p =
-    let w = file_asked s (slot_asks held keeps before mid (ran s) a h) in
-    (p.0, (a ∷ p.1.0, (p.1.1.0, (p.1.1.1.0, (slot_played held keeps unwritten before mid after p.0.lines p.1.1.0 s a p.1.0 h p.1.1.1.1.0, on_outcome a p.1.0 p.0.over _ s w.0 o w.1 p.1.1.1.1.1)))))
+alone_behind : {R : Type 0} (start last : R) (a : Answer) (answers : List Answer) → IsLeftAlone start last answers → IsLeftAlone start last (a ∷ answers)
+alone_behind start last a answers h none = h none.1
 
-played_slots : {K : Type 0} (held : K → Option (Option (List ℕ))) (keeps : K → List ℕ → Option Bool) (answers : List Answer) (before mid after : K) (bytes later : List ℕ) (failed unwritten : Bool) (s : Session) → AreSlotAnswers held keeps false before mid s answers
-    → (AsksForFile (ran (given_all answers s)) → ⊥) → (o : Outcome) → IsPlayed held keeps mid after bytes later failed unwritten (given_all answers s) o → IsPlayed held keeps before after bytes later failed unwritten s (shown_before (shown_up_to answers s) o)
-unfolding AreSlotAnswers given_all shown_up_to
-played_slots {K} held keeps [] before mid after bytes later failed unwritten s (inl h) none o p = subst (λ (k : K). IsPlayed held keeps k after bytes later failed unwritten s o) h p
-played_slots held keeps [] before mid after bytes later failed unwritten s (inr h) none o p = absurd (none h.1)
-played_slots held keeps (a ∷ answers) before mid after bytes later failed unwritten s h none o p =
-    subst (IsPlayed held keeps before after bytes later failed unwritten s) (same_shown (segment_of s).text (shown_up_to answers (given (ran s) a)) o)
-    (played_slot held keeps before h.0 after bytes later failed unwritten s a h.1.0 (shown_before (shown_up_to answers (given (ran s) a)) o) (played_slots held keeps answers h.0 mid after bytes later failed unwritten (given (ran s) a) h.1.1 none o p))
+read_stays : {R : Type 0} (reads : SourceTells R) (start last : R) (unwritten : Bool) (over : Over) → Stays (IsLastRead reads start last unwritten over) (IsLeftAlone start last)
+read_stays reads start last unwritten over = record {
+  last = λ a answers end h. (h.0, λ never. alone_behind start last a answers (h.1 never));
+  lacking = λ a answers h. alone_behind start last a answers h;
+}
+
+line_stays : (unwritten : Bool) (left : List (List ℕ)) → Stays (λ answers end. IsLastAnswered unwritten left end) (λ answers. Unit {0})
+line_stays unwritten left = record { last = λ a answers end h. h; lacking = λ a answers h. h }
+
+not_alone : {R : Type 0} (start last : R) (codes : List ℕ) (answers : List Answer) → IsLeftAlone start last (Typed codes ∷ answers)
+not_alone start last codes answers none = absurd none.0
 
 -- ---- what is heard
 
@@ -487,12 +514,11 @@ heard_on bytes next later line true how h left (inl (e, goes)) sound k =
     (gone, (whole, ap (behind line) k.1.1 ∙ ap (λ (ls : List (List ℕ)). let x : Heard = record { lines = ls; over = Failed } in x) lines, k.1.2))
 heard_on bytes next later line true how h left (inr (e, ends)) sound k = absurd (true_is_no_end true refl (sound ends))
 
-played_line : {K : Type 0} (held : K → Option (Option (List ℕ))) (keeps : K → List ℕ → Option Bool) (before after : K) (line bytes next later : List ℕ) (how : Option Over) (failed unwritten : Bool) (s : Session) (codes : List ℕ) → AsksForLine (ran s) → IsNextLine bytes next line how → (how ≡ Some End → failed ≡ false) → codes ≡ codes_read (ran s) line
-    → (o : Outcome) → IsPlayed held keeps before after next later failed unwritten (given (ran s) (Typed codes)) o → IsPlayed held keeps before after bytes later failed unwritten s (shown_before (segment_of s).text o)
-unfolding given_all ArePlayed
-played_line held keeps before after line bytes next later how failed unwritten s codes asks comes sound read o p =
-    let w = line_asked s asks in
-    (behind line p.0, (Typed codes ∷ p.1.0, (p.1.1.0, (heard_on bytes next later line failed how p.0 p.1.1.0 comes sound p.1.1.1.0, ((line, (p.0.lines, (refl, asks, read, p.1.1.1.1.0))), on_outcome (Typed codes) p.1.0 p.0.over _ s w.0 o w.1 p.1.1.1.1.1)))))
+played_line : {K : Type 0} (tells : SlotTells K) (before after : K) (line bytes next later : List ℕ) (how : Option Over) (failed unwritten : Bool) (s : Session) (codes : List ℕ) → AsksForLine (ran s) → IsNextLine bytes next line how → (how ≡ Some End → failed ≡ false) → codes ≡ codes_read (ran s) line
+    → (o : Outcome) (first : Texts) → IsPlayed tells before after next later failed unwritten (given (ran s) (Typed codes)) o first → IsPlayed tells before after bytes later failed unwritten s (shown_before (segment_of s).text o) (text_joined (segment_of s).text first)
+played_line tells before after line bytes next later how failed unwritten s codes asks comes sound read o first (h, (left, (is, by))) =
+    (behind line h, (left, (heard_on bytes next later line failed how h left comes sound is,
+    by_line tells ReadsLine unwritten before after (line ∷ h.lines) h.lines left h.over _ (λ answers end. IsLastAnswered unwritten left end) (λ answers. Unit {0}) (λ answers. Unit {0}) s codes asks (line, (refl, read)) (λ answers end k. k) (λ answers k. k) o first by)))
 
 -- ---- a machine that an answer has stopped
 
@@ -502,33 +528,46 @@ no_line s stop e asks = no_wait s stop e (line_asked s asks)
 no_file : (s : Session) (stop : Stop) → s.stopped ≡ Some stop → AsksForFile (ran s) → ⊥
 no_file s stop e asks = no_wait s stop e (file_asked s asks)
 
-outcome_of_stopped : (answers : List Answer) (over : Over) (IsLast Last : Type 0) (m s : Session) (stop : Stop) (o : Outcome) → m.stopped ≡ Some stop → s.stopped ≡ Some stop → Last → IsOutcomeOn answers over IsLast m o → IsOutcomeOn answers over Last s o
-outcome_of_stopped answers over IsLast Last m s stop o e f last (inl h) = inl (h.0 ∙ outcome_stopped answers _ m stop e ∙ sym (outcome_stopped answers _ s stop f), last)
-outcome_of_stopped answers over IsLast Last m s stop o e f last (inr h) = absurd (no_keeping (given_all answers m) stop h.1.0 (stopped_all answers m stop e) h.1.1.0)
+outcome_of_stopped : (answers : List Answer) (over : Over) (Last Last' Lacking : Type 0) (m s : Session) (stop : Stop) (o : Outcome) → m.stopped ≡ Some stop → s.stopped ≡ Some stop → (Last → Last') → IsOutcomeOn answers over Last Lacking m o → IsOutcomeOn answers over Last' Lacking s o
+outcome_of_stopped answers over Last Last' Lacking m s stop o e f last (inl h) = inl (h.0 ∙ outcome_stopped answers _ m stop e ∙ sym (outcome_stopped answers _ s stop f), last h.1)
+outcome_of_stopped answers over Last Last' Lacking m s stop o e f last (inr h) = absurd (no_keeping (given_all answers m) stop h.2.0 (stopped_all answers m stop e) h.2.1.0)
 
-answered_left_by : {R : Type 0} (ends fails : R → R → Type 0) (failed : R → Bool) (start last : R) (unwritten : Bool) (m s : Session) (x : Option Stop) → s.stopped ≡ x → IsLeftAs m s x → (o : Outcome) → IsAnswered ends fails failed start last unwritten m o → IsAnswered ends fails failed start last unwritten s o
-answered_left_by ends fails failed start last unwritten m s None e left o p = subst (λ (n : Session). IsAnswered ends fails failed start last unwritten n o) left p
-answered_left_by ends fails failed start last unwritten m s (Some stop) e left o p =
-    let in_m = no_line (given_all p.0 m) stop (stopped_all p.0 m stop left.0) in
-    let in_s = no_line (given_all p.0 s) stop (stopped_all p.0 s stop e) in
-    (p.0, (p.1.0, (p.1.1.0, ((λ none asks. p.1.1.1.0 none (λ f. in_m)), outcome_of_stopped p.0 p.1.0 _ _ m s stop o left.0 e (λ f asks. absurd (in_s asks)) p.1.1.1.1))))
+-- what holds after the last answer is the same of machines that ask for no line
+abbrev pub IsStill : (List Answer → Session → Type 0) → Type 0
+IsStill Last = (answers : List Answer) (m s : Session) → (AsksForLine (ran m) → ⊥) → (AsksForLine (ran s) → ⊥) → Last answers m → Last answers s
 
-last_of_stopped : (unwritten : Bool) (left : List (List ℕ)) (s : Session) (stop : Stop) → s.stopped ≡ Some stop → IsLastAnswered unwritten left s
-last_of_stopped unwritten left s stop e = λ f asks. absurd (no_line s stop e asks)
+read_still : {R : Type 0} (reads : SourceTells R) (start last : R) (unwritten : Bool) (over : Over) → IsStill (IsLastRead reads start last unwritten over)
+read_still reads start last unwritten over answers m s in_m in_s h = (λ f asks. absurd (in_s asks), λ never. h.1 (λ f. in_m))
 
-played_stopped : {K : Type 0} (held : K → Option (Option (List ℕ))) (keeps : K → List ℕ → Option Bool) (before after : K) (unwritten : Bool) (m s : Session) (stop : Stop) (o : Outcome) (h : Heard) (left : List (List ℕ)) (answers : List Answer) → m.stopped ≡ Some stop → s.stopped ≡ Some stop
-    → ArePlayed held keeps unwritten before after h.lines left m answers → IsOutcomeOn answers h.over (IsLastAnswered unwritten left (given_all answers m)) m o → ArePlayed held keeps unwritten before after h.lines left s answers × IsOutcomeOn answers h.over (IsLastAnswered unwritten left (given_all answers s)) s o
-unfolding ArePlayed given_all
-played_stopped held keeps before after unwritten m s stop o h left [] e f p q = ((last_stopped held unwritten before after m s stop e p.0, p.1), outcome_of_stopped [] h.over _ _ m s stop o e f (last_of_stopped unwritten left s stop f) q)
-played_stopped held keeps before after unwritten m s stop o h left (Typed codes ∷ answers) e f p q = absurd (no_line m stop e p.1.1.1)
-played_stopped held keeps before after unwritten m s stop o h left (GameKept kept ∷ answers) e f p q = absurd (no_file m stop e (slot_asks held keeps before p.0 (ran m) (GameKept kept) p.1.0))
-played_stopped held keeps before after unwritten m s stop o h left (File file ∷ answers) e f p q = absurd (no_file m stop e (slot_asks held keeps before p.0 (ran m) (File file) p.1.0))
+line_still : (unwritten : Bool) (left : List (List ℕ)) → IsStill (λ answers end. IsLastAnswered unwritten left end)
+line_still unwritten left answers m s in_m in_s h = λ f asks. absurd (in_s asks)
 
-played_left_by : {K : Type 0} (held : K → Option (Option (List ℕ))) (keeps : K → List ℕ → Option Bool) (before after : K) (bytes later : List ℕ) (failed unwritten : Bool) (m s : Session) (x : Option Stop) → s.stopped ≡ x → IsLeftAs m s x
-    → (o : Outcome) → IsPlayed held keeps before after bytes later failed unwritten m o → IsPlayed held keeps before after bytes later failed unwritten s o
-played_left_by held keeps before after bytes later failed unwritten m s None e left o p = subst (λ (n : Session). IsPlayed held keeps before after bytes later failed unwritten n o) left p
-played_left_by held keeps before after bytes later failed unwritten m s (Some stop) e left o p =
-    (p.0, (p.1.0, (p.1.1.0, (p.1.1.1.0, played_stopped held keeps before after unwritten m s stop o p.0 p.1.1.0 p.1.0 left.0 e p.1.1.1.1.0 p.1.1.1.1.1))))
+stopped_shows : (s : Session) (first : Texts) → first ≡ shown_up_to [] s → (m : Session) → first ≡ shown_up_to [] m
+unfolding shown_up_to
+stopped_shows s first e m = e
+
+none_given : (Last : List Answer → Session → Type 0) (s : Session) → Last [] (given_all [] s) → Last [] s
+unfolding given_all
+none_given Last s h = h
+
+given_none : (Last : List Answer → Session → Type 0) (s : Session) → Last [] s → Last [] (given_all [] s)
+unfolding given_all
+given_none Last s h = h
+
+by_stopped : {K X : Type 0} (tells : SlotTells K) (Reads : X → X → Session → List ℕ → Type 0) (unwritten : Bool) (before after : K) (x y : X) (over : Over) (Last : List Answer → Session → Type 0) (Lacking : List Answer → Type 0) → IsStill Last → (m s : Session) (stop : Stop) → m.stopped ≡ Some stop → s.stopped ≡ Some stop
+    → (o : Outcome) (first : Texts) → IsOutcomeBy tells Reads unwritten before after x y over Last Lacking m o first → IsOutcomeBy tells Reads unwritten before after x y over Last Lacking s o first
+unfolding AreAnswers
+by_stopped tells Reads unwritten before after x y over Last Lacking still m s stop e f o first ([], (are, shown, on)) =
+    ([], ((last_stopped tells unwritten before after m s stop e are.0, are.1), stopped_shows m first shown s,
+    outcome_of_stopped [] over (Last [] (given_all [] m)) (Last [] (given_all [] s)) (Lacking []) m s stop o e f (λ h. given_none Last s (still [] m s (no_line m stop e) (no_line s stop f) (none_given Last m h))) on))
+by_stopped tells Reads unwritten before after x y over Last Lacking still m s stop e f o first (Typed codes ∷ answers, (are, shown, on)) = absurd (no_line m stop e are.1.0)
+by_stopped tells Reads unwritten before after x y over Last Lacking still m s stop e f o first (GameKept kept ∷ answers, (are, shown, on)) = absurd (no_file m stop e (slot_asks tells before are.0 (ran m) (GameKept kept) are.1.0))
+by_stopped tells Reads unwritten before after x y over Last Lacking still m s stop e f o first (File file ∷ answers, (are, shown, on)) = absurd (no_file m stop e (slot_asks tells before are.0 (ran m) (File file) are.1.0))
+
+by_left : {K X : Type 0} (tells : SlotTells K) (Reads : X → X → Session → List ℕ → Type 0) (unwritten : Bool) (before after : K) (x y : X) (over : Over) (Last : List Answer → Session → Type 0) (Lacking : List Answer → Type 0) → IsStill Last → (m s : Session) (z : Option Stop) → s.stopped ≡ z → IsLeftAs m s z
+    → (o : Outcome) (first : Texts) → IsOutcomeBy tells Reads unwritten before after x y over Last Lacking m o first → IsOutcomeBy tells Reads unwritten before after x y over Last Lacking s o first
+by_left tells Reads unwritten before after x y over Last Lacking still m s None e left o first p = subst (λ (n : Session). IsOutcomeBy tells Reads unwritten before after x y over Last Lacking n o first) left p
+by_left tells Reads unwritten before after x y over Last Lacking still m s (Some stop) e left o first p = by_stopped tells Reads unwritten before after x y over Last Lacking still m s stop left.0 e o first p
 
 -- ---- a turn that asks
 
@@ -553,11 +592,11 @@ file_stop x over (inl h) = rw h refl
 file_stop x over (inr h) = rw h refl
 
 -- a turn that asks has written all of its text, and its machine waits for a line
-pub record Asked {K : Type 0} (held : K → Option (Option (List ℕ))) (keeps : K → List ℕ → Option Bool) (before after : K) (now mid : Session) (screen_failed script_failed : Bool) (screen0 screen1 script0 script1 : Option (List ℕ)) : Type 0 where
+pub record Asked {K : Type 0} (tells : SlotTells K) (before after : K) (now mid : Session) (screen_failed script_failed : Bool) (screen0 screen1 script0 script1 : Option (List ℕ)) : Type 0 where
   pub screen_works : screen_failed ≡ false
   pub script_works : script_failed ≡ false
   pub answers : List Answer
-  pub gives : AreSlotAnswers held keeps false before after now answers
+  pub gives : AreSlotAnswers tells false before after now answers
   pub same : mid ≡ ran (given_all answers now)
   pub asks : AsksForLine (ran (given_all answers now))
   pub runs : now.stopped ≡ None
@@ -567,10 +606,10 @@ runs_now : (answers : List Answer) (s : Session) (x : Option Stop) → s.stopped
 runs_now answers s None e asks = e
 runs_now answers s (Some stop) e asks = absurd (no_line (given_all answers s) stop (stopped_all answers s stop e) asks)
 
-pub turn_asked : {K : Type 0} (held : K → Option (Option (List ℕ))) (keeps : K → List ℕ → Option Bool) (before after : K) (now mid : Session) (a b : Bool) (screen0 screen1 script0 script1 : Option (List ℕ)) (e : Event)
-    → event_waited mid.waiting ≡ Some e → is_read_event e ≡ true → IsTurn (AreSlotAnswers held keeps (a || b) before after now) now mid (Ok e) (a || b) (TookTexts screen0 screen1 script0 script1 (a || b))
-    → Asked held keeps before after now mid a b screen0 screen1 script0 script1
-turn_asked held keeps before after now mid a b screen0 screen1 script0 script1 e waits k t =
+pub turn_asked : {K : Type 0} (tells : SlotTells K) (before after : K) (now mid : Session) (a b : Bool) (screen0 screen1 script0 script1 : Option (List ℕ)) (e : Event)
+    → event_waited mid.waiting ≡ Some e → is_read_event e ≡ true → IsTurn (AreSlotAnswers tells (a || b) before after now) now mid (Ok e) (a || b) (TookTexts screen0 screen1 script0 script1 (a || b))
+    → Asked tells before after now mid a b screen0 screen1 script0 script1
+turn_asked tells before after now mid a b screen0 screen1 script0 script1 e waits k t =
     let asked = turn_asks (a || b) (given_all t.answers now) e t.text t.ends in
     let works = either_false a b asked.0 in
     let asks : AsksForLine (ran (given_all t.answers now)) = line_event _ e (ap (λ (m : Session). event_waited m.waiting) (sym t.left) ∙ waits) k in
@@ -578,7 +617,7 @@ turn_asked held keeps before after now mid a b screen0 screen1 script0 script1 e
       screen_works = works.0;
       script_works = works.1;
       answers = t.answers;
-      gives = subst (λ (f : Bool). AreSlotAnswers held keeps f before after now t.answers) asked.0 t.gives;
+      gives = subst (λ (f : Bool). AreSlotAnswers tells f before after now t.answers) asked.0 t.gives;
       same = t.left;
       asks = asks;
       runs = runs_now t.answers now now.stopped refl asks;
@@ -588,52 +627,60 @@ turn_asked held keeps before after now mid a b screen0 screen1 script0 script1 e
 -- ---- what was played so far
 
 -- a text was shown, and what a play has from here on makes, after it, what the whole play has
-pub record SoFar (Whole Rest : Outcome → Type 0) (screen0 screen1 script0 script1 : Option (List ℕ)) : Type 0 where
+pub record SoFar (Whole Rest : Outcome → Texts → Type 0) (screen0 screen1 script0 script1 : Option (List ℕ)) : Type 0 where
   pub text : Texts
   pub screen : Shows (record { taken = screen0; failed = false }) (record { taken = screen1; failed = false }) text.screen
   pub script : Shows (record { taken = script0; failed = false }) (record { taken = script1; failed = false }) text.script
-  pub rest : (o : Outcome) → Rest o → Whole (shown_before text o)
+  pub rest : (o : Outcome) (first : Texts) → Rest o first → Whole (shown_before text o) (text_joined text first)
 
-pub so_far_none : (Whole : Outcome → Type 0) (screen script : Option (List ℕ)) → SoFar Whole Whole screen screen script script
+pub so_far_none : (Whole : Outcome → Texts → Type 0) (screen script : Option (List ℕ)) → SoFar Whole Whole screen screen script script
 so_far_none Whole screen script = record {
   text = no_text;
   screen = shows_nothing _;
   script = shows_nothing _;
-  rest = λ o p. p;
+  rest = λ o first p. p;
 }
 
-so_far_on : (Whole Rest Then : Outcome → Type 0) (screen0 screen1 screen2 script0 script1 script2 : Option (List ℕ)) (first second : Texts) → SoFar Whole Rest screen0 screen1 script0 script1 → TookTexts screen1 screen2 script1 script2 false first second
-    → ((o : Outcome) → Then o → Rest (shown_before first (shown_before second o))) → SoFar Whole Then screen0 screen2 script0 script2
-so_far_on Whole Rest Then screen0 screen1 screen2 script0 script1 script2 first second s took on = record {
-  text = text_joined s.text (text_joined first second);
+so_far_on : (Whole Rest Then : Outcome → Texts → Type 0) (screen0 screen1 screen2 script0 script1 script2 : Option (List ℕ)) (a b : Texts) → SoFar Whole Rest screen0 screen1 script0 script1 → TookTexts screen1 screen2 script1 script2 false a b
+    → ((o : Outcome) (first : Texts) → Then o first → Rest (shown_before a (shown_before b o)) (text_joined a (text_joined b first))) → SoFar Whole Then screen0 screen2 script0 script2
+so_far_on Whole Rest Then screen0 screen1 screen2 script0 script1 script2 a b s took on = record {
+  text = text_joined s.text (text_joined a b);
   screen = shows_twice _ _ _ _ _ s.screen (shows_twice _ _ _ _ _ took.screen_first took.screen_second);
   script = shows_twice _ _ _ _ _ s.script (shows_twice _ _ _ _ _ took.script_first took.script_second);
-  rest = λ o p. subst Whole (ap (shown_before s.text) (same_shown first second o) ∙ same_shown s.text (text_joined first second) o) (s.rest (shown_before first (shown_before second o)) (on o p));
+  rest = λ o first p.
+      let whole = s.rest (shown_before a (shown_before b o)) (text_joined a (text_joined b first)) (on o first p) in
+      let texts : text_joined s.text (text_joined a (text_joined b first)) ≡ text_joined (text_joined s.text (text_joined a b)) first = ap (text_joined s.text) (same_text a b first) ∙ same_text s.text (text_joined a b) first in
+      let outcomes = ap (shown_before s.text) (same_shown a b o) ∙ same_shown s.text (text_joined a b) o in
+      subst (λ (u : Texts). Whole (shown_before (text_joined s.text (text_joined a b)) o) u) texts (subst (λ (q : Outcome). Whole q (text_joined s.text (text_joined a (text_joined b first)))) outcomes whole);
 }
 
 -- what is answered after a turn and a line
-pub on_answered : {K : Type 0} (held : K → Option (Option (List ℕ))) (keeps : K → List ℕ → Option Bool) {R : Type 0} (ends fails : R → R → Type 0) (failed : R → Bool) (start mid_reader last : R) (unwritten : Bool) (before after : K) (Whole : Outcome → Type 0) (now mid next : Session) (a b : Bool) (screen0 screen1 screen2 script0 script1 script2 : Option (List ℕ)) (codes : List ℕ)
-    → Asked held keeps before after now mid a b screen1 screen2 script1 script2 → AllByRecursion (λ c. is_input_code c ≡ true) codes → IsLeftAs next (given mid (Typed codes)) (given mid (Typed codes)).stopped
-    → SoFar Whole (IsAnswered ends fails failed start last unwritten now) screen0 screen1 script0 script1 → SoFar Whole (IsAnswered ends fails failed mid_reader last unwritten next) screen0 screen2 script0 script2
-on_answered held keeps ends fails failed start mid_reader last unwritten before after Whole now mid next a b screen0 screen1 screen2 script0 script1 script2 codes t typed left s =
+pub on_answered : {K R : Type 0} (tells : SlotTells K) (reads : SourceTells R) (start mid_reader last : R) (unwritten : Bool) (before mid_slot after : K) (Whole : Outcome → Texts → Type 0) (now mid next : Session) (a b : Bool) (screen0 screen1 screen2 script0 script1 script2 : Option (List ℕ)) (codes : List ℕ)
+    → Asked tells before mid_slot now mid a b screen1 screen2 script1 script2 → AllByRecursion (λ c. is_input_code c ≡ true) codes → IsLeftAs next (given mid (Typed codes)) (given mid (Typed codes)).stopped
+    → SoFar Whole (IsAnswered tells reads before after start last unwritten now) screen0 screen1 script0 script1 → SoFar Whole (IsAnswered tells reads mid_slot after mid_reader last unwritten next) screen0 screen2 script0 script2
+on_answered tells reads start mid_reader last unwritten before mid_slot after Whole now mid next a b screen0 screen1 screen2 script0 script1 script2 codes t typed left s =
     let end = given_all t.answers now in
-    let w = line_asked end t.asks in
     let left_here = subst (λ (m : Session). IsLeftAs next (given m (Typed codes)) (given m (Typed codes)).stopped) t.same left in
-    so_far_on Whole (IsAnswered ends fails failed start last unwritten now) (IsAnswered ends fails failed mid_reader last unwritten next) screen0 screen1 screen2 script0 script1 script2 (shown_up_to t.answers now) (segment_of end).text s t.took
-    (λ o p. answered_slots held keeps false ends fails failed start last unwritten t.answers before after now t.gives _
-    (answered_one ends fails failed start mid_reader last unwritten (Typed codes) end w.0 w.1 typed (λ n. absurd n) o (answered_left_by ends fails failed mid_reader last unwritten next (given (ran end) (Typed codes)) _ refl left_here o p)))
+    so_far_on Whole (IsAnswered tells reads before after start last unwritten now) (IsAnswered tells reads mid_slot after mid_reader last unwritten next) screen0 screen1 screen2 script0 script1 script2 (shown_up_to t.answers now) (segment_of end).text s t.took
+    (λ o first p.
+    let over = p.0 in
+    let here = by_left tells ReadsCodes unwritten mid_slot after tt tt over (IsLastRead reads mid_reader last unwritten over) (IsLeftAlone mid_reader last) (read_still reads mid_reader last unwritten over) next (given (ran end) (Typed codes)) _ refl left_here o first p.1 in
+    let line = by_line tells ReadsCodes unwritten mid_slot after tt tt tt over (IsLastRead reads mid_reader last unwritten over) (IsLastRead reads start last unwritten over) (IsLeftAlone mid_reader last) (IsLeftAlone start last) end codes t.asks typed
+        (λ answers e h. (h.0, λ never. not_alone start last codes answers)) (λ answers h. not_alone start last codes answers) o first here in
+    (over, by_slots tells ReadsCodes unwritten t.answers before mid_slot after tt tt over (IsLastRead reads start last unwritten over) (IsLeftAlone start last) (read_stays reads start last unwritten over) now t.gives (not_file _ t.asks) _ _ line))
 
 -- what is played after a turn and a line
-pub on_played : {K : Type 0} (held : K → Option (Option (List ℕ))) (keeps : K → List ℕ → Option Bool) (before mid_slot after : K) (Whole : Outcome → Type 0) (bytes next_bytes later : List ℕ) (how : Option Over) (failed unwritten : Bool) (now mid next : Session) (a b : Bool) (screen0 screen1 screen2 script0 script1 script2 : Option (List ℕ)) (line codes : List ℕ)
-    → Asked held keeps before mid_slot now mid a b screen1 screen2 script1 script2 → IsNextLine bytes next_bytes line how → (how ≡ Some End → failed ≡ false) → codes ≡ codes_read mid line → IsLeftAs next (given mid (Typed codes)) (given mid (Typed codes)).stopped
-    → SoFar Whole (IsPlayed held keeps before after bytes later failed unwritten now) screen0 screen1 script0 script1 → SoFar Whole (IsPlayed held keeps mid_slot after next_bytes later failed unwritten next) screen0 screen2 script0 script2
-on_played held keeps before mid_slot after Whole bytes next_bytes later how failed unwritten now mid next a b screen0 screen1 screen2 script0 script1 script2 line codes t comes sound read left s =
+pub on_played : {K : Type 0} (tells : SlotTells K) (before mid_slot after : K) (Whole : Outcome → Texts → Type 0) (bytes next_bytes later : List ℕ) (how : Option Over) (failed unwritten : Bool) (now mid next : Session) (a b : Bool) (screen0 screen1 screen2 script0 script1 script2 : Option (List ℕ)) (line codes : List ℕ)
+    → Asked tells before mid_slot now mid a b screen1 screen2 script1 script2 → IsNextLine bytes next_bytes line how → (how ≡ Some End → failed ≡ false) → codes ≡ codes_read mid line → IsLeftAs next (given mid (Typed codes)) (given mid (Typed codes)).stopped
+    → SoFar Whole (IsPlayed tells before after bytes later failed unwritten now) screen0 screen1 script0 script1 → SoFar Whole (IsPlayed tells mid_slot after next_bytes later failed unwritten next) screen0 screen2 script0 script2
+on_played tells before mid_slot after Whole bytes next_bytes later how failed unwritten now mid next a b screen0 screen1 screen2 script0 script1 script2 line codes t comes sound read left s =
     let end = given_all t.answers now in
     let left_here = subst (λ (m : Session). IsLeftAs next (given m (Typed codes)) (given m (Typed codes)).stopped) t.same left in
-    so_far_on Whole (IsPlayed held keeps before after bytes later failed unwritten now) (IsPlayed held keeps mid_slot after next_bytes later failed unwritten next) screen0 screen1 screen2 script0 script1 script2 (shown_up_to t.answers now) (segment_of end).text s t.took
-    (λ o p. played_slots held keeps t.answers before mid_slot after bytes later failed unwritten now t.gives (not_file _ t.asks) _
-    (played_line held keeps mid_slot after line bytes next_bytes later how failed unwritten end codes t.asks comes sound (read ∙ ap (λ (m : Session). codes_read m line) t.same) o
-    (played_left_by held keeps mid_slot after next_bytes later failed unwritten next (given (ran end) (Typed codes)) _ refl left_here o p)))
+    so_far_on Whole (IsPlayed tells before after bytes later failed unwritten now) (IsPlayed tells mid_slot after next_bytes later failed unwritten next) screen0 screen1 screen2 script0 script1 script2 (shown_up_to t.answers now) (segment_of end).text s t.took
+    (λ o first p.
+    let here = by_left tells ReadsLine unwritten mid_slot after p.0.lines p.1.0 p.0.over (λ answers e. IsLastAnswered unwritten p.1.0 e) (λ answers. Unit {0}) (line_still unwritten p.1.0) next (given (ran end) (Typed codes)) _ refl left_here o first p.1.1.1 in
+    let read_line = played_line tells mid_slot after line bytes next_bytes later how failed unwritten end codes t.asks comes sound (read ∙ ap (λ (m : Session). codes_read m line) t.same) o first (p.0, (p.1.0, (p.1.1.0, here))) in
+    (read_line.0, (read_line.1.0, (read_line.1.1.0, by_slots tells ReadsLine unwritten t.answers before mid_slot after read_line.0.lines read_line.1.0 read_line.0.over (λ answers e. IsLastAnswered unwritten read_line.1.0 e) (λ answers. Unit {0}) (line_stays unwritten read_line.1.0) now t.gives (not_file _ t.asks) _ _ read_line.1.1.1))))
 
 -- ---- the end of a play
 
@@ -642,81 +689,128 @@ abbrev pub EndsSo : Bool → Stop → Texts → Texts → Outcome → Type 0
 EndsSo true stop first second o = (stop ≡ Write) × ((more : Texts) × (o.text ≡ text_joined (text_joined first second) more))
 EndsSo false stop first second o = (stop ≡ o.stop) × (o.text ≡ text_joined first second)
 
-shows_longer : (a b : Option (List ℕ)) (s more whole : List ℕ) → whole ≡ s ++ more → Shows (record { taken = a; failed = false }) (record { taken = b; failed = true }) s → Shows (record { taken = a; failed = false }) (record { taken = b; failed = true }) whole
-shows_longer a b s more whole e h = rw e (shows_twice (record { taken = a; failed = false }) (record { taken = b; failed = true }) (record { taken = b; failed = true }) s more h (shows_past _ _ more refl refl refl))
+shows_longer : (a b : Option (List ℕ)) (s more : List ℕ) → Shows (record { taken = a; failed = false }) (record { taken = b; failed = true }) s → Shows (record { taken = a; failed = false }) (record { taken = b; failed = true }) (s ++ more)
+shows_longer a b s more h = shows_twice (record { taken = a; failed = false }) (record { taken = b; failed = true }) (record { taken = b; failed = true }) s more h (shows_past _ _ more refl refl refl)
 
-pub play_ends : (Whole Rest : Outcome → Type 0) (screen0 screen1 screen2 script0 script1 script2 : Option (List ℕ)) (unwritten : Bool) (stop : Stop) (o : Outcome) (first second : Texts)
-    → SoFar Whole Rest screen0 screen1 script0 script1 → Rest o → EndsSo unwritten stop first second o → TookTexts screen1 screen2 script1 script2 unwritten first second → IsPlay Whole stop unwritten screen0 screen2 script0 script2
+pub play_ends : (Whole Rest : Outcome → Texts → Type 0) (screen0 screen1 screen2 script0 script1 script2 : Option (List ℕ)) (unwritten : Bool) (stop : Stop) (o : Outcome) (first second : Texts)
+    → SoFar Whole Rest screen0 screen1 script0 script1 → Rest o first → EndsSo unwritten stop first second o → TookTexts screen1 screen2 script1 script2 unwritten first second → IsPlay Whole stop unwritten screen0 screen2 script0 script2
 play_ends Whole Rest screen0 screen1 screen2 script0 script1 script2 true stop o first second s p e took = record {
   outcome = shown_before s.text o;
-  is = s.rest o p;
+  first = text_joined s.text first;
+  second = text_joined second e.1.0;
+  is = s.rest o first p;
+  whole = ap (text_joined s.text) (e.1.1 ∙ sym (same_text first second e.1.0)) ∙ same_text s.text first (text_joined second e.1.0);
   stops = e.0;
-  screen = shows_twice _ _ _ _ _ s.screen (shows_longer screen1 screen2 _ e.1.0.screen o.text.screen (ap (λ (t : Texts). t.screen) e.1.1) (shows_twice _ _ _ _ _ took.screen_first took.screen_second));
-  script = shows_twice _ _ _ _ _ s.script (shows_longer script1 script2 _ e.1.0.script o.text.script (ap (λ (t : Texts). t.script) e.1.1) (shows_twice _ _ _ _ _ took.script_first took.script_second));
+  took = record {
+    screen = took.screen;
+    script = took.script;
+    screen_first = shows_twice _ _ _ _ _ s.screen took.screen_first;
+    script_first = shows_twice _ _ _ _ _ s.script took.script_first;
+    screen_second = shows_longer took.screen screen2 second.screen e.1.0.screen took.screen_second;
+    script_second = shows_longer took.script script2 second.script e.1.0.script took.script_second;
+  };
 }
 play_ends Whole Rest screen0 screen1 screen2 script0 script1 script2 false stop o first second s p e took = record {
   outcome = shown_before s.text o;
-  is = s.rest o p;
+  first = text_joined s.text first;
+  second = second;
+  is = s.rest o first p;
+  whole = ap (text_joined s.text) e.1 ∙ same_text s.text first second;
   stops = e.0;
-  screen = shows_twice _ _ _ _ _ s.screen (rw e.1 (shows_twice _ _ _ _ _ took.screen_first took.screen_second));
-  script = shows_twice _ _ _ _ _ s.script (rw e.1 (shows_twice _ _ _ _ _ took.script_first took.script_second));
+  took = record {
+    screen = took.screen;
+    script = took.script;
+    screen_first = shows_twice _ _ _ _ _ s.screen took.screen_first;
+    script_first = shows_twice _ _ _ _ _ s.script took.script_first;
+    screen_second = took.screen_second;
+    script_second = took.script_second;
+  };
 }
 
 -- the outcome that a turn ends
-pub record EndOf (answers : List Answer) (over : Over) (unwritten : Bool) (Last : Type 0) (now : Session) (stop : Stop) (text : Texts) : Type 0 where
+pub record EndOf (answers : List Answer) (over : Over) (unwritten : Bool) (Last Lacking : Type 0) (now : Session) (stop : Stop) (text : Texts) : Type 0 where
   pub o : Outcome
-  pub is : IsOutcomeOn answers over Last now o
+  pub is : IsOutcomeOn answers over Last Lacking now o
   pub ends : EndsSo unwritten stop (shown_up_to answers now) text o
 
 true_or_false : (A : Type 0) → ◌≡◌ {A = Bool} true false → A
 true_or_false A h = absurd cc
 
-kept_end : (answers : List Answer) (over : Over) (Last : Type 0) (now : Session) (text : Texts) → ComesToKeep (given_all answers now) text → IsOutcomeOn answers over Last now (record { stop = Memory; text = text_joined (shown_up_to answers now) text })
-kept_end answers over Last now text comes = inr (refl, (text, (comes, refl)))
+kept_end : (answers : List Answer) (over : Over) (Last Lacking : Type 0) (now : Session) (text : Texts) → Lacking → ComesToKeep (given_all answers now) text → IsOutcomeOn answers over Last Lacking now (record { stop = Memory; text = text_joined (shown_up_to answers now) text })
+kept_end answers over Last Lacking now text lacking comes = inr (refl, lacking, (text, (comes, refl)))
 
-turn_stops : {K : Type 0} (held : K → Option (Option (List ℕ))) (keeps : K → List ℕ → Option Bool) (before after : K) (unwritten : Bool) (answers : List Answer) (over : Over) (Last : Type 0) (now : Session) (stop : Stop) (text : Texts) → ((unwritten ≡ false → AsksForLine (ran (given_all answers now)) → ⊥) → Last)
-    → AreSlotAnswers held keeps unwritten before after now answers → EndsTurnOrFails unwritten (given_all answers now) (Err stop) text → EndOf answers over unwritten Last now stop text
-turn_stops held keeps before after true answers over Last now stop text vacuous gives (e, inl t) =
+-- a segment begins with what is shown up to a step of it
+goes_first : (k : ℕ) (s : State) → verdict_of s (step s) ≡ GoesOn → (segment (suc k) s).text ≡ text_joined (text_of s (step s)) (segment k (state_after s (step s))).text
+unfolding segment
+goes_first k s h = rw h refl
+
+begins_so : (s : Session) (text : Texts) → ShowsUpTo s text → (more : Texts) × ((segment_of s).text ≡ text_joined text more)
+begins_so s text (before, (last, (to, (inl h, e)))) =
+    let k : ℕ = s.limits.steps - s.state.steps - (h.steps + 1) in
+    let all : s.limits.steps - s.state.steps ≡ h.steps + suc k = omega (arith, h.few) in
+    let more = (segment k (state_after h.end (step h.end))).text in
+    let due = on_script s.state.due in
+    let last_is = text_of h.end (step h.end) in
+    let here : (segment_of s).text ≡ text_joined due (steps_of (told_due s)).text = ap (λ (g : Segment). g.text) (segment_is s h.runs) in
+    let parts : (steps_of (told_due s)).text ≡ text_joined h.behind (text_joined last_is more) =
+    ap (λ (n : ℕ). (segment n (record s.state { due = [] })).text) all ∙ segment_leads h.steps (suc k) _ _ _ h.leads ∙ ap (text_joined h.behind) (goes_first k h.end h.goes) in
+    (more, here ∙ ap (text_joined due) parts ∙ same_text due h.behind (text_joined last_is more) ∙ same_text (text_joined due h.behind) last_is more
+    ∙ ap (λ (u : Texts). text_joined u more) (ap (λ (b : Texts). text_joined b last_is) (sym h.shown_before) ∙ ap (text_joined before) (sym h.shown_last) ∙ sym e))
+begins_so s text (before, (last, (to, (inr h, e)))) =
+    ((steps_of (told_due s)).text, ap (λ (g : Segment). g.text) (segment_is s h.0) ∙ ap (λ (u : Texts). text_joined u (steps_of (told_due s)).text) (sym (e ∙ ap (λ (b : Texts). text_joined b last) h.1 ∙ h.2)))
+
+-- a write has failed on the way to what the outcome shows
+failed_end : {K : Type 0} (tells : SlotTells K) (before after : K) (answers : List Answer) (over : Over) (Last Lacking : Type 0) (now : Session) (stop : Stop) (text more : Texts) → ((true ≡ false → AsksForLine (ran (given_all answers now)) → ⊥) → Last)
+    → AreSlotAnswers tells true before after now answers → ◌≡◌ {A = Result Event Stop} (Err stop) (Err Write) → (segment_of (given_all answers now)).text ≡ text_joined text more → EndOf answers over true Last Lacking now stop text
+failed_end tells before after answers over Last Lacking now stop text more vacuous gives e t =
     let s = given_all answers now in
     let end = stop_waiting (event_waited (ran s).waiting) over in
-    let more = alone_begins end s in
+    let rest = alone_begins end s in
     record {
       o = outcome answers end now;
       is = inl (refl, vacuous (λ f. true_or_false _ f));
       ends = (
         same_stop stop Write e,
         (
-          more.0,
-          ap (λ (o : Outcome). o.text) (outcome_all held keeps true answers before after now end gives) ∙ ap (text_joined (shown_up_to answers now)) more.1
-              ∙ same_text (shown_up_to answers now) (segment_of s).text more.0 ∙ ap (λ (u : Texts). text_joined (text_joined (shown_up_to answers now) u) more.0) (sym t),
+          text_joined more rest.0,
+          ap (λ (o : Outcome). o.text) (outcome_all tells true answers before after now end gives)
+              ∙ ap (text_joined (shown_up_to answers now)) (rest.1 ∙ ap (λ (u : Texts). text_joined u rest.0) t ∙ sym (same_text text more rest.0))
+              ∙ same_text (shown_up_to answers now) text (text_joined more rest.0),
         ),
       );
     }
-turn_stops held keeps before after true answers over Last now stop text vacuous gives (e, inr comes) = record {
+
+turn_stops : {K : Type 0} (tells : SlotTells K) (before after : K) (unwritten : Bool) (answers : List Answer) (over : Over) (Last Lacking : Type 0) (now : Session) (stop : Stop) (text : Texts) → ((unwritten ≡ false → AsksForLine (ran (given_all answers now)) → ⊥) → Last) → Lacking
+    → AreSlotAnswers tells unwritten before after now answers → EndsTurnOrFails unwritten (given_all answers now) (Err stop) text → EndOf answers over unwritten Last Lacking now stop text
+turn_stops tells before after true answers over Last Lacking now stop text vacuous lacking gives (e, inl t) =
+    failed_end tells before after answers over Last Lacking now stop text no_text vacuous gives e (sym t ∙ sym (no_text_behind text))
+turn_stops tells before after true answers over Last Lacking now stop text vacuous lacking gives (e, inr (inl comes)) = record {
   o = record { stop = Memory; text = text_joined (shown_up_to answers now) text };
-  is = kept_end answers over Last now text comes;
+  is = kept_end answers over Last Lacking now text lacking comes;
   ends = (same_stop stop Write e, (no_text, sym (no_text_behind (text_joined (shown_up_to answers now) text))));
 }
-turn_stops held keeps before after false answers over Last now stop text vacuous gives (inl h) =
+turn_stops tells before after true answers over Last Lacking now stop text vacuous lacking gives (e, inr (inr up)) =
+    let b = begins_so (given_all answers now) text up in failed_end tells before after answers over Last Lacking now stop text b.0 vacuous gives e b.1
+turn_stops tells before after false answers over Last Lacking now stop text vacuous lacking gives (inl h) =
     let s = given_all answers now in
     let end = stop_waiting (event_waited (ran s).waiting) over in
     let stops = stops_by (segment_of s).end stop (sym h.0) in
-    let all = outcome_all held keeps false answers before after now end gives ∙ ap (shown_before (shown_up_to answers now)) (outcome_stops [] end stop s stops) in
+    let all = outcome_all tells false answers before after now end gives ∙ ap (shown_before (shown_up_to answers now)) (outcome_stops [] end stop s stops) in
     record {
       o = outcome answers end now;
       is = inl (refl, vacuous (λ f asks. let w = line_asked s asks in stops_or_waits (segment_of s).end stop w.0 stops w.1));
       ends = (sym (ap (λ (o : Outcome). o.stop) all), ap (λ (o : Outcome). o.text) all ∙ ap (text_joined (shown_up_to answers now)) (sym h.2));
     }
-turn_stops held keeps before after false answers over Last now stop text vacuous gives (inr (e, inl comes)) = record {
+turn_stops tells before after false answers over Last Lacking now stop text vacuous lacking gives (inr (e, inl comes)) = record {
   o = record { stop = Memory; text = text_joined (shown_up_to answers now) text };
-  is = kept_end answers over Last now text comes;
+  is = kept_end answers over Last Lacking now text lacking comes;
   ends = (same_stop stop Memory e, refl);
 }
-turn_stops held keeps before after false answers over Last now stop text vacuous gives (inr (e, inr h)) =
+turn_stops tells before after false answers over Last Lacking now stop text vacuous lacking gives (inr (e, inr h)) =
     let s = given_all answers now in
     let end = stop_waiting (event_waited (ran s).waiting) over in
     let w = file_asked s h.0 in
-    let all = outcome_all held keeps false answers before after now end gives ∙ ap (shown_before (shown_up_to answers now)) (alone_waits end s w.0 w.1) in
+    let all = outcome_all tells false answers before after now end gives ∙ ap (shown_before (shown_up_to answers now)) (alone_waits end s w.0 w.1) in
     record {
       o = outcome answers end now;
       is = inl (refl, vacuous (λ f asks. not_file _ asks h.0));
@@ -726,13 +820,13 @@ turn_stops held keeps before after false answers over Last now stop text vacuous
       );
     }
 
-read_ends : {K : Type 0} (held : K → Option (Option (List ℕ))) (keeps : K → List ℕ → Option Bool) (before after : K) (answers : List Answer) (over : Over) (Last : Type 0) (now : Session) → Last
-    → AreSlotAnswers held keeps false before after now answers → AsksForLine (ran (given_all answers now)) → EndOf answers over false Last now (stop_behind over) (segment_of (given_all answers now)).text
-read_ends held keeps before after answers over Last now last gives asks =
+read_ends : {K : Type 0} (tells : SlotTells K) (before after : K) (answers : List Answer) (over : Over) (Last Lacking : Type 0) (now : Session) → Last
+    → AreSlotAnswers tells false before after now answers → AsksForLine (ran (given_all answers now)) → EndOf answers over false Last Lacking now (stop_behind over) (segment_of (given_all answers now)).text
+read_ends tells before after answers over Last Lacking now last gives asks =
     let s = given_all answers now in
     let end = stop_waiting (event_waited (ran s).waiting) over in
     let w = line_asked s asks in
-    let all = outcome_all held keeps false answers before after now end gives ∙ ap (shown_before (shown_up_to answers now)) (alone_waits end s w.0 w.1) in
+    let all = outcome_all tells false answers before after now end gives ∙ ap (shown_before (shown_up_to answers now)) (alone_waits end s w.0 w.1) in
     record {
       o = outcome answers end now;
       is = inl (refl, last);
@@ -743,38 +837,39 @@ read_ends held keeps before after answers over Last now last gives asks =
 pub heard_whole : (bytes later : List ℕ) (failed : Bool) (left : List (List ℕ)) → failed ≡ false → IsHeard bytes later failed (heard bytes) left
 heard_whole bytes later failed left e = rw e refl
 
-pub stops_played : {K : Type 0} (held : K → Option (Option (List ℕ))) (keeps : K → List ℕ → Option Bool) (before after : K) (Whole : Outcome → Type 0) (bytes later : List ℕ) (failed unwritten : Bool) (now mid : Session) (screen0 screen1 screen2 script0 script1 script2 : Option (List ℕ)) (stop : Stop) → failed ≡ false
-    → IsTurn (AreSlotAnswers held keeps unwritten before after now) now mid (Err stop) unwritten (TookTexts screen1 screen2 script1 script2 unwritten) → SoFar Whole (IsPlayed held keeps before after bytes later failed unwritten now) screen0 screen1 script0 script1
+pub stops_played : {K : Type 0} (tells : SlotTells K) (before after : K) (Whole : Outcome → Texts → Type 0) (bytes later : List ℕ) (failed unwritten : Bool) (now mid : Session) (screen0 screen1 screen2 script0 script1 script2 : Option (List ℕ)) (stop : Stop) → failed ≡ false
+    → IsTurn (AreSlotAnswers tells unwritten before after now) now mid (Err stop) unwritten (TookTexts screen1 screen2 script1 script2 unwritten) → SoFar Whole (IsPlayed tells before after bytes later failed unwritten now) screen0 screen1 script0 script1
     → IsPlay Whole stop unwritten screen0 screen2 script0 script2
-stops_played held keeps before after Whole bytes later failed unwritten now mid screen0 screen1 screen2 script0 script1 script2 stop sound t s =
+stops_played tells before after Whole bytes later failed unwritten now mid screen0 screen1 screen2 script0 script1 script2 stop sound t s =
     let h = heard bytes in
-    let e = turn_stops held keeps before after unwritten t.answers h.over (IsLastAnswered unwritten h.lines (given_all t.answers now)) now stop t.text (λ never f asks. absurd (never f asks)) t.gives t.ends in
-    play_ends Whole (IsPlayed held keeps before after bytes later failed unwritten now) screen0 screen1 screen2 script0 script1 script2 unwritten stop e.o (shown_up_to t.answers now) t.text s
-    (h, (t.answers, (h.lines, (heard_whole bytes later failed h.lines sound, (played_alone held keeps unwritten t.answers before after h.lines now t.gives, e.is))))) e.ends t.shown
+    let e = turn_stops tells before after unwritten t.answers h.over (IsLastAnswered unwritten h.lines (given_all t.answers now)) (Unit {0}) now stop t.text (λ never f asks. absurd (never f asks)) tt t.gives t.ends in
+    play_ends Whole (IsPlayed tells before after bytes later failed unwritten now) screen0 screen1 screen2 script0 script1 script2 unwritten stop e.o (shown_up_to t.answers now) t.text s
+    (h, (h.lines, (heard_whole bytes later failed h.lines sound, (t.answers, (answers_alone tells ReadsLine unwritten t.answers before after h.lines now t.gives, refl, e.is))))) e.ends t.shown
 
-pub stops_answered : {K : Type 0} (held : K → Option (Option (List ℕ))) (keeps : K → List ℕ → Option Bool) {R : Type 0} (ends fails : R → R → Type 0) (failed : R → Bool) (reader : R) (before after : K) (Whole : Outcome → Type 0) (unwritten : Bool) (now mid : Session) (screen0 screen1 screen2 script0 script1 script2 : Option (List ℕ)) (stop : Stop)
-    → IsTurn (AreSlotAnswers held keeps unwritten before after now) now mid (Err stop) unwritten (TookTexts screen1 screen2 script1 script2 unwritten) → SoFar Whole (IsAnswered ends fails failed reader reader unwritten now) screen0 screen1 script0 script1
+pub stops_answered : {K R : Type 0} (tells : SlotTells K) (reads : SourceTells R) (reader : R) (before after : K) (Whole : Outcome → Texts → Type 0) (unwritten : Bool) (now mid : Session) (screen0 screen1 screen2 script0 script1 script2 : Option (List ℕ)) (stop : Stop)
+    → IsTurn (AreSlotAnswers tells unwritten before after now) now mid (Err stop) unwritten (TookTexts screen1 screen2 script1 script2 unwritten) → SoFar Whole (IsAnswered tells reads before after reader reader unwritten now) screen0 screen1 script0 script1
     → IsPlay Whole stop unwritten screen0 screen2 script0 script2
-stops_answered held keeps ends fails failed reader before after Whole unwritten now mid screen0 screen1 screen2 script0 script1 script2 stop t s =
-    let e = turn_stops held keeps before after unwritten t.answers Failed (IsLastRead ends fails failed reader unwritten Failed (given_all t.answers now)) now stop t.text (λ never f asks. absurd (never f asks)) t.gives t.ends in
-    play_ends Whole (IsAnswered ends fails failed reader reader unwritten now) screen0 screen1 screen2 script0 script1 script2 unwritten stop e.o (shown_up_to t.answers now) t.text s
-    (t.answers, (Failed, (slots_can held keeps unwritten t.answers before after now t.gives, ((λ none asks. refl), e.is)))) e.ends t.shown
+stops_answered tells reads reader before after Whole unwritten now mid screen0 screen1 screen2 script0 script1 script2 stop t s =
+    let alone : IsLeftAlone reader reader t.answers = λ none. refl in
+    let e = turn_stops tells before after unwritten t.answers Failed (IsLastRead reads reader reader unwritten Failed t.answers (given_all t.answers now)) (IsLeftAlone reader reader t.answers) now stop t.text (λ never. (λ f asks. absurd (never f asks), λ n. alone)) alone t.gives t.ends in
+    play_ends Whole (IsAnswered tells reads before after reader reader unwritten now) screen0 screen1 screen2 script0 script1 script2 unwritten stop e.o (shown_up_to t.answers now) t.text s
+    (Failed, (t.answers, (answers_alone tells ReadsCodes unwritten t.answers before after tt now t.gives, refl, e.is))) e.ends t.shown
 
 -- a read that finds no line
-pub reads_end : {K : Type 0} (held : K → Option (Option (List ℕ))) (keeps : K → List ℕ → Option Bool) (before after : K) (Whole : Outcome → Type 0) (bytes later : List ℕ) (over : Over) (failed : Bool) (now mid : Session) (a b : Bool) (screen0 screen1 screen2 script0 script1 script2 : Option (List ℕ))
-    → Asked held keeps before after now mid a b screen1 screen2 script1 script2 → IsHeard bytes later failed (nothing_more over) [] → SoFar Whole (IsPlayed held keeps before after bytes later failed false now) screen0 screen1 script0 script1
+pub reads_end : {K : Type 0} (tells : SlotTells K) (before after : K) (Whole : Outcome → Texts → Type 0) (bytes later : List ℕ) (over : Over) (failed : Bool) (now mid : Session) (a b : Bool) (screen0 screen1 screen2 script0 script1 script2 : Option (List ℕ))
+    → Asked tells before after now mid a b screen1 screen2 script1 script2 → IsHeard bytes later failed (nothing_more over) [] → SoFar Whole (IsPlayed tells before after bytes later failed false now) screen0 screen1 script0 script1
     → IsPlay Whole (stop_behind over) false screen0 screen2 script0 script2
-reads_end held keeps before after Whole bytes later over failed now mid a b screen0 screen1 screen2 script0 script1 script2 t hear s =
-    let e = read_ends held keeps before after t.answers over (IsLastAnswered false [] (given_all t.answers now)) now (λ f asks. refl) t.gives t.asks in
-    play_ends Whole (IsPlayed held keeps before after bytes later failed false now) screen0 screen1 screen2 script0 script1 script2 false (stop_behind over) e.o (shown_up_to t.answers now) (segment_of (given_all t.answers now)).text s
-    (nothing_more over, (t.answers, ([], (hear, (played_alone held keeps false t.answers before after [] now t.gives, e.is))))) e.ends t.took
+reads_end tells before after Whole bytes later over failed now mid a b screen0 screen1 screen2 script0 script1 script2 t hear s =
+    let e = read_ends tells before after t.answers over (IsLastAnswered false [] (given_all t.answers now)) (Unit {0}) now (λ f asks. refl) t.gives t.asks in
+    play_ends Whole (IsPlayed tells before after bytes later failed false now) screen0 screen1 screen2 script0 script1 script2 false (stop_behind over) e.o (shown_up_to t.answers now) (segment_of (given_all t.answers now)).text s
+    (nothing_more over, ([], (hear, (t.answers, (answers_alone tells ReadsLine false t.answers before after [] now t.gives, refl, e.is))))) e.ends t.took
 
-pub answers_end : {K : Type 0} (held : K → Option (Option (List ℕ))) (keeps : K → List ℕ → Option Bool) {R : Type 0} (ends fails : R → R → Type 0) (failed : R → Bool) (start last : R) (before after : K) (Whole : Outcome → Type 0) (over : Over) (now mid : Session) (a b : Bool) (screen0 screen1 screen2 script0 script1 script2 : Option (List ℕ))
-    → Asked held keeps before after now mid a b screen1 screen2 script1 script2 → FoundNoLine ends fails failed last over → SoFar Whole (IsAnswered ends fails failed start last false now) screen0 screen1 script0 script1 → IsPlay Whole (stop_behind over) false screen0 screen2 script0 script2
-answers_end held keeps ends fails failed start last before after Whole over now mid a b screen0 screen1 screen2 script0 script1 script2 t found s =
-    let e = read_ends held keeps before after t.answers over (IsLastRead ends fails failed last false over (given_all t.answers now)) now (λ f asks. found) t.gives t.asks in
-    play_ends Whole (IsAnswered ends fails failed start last false now) screen0 screen1 screen2 script0 script1 script2 false (stop_behind over) e.o (shown_up_to t.answers now) (segment_of (given_all t.answers now)).text s
-    (t.answers, (over, (slots_can held keeps false t.answers before after now t.gives, ((λ none asks. absurd (asks refl t.asks)), e.is)))) e.ends t.took
+pub answers_end : {K R : Type 0} (tells : SlotTells K) (reads : SourceTells R) (start last : R) (before after : K) (Whole : Outcome → Texts → Type 0) (over : Over) (now mid : Session) (a b : Bool) (screen0 screen1 screen2 script0 script1 script2 : Option (List ℕ))
+    → Asked tells before after now mid a b screen1 screen2 script1 script2 → FoundNoLine reads last over → SoFar Whole (IsAnswered tells reads before after start last false now) screen0 screen1 script0 script1 → IsPlay Whole (stop_behind over) false screen0 screen2 script0 script2
+answers_end tells reads start last before after Whole over now mid a b screen0 screen1 screen2 script0 script1 script2 t found s =
+    let e = read_ends tells before after t.answers over (IsLastRead reads start last false over t.answers (given_all t.answers now)) (IsLeftAlone start last t.answers) now (λ f asks. found, λ never. absurd (never refl t.asks)) t.gives t.asks in
+    play_ends Whole (IsAnswered tells reads before after start last false now) screen0 screen1 screen2 script0 script1 script2 false (stop_behind over) e.o (shown_up_to t.answers now) (segment_of (given_all t.answers now)).text s
+    (over, (t.answers, (answers_alone tells ReadsCodes false t.answers before after tt now t.gives, refl, e.is))) e.ends t.took
 
 -- ---- a reader of lines, whose input goes on or is over
 
@@ -812,20 +907,26 @@ pub end_found : {R : Type 0} (ends : R → R → Type 0) (old new : R) (how : Op
 end_found {R} ends old new how (inl h) now same = now h
 end_found {R} ends old new how (inr h) now same = subst (λ (r : R). HasJust ends r) (sym (same h.0)) h.1
 
+pub end_sound : {R : Type 0} (failed : R → Bool) (old new : R) (how : Option Over) (J : Type 0) → GoesOnOr how J → (how ≡ None → failed new ≡ failed old) → (how ≡ Some End → new ≡ old) → failed new ≡ failed old
+end_sound failed old new how J (inl h) now same = now h
+end_sound failed old new how J (inr h) now same = ap failed (same h.0)
+
 pub heard_end : (bytes later : List ℕ) (failed : Bool) → bytes ≡ [] → failed ≡ false → IsHeard bytes later failed (nothing_more End) []
 heard_end bytes later failed e sound = rw sound (sym (ap heard e ∙ are_lines.none))
 
-pub heard_failed : (bytes ahead later : List ℕ) (failed old : Bool) (Failing : Type 0) → old ≡ false → (Failing → (failed ≡ true) × (ahead ≡ [])) → (Failing × BreaksOff bytes (ahead ++ later)) ⊎ ((failed ≡ old) × (heard bytes ≡ nothing_more Failed))
+pub heard_failed : (bytes ahead later : List ℕ) (failed old : Bool) (Failing : Type 0) → old ≡ false → (Failing → (failed ≡ true) × (ahead ≡ [])) → (Failing × BreaksOff bytes (ahead ++ later)) ⊎ ((failed ≡ old) × IsTooLong bytes (ahead ++ later))
     → IsHeard bytes later failed (nothing_more Failed) []
 heard_failed bytes ahead later failed old Failing works facts (inl (f, b)) =
     let is = facts f in
     let whole : bytes ≡ b.part ++ later = b.whole ∙ ap (λ (l : List ℕ). b.part ++ (l ++ later)) is.1 in
     rw is.0 (b.part, (whole, ap (λ (ls : List (List ℕ)). let x : Heard = record { lines = ls; over = Failed } in x) (sym (are_lines.cut_off b.part b.plain)), refl))
-heard_failed bytes ahead later failed old Failing works facts (inr (sound, e)) = let is = sound ∙ works in rw is (sym e)
+heard_failed bytes ahead later failed old Failing works facts (inr (sound, long)) =
+    let is = sound ∙ works in
+    rw is (sym (ap heard long.whole ∙ are_lines.too_long long.part (ahead ++ later) long.plain long.long))
 
-pub failed_found : {R : Type 0} (ends fails : R → R → Type 0) (failed : R → Bool) (old new : R) (Failing : Type 0) → failed old ≡ false → (Failing → HasJust fails new × (failed new ≡ true)) → Failing ⊎ (failed new ≡ failed old) → FoundNoLine ends fails failed new Failed
-failed_found ends fails failed old new Failing works facts (inl f) = inl (facts f)
-failed_found ends fails failed old new Failing works facts (inr e) = inr (e ∙ works)
+pub failed_found : {R : Type 0} (reads : SourceTells R) (old new : R) (before after : Reading) (Failing : Type 0) → reads.failed old ≡ false → (Failing → HasJust reads.fails new × (reads.failed new ≡ true)) → Failing ⊎ ((reads.failed new ≡ reads.failed old) × MeetsBound reads.gives old new before after) → FoundNoLine reads new Failed
+failed_found reads old new before after Failing works facts (inl f) = inl (facts f)
+failed_found reads old new before after Failing works facts (inr (e, bound)) = inr (e ∙ works, (old, (before, (after, bound))))
 
 pub true_or : (x : Bool) (A : Type 0) → x ≡ false → x ≡ true → A
 true_or x A h k = absurd cc

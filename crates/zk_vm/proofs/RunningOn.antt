@@ -1,13 +1,14 @@
 -- A run on two targets, up to where all that waits for them is given out.
-use Rattle.std.proofs.Common.{◌≡◌, ◌∙◌, inl, inr, Bool, true, false, [], Some, None, Result, Err, refl, sym, subst, append-nil}
-use Rattle.zk_term.specs.Devices.{Shows}
+use Rattle.std.proofs.Common.{◌≡◌, ◌∙◌, ◌⊎◌, inl, inr, Bool, true, false, ℕ, List, [], ◌++◌, Some, None, Result, Err, refl, sym, subst, append-nil}
+use Rattle.zk_term.specs.Devices.{Sends, Shows}
 use Rattle.zk_term.proofs.Sending.{sends_shows}
-use Rattle.zk_step.specs.Routing.{Texts}
+use Rattle.zk_step.specs.Routing.{Texts, text_joined}
 use Rattle.zk_vm.specs.declared.stop.Event.{Event}
 use Rattle.zk_vm.specs.declared.stop.Stop.{Stop}
 use Rattle.zk_vm.specs.declared.stop.Stop.TheVariants as stop
 use Rattle.zk_vm.specs.Consoles.{Targets, Written, written_twice, screen_sender, script_sender}
-use Rattle.zk_vm.specs.Halts.{IsRun}
+use Rattle.zk_vm.specs.Halts.{IsRun, ShowsLast}
+use Rattle.zk_vm.specs.Step.{State}
 use Rattle.zk_vm.specs.Outcome.{Session, segment_of}
 use Rattle.zk_vm.specs.Plays.{IsRunOn, ShowsOfRun}
 
@@ -46,7 +47,7 @@ Sees P Q a b t = P × Q × Written a b t.screen t.script
 
 run_text : (P Q : Type 0) (old new : Session) (answer : Result Event Stop) (a b : Targets) → IsRun old new answer (Sees P Q a b) → (text : Texts) × ShowsOfRun old text × Written a b text.screen text.script
 run_text P Q old new answer a b (inl h) = ((segment_of old).text, inl refl, h.2.2)
-run_text P Q old new answer a b (inr h) = (h.3.0, inr (new.state, h.3.1), h.3.2.2)
+run_text P Q old new answer a b (inr h) = (h.3.0, inr (inl (new.state, h.3.1)), h.3.2.2)
 
 -- the references stay the same
 pub run_same : (P Q : Type 0) (old new : Session) (answer : Result Event Stop) (a b : Targets) → IsRun old new answer (Sees P Q a b) → P × Q
@@ -66,12 +67,30 @@ ran_on P Q old new answer a b c run rest fresh done sound =
     let both : IsRunOn old new answer false (BothShow a c c.failed) = run_both P Q old new answer a b c fresh done rest run in
     subst (λ (x : Bool). IsRunOn old new answer x (BothShow a c x)) (sym sound ∙ known) (subst (λ (x : Bool). IsRunOn old new answer false (BothShow a c x)) sound both)
 
--- a write has failed
+-- a write has failed, after what was shown of a run
+failed_after : (old closed : Session) (a b c : Targets) (text : Texts) → ShowsOfRun old text → Written a b text.screen text.script → Written b c [] [] → IsFresh a → IsFinished c → c.failed ≡ true
+    → closed.stopped ≡ Some stop.Write → closed.waiting ≡ None → IsRunOn old closed (Err stop.Write) c.either (BothShow a c c.either)
+failed_after old closed a b c text of_run seen rest fresh done broken stopped free =
+    let known = known_failed a b c text fresh seen rest in
+    let both = both_show a b c text fresh done seen rest in
+    let ends : IsRunOn old closed (Err stop.Write) true (BothShow a c c.failed) = (refl, stopped, free, (text, of_run, both)) in
+    subst (λ (x : Bool). IsRunOn old closed (Err stop.Write) x (BothShow a c x)) (sym broken ∙ known) (subst (λ (x : Bool). IsRunOn old closed (Err stop.Write) true (BothShow a c x)) broken ends)
+
 pub ran_into : (P Q : Type 0) (old new closed : Session) (answer : Result Event Stop) (a b c : Targets) → IsRun old new answer (Sees P Q a b) → Written b c [] [] → IsFresh a → IsFinished c → c.failed ≡ true
     → closed.stopped ≡ Some stop.Write → closed.waiting ≡ None → IsRunOn old closed (Err stop.Write) c.either (BothShow a c c.either)
 ran_into P Q old new closed answer a b c run rest fresh done broken stopped free =
-    let seen = run_text P Q old new answer a b run in
-    let known = known_failed a b c seen.0 fresh seen.2 rest in
-    let both = both_show a b c seen.0 fresh done seen.2 rest in
-    let ends : IsRunOn old closed (Err stop.Write) true (BothShow a c c.failed) = (refl, stopped, free, (seen.0, seen.1, both)) in
-    subst (λ (x : Bool). IsRunOn old closed (Err stop.Write) x (BothShow a c x)) (sym broken ∙ known) (subst (λ (x : Bool). IsRunOn old closed (Err stop.Write) true (BothShow a c x)) broken ends)
+    let seen = run_text P Q old new answer a b run in failed_after old closed a b c seen.0 seen.1 seen.2 rest fresh done broken stopped free
+
+-- it was cut off there
+pub cut_into : (old closed : Session) (to : State) (a m b c : Targets) (before last : Texts) → ShowsLast old before last to → Written a m before.screen before.script → Written m b last.screen last.script → Written b c [] [] → IsFresh a → IsFinished c → c.failed ≡ true
+    → closed.stopped ≡ Some stop.Write → closed.waiting ≡ None → IsRunOn old closed (Err stop.Write) c.either (BothShow a c c.either)
+cut_into old closed to a m b c before last up first second rest fresh done broken stopped free =
+    failed_after old closed a b c (text_joined before last) (inr (inr (before, (last, (to, (up, refl)))))) (written_twice a m b before.screen last.screen before.script last.script first second) rest fresh done broken stopped free
+
+false_or_true : (x : Bool) (A : Type 0) → x ≡ true → x ≡ false → A
+false_or_true x A h k = absurd cc
+
+-- a console that works now has not been cut off
+pub never_cut_off : (A : Type 0) (a b : Targets) → Written a b [] [] → b.failed ≡ false → a.failed ≡ true → A
+unfolding Sends
+never_cut_off A a b h sound broken = false_or_true a.failed A broken (h.screen_sent.all sound).0

@@ -1,11 +1,11 @@
 -- Runs, step by step.
-use Rattle.std.proofs.Common.{◌≡◌, ◌∙◌, ℕ, ◌+◌, ◌-◌, ◌<◌, ◌≤◌, suc, zero, List, ◌++◌, Some, Ok, Err, arith, refl, ap, sym, subst}
+use Rattle.std.proofs.Common.{◌≡◌, ◌∙◌, ℕ, ◌+◌, ◌-◌, ◌<◌, ◌≤◌, suc, zero, List, ◌++◌, append_assoc, append-nil, Some, Ok, Err, arith, refl, ap, sym, subst}
 use Rattle.zk_state.specs.declared.refusal.Limit.TheVariants.{Steps}
 use Rattle.zk_step.specs.Routing.{Texts, no_text, text_joined}
 use Rattle.zk_vm.specs.declared.stop.Stop.TheVariants.{Limit}
 use Rattle.zk_vm.specs.Halts.{Halt, IsLeftAt, IsLeftBy, event_of, halt_by}
 use Rattle.zk_vm.specs.Laws.{IsNoStepLimit, StepLimitOnlyCuts, StepLimitCutsThere}
-use Rattle.zk_vm.specs.Outcome.{Segment, Session, continued, segment}
+use Rattle.zk_vm.specs.Outcome.{Leads, Segment, Session, continued, segment}
 use Rattle.zk_vm.specs.Step.{State, Verdict, step, state_after, text_of, verdict_of}
 use Rattle.zk_vm.specs.Step.Verdict.{GoesOn, WaitsFor, StopsBy}
 
@@ -79,3 +79,28 @@ rest_shown {S} shows twice old now new first rest both whole e one h =
 pub last_shown : {S : Type 0} (shows : S → S → List ℕ → List ℕ → Type 0) (old now end : S) (last both whole : Texts) → both ≡ last → shows now end last.screen last.script
     → ShowsRest shows old now both whole → shows old end whole.screen whole.script
 last_shown {S} shows old now end last both whole e one h = h end (subst (λ (t : Texts). shows now end t.screen t.script) (sym e) one)
+
+-- ---- steps that lead on
+
+pub same_text : (a b c : Texts) → text_joined a (text_joined b c) ≡ text_joined (text_joined a b) c
+same_text a b c = rw (append_assoc a.screen b.screen c.screen, append_assoc a.script b.script c.script) refl
+
+pub no_text_behind : (t : Texts) → text_joined t no_text ≡ t
+no_text_behind t = rw (append-nil t.screen, append-nil t.script) refl
+
+pub leads_both : (n k : ℕ) (a b c : State) (t u : Texts) → Leads n a b t → Leads k b c u → Leads (n + k) a c (text_joined t u)
+leads_both zero k a b c t u (e, h) l = let count : zero + k ≡ k = omega arith in rw (count, e, h) l
+leads_both (suc n) k a b c t u h l =
+    let count : suc n + k ≡ suc (n + k) = omega arith in
+    rw count (text_joined h.0 u, h.1, leads_both n k (state_after a (step a)) b c h.0 u h.2 l, ap (λ (x : Texts). text_joined x u) h.3 ∙ sym (same_text (text_of a (step a)) h.0 u))
+
+pub leads_one : (s : State) → verdict_of s (step s) ≡ GoesOn → Leads 1 s (state_after s (step s)) (text_of s (step s))
+leads_one s goes = (no_text, goes, (refl, refl), sym (no_text_behind (text_of s (step s))))
+
+-- a segment begins with them
+pub segment_leads : (n k : ℕ) (s end : State) (text : Texts) → Leads n s end text → (segment (n + k) s).text ≡ text_joined text (segment k end).text
+unfolding segment
+segment_leads zero k s end text h = let count : zero + k ≡ k = omega arith in rw (count, h.0, h.1) refl
+segment_leads (suc n) k s end text h =
+    let count : suc n + k ≡ suc (n + k) = omega arith in
+    rw (count, h.1, h.3) (ap (text_joined (text_of s (step s))) (segment_leads n k (state_after s (step s)) end h.0 h.2) ∙ same_text (text_of s (step s)) h.0 (segment k end).text)

@@ -129,6 +129,57 @@ IsRun old new answer Shown =
     ((answer ≡ event_of (segment_of old).end) × IsLeftAs new (ran old) (ran old).stopped × Shown (segment_of old).text)
     ⊎ ((answer ≡ Err stop.Memory) × (new.stopped ≡ Some stop.Memory) × (new.waiting ≡ None) × ((text : Texts) × ComesToKeepAt old text new.state × Shown text))
 
+-- ---- a write that fails
+
+-- steps lead a machine on to a state, and the last of them shows a text, after what was shown before
+pub record LeadsOn (s : Session) (before last : Texts) (to : State) : Type 0 where
+  pub runs : s.stopped ≡ None
+  pub steps : ℕ
+  pub few : steps < s.limits.steps - s.state.steps
+  pub end : State
+  pub behind : Texts
+  pub leads : Leads steps (record s.state { due = [] }) end behind
+  pub goes : verdict_of end (step end) ≡ GoesOn
+  pub there : to ≡ state_after end (step end)
+  pub shown_before : before ≡ text_joined (on_script s.state.due) behind
+  pub shown_last : last ≡ text_of end (step end)
+
+-- the same, or the transcript got what it was still to get, and no step was made
+abbrev pub ShowsLast : Session → Texts → Texts → State → Type 0
+ShowsLast s before last to =
+    LeadsOn s before last to ⊎ ((s.stopped ≡ None) × (before ≡ no_text) × (last ≡ on_script s.state.due) × (to ≡ record s.state { due = [] }))
+
+-- what a machine shows up to there
+abbrev pub ShowsUpTo : Session → Texts → Type 0
+ShowsUpTo s text = (before : Texts) × ((last : Texts) × ((to : State) × (ShowsLast s before last to × (text ≡ text_joined before last))))
+
+-- a screen was shown a text, and then a last one, which it has failed at
+abbrev pub FailsAt : {S : Type 0} → (S → S → List ℕ → List ℕ → Type 0) → (S → Bool) → S → S → Texts → Texts → Type 0
+FailsAt {S} shows failed old new before last =
+    (mid : S) × (shows old mid before.screen before.script × (failed old ≡ false → failed mid ≡ false) × shows mid new last.screen last.script × (failed new ≡ true))
+
+-- a machine has run up to where its screen has failed, and no further
+abbrev pub IsCutOff : {S : Type 0} → (Session → Texts → Texts → State → Type 0) → (S → S → List ℕ → List ℕ → Type 0) → (S → Bool) → S → S → Session → Session → Result Event Stop → Type 0
+IsCutOff {S} Shown shows failed a b old new answer =
+    (answer ≡ Err stop.Write) × (new.waiting ≡ None) × ((before : Texts) × ((last : Texts) × (Shown old before last new.state × FailsAt shows failed a b before last)))
+
+-- the step that ends a run shows a text, after what was shown before; or it comes to keep a state, for which there is no
+-- memory
+pub record EndsAtStep (s : Session) (before last : Texts) (answer : Halt) : Type 0 where
+  pub steps : ℕ
+  pub few : steps < s.limits.steps - s.state.steps
+  pub end : State
+  pub behind : Texts
+  pub leads : Leads steps (record s.state { due = [] }) end behind
+  pub shown_before : before ≡ text_joined (on_script s.state.due) behind
+  pub ends : ((Err answer ≡ halt_by (verdict_of end (step end))) × (last ≡ text_of end (step end))) ⊎ ((answer ≡ Err stop.Memory) × (last ≡ no_text))
+
+-- Where its screen has failed, a machine has run no further: that is its stop, or its last step ends the run anyhow.
+abbrev pub StopsAtOnce : {S : Type 0} → (S → S → List ℕ → List ℕ → Type 0) → (S → Bool) → S → S → Session → Result Event Stop → Type 0
+StopsAtOnce {S} shows failed a b old answer =
+    failed a ≡ false → failed b ≡ true
+    → (answer ≡ Err stop.Write) ⊎ ((before : Texts) × ((last : Texts) × (EndsAtStep old before last answer × FailsAt shows failed a b before last)))
+
 -- while a machine has no stop
 abbrev pub WhileRunning : Option Stop → Type 0 → Type 0
 WhileRunning None P = P

@@ -2,12 +2,15 @@
 use Rattle.std.specs.Prelude.{◌≡◌, ◌⊎◌, ℕ, Bool, true, false, List, [], ◌∷◌, ◌++◌, Option, Some, None, IfSome, Result, Ok, Err, if◌then◌else◌}
 use Rattle.std.specs.List.{AllByRecursion}
 use Rattle.zk_text.specs.Extra.{is_input_code, own_characters}
+use Rattle.zk_state.specs.declared.refusal.Limit.{Limit}
+use Rattle.zk_save.specs.declared.restore.RestoreError.{RestoreError}
+use Rattle.zk_save.specs.Loading.{restored}
 use Rattle.zk_save.specs.Quetzal.{saved}
 use Rattle.zk_term.specs.declared.lines.Over.{Over}
 use Rattle.zk_term.specs.declared.lines.Over.TheVariants.{End, Failed}
 use Rattle.zk_term.specs.Characters.{line_codes}
 use Rattle.zk_term.specs.Devices.{HasJust, Shows}
-use Rattle.zk_term.specs.Lines.{Heard, heard, ended_lines}
+use Rattle.zk_term.specs.Lines.{Heard, heard, ended_lines, MeetsBound, Reading}
 use Rattle.zk_step.specs.Routing.{Texts, text_joined}
 use Rattle.zk_vm.specs.declared.stop.Event.{Event}
 use Rattle.zk_vm.specs.declared.stop.Event.TheVariants as event
@@ -16,7 +19,8 @@ use Rattle.zk_vm.specs.declared.stop.Stop.TheVariants.{EndOfInput, Read, Write, 
 use Rattle.zk_vm.specs.declared.waiting.Waiting.{Waiting}
 use Rattle.zk_vm.specs.Answers.{Answer}
 use Rattle.zk_vm.specs.Answers.Answer.{Typed, GameKept, File}
-use Rattle.zk_vm.specs.Halts.{event_of, event_waited, ComesToKeep, IsLeftAs, IsRun}
+use Rattle.zk_vm.specs.Going.{limit_of}
+use Rattle.zk_vm.specs.Halts.{event_of, event_waited, ComesToKeep, IsLeftAs, IsRun, ShowsUpTo}
 use Rattle.zk_vm.specs.Outcome.{Outcome, Session, outcome, segment_of, ran, given, given_all, shown_up_to}
 use Rattle.zk_vm.specs.Step.{saved_place}
 
@@ -43,39 +47,75 @@ AsksForLine s = (event_waited s.waiting ≡ Some event.Line) ⊎ (event_waited s
 abbrev pub AsksForFile : Session → Type 0
 AsksForFile s = (event_waited s.waiting ≡ Some event.Save) ⊎ (event_waited s.waiting ≡ Some event.Restore)
 
+-- what a slot tells of itself: the file that it holds, and whether it will keep one, where it tells these; and what led from
+-- one state of it to another: that it was asked to keep a file, that it was asked for the one that it has, and that it was
+-- told why that is refused
+pub record SlotTells (K : Type 0) : Type 1 where
+  pub held : K → Option (Option (List ℕ))
+  pub keeps : K → List ℕ → Option Bool
+  pub puts : K → K → List ℕ → Bool → Type 0
+  pub gets : K → K → Option (List ℕ) → Type 0
+  pub hears : K → K → RestoreError → Type 0
+
+abbrev pub slot_tells : {K : Type 0} → (K → Option (Option (List ℕ))) → (K → List ℕ → Option Bool) → (K → K → List ℕ → Bool → Type 0) → (K → K → Option (List ℕ) → Type 0) → (K → K → RestoreError → Type 0) → SlotTells K
+slot_tells {K} held keeps puts gets hears = record { held = held; keeps = keeps; puts = puts; gets = gets; hears = hears }
+
+-- why a machine refuses a saved game; one with too many frames or words is a limit
+abbrev pub no_limit : Option Limit → RestoreError → Option RestoreError
+no_limit None e = Some e
+no_limit (Some limit) e = None
+
+abbrev pub refused_in : {A : Type 0} → Result A RestoreError → Option RestoreError
+refused_in {A} (Ok a) = None
+refused_in {A} (Err e) = no_limit (limit_of e) e
+
+abbrev pub refusal_of : Session → Option (List ℕ) → Option RestoreError
+refusal_of s None = None
+refusal_of s (Some file) = refused_in (restored file s.state.game.memory s.state.game.frames)
+
+-- a slot was told why its file is refused, if it is
+abbrev pub IsTold : {K : Type 0} → (K → K → RestoreError → Type 0) → K → K → Option RestoreError → Type 0
+IsTold {K} hears before after None = after ≡ before
+IsTold {K} hears before after (Some e) = hears before after e
+
+-- a slot was asked for its file, once
+abbrev pub GivesFile : {K : Type 0} → SlotTells K → K → K → Session → Option (List ℕ) → Type 0
+GivesFile {K} t before after s file = (mid : K) × (t.gets before mid file × IsTold t.hears mid after (refusal_of s file))
+
 -- an answer of a slot to a machine that waits, and how it leaves the slot: whether it kept the saved game, which it has
 -- then, or the one that it has
-abbrev pub IsSlotAnswer : {K : Type 0} → (K → Option (Option (List ℕ))) → (K → List ℕ → Option Bool) → K → K → Session → Answer → Type 0
-IsSlotAnswer {K} held keeps before after s (Typed codes) = ⊥
-IsSlotAnswer {K} held keeps before after s (GameKept true) =
-    (event_waited s.waiting ≡ Some event.Save) × IfSome (keeps before (image_of s)) (λ b. true ≡ b) × IfSome (held after) (λ f. f ≡ Some (image_of s))
-IsSlotAnswer {K} held keeps before after s (GameKept false) =
-    (event_waited s.waiting ≡ Some event.Save) × IfSome (keeps before (image_of s)) (λ b. false ≡ b) × (held after ≡ held before)
-IsSlotAnswer {K} held keeps before after s (File file) =
-    (event_waited s.waiting ≡ Some event.Restore) × IfSome (held before) (λ f. file ≡ f) × (held after ≡ held before)
+abbrev pub IsSlotAnswer : {K : Type 0} → SlotTells K → K → K → Session → Answer → Type 0
+IsSlotAnswer {K} t before after s (Typed codes) = ⊥
+IsSlotAnswer {K} t before after s (GameKept true) =
+    (event_waited s.waiting ≡ Some event.Save) × IfSome (t.keeps before (image_of s)) (λ b. true ≡ b) × IfSome (t.held after) (λ f. f ≡ Some (image_of s)) × t.puts before after (image_of s) true
+IsSlotAnswer {K} t before after s (GameKept false) =
+    (event_waited s.waiting ≡ Some event.Save) × IfSome (t.keeps before (image_of s)) (λ b. false ≡ b) × (t.held after ≡ t.held before) × t.puts before after (image_of s) false
+IsSlotAnswer {K} t before after s (File file) =
+    (event_waited s.waiting ≡ Some event.Restore) × IfSome (t.held before) (λ f. file ≡ f) × (t.held after ≡ t.held before) × GivesFile t before after s file
 
 -- a slot after its last answer: as it was, or with the saved game that it had, where there was no memory for one; it is not
 -- asked where a write has failed
-abbrev pub IsLastSlot : {K : Type 0} → (K → Option (Option (List ℕ))) → Bool → K → K → Session → Type 0
-IsLastSlot {K} held unwritten before after s = (after ≡ before) ⊎ ((unwritten ≡ false) × AsksForFile (ran s) × (held after ≡ held before))
+abbrev pub IsLastSlot : {K : Type 0} → SlotTells K → Bool → K → K → Session → Type 0
+IsLastSlot {K} t unwritten before after s = (after ≡ before) ⊎ ((unwritten ≡ false) × AsksForFile (ran s) × (t.held after ≡ t.held before))
 
 -- the answers of a slot, one after the other, to a machine that waits for nothing else meanwhile
-unfoldable pub AreSlotAnswers : {K : Type 0} → (K → Option (Option (List ℕ))) → (K → List ℕ → Option Bool) → Bool → K → K → Session → List Answer → Type 0
-AreSlotAnswers {K} held keeps unwritten before after s [] = IsLastSlot held unwritten before after s
-AreSlotAnswers {K} held keeps unwritten before after s (a ∷ answers) =
-    (mid : K) × (IsSlotAnswer held keeps before mid (ran s) a × AreSlotAnswers held keeps unwritten mid after (given (ran s) a) answers)
+unfoldable pub AreSlotAnswers : {K : Type 0} → SlotTells K → Bool → K → K → Session → List Answer → Type 0
+AreSlotAnswers {K} t unwritten before after s [] = IsLastSlot t unwritten before after s
+AreSlotAnswers {K} t unwritten before after s (a ∷ answers) =
+    (mid : K) × (IsSlotAnswer t before mid (ran s) a × AreSlotAnswers t unwritten mid after (given (ran s) a) answers)
 
 -- a machine that waits got an answer of a slot
-pub record IsServed {K : Type 0} (held : K → Option (Option (List ℕ))) (keeps : K → List ℕ → Option Bool) (before after : K) (old new : Session) : Type 0 where
+pub record IsServed {K : Type 0} (t : SlotTells K) (before after : K) (old new : Session) : Type 0 where
   pub answer : Answer
-  pub is : IsSlotAnswer held keeps before after old answer
+  pub is : IsSlotAnswer t before after old answer
   pub left : IsLeftAs new (given old answer) (given old answer).stopped
 
 -- ---- a turn
 
--- what a machine shows of its run, perhaps up to a state that is to be kept, for which there was no memory
+-- what a machine shows of its run, perhaps up to a state that is to be kept, for which there was no memory, or up to the
+-- step at which a write has failed
 abbrev pub ShowsOfRun : Session → Texts → Type 0
-ShowsOfRun s text = (text ≡ (segment_of s).text) ⊎ ComesToKeep s text
+ShowsOfRun s text = (text ≡ (segment_of s).text) ⊎ (ComesToKeep s text ⊎ ShowsUpTo s text)
 
 -- a machine has run and shown its text, perhaps not to its end, where a write has failed: then that is its stop
 abbrev pub IsRunOn : Session → Session → Result Event Stop → Bool → (Texts → Type 0) → Type 0
@@ -138,52 +178,79 @@ stop_waiting (Some event.Save) over = Memory
 stop_waiting (Some event.Restore) over = Memory
 stop_waiting _ over = stop_behind over
 
--- an outcome of a machine's run on answers, after which it finds none; or on its way from the last answer there was no
--- memory for a state that is to be kept
-abbrev pub IsOutcomeOn : List Answer → Over → Type 0 → Session → Outcome → Type 0
-IsOutcomeOn answers over IsLast s o =
+-- An outcome of a machine's run on answers, after which it finds none; or on its way from the last answer there was no
+-- memory for a state that is to be kept.
+abbrev pub IsOutcomeOn : List Answer → Over → (IsLast IsLacking : Type 0) → Session → Outcome → Type 0
+IsOutcomeOn answers over IsLast IsLacking s o =
     ((o ≡ outcome answers (stop_waiting (event_waited (ran (given_all answers s)).waiting) over) s) × IsLast)
-    ⊎ ((o.stop ≡ Memory) × ((text : Texts) × (ComesToKeep (given_all answers s) text × (o.text ≡ text_joined (shown_up_to answers s) text))))
+    ⊎ ((o.stop ≡ Memory) × IsLacking × ((text : Texts) × (ComesToKeep (given_all answers s) text × (o.text ≡ text_joined (shown_up_to answers s) text))))
 
--- an answer of codes that can be typed, or of a slot
-abbrev pub CanBeGiven : Answer → Type 0
-CanBeGiven (Typed codes) = AllByRecursion (λ c. is_input_code c ≡ true) codes
-CanBeGiven (GameKept kept) = Unit {0}
-CanBeGiven (File file) = Unit {0}
+-- The answers of a slot and of reads, in the order in which a machine waits for them. `Reads` says what a read makes of what
+-- there is to be read, where codes answer it.
+unfoldable pub AreAnswers : {K X : Type 0} → SlotTells K → (X → X → Session → List ℕ → Type 0) → Bool → K → K → X → X → Session → List Answer → Type 0
+AreAnswers {K} {X} t Reads unwritten before after x y s [] = IsLastSlot t unwritten before after s × (y ≡ x)
+AreAnswers {K} {X} t Reads unwritten before after x y s (Typed codes ∷ answers) =
+    (mid : X) × (AsksForLine (ran s) × Reads x mid (ran s) codes × AreAnswers t Reads unwritten before after mid y (given (ran s) (Typed codes)) answers)
+AreAnswers {K} {X} t Reads unwritten before after x y s (a ∷ answers) =
+    (mid : K) × (IsSlotAnswer t before mid (ran s) a × AreAnswers t Reads unwritten mid after x y (given (ran s) a) answers)
+
+-- An outcome of a machine's run on some of them, and what was shown up to the last one.
+abbrev pub IsOutcomeBy : {K X : Type 0} → SlotTells K → (X → X → Session → List ℕ → Type 0) → Bool → K → K → X → X → Over → (List Answer → Session → Type 0) → (List Answer → Type 0) → Session → Outcome → Texts → Type 0
+IsOutcomeBy {K} {X} t Reads unwritten before after x y over Last Lacking s o first =
+    (answers : List Answer) × (AreAnswers t Reads unwritten before after x y s answers × (first ≡ shown_up_to answers s)
+    × IsOutcomeOn answers over (Last answers (given_all answers s)) (Lacking answers) s o)
+
+-- ---- on a source, whether it tells its bytes or not
+
+-- what a source tells of itself: that a read found the end, failed or gave bytes, and whether one has failed
+pub record SourceTells (R : Type 0) : Type 1 where
+  pub ends : R → R → Type 0
+  pub fails : R → R → Type 0
+  pub gives : R → R → List ℕ → Type 0
+  pub failed : R → Bool
+
+abbrev pub source_tells : {R : Type 0} → (R → R → Type 0) → (R → R → Type 0) → (R → R → List ℕ → Type 0) → (R → Bool) → SourceTells R
+source_tells {R} ends fails gives failed = record { ends = ends; fails = fails; gives = gives; failed = failed }
+
+-- a read is answered by codes that can be typed
+abbrev pub ReadsCodes : Unit {0} → Unit {0} → Session → List ℕ → Type 0
+ReadsCodes x y s codes = AllByRecursion (λ c. is_input_code c ≡ true) codes
+
+-- the last line of a source is too long: 65,536 bytes were taken of it, none a new line, and the source was not asked for more
+abbrev pub HasMetBound : {R : Type 0} → (R → R → List ℕ → Type 0) → R → Type 0
+HasMetBound {R} gives after = (start : R) × ((old : Reading) × ((new : Reading) × MeetsBound gives start after old new))
 
 -- the last read of a source found no line: it found the end, or it failed, or too many bytes had come without a new line
-abbrev pub FoundNoLine : {R : Type 0} → (R → R → Type 0) → (R → R → Type 0) → (R → Bool) → R → Over → Type 0
-FoundNoLine {R} ends fails failed after End = HasJust ends after × (failed after ≡ false)
-FoundNoLine {R} ends fails failed after Failed = (HasJust fails after × (failed after ≡ true)) ⊎ (failed after ≡ false)
+abbrev pub FoundNoLine : {R : Type 0} → SourceTells R → R → Over → Type 0
+FoundNoLine {R} r after End = HasJust r.ends after × (r.failed after ≡ false)
+FoundNoLine {R} r after Failed = (HasJust r.fails after × (r.failed after ≡ true)) ⊎ ((r.failed after ≡ false) × HasMetBound r.gives after)
 
 -- an answer of a slot
 abbrev pub IsNoLine : Answer → Type 0
 IsNoLine (Typed codes) = ⊥
 IsNoLine _ = Unit {0}
 
--- where a machine waits for a line after its last answer, and all was written, the last read found none
-abbrev pub IsLastRead : {R : Type 0} → (R → R → Type 0) → (R → R → Type 0) → (R → Bool) → R → Bool → Over → Session → Type 0
-IsLastRead {R} ends fails failed after unwritten over s = unwritten ≡ false → AsksForLine (ran s) → FoundNoLine ends fails failed after over
+-- a source was left alone, if no read was answered
+abbrev pub IsLeftAlone : {R : Type 0} → R → R → List Answer → Type 0
+IsLeftAlone {R} before after answers = AllByRecursion IsNoLine answers → after ≡ before
 
--- a source that no line was wanted of was left alone; none is wanted where a write has failed
-abbrev pub IsLeftAlone : {R : Type 0} → R → R → Bool → List Answer → Session → Type 0
-IsLeftAlone {R} before after unwritten answers s =
-    AllByRecursion IsNoLine answers → (unwritten ≡ false → AsksForLine (ran (given_all answers s)) → ⊥) → after ≡ before
+-- where a machine waits for a line after its last answer, and all was written, the last read found none; else there was none
+-- after that answer
+abbrev pub IsLastRead : {R : Type 0} → SourceTells R → R → R → Bool → Over → List Answer → Session → Type 0
+IsLastRead {R} r before after unwritten over answers s =
+    (unwritten ≡ false → AsksForLine (ran s) → FoundNoLine r after over)
+    × ((unwritten ≡ false → AsksForLine (ran s) → ⊥) → IsLeftAlone before after answers)
 
--- an outcome of a machine's run on some answers, for which a source was read
-abbrev pub IsAnswered : {R : Type 0} → (R → R → Type 0) → (R → R → Type 0) → (R → Bool) → R → R → Bool → Session → Outcome → Type 0
-IsAnswered {R} ends fails failed before after unwritten s o =
-    (answers : List Answer) × ((over : Over) × (AllByRecursion CanBeGiven answers × (IsLeftAlone before after unwritten answers s
-    × IsOutcomeOn answers over (IsLastRead ends fails failed after unwritten over (given_all answers s)) s o)))
+-- An outcome of a machine's run on answers of a slot, and on some for which a source was read.
+abbrev pub IsAnswered : {K R : Type 0} → SlotTells K → SourceTells R → K → K → R → R → Bool → Session → Outcome → Texts → Type 0
+IsAnswered {K} {R} t r slot0 slot1 before after unwritten s o first =
+    (over : Over) × IsOutcomeBy t ReadsCodes unwritten slot0 slot1 tt tt over (IsLastRead r before after unwritten over) (IsLeftAlone before after) s o first
 
--- the answers of lines and of a slot, in the order in which a machine waits for them, and the lines left after them
-unfoldable pub ArePlayed : {K : Type 0} → (K → Option (Option (List ℕ))) → (K → List ℕ → Option Bool) → Bool → K → K → List (List ℕ) → List (List ℕ) → Session → List Answer → Type 0
-ArePlayed {K} held keeps unwritten before after lines left s [] = IsLastSlot held unwritten before after s × (left ≡ lines)
-ArePlayed {K} held keeps unwritten before after lines left s (Typed codes ∷ answers) =
-    (line : List ℕ) × ((others : List (List ℕ)) × ((lines ≡ line ∷ others) × AsksForLine (ran s) × (codes ≡ codes_read (ran s) line)
-    × ArePlayed held keeps unwritten before after others left (given (ran s) (Typed codes)) answers))
-ArePlayed {K} held keeps unwritten before after lines left s (a ∷ answers) =
-    (mid : K) × (IsSlotAnswer held keeps before mid (ran s) a × ArePlayed held keeps unwritten mid after lines left (given (ran s) a) answers)
+-- ---- on the bytes of an input
+
+-- a read takes the next line
+abbrev pub ReadsLine : List (List ℕ) → List (List ℕ) → Session → List ℕ → Type 0
+ReadsLine lines others s codes = (line : List ℕ) × ((lines ≡ line ∷ others) × (codes ≡ codes_read s line))
 
 -- after its last answer a machine waits for no line that there is, unless a write has failed
 abbrev pub IsLastAnswered : Bool → List (List ℕ) → Session → Type 0
@@ -195,17 +262,19 @@ abbrev pub IsHeard : List ℕ → List ℕ → Bool → Heard → List (List ℕ
 IsHeard bytes later false h left = h ≡ heard bytes
 IsHeard bytes later true h left = (gone : List ℕ) × ((bytes ≡ gone ++ later) × (h ≡ record { lines = ended_lines gone; over = Failed }) × (left ≡ []))
 
--- an outcome of a machine's run on what is heard of an input, and on the answers of a slot
-abbrev pub IsPlayed : {K : Type 0} → (K → Option (Option (List ℕ))) → (K → List ℕ → Option Bool) → K → K → List ℕ → List ℕ → Bool → Bool → Session → Outcome → Type 0
-IsPlayed {K} held keeps before after bytes later failed unwritten s o =
-    (h : Heard) × ((answers : List Answer) × ((left : List (List ℕ)) × (IsHeard bytes later failed h left × (ArePlayed held keeps unwritten before after h.lines left s answers
-    × IsOutcomeOn answers h.over (IsLastAnswered unwritten left (given_all answers s)) s o))))
+-- An outcome of a machine's run on answers of a slot, and on what is heard of an input.
+abbrev pub IsPlayed : {K : Type 0} → SlotTells K → K → K → List ℕ → List ℕ → Bool → Bool → Session → Outcome → Texts → Type 0
+IsPlayed {K} t before after bytes later failed unwritten s o first =
+    (h : Heard) × ((left : List (List ℕ)) × (IsHeard bytes later failed h left
+    × IsOutcomeBy t ReadsLine unwritten before after h.lines left h.over (λ answers end. IsLastAnswered unwritten left end) (λ answers. Unit {0}) s o first))
 
--- A machine was played: there is an outcome, of a kind, that it has. Where a write has failed the stop is that, and each
--- target took a first part of its text, else all of it.
-pub record IsPlay (Is : Outcome → Type 0) (stop : Stop) (unwritten : Bool) (screen0 screen1 script0 script1 : Option (List ℕ)) : Type 0 where
+-- A machine was played: there is an outcome, of a kind, that it has. The text up to the last answer was written, and of what
+-- comes after it all, or a first part where a write has failed: then the stop is that.
+pub record IsPlay (Is : Outcome → Texts → Type 0) (stop : Stop) (unwritten : Bool) (screen0 screen1 script0 script1 : Option (List ℕ)) : Type 0 where
   pub outcome : Outcome
-  pub is : Is outcome
+  pub first : Texts
+  pub second : Texts
+  pub is : Is outcome first
+  pub whole : outcome.text ≡ text_joined first second
   pub stops : stop ≡ (if unwritten then Write else outcome.stop)
-  pub screen : Shows (record { taken = screen0; failed = false }) (record { taken = screen1; failed = unwritten }) outcome.text.screen
-  pub script : Shows (record { taken = script0; failed = false }) (record { taken = script1; failed = unwritten }) outcome.text.script
+  pub took : TookTexts screen0 screen1 script0 script1 unwritten first second

@@ -36,13 +36,6 @@ impl<'a, S, T> Console<'a, S, T> {
             failed: false,
         }
     }
-
-    /// Whether a write has failed.
-    pub fn has_failed(&self) -> bool
-        ensures { result ≡ self.now.failed }
-    {
-        self.failed
-    }
 }
 
 impl<'a, S: Target, T: Target> Console<'a, S, T> {
@@ -67,7 +60,8 @@ impl<'a, S: Target, T: Target> Console<'a, S, T> {
               either = S.failed self.new.screen.now || T.failed self.new.script.now;
             }) [] [] }
         ensures no_text { self.new.failed ≡ false → self.new.to_screen ≡ [] }
-        ensures whole { self.new.failed ≡ false → S.whole self.new.screen.now }
+        ensures whole { self.new.failed ≡ false
+            → S.whole self.new.screen.now × T.whole self.new.script.now }
         ensures no_script { self.new.failed ≡ false → self.new.to_script ≡ [] }
     {
         if self.failed {
@@ -111,6 +105,8 @@ impl<'a, S: Target, T: Target> Screen for Console<'a, S, T> {
           either = S.failed b.screen.now || T.failed b.script.now;
         }) s t };
 
+    ghost failed = { λ c. c.failed };
+
     fn text(&mut self, c: char) {
         if self.failed {
             return;
@@ -129,6 +125,10 @@ impl<'a, S: Target, T: Target> Screen for Console<'a, S, T> {
             Ok(()) => {}
             Err(Failed) => self.failed = true,
         }
+    }
+
+    fn has_failed(&self) -> bool {
+        self.failed
     }
 
     ghost nothing = { λ a. (refl, refl, written_nothing _) };

@@ -1,6 +1,6 @@
 // A machine that runs a story.
 
-ghost use Rattle.std.specs.Prelude.{◌≡◌, ◌≤◌, ◌<◌, ◌+◌, ◌-◌, ◌*◌, ◌^◌, ◌⊎◌, true, [], ◌∷◌, length, nat_lt, if◌then◌else◌, option_copied, Some, None, Ok, Err, IfOk, OnOk, OnErr, MatchResult};
+ghost use Rattle.std.specs.Prelude.{◌≡◌, ◌≤◌, ◌<◌, ◌+◌, ◌-◌, ◌*◌, ◌^◌, ◌⊎◌, true, false, [], ◌∷◌, length, nat_lt, if◌then◌else◌, option_copied, Some, None, Ok, Err, IfOk, OnOk, OnErr, MatchResult};
 ghost use Rattle.std.specs.List.{AllByRecursion};
 ghost use Rattle.zk_text.specs.Extra.{is_input_code};
 ghost use Rattle.zk_state.specs.Frames.{IsBounded, bounds_of};
@@ -9,10 +9,11 @@ ghost use Rattle.zk_vm.specs.Bounds.{AreInRange};
 ghost use Rattle.zk_vm.specs.Answers.{truth_word};
 ghost use Rattle.zk_vm.specs.Answers.Answer.{Typed, GameKept, File};
 ghost use Rattle.zk_vm.specs.Going.{IsAhead, limit_of, stop_by, verdict_by, place_by, steps_by, stopped_by, restored_on, Settles, LacksMemory, IsHalted};
-ghost use Rattle.zk_vm.specs.Halts.{ComesToKeep, IsLeftAs, IsLeftBy, IsRun, IsStep, event_by, event_waited, halt_by, is_read_event};
+ghost use Rattle.zk_vm.specs.Halts.{ComesToKeep, IsLeftAs, IsLeftBy, IsRun, IsStep, IsCutOff, LeadsOn, ShowsLast, StopsAtOnce, event_by, event_waited, halt_by, is_read_event};
 ghost use Rattle.zk_vm.specs.Laws.{IsWithin};
 ghost use Rattle.zk_vm.specs.Outcome.{begun, first_game, given, segment, with_stop};
-ghost use Rattle.zk_vm.specs.Plays.{image_of};
+ghost use Rattle.zk_save.specs.Loading.{restored};
+ghost use Rattle.zk_vm.specs.Plays.{image_of, refused_in};
 ghost use Rattle.zk_vm.specs.Step.{is_read, led_to, text_of};
 ghost use Rattle.zk_step.specs.Routing.{no_text};
 
@@ -30,7 +31,7 @@ use zk_fast::ahead::run_ahead;
 use zk_fast::cache::Cache;
 use zk_mem::memory::{Memory, Setup};
 use zk_mem::story::Story;
-use zk_save::restore::{RestoreError, restore};
+use zk_save::restore::{RestoreError, refusal, restore};
 use zk_save::save::save;
 use zk_save::undo::Undo;
 use zk_state::frames::Frames;
@@ -364,13 +365,16 @@ impl Machine {
         }
     }
 
-    /// Steps up to an event or a stop.
+    /// Steps up to an event or a stop: `Write` after the step at which the screen fails.
     fn steps_to_halt<S: Screen>(&mut self, screen: &mut S) -> Halt
         requires free { self.old.waiting ≡ None }
         requires runs { self.old.stopped ≡ None }
         requires silent { self.old.state.due ≡ [] }
+        requires works { S.failed screen.old ≡ false }
         ensures run { IsHalted self.old self.new result
-            (λ t. S.shows screen.old screen.new t.screen t.script) }
+            (λ t. S.shows screen.old screen.new t.screen t.script)
+            ⊎ IsCutOff LeadsOn S.shows S.failed screen.old screen.new self.old self.new result }
+        ensures at_once { StopsAtOnce S.shows S.failed screen.old screen.new self.old result }
         ensures reads { self.new.state.reads ≡ self.old.state.reads }
         ensures more { self.old.state.steps ≤ self.new.state.steps }
         ensures limits { self.new.limits ≡ self.old.limits }
@@ -387,6 +391,9 @@ impl Machine {
                 Ok(()) => {}
                 Err(halt) => return halt,
             }
+            if screen.has_failed() {
+                return Err(Stop::Write);
+            }
         }
         out_of_steps(self.place)
     }
@@ -394,11 +401,15 @@ impl Machine {
     /// Runs the story up to the next event, a read or a saved game, or its stop, and answers the same stop
     /// from then on until `close` sets another. Nothing of an instruction that faults is shown. Where there is
     /// no memory for a state that `save_undo` keeps, the stop is `Memory`, before that instruction stores its
-    /// answer, and the states that were kept stand. It is not waiting.
+    /// answer, and the states that were kept stand. Where the screen fails, the stop is `Write`, right after the step that
+    /// showed something. It is not waiting.
     pub fn run<S: Screen>(&mut self, screen: &mut S) -> Result<Event, Stop>
         requires { self.old.waiting ≡ None }
         ensures run { IsRun self.old self.new result
-            (λ t. S.shows screen.old screen.new t.screen t.script) }
+            (λ t. S.shows screen.old screen.new t.screen t.script)
+            ⊎ (IsCutOff ShowsLast S.shows S.failed screen.old screen.new self.old self.new result
+            × (self.new.stopped ≡ Some Stop.Write)) }
+        ensures at_once { StopsAtOnce S.shows S.failed screen.old screen.new self.old result }
         ensures free { OnErr result (self.new.waiting ≡ None) }
         ensures asks { IfOk result (λ event. event_waited self.new.waiting ≡ Some event) }
         ensures reads { IfOk result
@@ -417,6 +428,11 @@ impl Machine {
         }
         script_all(screen, self.due.as_slice());
         self.due.clear();
+        if screen.has_failed() {
+            self.stopped = Some(Stop::Write);
+            self.is_within();
+            return Err(Stop::Write);
+        }
         match self.steps_to_halt(screen) {
             Ok(event) => {
                 self.is_within();
@@ -574,6 +590,19 @@ impl Machine {
                 );
                 self.is_within();
             }
+        }
+    }
+
+    /// Why a saved game that `answer_restore` is given counts as none, if it does. One with too many frames or words does not:
+    /// it is a limit.
+    pub fn refusal(&self, file: &[u8]) -> Option<RestoreError>
+        ensures { result ≡ refused_in
+            (restored file.now self.now.state.game.memory self.now.state.game.frames) }
+    {
+        let error = refusal(file, &self.game.memory, &self.game.frames)?;
+        match limit_in(error) {
+            Some(_) => None,
+            None => Some(error),
         }
     }
 

@@ -5,16 +5,18 @@ ghost use Rattle.std.specs.List.{AllByRecursion};
 ghost use Rattle.zk_text.specs.Extra.{is_input_code, own_characters};
 ghost use Rattle.zk_term.specs.Devices.{HasJust, Shows};
 ghost use Rattle.zk_term.specs.declared.lines.Over.{Over};
-ghost use Rattle.zk_term.specs.Lines.{Hears, FailsAlone, HasInputCodes, IsOverAfter, ReadFailed, over_input};
+ghost use Rattle.zk_term.specs.Lines.{Hears, FailsAlone, HasInputCodes, IsOverAfter, MeetsBound, ReadFailed, over_input};
 ghost use Rattle.zk_vm.specs.Answers.{first_code};
 ghost use Rattle.zk_vm.specs.Answers.Answer.{Typed};
 ghost use Rattle.zk_vm.specs.Halts.{IsLeftAs, event_waited, is_read_event};
 ghost use Rattle.zk_vm.specs.Laws.{IsWithin};
 ghost use Rattle.zk_vm.specs.Outcome.{given, with_stop};
-ghost use Rattle.zk_vm.specs.Plays.{AsksForFile, AreSlotAnswers, IsRunOn, IsServed, IsTurn, TookTexts, IsPlay, IsPlayed, IsAnswered};
+ghost use Rattle.zk_vm.specs.Plays.{AsksForFile, AreSlotAnswers, IsRunOn, IsServed, IsTold, IsTurn, TookTexts, IsPlay, IsPlayed, IsAnswered, refused_in, slot_tells, source_tells};
+ghost use Rattle.zk_save.specs.Loading.{restored};
 
 use crate::console::Console;
 use crate::machine::Machine;
+use crate::screen::Screen;
 use crate::slot::SaveSlot;
 use crate::stop::{Event, Stop};
 use std::alloc::{AllocError, Global};
@@ -34,7 +36,7 @@ fn serve<K: SaveSlot>(
     requires waits { event_waited machine.old.waiting ≡ Some event }
     requires file { is_read_event event ≡ false }
     ensures served { OnOk result
-        (IsServed K.held K.keeps slot.old slot.new machine.old machine.new) }
+        (IsServed (slot_tells K.held K.keeps K.puts K.gets K.hears) slot.old slot.new machine.old machine.new) }
     ensures free { machine.new.waiting ≡ None }
     ensures counted { OnOk result
         (machine.new.stopped ≡ None → machine.new.state.steps ≡ machine.old.state.steps + 1) }
@@ -63,7 +65,7 @@ fn serve<K: SaveSlot>(
 fn keep<K: SaveSlot>(alloc: Global, slot: &mut K, machine: &mut Machine) -> Result<(), AllocError>
     requires waits { event_waited machine.old.waiting ≡ Some Event.Save }
     ensures served { OnOk result
-        (IsServed K.held K.keeps slot.old slot.new machine.old machine.new) }
+        (IsServed (slot_tells K.held K.keeps K.puts K.gets K.hears) slot.old slot.new machine.old machine.new) }
     ensures free { OnOk result (machine.new.waiting ≡ None) }
     ensures counted { OnOk result
         (machine.new.stopped ≡ None → machine.new.state.steps ≡ machine.old.state.steps + 1) }
@@ -79,11 +81,23 @@ fn keep<K: SaveSlot>(alloc: Global, slot: &mut K, machine: &mut Machine) -> Resu
     Ok(())
 }
 
+/// Tells a slot why its file is refused, if it is.
+fn tell_refusal<K: SaveSlot>(slot: &mut K, machine: &Machine, file: &[u8])
+    ensures stays { K.held slot.new ≡ K.held slot.old }
+    ensures told { IsTold K.hears slot.old slot.new (refused_in
+        (restored file.now machine.now.state.game.memory machine.now.state.game.frames)) }
+{
+    match machine.refusal(file) {
+        Some(error) => slot.refuse(error),
+        None => {}
+    }
+}
+
 /// Restores the saved game that a slot has.
 fn bring<K: SaveSlot>(alloc: Global, slot: &mut K, machine: &mut Machine) -> Result<(), AllocError>
     requires waits { event_waited machine.old.waiting ≡ Some Event.Restore }
     ensures served { OnOk result
-        (IsServed K.held K.keeps slot.old slot.new machine.old machine.new) }
+        (IsServed (slot_tells K.held K.keeps K.puts K.gets K.hears) slot.old slot.new machine.old machine.new) }
     ensures free { OnOk result (machine.new.waiting ≡ None) }
     ensures counted { OnOk result
         (machine.new.stopped ≡ None → machine.new.state.steps ≡ machine.old.state.steps + 1) }
@@ -94,7 +108,11 @@ fn bring<K: SaveSlot>(alloc: Global, slot: &mut K, machine: &mut Machine) -> Res
         ((machine.new ≡ machine.old) × (K.held slot.new ≡ K.held slot.old)) }
 {
     match slot.get(alloc)? {
-        Some(file) => machine.answer_restore(Some(file.as_slice())),
+        Some(file) => {
+            let file = file.as_slice();
+            tell_refusal(slot, machine, file);
+            machine.answer_restore(Some(file));
+        }
         None => machine.answer_restore(None),
     }
     Ok(())
@@ -131,7 +149,8 @@ pub fn run_on<S: Target, T: Target>(
     ensures steps { OnOk result ((machine.old.state.steps ≤ machine.new.state.steps)
         × (machine.new.state.steps < machine.new.limits.steps)) }
     ensures runs { OnOk result (machine.new.stopped ≡ None) }
-    ensures whole { (S.failed screen.new || T.failed script.new) ≡ false → S.whole screen.new }
+    ensures whole { (S.failed screen.new || T.failed script.new) ≡ false
+        → S.whole screen.new × T.whole script.new }
     ensures limits { machine.new.limits ≡ machine.old.limits }
     ensures within { IsWithin machine.new.limits machine.new.state }
 {
@@ -160,7 +179,7 @@ pub fn turn<S: Target, T: Target, K: SaveSlot>(
     requires free { machine.old.waiting ≡ None }
     requires screen_works { S.failed screen.old ≡ false }
     requires script_works { T.failed script.old ≡ false }
-    ensures turn { IsTurn (AreSlotAnswers K.held K.keeps
+    ensures turn { IsTurn (AreSlotAnswers (slot_tells K.held K.keeps K.puts K.gets K.hears)
         (S.failed screen.new || T.failed script.new) slot.old slot.new machine.old) machine.old
         machine.new result (S.failed screen.new || T.failed script.new)
         (TookTexts (S.taken screen.old) (S.taken screen.new) (T.taken script.old)
@@ -171,7 +190,8 @@ pub fn turn<S: Target, T: Target, K: SaveSlot>(
     ensures reads { OnOk result (machine.new.state.reads < 16777216) }
     ensures same_reads { OnOk result (machine.new.state.reads ≡ machine.old.state.reads) }
     ensures runs { OnOk result (machine.new.stopped ≡ None) }
-    ensures whole { (S.failed screen.new || T.failed script.new) ≡ false → S.whole screen.new }
+    ensures whole { (S.failed screen.new || T.failed script.new) ≡ false
+        → S.whole screen.new × T.whole script.new }
     ensures limits { machine.new.limits ≡ machine.old.limits }
     ensures within { IsWithin machine.new.limits machine.new.state }
 {
@@ -200,8 +220,10 @@ fn next_line<R: Source>(lines: &mut Lines, reader: &mut R, machine: &Machine) ->
         (R.failed reader.new ≡ R.failed reader.old) result }
     ensures next { lines.old.over ≡ None → IsOverAfter result lines.new.over }
     ensures codes { HasInputCodes result }
-    ensures failed { FailsAlone (ReadFailed R.fails R.failed reader.new lines.new)
-        (R.failed reader.new ≡ R.failed reader.old) result }
+    ensures failed { lines.old.over ≡ None → FailsAlone
+        (ReadFailed R.fails R.failed reader.new lines.new)
+        (R.failed reader.new ≡ R.failed reader.old)
+        (MeetsBound R.gives reader.old reader.new lines.old lines.new) result }
     ensures ends { lines.old.over ≡ None → lines.new.over ≡ Some Over.End
         → HasJust R.ends reader.new }
 {
@@ -269,17 +291,19 @@ pub fn play<R: Source, S: Target, T: Target, K: SaveSlot>(
     requires script_works { T.failed script.old ≡ false }
     ensures played { (bytes : List ℕ) → R.left reader.old ≡ Some bytes
         → (later : List ℕ) × (R.left reader.new ≡ Some later)
-        × IsPlay (IsPlayed K.held K.keeps slot.old slot.new bytes later (R.failed reader.new)
+        × IsPlay (IsPlayed (slot_tells K.held K.keeps K.puts K.gets K.hears) slot.old slot.new bytes later (R.failed reader.new)
         (S.failed screen.new || T.failed script.new) machine.old) result
         (S.failed screen.new || T.failed script.new) (S.taken screen.old)
         (S.taken screen.new) (T.taken script.old) (T.taken script.new) }
-    ensures answered { IsPlay (IsAnswered R.ends R.fails R.failed reader.old reader.new
+    ensures answered { IsPlay (IsAnswered (slot_tells K.held K.keeps K.puts K.gets K.hears)
+        (source_tells R.ends R.fails R.gives R.failed) slot.old slot.new reader.old reader.new
         (S.failed screen.new || T.failed script.new) machine.old) result
         (S.failed screen.new || T.failed script.new) (S.taken screen.old) (S.taken screen.new)
         (T.taken script.old) (T.taken script.new) }
     ensures read_failed { R.failed reader.new ≡ true → result ≡ Stop.Read }
     ensures stopped { machine.new.stopped ≡ Some result }
-    ensures whole { (S.failed screen.new || T.failed script.new) ≡ false → S.whole screen.new }
+    ensures whole { (S.failed screen.new || T.failed script.new) ≡ false
+        → S.whole screen.new × T.whole script.new }
     ensures limits { machine.new.limits ≡ machine.old.limits }
     ensures within { IsWithin machine.new.limits machine.new.state }
 {
@@ -290,7 +314,10 @@ pub fn play<R: Source, S: Target, T: Target, K: SaveSlot>(
             Err(stop) => return stop,
         };
         match next_line(&mut lines, reader, machine) {
-            Input::Line(codes) => answer(machine, event, codes.as_slice()),
+            Input::Line(codes) => {
+                screen.begin_line();
+                answer(machine, event, codes.as_slice());
+            }
             Input::End => return close(machine, Stop::EndOfInput),
             Input::Failed => return close(machine, Stop::Read),
         }

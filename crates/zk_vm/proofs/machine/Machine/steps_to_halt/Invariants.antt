@@ -1,4 +1,4 @@
-use Rattle.std.proofs.Common.{◌≡◌, ◌≤◌}
+use Rattle.std.proofs.Common.{◌≡◌, ◌≤◌, false}
 use Rattle.zk_vm.proofs.Following.{Follows}
 use Rattle.zk_vm.proofs.machine.Machine.steps_to_halt.Given as goal
 
@@ -8,5 +8,6 @@ invariant-loop-i g l = record {
   reads : l.self.state.reads ≡ l.fn.self.state.reads;
   more : l.fn.self.state.steps ≤ l.self.state.steps;
   count : l._i ≤ l.self.state.steps;
+  works : g.S.Screen.failed l.screen ≡ false;
   limit : l._i-end ≡ l.fn.self.limits.steps;
 }
