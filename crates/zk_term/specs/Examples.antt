@@ -5,6 +5,7 @@ use Rattle.zk_term.specs.declared.lines.Over.TheVariants as over
 use Rattle.zk_term.specs.declared.windows.Window.TheVariants.{Lower, Upper}
 use Rattle.zk_term.specs.Characters.{characters_of, line_codes}
 use Rattle.zk_term.specs.Lines.{Heard, heard}
+use Rattle.zk_term.specs.OpenLines.{rest_of_words}
 use Rattle.zk_term.specs.Wrapping.{wrapped}
 use Rattle.zk_term.specs.Windows.{Windows, first_windows, split, window_selected, cleared, unsplit, line_erased, cursor_set, next_row, printed, row_text}
 
@@ -311,6 +312,15 @@ LinesBeginAnew =
     × (wrapped 5 (codes "abc" ++ 10 ∷ codes "de fg") ≡ codes "abc" ++ 10 ∷ codes "de fg")
     × (wrapped 5 (codes "abc de" ++ 10 ∷ codes "fgh ij")
     ≡ codes "abc" ++ 10 ∷ codes "de" ++ 10 ∷ codes "fgh" ++ 10 ∷ codes "ij")
+
+-- the rest of a text goes on in the open line, by how many columns are left there: a word of which something has gone out
+-- stays in the line
+abbrev pub LinesGoOn : Type 0
+LinesGoOn =
+    (rest_of_words 10 5 [] (codes "ef gh") ≡ codes "ef gh")
+    × (rest_of_words 10 5 [] (codes "ef ghi") ≡ codes "ef" ++ 10 ∷ codes "ghi")
+    × (rest_of_words 10 2 [] (codes "efgh i") ≡ codes "efgh" ++ 10 ∷ codes "i")
+    × (rest_of_words 10 0 [] (codes " ef") ≡ 10 ∷ codes "ef")
 
 -- bytes that begin no character take no column, but a word of more than 1,023 bytes does not fit
 abbrev pub WordsOfManyBytes : Type 0

@@ -1,6 +1,6 @@
 // A source whose bytes are shown.
 
-ghost use Rattle.std.specs.Prelude.{◌≡◌, ◌<◌, ◌≤◌, ◌||◌, length, is_err, take, IfOk, OnErr, false};
+ghost use Rattle.std.specs.Prelude.{◌≡◌, ◌<◌, ◌≤◌, ◌||◌, length, is_err, take, IfOk, OnErr, true, false};
 ghost use Rattle.std.specs.Io.{ReadsAtMost};
 ghost use Rattle.std.specs.Io.KnownBytes.{ReadConsumes};
 ghost use Rattle.zk_term.specs.Echoes.{in_line_after, shown_of, TookAll};
@@ -90,7 +90,26 @@ impl<I: Source, S: Target> Source for Echo<I, S> {
 
     ghost ends = { λ a b. I.ends a.input b.input };
 
-    fn read(&mut self, buffer: &mut [u8]) -> Result<usize, Failed> {
+    fn read(&mut self, buffer: &mut [u8]) -> Result<usize, Failed>
+        ensures count { ReadsAtMost result buffer.new }
+        ensures bytes { ReadConsumes (I.left self.old.input) (I.left self.new.input) result buffer.new }
+        ensures failed { I.failed self.new.input ≡ (is_err result || I.failed self.old.input) }
+        ensures fails { OnErr result (I.fails self.old.input self.new.input) }
+        ensures gives { IfOk result
+            (λ n. I.gives self.old.input self.new.input (take n buffer.new)) }
+        ensures ends { 0 < length buffer.new → IfOk result
+            (λ n. n ≡ 0 → I.ends self.old.input self.new.input) }
+        ensures is_on { self.new.is_on ≡ self.old.is_on }
+        ensures one { self.old.is_on ≡ true → 0 < length buffer.new → IfOk result (λ n. n ≤ 1) }
+        ensures shown { self.old.is_on ≡ true → 0 < length buffer.new → IfOk result
+            (λ n. TookAll (S.taken self.old.screen) (S.taken self.new.screen)
+            (S.failed self.new.screen) (shown_of (take n buffer.new) self.old.in_line)
+            × (self.new.in_line ≡ in_line_after (take n buffer.new))) }
+        ensures unshown { OnErr result ((self.new.screen ≡ self.old.screen)
+            × (self.new.in_line ≡ self.old.in_line)) }
+        ensures off { self.old.is_on ≡ false → (self.new.screen ≡ self.old.screen)
+            × (self.new.in_line ≡ self.old.in_line) }
+    {
         if self.is_on && !buffer.is_empty() {
             return self.read_shown(buffer);
         }

@@ -2,7 +2,7 @@
 
 ghost use Rattle.zk_term.specs.Examples.{CharactersOfEachLength, StrayBytes, CodesOfALine, QuestionMarks, CodesByAnOwnTable, LongLines, NewLinesEndLines, ReturnsBeforeNewLines, TooManyBytes};
 ghost use Rattle.zk_term.specs.Examples.{WindowsAtTheStart, CharactersOfARow, NewLinesGoDown, TheLastColumn, BelowTheHeight, SplitsEmptyRows, HeightsOfSplits, SplitsAndTheCursor, SelectedWindows, CursorsOnTheGrid, RestsOfRows, ClearedWindows, UnsplitWindows, TextsOfRows};
-ghost use Rattle.zk_term.specs.Examples.{CharactersAreColumns, LinesBeginAnew, LongWordsStandAlone, RowsAreNotWrapped, SpacesInARow, WordsFillALine, WordsOfManyBytes};
+ghost use Rattle.zk_term.specs.Examples.{CharactersAreColumns, LinesBeginAnew, LinesGoOn, LongWordsStandAlone, RowsAreNotWrapped, SpacesInARow, WordsFillALine, WordsOfManyBytes};
 
 /// The characters of bytes in UTF-8, and bytes that are none.
 pub fn characters_by_example()
@@ -64,5 +64,6 @@ pub fn wrapped_by_example()
     ensures spaces_in_a_row { SpacesInARow }
     ensures rows_are_not_wrapped { RowsAreNotWrapped }
     ensures lines_begin_anew { LinesBeginAnew }
+    ensures lines_go_on { LinesGoOn }
     ensures words_of_many_bytes { WordsOfManyBytes }
 {}
