@@ -43,6 +43,4 @@ impl Target for Nothing {
     fn flush(&mut self) -> Result<(), Failed> {
         Ok(())
     }
-
-    fn begin_line(&mut self) {}
 }

@@ -90,6 +90,4 @@ impl<W: Write> Target for Over<W> {
             }
         }
     }
-
-    fn begin_line(&mut self) {}
 }

@@ -46,7 +46,8 @@ pub trait Target {
         requires whole { whole self.old }
         ensures bytes { taken self.new ≡ taken self.old }
         ensures failed { failed self.new ≡ failed self.old }
-        ensures whole { whole self.new };
+        ensures whole { whole self.new }
+    {}
 }
 
 /// Writes all bytes, or where a write fails a first part of them. `Failed` says that the last write failed.

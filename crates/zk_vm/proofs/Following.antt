@@ -136,47 +136,77 @@ pub follows_cut : {S : Type 0} (shows : S → S → List ℕ → List ℕ → Ty
 follows_cut {S} shows failed first now next old s new on runs silent free room works broken stepped =
     let made = goes_step s new (λ (t : Texts). shows now next t.screen t.script) stepped in
     let left = left_goes s new (verdict_of s.state (step s.state)) (state_after s.state (step s.state)) made.0 made.1 in
-    let alone = led_alone shows first now old s on silent in
-    (refl, ap (λ (m : Session). m.waiting) left ∙ free, (on.led.text, (text_of s.state (step s.state), (record {
-      runs = runs;
-      steps = on.led.steps;
-      few = few_led shows first now old s on room;
-      end = s.state;
-      behind = on.led.text;
-      leads = alone.0;
-      goes = goes_by_halt (verdict_of s.state (step s.state)) made.0;
-      there = ap (λ (m : Session). m.state) left;
-      shown_before = alone.1;
-      shown_last = refl;
-    }, (now, (on.led.shown, λ e. works, made.2, broken))))))
+    let alone = led_alone shows first now old s on silent in (
+      refl,
+      ap (λ (m : Session). m.waiting) left ∙ free,
+      (
+        on.led.text,
+        (
+          text_of s.state (step s.state),
+          (
+            record {
+              runs = runs;
+              steps = on.led.steps;
+              few = few_led shows first now old s on room;
+              end = s.state;
+              behind = on.led.text;
+              leads = alone.0;
+              goes = goes_by_halt (verdict_of s.state (step s.state)) made.0;
+              there = ap (λ (m : Session). m.state) left;
+              shown_before = alone.1;
+              shown_last = refl;
+            },
+            (now, (on.led.shown, λ e. works, made.2, broken)),
+          ),
+        ),
+      ),
+    )
 
 -- or at the step that ends the run
 pub follows_end_at_once : {S : Type 0} (shows : S → S → List ℕ → List ℕ → Type 0) (failed : S → Bool) (first now last : S) (old s new : Session) (h : Halt) → Follows shows first now old s → old.state.due ≡ [] → s.state.steps < s.limits.steps
     → failed now ≡ false → IsStep s new (Err h) (λ t. shows now last t.screen t.script) → StopsAtOnce shows failed first last old h
 follows_end_at_once {S} shows failed first now last old s new h on silent room works (inl stepped) = λ sound broken.
     let alone = led_alone shows first now old s on silent in
-    inr (on.led.text, (text_of s.state (step s.state), (record {
-      steps = on.led.steps;
-      few = few_led shows first now old s on room;
-      end = s.state;
-      behind = on.led.text;
-      leads = alone.0;
-      shown_before = alone.1;
-      ends = inl (stepped.0, refl);
-    }, (now, (on.led.shown, λ e. works, stepped.2, broken)))))
+    inr (
+      on.led.text,
+      (
+        text_of s.state (step s.state),
+        (
+          record {
+            steps = on.led.steps;
+            few = few_led shows first now old s on room;
+            end = s.state;
+            behind = on.led.text;
+            leads = alone.0;
+            shown_before = alone.1;
+            ends = inl (stepped.0, refl);
+          },
+          (now, (on.led.shown, λ e. works, stepped.2, broken)),
+        ),
+      ),
+    )
 follows_end_at_once {S} shows failed first now last old s new h on silent room works (inr keeps) = λ sound broken.
     let alone = led_alone shows first now old s on silent in
     let tells = keeps.0 in
     let is : h ≡ Err stops.Memory = cc in
-    inr (on.led.text, (no_text, (record {
-      steps = on.led.steps;
-      few = few_led shows first now old s on room;
-      end = s.state;
-      behind = on.led.text;
-      leads = alone.0;
-      shown_before = alone.1;
-      ends = inr (is, refl);
-    }, (now, (on.led.shown, λ e. works, keeps.2.1, broken)))))
+    inr (
+      on.led.text,
+      (
+        no_text,
+        (
+          record {
+            steps = on.led.steps;
+            few = few_led shows first now old s on room;
+            end = s.state;
+            behind = on.led.text;
+            leads = alone.0;
+            shown_before = alone.1;
+            ends = inr (is, refl);
+          },
+          (now, (on.led.shown, λ e. works, keeps.2.1, broken)),
+        ),
+      ),
+    )
 
 -- or it has not
 pub never_fails : {S : Type 0} (shows : S → S → List ℕ → List ℕ → Type 0) (failed : S → Bool) (first now : S) (old : Session) (h : Halt) → failed now ≡ false → StopsAtOnce shows failed first now old h

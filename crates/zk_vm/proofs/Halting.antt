@@ -207,12 +207,21 @@ once_due {S} shows twice failed a b c old answer first works h = λ sound broken
     go : (answer ≡ Err stops.Write) ⊎ ((before : Texts) × ((last : Texts) × (EndsAtStep (told_due old) before last answer × FailsAt shows failed b c before last)))
         → (answer ≡ Err stops.Write) ⊎ ((before : Texts) × ((last : Texts) × (EndsAtStep old before last answer × FailsAt shows failed a c before last)))
     go (inl e) = inl e
-    go (inr (before, (last, (ends, fails)))) = inr (text_joined (on_script old.state.due) before, (last, (record {
-      steps = ends.steps;
-      few = ends.few;
-      end = ends.end;
-      behind = ends.behind;
-      leads = ends.leads;
-      shown_before = ap (text_joined (on_script old.state.due)) ends.shown_before;
-      ends = ends.ends;
-    }, fails_due shows twice failed a b c old.state.due before last first works fails)))
+    go (inr (before, (last, (ends, fails)))) = inr (
+      text_joined (on_script old.state.due) before,
+      (
+        last,
+        (
+          record {
+            steps = ends.steps;
+            few = ends.few;
+            end = ends.end;
+            behind = ends.behind;
+            leads = ends.leads;
+            shown_before = ap (text_joined (on_script old.state.due)) ends.shown_before;
+            ends = ends.ends;
+          },
+          fails_due shows twice failed a b c old.state.due before last first works fails,
+        ),
+      ),
+    )

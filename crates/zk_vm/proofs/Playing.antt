@@ -452,9 +452,14 @@ pub record Stays (Last : List Answer → Session → Type 0) (Lacking : List Ans
 by_slot : {K X : Type 0} (tells : SlotTells K) (Reads : X → X → Session → List ℕ → Type 0) (unwritten : Bool) (before mid after : K) (x y : X) (over : Over) (Last : List Answer → Session → Type 0) (Lacking : List Answer → Type 0) → Stays Last Lacking → (s : Session) (a : Answer) → IsSlotAnswer tells before mid (ran s) a
     → (o : Outcome) (first : Texts) → IsOutcomeBy tells Reads unwritten mid after x y over Last Lacking (given (ran s) a) o first → IsOutcomeBy tells Reads unwritten before after x y over Last Lacking s (shown_before (segment_of s).text o) (text_joined (segment_of s).text first)
 by_slot tells Reads unwritten before mid after x y over Last Lacking stays s a is o first (answers, (are, shown, on)) =
-    let w = file_asked s (slot_asks tells before mid (ran s) a is) in
-    (a ∷ answers, (answers_slot tells Reads unwritten before mid after x y s a answers is are, shown_first a answers s first shown,
-    on_outcome a answers over (Last answers (given_all answers (given (ran s) a))) (Last (a ∷ answers) (given_all (a ∷ answers) s)) (Lacking answers) (Lacking (a ∷ answers)) s w.0 o w.1 (λ h. last_behind a answers s Last (stays.last a answers _ h)) (stays.lacking a answers) on))
+    let w = file_asked s (slot_asks tells before mid (ran s) a is) in (
+      a ∷ answers,
+      (
+        answers_slot tells Reads unwritten before mid after x y s a answers is are,
+        shown_first a answers s first shown,
+        on_outcome a answers over (Last answers (given_all answers (given (ran s) a))) (Last (a ∷ answers) (given_all (a ∷ answers) s)) (Lacking answers) (Lacking (a ∷ answers)) s w.0 o w.1 (λ h. last_behind a answers s Last (stays.last a answers _ h)) (stays.lacking a answers) on,
+      ),
+    )
 
 by_slots : {K X : Type 0} (tells : SlotTells K) (Reads : X → X → Session → List ℕ → Type 0) (unwritten : Bool) (answers : List Answer) (before mid after : K) (x y : X) (over : Over) (Last : List Answer → Session → Type 0) (Lacking : List Answer → Type 0) → Stays Last Lacking → (s : Session) → AreSlotAnswers tells false before mid s answers → (AsksForFile (ran (given_all answers s)) → ⊥)
     → (o : Outcome) (first : Texts) → IsOutcomeBy tells Reads unwritten mid after x y over Last Lacking (given_all answers s) o first → IsOutcomeBy tells Reads unwritten before after x y over Last Lacking s (shown_before (shown_up_to answers s) o) (text_joined (shown_up_to answers s) first)
@@ -472,9 +477,14 @@ by_line : {K X : Type 0} (tells : SlotTells K) (Reads : X → X → Session → 
     → ((answers : List Answer) (end : Session) → Last answers end → Last' (Typed codes ∷ answers) end) → ((answers : List Answer) → Lacking answers → Lacking' (Typed codes ∷ answers))
     → (o : Outcome) (first : Texts) → IsOutcomeBy tells Reads unwritten before after mid y over Last Lacking (given (ran s) (Typed codes)) o first → IsOutcomeBy tells Reads unwritten before after x y over Last' Lacking' s (shown_before (segment_of s).text o) (text_joined (segment_of s).text first)
 by_line tells Reads unwritten before after x mid y over Last Last' Lacking Lacking' s codes asks read last lacking o first (answers, (are, shown, on)) =
-    let w = line_asked s asks in
-    (Typed codes ∷ answers, (answers_line tells Reads unwritten before after x mid y s codes answers asks read are, shown_first (Typed codes) answers s first shown,
-    on_outcome (Typed codes) answers over (Last answers (given_all answers (given (ran s) (Typed codes)))) (Last' (Typed codes ∷ answers) (given_all (Typed codes ∷ answers) s)) (Lacking answers) (Lacking' (Typed codes ∷ answers)) s w.0 o w.1 (λ h. last_behind (Typed codes) answers s Last' (last answers _ h)) (lacking answers) on))
+    let w = line_asked s asks in (
+      Typed codes ∷ answers,
+      (
+        answers_line tells Reads unwritten before after x mid y s codes answers asks read are,
+        shown_first (Typed codes) answers s first shown,
+        on_outcome (Typed codes) answers over (Last answers (given_all answers (given (ran s) (Typed codes)))) (Last' (Typed codes ∷ answers) (given_all (Typed codes ∷ answers) s)) (Lacking answers) (Lacking' (Typed codes ∷ answers)) s w.0 o w.1 (λ h. last_behind (Typed codes) answers s Last' (last answers _ h)) (lacking answers) on,
+      ),
+    )
 
 -- ---- what is told of a source
 
@@ -516,9 +526,16 @@ heard_on bytes next later line true how h left (inr (e, ends)) sound k = absurd 
 
 played_line : {K : Type 0} (tells : SlotTells K) (before after : K) (line bytes next later : List ℕ) (how : Option Over) (failed unwritten : Bool) (s : Session) (codes : List ℕ) → AsksForLine (ran s) → IsNextLine bytes next line how → (how ≡ Some End → failed ≡ false) → codes ≡ codes_read (ran s) line
     → (o : Outcome) (first : Texts) → IsPlayed tells before after next later failed unwritten (given (ran s) (Typed codes)) o first → IsPlayed tells before after bytes later failed unwritten s (shown_before (segment_of s).text o) (text_joined (segment_of s).text first)
-played_line tells before after line bytes next later how failed unwritten s codes asks comes sound read o first (h, (left, (is, by))) =
-    (behind line h, (left, (heard_on bytes next later line failed how h left comes sound is,
-    by_line tells ReadsLine unwritten before after (line ∷ h.lines) h.lines left h.over _ (λ answers end. IsLastAnswered unwritten left end) (λ answers. Unit {0}) (λ answers. Unit {0}) s codes asks (line, (refl, read)) (λ answers end k. k) (λ answers k. k) o first by)))
+played_line tells before after line bytes next later how failed unwritten s codes asks comes sound read o first (h, (left, (is, by))) = (
+  behind line h,
+  (
+    left,
+    (
+      heard_on bytes next later line failed how h left comes sound is,
+      by_line tells ReadsLine unwritten before after (line ∷ h.lines) h.lines left h.over _ (λ answers end. IsLastAnswered unwritten left end) (λ answers. Unit {0}) (λ answers. Unit {0}) s codes asks (line, (refl, read)) (λ answers end k. k) (λ answers k. k) o first by,
+    ),
+  ),
+)
 
 -- ---- a machine that an answer has stopped
 
@@ -557,9 +574,14 @@ given_none Last s h = h
 by_stopped : {K X : Type 0} (tells : SlotTells K) (Reads : X → X → Session → List ℕ → Type 0) (unwritten : Bool) (before after : K) (x y : X) (over : Over) (Last : List Answer → Session → Type 0) (Lacking : List Answer → Type 0) → IsStill Last → (m s : Session) (stop : Stop) → m.stopped ≡ Some stop → s.stopped ≡ Some stop
     → (o : Outcome) (first : Texts) → IsOutcomeBy tells Reads unwritten before after x y over Last Lacking m o first → IsOutcomeBy tells Reads unwritten before after x y over Last Lacking s o first
 unfolding AreAnswers
-by_stopped tells Reads unwritten before after x y over Last Lacking still m s stop e f o first ([], (are, shown, on)) =
-    ([], ((last_stopped tells unwritten before after m s stop e are.0, are.1), stopped_shows m first shown s,
-    outcome_of_stopped [] over (Last [] (given_all [] m)) (Last [] (given_all [] s)) (Lacking []) m s stop o e f (λ h. given_none Last s (still [] m s (no_line m stop e) (no_line s stop f) (none_given Last m h))) on))
+by_stopped tells Reads unwritten before after x y over Last Lacking still m s stop e f o first ([], (are, shown, on)) = (
+  [],
+  (
+    (last_stopped tells unwritten before after m s stop e are.0, are.1),
+    stopped_shows m first shown s,
+    outcome_of_stopped [] over (Last [] (given_all [] m)) (Last [] (given_all [] s)) (Lacking []) m s stop o e f (λ h. given_none Last s (still [] m s (no_line m stop e) (no_line s stop f) (none_given Last m h))) on,
+  ),
+)
 by_stopped tells Reads unwritten before after x y over Last Lacking still m s stop e f o first (Typed codes ∷ answers, (are, shown, on)) = absurd (no_line m stop e are.1.0)
 by_stopped tells Reads unwritten before after x y over Last Lacking still m s stop e f o first (GameKept kept ∷ answers, (are, shown, on)) = absurd (no_file m stop e (slot_asks tells before are.0 (ran m) (GameKept kept) are.1.0))
 by_stopped tells Reads unwritten before after x y over Last Lacking still m s stop e f o first (File file ∷ answers, (are, shown, on)) = absurd (no_file m stop e (slot_asks tells before are.0 (ran m) (File file) are.1.0))
@@ -666,7 +688,7 @@ on_answered tells reads start mid_reader last unwritten before mid_slot after Wh
     let over = p.0 in
     let here = by_left tells ReadsCodes unwritten mid_slot after tt tt over (IsLastRead reads mid_reader last unwritten over) (IsLeftAlone mid_reader last) (read_still reads mid_reader last unwritten over) next (given (ran end) (Typed codes)) _ refl left_here o first p.1 in
     let line = by_line tells ReadsCodes unwritten mid_slot after tt tt tt over (IsLastRead reads mid_reader last unwritten over) (IsLastRead reads start last unwritten over) (IsLeftAlone mid_reader last) (IsLeftAlone start last) end codes t.asks typed
-        (λ answers e h. (h.0, λ never. not_alone start last codes answers)) (λ answers h. not_alone start last codes answers) o first here in
+    (λ answers e h. (h.0, λ never. not_alone start last codes answers)) (λ answers h. not_alone start last codes answers) o first here in
     (over, by_slots tells ReadsCodes unwritten t.answers before mid_slot after tt tt over (IsLastRead reads start last unwritten over) (IsLeftAlone start last) (read_stays reads start last unwritten over) now t.gives (not_file _ t.asks) _ _ line))
 
 -- what is played after a turn and a line
@@ -753,9 +775,11 @@ begins_so s text (before, (last, (to, (inl h, e)))) =
     let last_is = text_of h.end (step h.end) in
     let here : (segment_of s).text ≡ text_joined due (steps_of (told_due s)).text = ap (λ (g : Segment). g.text) (segment_is s h.runs) in
     let parts : (steps_of (told_due s)).text ≡ text_joined h.behind (text_joined last_is more) =
-    ap (λ (n : ℕ). (segment n (record s.state { due = [] })).text) all ∙ segment_leads h.steps (suc k) _ _ _ h.leads ∙ ap (text_joined h.behind) (goes_first k h.end h.goes) in
-    (more, here ∙ ap (text_joined due) parts ∙ same_text due h.behind (text_joined last_is more) ∙ same_text (text_joined due h.behind) last_is more
-    ∙ ap (λ (u : Texts). text_joined u more) (ap (λ (b : Texts). text_joined b last_is) (sym h.shown_before) ∙ ap (text_joined before) (sym h.shown_last) ∙ sym e))
+    ap (λ (n : ℕ). (segment n (record s.state { due = [] })).text) all ∙ segment_leads h.steps (suc k) _ _ _ h.leads ∙ ap (text_joined h.behind) (goes_first k h.end h.goes) in (
+      more,
+      here ∙ ap (text_joined due) parts ∙ same_text due h.behind (text_joined last_is more) ∙ same_text (text_joined due h.behind) last_is more
+          ∙ ap (λ (u : Texts). text_joined u more) (ap (λ (b : Texts). text_joined b last_is) (sym h.shown_before) ∙ ap (text_joined before) (sym h.shown_last) ∙ sym e),
+    )
 begins_so s text (before, (last, (to, (inr h, e)))) =
     ((steps_of (told_due s)).text, ap (λ (g : Segment). g.text) (segment_is s h.0) ∙ ap (λ (u : Texts). text_joined u (steps_of (told_due s)).text) (sym (e ∙ ap (λ (b : Texts). text_joined b last) h.1 ∙ h.2)))
 

@@ -18,13 +18,13 @@ pub trait SaveSlot {
     ghost keeps: { Self → List ℕ → Option Bool };
 
     // that it was asked to keep a file, and whether it did
-    ghost puts: { Self → Self → List ℕ → Bool → Type 0 };
+    ghost puts: { Self → Self → List ℕ → Bool → Type 0 } = { λ _ _ _ _. Unit {0} };
 
     // that it was asked for the file that it has, and gave it
-    ghost gets: { Self → Self → Option (List ℕ) → Type 0 };
+    ghost gets: { Self → Self → Option (List ℕ) → Type 0 } = { λ _ _ _. Unit {0} };
 
     // that it was told why that file is refused
-    ghost hears: { Self → Self → RestoreError → Type 0 };
+    ghost hears: { Self → Self → RestoreError → Type 0 } = { λ _ _ _. Unit {0} };
 
     /// Keeps a file in place of the one before, or answers that it is not kept; then the one before stays.
     fn put(&mut self, file: &[u8]) -> bool
@@ -60,8 +60,6 @@ impl SaveSlot for NoSlot {
     ghost puts = { λ _ _ _ kept. kept ≡ false };
 
     ghost gets = { λ _ _ file. file ≡ None };
-
-    ghost hears = { λ _ _ _. Unit {0} };
 
     fn put(&mut self, _file: &[u8]) -> bool {
         false
