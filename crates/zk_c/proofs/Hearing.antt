@@ -84,7 +84,7 @@ not_heard_by : (t : ExtraTable) (bytes later : List ℕ) (how : Option Over) (fa
     → (result ≡ input.End) ⊎ (result ≡ input.Failed) → Hears t bytes later how failed sound result → ⊥
 not_heard_by t bytes later how failed sound result is some never (inl e) h = not_end bytes some (subst (λ (r : Input). Hears t bytes later how failed sound r) e h).0
 not_heard_by t bytes later how failed sound result is some never (inr e) h =
-    elim (subst (λ (r : Input). Hears t bytes later how failed sound r) e h) [ inl x ↦ never x.0 | inr x ↦ not_too_long bytes is some x.1 ]
+    elim (subst (λ (r : Input). Hears t bytes later how failed sound r) e h) [ inl x ↦ never x.0 | inr x ↦ not_too_long bytes is some (ap heard x.1.whole ∙ are_lines.too_long x.1.part later x.1.plain x.1.long) ]
 
 pub not_heard : (t : ExtraTable) (ahead bytes later : List ℕ) (how : Option Over) (failed sound : Type 0) (result : Input) → ahead ≡ [] → is_line bytes ≡ true → (length bytes == 0) ≡ false → (failed → ⊥)
     → (result ≡ input.End) ⊎ (result ≡ input.Failed) → Hears t (ahead ++ bytes) later how failed sound result → ⊥

@@ -24,13 +24,15 @@ struct Typed<'a> {
 }
 
 impl Source for Typed<'_> {
-    ghost use Rattle.std.specs.Prelude.{Some, false};
+    ghost use Rattle.std.specs.Prelude.{◌≡◌, ◌++◌, Some, false};
 
     ghost left = { λ t. Some t.rest.now };
 
     ghost failed = { λ _. false };
 
     ghost fails = { λ _ _. ⊥ };
+
+    ghost gives = { λ a b bytes. a.rest.now ≡ bytes ++ b.rest.now };
 
     ghost ends = { λ _ _. Unit {0} };
 

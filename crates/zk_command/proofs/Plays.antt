@@ -10,8 +10,9 @@ use Rattle.zk_vm.specs.declared.stop.Stop.TheVariants.{Write}
 use Rattle.zk_term.specs.declared.lines.Over.TheVariants.{End}
 use Rattle.zk_term.specs.Lines.{heard}
 use Rattle.zk_vm.specs.Halts.{event_waited}
-use Rattle.zk_vm.specs.Outcome.{Outcome, Session, given_all, outcome, ran}
-use Rattle.zk_vm.specs.Plays.{ArePlayed, IsAnswered, IsPlay, IsPlayed, stop_waiting}
+use Rattle.zk_step.specs.Routing.{Texts, no_text}
+use Rattle.zk_vm.specs.Outcome.{Outcome, Session, given_all, outcome, ran, shown_up_to}
+use Rattle.zk_vm.specs.Plays.{AreAnswers, IsAnswered, IsPlay, IsPlayed, SlotTells, SourceTells, stop_waiting}
 use Rattle.zk_vm.proofs.Playing.{heard_whole}
 
 -- what a write took of no bytes
@@ -49,33 +50,23 @@ shows_failed old new text h = record {
 }
 
 -- a play after a write of no bytes to the script
-pub after_none : (Is : Outcome → Type 0) (stop : Stop) (unwritten : Bool) (screen0 screen1 script0 between script1 : Option (List ℕ)) → Appends script0 between []
+pub after_none : (Is : Outcome → Texts → Type 0) (stop : Stop) (unwritten : Bool) (screen0 screen1 script0 between script1 : Option (List ℕ)) → Appends script0 between []
     → IsPlay Is stop unwritten screen0 screen1 between script1 → IsPlay Is stop unwritten screen0 screen1 script0 script1
 after_none Is stop unwritten screen0 screen1 script0 between script1 h p = record {
   outcome = p.outcome;
+  first = p.first;
+  second = p.second;
   is = p.is;
+  whole = p.whole;
   stops = p.stops;
-  screen = p.screen;
-  script = shows_twice (record { taken = script0; failed = false }) (record { taken = between; failed = false }) (record { taken = script1; failed = unwritten }) [] p.outcome.text.script (shows_none script0 between h) p.script;
-}
-
--- a play whose script failed at that write
-pub unwritten : (Is : Outcome → Type 0) (o : Outcome) (a b : Bool) (screen script0 script1 : Option (List ℕ)) → Is o → b ≡ true → Appends script0 script1 []
-    → IsPlay Is Write (a || b) screen screen script0 script1
-unwritten Is o a false screen script0 script1 is e h = absurd cc
-unwritten Is o true true screen script0 script1 is e h = record {
-  outcome = o;
-  is = is;
-  stops = refl;
-  screen = shows_failed screen screen o.text.screen (Appends-nil screen);
-  script = shows_failed script0 script1 o.text.script h;
-}
-unwritten Is o false true screen script0 script1 is e h = record {
-  outcome = o;
-  is = is;
-  stops = refl;
-  screen = shows_failed screen screen o.text.screen (Appends-nil screen);
-  script = shows_failed script0 script1 o.text.script h;
+  took = record {
+    screen = p.took.screen;
+    script = p.took.script;
+    screen_first = p.took.screen_first;
+    script_first = shows_twice (record { taken = script0; failed = false }) (record { taken = between; failed = false }) (record { taken = p.took.script; failed = false }) [] p.first.script (shows_none script0 between h) p.took.script_first;
+    screen_second = p.took.screen_second;
+    script_second = p.took.script_second;
+  };
 }
 
 -- one of two writes has failed
@@ -83,16 +74,37 @@ pub failed_or : (a b : Bool) → b ≡ true → (a || b) ≡ true
 failed_or true b e = refl
 failed_or false b e = e
 
--- a play without an answer, where a write has failed
-pub none_played : {K : Type 0} (held : K → Option (Option (List ℕ))) (keeps : K → List ℕ → Option Bool) (slot : K) (bytes later : List ℕ) (failed unwritten : Bool) (m : Session) → failed ≡ false → unwritten ≡ true
-    → IsPlayed held keeps slot slot bytes later failed unwritten m (outcome [] (stop_waiting (event_waited (ran (given_all [] m)).waiting) (heard bytes).over) m)
-unfolding ArePlayed
-none_played {K} held keeps slot bytes later failed unwritten m sound e =
-    (heard bytes, ([], ((heard bytes).lines, (heard_whole bytes later failed (heard bytes).lines sound, ((inl refl, refl), inl (refl, λ f. absurd cc))))))
+-- a play whose script failed at that write
+pub unwritten : (Is : Outcome → Texts → Type 0) (o : Outcome) (a b : Bool) (screen script0 script1 : Option (List ℕ)) → Is o no_text → b ≡ true → Appends script0 script1 []
+    → IsPlay Is Write (a || b) screen screen script0 script1
+unwritten Is o a b screen script0 script1 is e h = rw (failed_or a b e) (record {
+  outcome = o;
+  first = no_text;
+  second = o.text;
+  is = is;
+  whole = refl;
+  stops = refl;
+  took = record {
+    screen = screen;
+    script = script0;
+    screen_first = shows_none screen screen (Appends-nil screen);
+    script_first = shows_none script0 script0 (Appends-nil script0);
+    screen_second = shows_failed screen screen o.text.screen (Appends-nil screen);
+    script_second = shows_failed script0 script1 o.text.script h;
+  };
+})
 
-pub none_answered : {R : Type 0} (ends fails : R → R → Type 0) (failed : R → Bool) (reader : R) (unwritten : Bool) (m : Session) → unwritten ≡ true
-    → IsAnswered ends fails failed reader reader unwritten m (outcome [] (stop_waiting (event_waited (ran (given_all [] m)).waiting) End) m)
-none_answered ends fails failed reader unwritten m e = ([], (End, (tt, ((λ none asks. refl), inl (refl, λ f. absurd cc)))))
+-- a play without an answer, where a write has failed
+pub none_played : {K : Type 0} (tells : SlotTells K) (slot : K) (bytes later : List ℕ) (failed unwritten : Bool) (m : Session) → failed ≡ false → unwritten ≡ true
+    → IsPlayed tells slot slot bytes later failed unwritten m (outcome [] (stop_waiting (event_waited (ran (given_all [] m)).waiting) (heard bytes).over) m) no_text
+unfolding AreAnswers shown_up_to
+none_played {K} tells slot bytes later failed unwritten m sound e =
+    (heard bytes, ((heard bytes).lines, (heard_whole bytes later failed (heard bytes).lines sound, ([], ((inl refl, refl), refl, inl (refl, λ f. absurd cc))))))
+
+pub none_answered : {K R : Type 0} (tells : SlotTells K) (reads : SourceTells R) (slot : K) (reader : R) (unwritten : Bool) (m : Session) → unwritten ≡ true
+    → IsAnswered tells reads slot slot reader reader unwritten m (outcome [] (stop_waiting (event_waited (ran (given_all [] m)).waiting) End) m) no_text
+unfolding AreAnswers shown_up_to
+none_answered tells reads slot reader unwritten m e = (End, ([], ((inl refl, refl), refl, inl (refl, (λ f. absurd cc, λ never none. refl)))))
 
 pub not_true : (x : Bool) (A : Type 0) → x ≡ false → x ≡ true → A
 not_true x A h k = absurd cc

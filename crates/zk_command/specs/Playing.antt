@@ -5,7 +5,8 @@ use Rattle.zk_term.specs.Devices.{Device, device}
 use Rattle.zk_vm.specs.declared.stop.Stop.{Stop}
 use Rattle.zk_vm.specs.declared.stop.Stop.TheVariants.{Memory, Read}
 use Rattle.zk_vm.specs.Outcome.{Outcome, Session, begun}
-use Rattle.zk_vm.specs.Plays.{IsPlay, IsPlayed, IsAnswered}
+use Rattle.zk_step.specs.Routing.{Texts}
+use Rattle.zk_vm.specs.Plays.{IsPlay, IsPlayed, IsAnswered, SlotTells, SourceTells}
 use Rattle.zk_command.specs.LastLine.{TookExplained, last_line}
 use Rattle.zk_command.specs.Status.{exit_status}
 use Rattle.zk_command.specs.declared.exit.Exit.{Exit}
@@ -28,8 +29,8 @@ pub record DeviceStates : Type 0 where
 -- What became of the devices of a play: what it may have been played on where a write has failed or not, by answers, and by
 -- the bytes of an input of which some are left; and what the devices told before it and after it.
 pub record Play : Type 1 where
-  pub answered : Bool → Session → Outcome → Type 0
-  pub played : List ℕ → List ℕ → Bool → Bool → Session → Outcome → Type 0
+  pub answered : Bool → Session → Outcome → Texts → Type 0
+  pub played : List ℕ → List ℕ → Bool → Bool → Session → Outcome → Texts → Type 0
   pub old : DeviceStates
   pub new : DeviceStates
 
@@ -42,13 +43,12 @@ states_of {I} {S} {T} {K} left unread seen screen_failed written script_failed d
 }
 
 -- a play on devices, by what an input, a screen, a script and a slot for saved games tell
-abbrev pub play_on : {I S T K : Type 0} → (I → Option (List ℕ)) → (I → Bool) → (I → I → Type 0) → (I → I → Type 0) → (S → Option (List ℕ)) → (S → Bool) → (T → Option (List ℕ)) → (T → Bool)
-    → (K → Option (Option (List ℕ))) → (K → List ℕ → Option Bool) → Devices I S T K → Devices I S T K → Play
-play_on {I} {S} {T} {K} left unread ends fails seen screen_failed written script_failed held keeps old new = record {
-  answered = IsAnswered ends fails unread old.input new.input;
-  played = IsPlayed held keeps old.slot new.slot;
-  old = states_of left unread seen screen_failed written script_failed old;
-  new = states_of left unread seen screen_failed written script_failed new;
+abbrev pub play_on : {I S T K : Type 0} → (I → Option (List ℕ)) → SourceTells I → (S → Option (List ℕ)) → (S → Bool) → (T → Option (List ℕ)) → (T → Bool) → SlotTells K → Devices I S T K → Devices I S T K → Play
+play_on {I} {S} {T} {K} left input seen screen_failed written script_failed slot old new = record {
+  answered = IsAnswered slot input old.slot new.slot old.input new.input;
+  played = IsPlayed slot old.slot new.slot;
+  old = states_of left input.failed seen screen_failed written script_failed old;
+  new = states_of left input.failed seen screen_failed written script_failed new;
 }
 
 -- no device has failed

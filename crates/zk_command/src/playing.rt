@@ -3,6 +3,7 @@
 ghost use Rattle.std.specs.Prelude.{◌≡◌, false};
 ghost use Rattle.zk_term.specs.Devices.{device};
 ghost use Rattle.zk_vm.specs.Bounds.{AreInRange};
+ghost use Rattle.zk_vm.specs.Plays.{slot_tells, source_tells};
 ghost use Rattle.zk_command.specs.Playing.{EndsPlay, IsReported, Work, play_on};
 
 use crate::about::About;
@@ -50,8 +51,9 @@ pub fn play_file<R: Read + Drop, I: Source, S: Target, T: Target, K: SaveSlot>(
 ) -> Exit
     requires in_range { AreInRange settings.limits }
     requires works { Work I.failed S.failed T.failed devices.old }
-    ensures { EndsPlay (play_on I.left I.failed I.ends I.fails S.taken S.failed T.taken T.failed
-        K.held K.keeps devices.old devices.new) (R.remaining reader) settings result }
+    ensures { EndsPlay (play_on I.left (source_tells I.ends I.fails I.gives I.failed) S.taken
+        S.failed T.taken T.failed (slot_tells K.held K.keeps K.puts K.gets K.hears) devices.old
+        devices.new) (R.remaining reader) settings result }
 {
     let story = match open_story(alloc, reader, about) {
         Ok(story) => story,
@@ -95,8 +97,9 @@ pub fn play_and_report<R: Read + Drop, I: Source, S: Target, T: Target, K: SaveS
     requires in_range { AreInRange settings.limits }
     requires works { Work I.failed S.failed T.failed devices.old }
     requires errors_work { E.failed errors.old ≡ false }
-    ensures { IsReported (EndsPlay (play_on I.left I.failed I.ends I.fails S.taken S.failed
-        T.taken T.failed K.held K.keeps devices.old devices.new) (R.remaining reader) settings)
+    ensures { IsReported (EndsPlay (play_on I.left (source_tells I.ends I.fails I.gives I.failed)
+        S.taken S.failed T.taken T.failed (slot_tells K.held K.keeps K.puts K.gets K.hears)
+        devices.old devices.new) (R.remaining reader) settings)
         (device E.taken E.failed errors.old) (device E.taken E.failed errors.new) result }
 {
     let exit = play_file(alloc, reader, about, settings, devices);

@@ -24,12 +24,12 @@ returns g c =
       elim c.match-write.branch [
         | in-Err-write w ↦ rw (w.stop-is, w.devices-is) (inl (record {
           answered = unwritten _ (outcome [] (stop_waiting (event_waited (ran (given_all [] m)).waiting) End) m) _ _ _ _ _
-              (none_answered g.I.Source.ends g.I.Source.fails g.I.Source.failed c.args.devices.now.input _ m (failed_or _ _ w.in-Err-write.ensures.failed)) w.in-Err-write.ensures.failed (failed_none _ _ w.in-Err-write.ensures.bytes);
+              (none_answered _ _ c.args.devices.now.slot c.args.devices.now.input _ m (failed_or _ _ w.in-Err-write.ensures.failed)) w.in-Err-write.ensures.failed (failed_none _ _ w.in-Err-write.ensures.bytes);
           played = λ bytes told. (
             bytes,
             told,
             unwritten _ (outcome [] (stop_waiting (event_waited (ran (given_all [] m)).waiting) (heard bytes).over) m) _ _ _ _ _
-                (none_played g.K.SaveSlot.held g.K.SaveSlot.keeps c.args.devices.now.slot bytes bytes _ _ m c.requires.works.input (failed_or _ _ w.in-Err-write.ensures.failed)) w.in-Err-write.ensures.failed (failed_none _ _ w.in-Err-write.ensures.bytes),
+                (none_played _ c.args.devices.now.slot bytes bytes _ _ m c.requires.works.input (failed_or _ _ w.in-Err-write.ensures.failed)) w.in-Err-write.ensures.failed (failed_none _ _ w.in-Err-write.ensures.bytes),
           );
           unread = not_true _ _ c.requires.works.input;
         }))
