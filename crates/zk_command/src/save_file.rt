@@ -8,6 +8,7 @@ use std::fs::{self, File, OpenOptions, Permissions};
 use std::io::{self, ErrorKind, Read, Write};
 use std::os::unix::fs::OpenOptionsExt;
 use thiserror::Error;
+use zk_save::restore::RestoreError;
 use zk_vm::slot::SaveSlot;
 
 /// The longest file that is a saved game: what is longer counts as none.
@@ -219,4 +220,6 @@ impl SaveSlot for SaveFile<'_> {
         };
         find_in(self.rt, alloc, path)
     }
+
+    fn refuse(&mut self, _error: RestoreError) {}
 }

@@ -3,7 +3,7 @@ use Rattle.zk_term.specs.Lines.{heard}
 use Rattle.zk_term.specs.declared.lines.Over.TheVariants.{End}
 use Rattle.zk_vm.specs.Halts.{event_waited}
 use Rattle.zk_vm.specs.Outcome.{Session, begun, given_all, outcome, ran}
-use Rattle.zk_vm.specs.Plays.{stop_waiting}
+use Rattle.zk_vm.specs.Plays.{source_tells, stop_waiting}
 use Rattle.zk_command.proofs.Plays.{after_none, failed_none, failed_or, none_answered, none_played, not_true, took_none, unwritten}
 use Rattle.zk_command.proofs.playing.play_file.Goals as goal
 use Rattle.zk_command.proofs.playing.play_file.Goals.{in-Err-write, in-Ok-write}
@@ -24,7 +24,7 @@ returns g c =
       elim c.match-write.branch [
         | in-Err-write w ↦ rw (w.stop-is, w.devices-is) (inl (record {
           answered = unwritten _ (outcome [] (stop_waiting (event_waited (ran (given_all [] m)).waiting) End) m) _ _ _ _ _
-              (none_answered _ _ c.args.devices.now.slot c.args.devices.now.input _ m (failed_or _ _ w.in-Err-write.ensures.failed)) w.in-Err-write.ensures.failed (failed_none _ _ w.in-Err-write.ensures.bytes);
+              (none_answered _ (source_tells g.I.Source.ends g.I.Source.fails g.I.Source.gives g.I.Source.failed) c.args.devices.now.slot c.args.devices.now.input _ m (failed_or _ _ w.in-Err-write.ensures.failed)) w.in-Err-write.ensures.failed (failed_none _ _ w.in-Err-write.ensures.bytes);
           played = λ bytes told. (
             bytes,
             told,
