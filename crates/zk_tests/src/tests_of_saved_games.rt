@@ -8,6 +8,7 @@ use std::test::Fail;
 use zk_command::about::About;
 use zk_command::playing::{Devices, play_file};
 use zk_command::settings::Settings;
+use zk_save::restore::RestoreError;
 use zk_term::nothing::Nothing;
 use zk_term::over::Over;
 use zk_vm::slot::SaveSlot;
@@ -32,6 +33,8 @@ impl SaveSlot for MemorySlot {
     fn get(&mut self, alloc: Global) -> Result<Option<Vec<u8>>, AllocError> {
         Ok(Some(Vec::from_slice(alloc, self.file.as_slice())?))
     }
+
+    fn refuse(&mut self, _error: RestoreError) {}
 }
 
 /// A story's code with what is typed, and the file of the slot.
