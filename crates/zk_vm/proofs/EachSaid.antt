@@ -1,10 +1,12 @@
--- What is said of each step of a run is said of each state that its steps lead to.
-use Rattle.std.proofs.Common.{◌≡◌, ◌∙◌, ◌<◌, ◌≤◌, ◌-◌, ℕ, zero, suc, Bool, true, false, List, [], ◌∷◌, Option, Some, None, Result, Ok, Err, refl, ap, sym, subst, arith}
+-- What is said of each step of a run is said of each state that its steps lead to, and of how it stops.
+use Rattle.std.proofs.Common.{◌≡◌, ◌∙◌, ◌<◌, ◌≤◌, ◌-◌, ℕ, zero, suc, Bool, true, false, List, [], ◌∷◌, Option, Some, None, Result, Ok, Err, refl, ap, sym, subst, arith, length, nat_lt}
+use Rattle.std.specs.Prelude.{if◌then◌else◌}
 use Rattle.zk_mem.specs.declared.fault.Fault.{Fault}
 use Rattle.zk_mem.specs.Map.{MemoryMap}
 use Rattle.zk_state.specs.declared.refusal.Refusal.{Refusal}
 use Rattle.zk_state.specs.declared.refusal.Refusal.TheVariants as refusal
-use Rattle.zk_state.specs.Frames.{FrameList, within_bounds}
+use Rattle.zk_state.specs.declared.refusal.Limit.TheVariants.{Frames, Reads, Words}
+use Rattle.zk_state.specs.Frames.{FrameList, frames_of, total_of, within_bounds}
 use Rattle.zk_code.specs.declared.instr.Instr.{Instr}
 use Rattle.zk_save.specs.declared.restore.RestoreError.{RestoreError}
 use Rattle.zk_save.specs.declared.restore.RestoreError.TheVariants as restore_error
@@ -15,15 +17,19 @@ use Rattle.zk_step.specs.declared.ending.Next.TheVariants as next
 use Rattle.zk_step.specs.declared.ending.Wait.{Wait}
 use Rattle.zk_step.specs.declared.ending.Wait.TheVariants as wait
 use Rattle.zk_step.specs.declared.game_state.GameState.{GameState}
+use Rattle.zk_step.specs.declared.game_state.View.{View}
 use Rattle.zk_step.specs.Inputs.{character_answered, line_answered, result_answered}
+use Rattle.zk_step.specs.Laws.{is_of_reading}
 use Rattle.zk_step.specs.Routing.{Texts, no_text, text_joined}
 use Rattle.zk_vm.specs.declared.limits.Limits.{Limits}
 use Rattle.zk_vm.specs.declared.stop.Stop.{Stop}
+use Rattle.zk_vm.specs.declared.stop.Stop.TheVariants as stop
+use Rattle.zk_vm.specs.declared.stop.Stop.TheVariants.{Fault as FaultAt, Limit as LimitAt}
 use Rattle.zk_vm.specs.declared.waiting.Waiting.{Waiting}
 use Rattle.zk_vm.specs.Answers.{Answer, answer_settled, answered, answered_by, codes_of, file_of, first_code, is_kept, restored_from, restored_to, transcribed, truth_word}
-use Rattle.zk_vm.specs.Inside.{EachIsSaid, EachOfRun, EachStep, NoneEnds, NoneLast, Onward}
-use Rattle.zk_vm.specs.Outcome.{Leads, Segment, Session, begun, continued, given, given_all, given_to, ran, resumed, segment, segment_by, segment_of}
-use Rattle.zk_vm.specs.Step.{State, Step, Verdict, goes_by, goes_to, state_after, step, text_of, verdict_of}
+use Rattle.zk_vm.specs.Inside.{CleanStopsRead, EachIsSaid, EachOfRun, EachStep, IsNoFault, IsRead, NoneEnds, NoneLast, Onward, StaysClean, StopsRead, never, never_ends}
+use Rattle.zk_vm.specs.Outcome.{Leads, Outcome, Segment, Session, begun, continued, followed, given, given_all, given_to, outcome, ran, resumed, segment, segment_by, segment_of}
+use Rattle.zk_vm.specs.Step.{State, Step, Verdict, goes_by, goes_to, is_past_reads, state_after, step, text_of, verdict_of}
 use Rattle.zk_vm.specs.Step.Step.{Goes, Waits, Quits, Faults, Exceeds}
 use Rattle.zk_vm.specs.Step.Verdict.{GoesOn, WaitsFor, StopsBy}
 use Rattle.zk_vm.proofs.Outcomes.{ran_waiting}
@@ -170,3 +176,136 @@ module _ (At : State → Type 0) (is_last : State → Bool) (ends : State → Wa
       let s = given_all answers (begun story seed l view) in
       let few : n < l.steps - s.state.steps = subst (λ (m : Limits). n < m.steps - s.state.steps) k.limits there.0 in
       each_said (λ t w. Unit {0}) n (l.steps - s.state.steps) (record s.state { due = [] }) end there.1.0 (k.each runs) (none_of n s (omega (arith, there.0)) before) there.1.1 few
+
+-- ---- how a run stops
+
+within_no_fault : (s : FrameList) (f : Fault) → within_bounds s ≡ Err (refusal.Fault f) → ⊥
+unfolding within_bounds
+within_no_fault s f h = go (nat_lt s.most_frames (length (frames_of s))) (nat_lt s.most_words (total_of s)) h
+  where
+    go : (b c : Bool) → (if b then Err (refusal.Limit Frames) else (if c then Err (refusal.Limit Words) else Ok s)) ≡ Err (refusal.Fault f) → ⊥
+    go true c k = absurd cc
+    go false true k = absurd cc
+    go false false k = absurd cc
+
+none_ends : (answers : List Answer) (s : Session) → NoneEnds never never_ends answers s
+none_ends [] s = tt
+none_ends (a ∷ answers) s = (λ k t few there. refl, λ w waits. refl, none_ends answers (given (ran s) a))
+
+module _ (P : ℕ → Type 0) where
+  -- a stop is no fault of reading at an address of the set
+  abbrev IsReadStop : Stop → Type 0
+  IsReadStop (FaultAt a f) = P a → is_of_reading f ≡ false
+  IsReadStop _ = Unit {0}
+
+  abbrev IsReadOn : Verdict → Type 0
+  IsReadOn GoesOn = Unit {0}
+  IsReadOn (WaitsFor w) = Unit {0}
+  IsReadOn (StopsBy stop) = IsReadStop stop
+
+  abbrev IsReadEnd : Result Waiting Stop → Type 0
+  IsReadEnd (Ok w) = Unit {0}
+  IsReadEnd (Err stop) = IsReadStop stop
+
+  abbrev IsReadBy : Option Stop → Type 0
+  IsReadBy None = Unit {0}
+  IsReadBy (Some stop) = IsReadStop stop
+
+  goes_read : (place : ℕ) (r : Result FrameList Refusal) → ((f : Fault) → r ≡ Err (refusal.Fault f) → ⊥) → IsReadOn (goes_by place r)
+  goes_read place (Ok u) h = tt
+  goes_read place (Err (refusal.Limit m)) h = tt
+  goes_read place (Err (refusal.Fault f)) h = absurd (h f refl)
+
+  waits_read : (b : Bool) (place : ℕ) (w : Waiting) → IsReadOn (if b then StopsBy (LimitAt place Reads) else WaitsFor w)
+  waits_read true place w = tt
+  waits_read false place w = tt
+
+  -- a step that is no fault of reading stops by none
+  step_read : (s : State) (x : Step) → (P s.place → (f : Fault) → x ≡ Faults f → is_of_reading f ≡ false) → IsReadOn (verdict_of s x)
+  step_read s (Goes t text) h = goes_read s.place (within_bounds t.game.frames) (within_no_fault t.game.frames)
+  step_read s (Waits t w text) h = waits_read (is_past_reads s.reads w.wait) s.place w
+  step_read s (Quits text) h = tt
+  step_read s (Faults f) h = λ inside. h inside f refl
+  step_read s (Exceeds l) h = tt
+
+  continued_read : (v : Verdict) (t : State) (text : Texts) (g : Segment) → IsReadOn v → (v ≡ GoesOn → IsReadEnd g.end) → IsReadEnd (continued v t text g).end
+  continued_read GoesOn t text g h rest = rest refl
+  continued_read (WaitsFor w) t text g h rest = tt
+  continued_read (StopsBy stop) t text g h rest = h
+
+  segment_read : (Rest : State → Waiting → Type 0) (left : ℕ) (s : State) → EachStep (IsRead P) never Rest left s → IsReadEnd (segment left s).end
+  unfolding segment
+  segment_read Rest zero s h = tt
+  segment_read Rest (suc left) s h =
+      continued_read (verdict_of s (step s)) (state_after s (step s)) (text_of s (step s)) (segment left (state_after s (step s))) (step_read s (step s) h.0)
+      (λ on. segment_read Rest left (state_after s (step s)) (subst (λ (v : Verdict). Onward v (EachStep (IsRead P) never Rest left (state_after s (step s))) (Rest (state_after s (step s)))) on (h.1 refl)))
+
+  -- the run of a machine that has no stop, or one that is read
+  abbrev SaysRead : Limits → List Answer → Session → Type 0
+  SaysRead l answers s = Says (IsRead P) never never_ends l answers s × IsReadBy s.stopped
+
+  first_step : (l : Limits) (answers : List Answer) (s : State) → EachOfRun (IsRead P) never never_ends l answers s → (Rest : State → Waiting → Type 0) × EachStep (IsRead P) never Rest (l.steps - s.steps) (record s { due = [] })
+  first_step l [] s h = (λ t w. Unit {0}, h)
+  first_step l (a ∷ answers) s h = (Behind (IsRead P) never never_ends l answers a, h)
+
+  by_read : (l : Limits) (answers : List Answer) (x : Option Stop) (s : Session) → s.limits ≡ l → (x ≡ None → EachOfRun (IsRead P) never never_ends l answers s.state) → IsReadBy x → IsReadEnd (segment_by x s.limits s.state).end
+  by_read l answers (Some stop) s same each h = h
+  by_read l answers None s same each h =
+      let first = first_step l answers s.state (each refl) in
+      segment_read first.0 (s.limits.steps - s.state.steps) (record s.state { due = [] })
+      (subst (λ (k : Limits). EachStep (IsRead P) never first.0 (k.steps - s.state.steps) (record s.state { due = [] })) (sym same) first.1)
+
+  run_read : (l : Limits) (answers : List Answer) (s : Session) → SaysRead l answers s → IsReadEnd (segment_of s).end
+  unfolding segment_of
+  run_read l answers s h = by_read l answers s.stopped s h.0.limits h.0.each h.1
+
+  resumed_read : (s : Session) (v : Verdict) (t : State) → IsReadBy s.stopped → IsReadOn v → IsReadBy (resumed s v t).stopped
+  resumed_read s GoesOn t h on = h
+  resumed_read s (WaitsFor w) t h on = h
+  resumed_read s (StopsBy stop) t h on = on
+
+  ran_stopped : (s : Session) (w : Waiting) → (segment_of s).end ≡ Ok w → (ran s).stopped ≡ s.stopped
+  unfolding ran
+  ran_stopped s w h = rw h refl
+
+  module _ (later : (s : State) (w : Waiting) (a : Answer) (f : Fault) → answered s w a ≡ Faults f → is_of_reading f ≡ false) where
+    says_read_on : (l : Limits) (answers : List Answer) (s : Session) (a : Answer) (w : Waiting) → SaysRead l (a ∷ answers) s → (segment_of s).end ≡ Ok w → SaysRead l answers (given (ran s) a)
+    says_read_on l answers s a w h e = (
+      says_on (IsRead P) never never_ends l answers s a h.0 (none_ends (a ∷ answers) s),
+      subst (λ (t : Session). IsReadBy t.stopped) (sym (given_waiting s a w e))
+          (resumed_read (ran s) (verdict_of (ran s).state (answered (ran s).state w a)) (state_after (ran s).state (answered (ran s).state w a))
+          (subst IsReadBy (sym (ran_stopped s w e)) h.1)
+          (step_read (ran s).state (answered (ran s).state w a) (λ inside f faults. later (ran s).state w a f faults))),
+    )
+
+    followed_read : (r : Result Waiting Stop) (text : Texts) (rest : Outcome) → IsReadEnd r → ((w : Waiting) → r ≡ Ok w → IsReadStop rest.stop) → IsReadStop (followed r text rest).stop
+    followed_read (Ok w) text rest h on = on w refl
+    followed_read (Err stop) text rest h on = h
+
+    outcome_read : (l : Limits) (answers : List Answer) (end : Stop) (s : Session) → SaysRead l answers s → IsReadStop end → IsReadStop (outcome answers end s).stop
+    unfolding outcome
+    outcome_read l [] end s h last = followed_read (segment_of s).end (segment_of s).text (record { stop = end; text = no_text }) (run_read l [] s h) (λ w e. last)
+    outcome_read l (a ∷ answers) end s h last =
+        followed_read (segment_of s).end (segment_of s).text (outcome answers end (given (ran s) a)) (run_read l (a ∷ answers) s h)
+        (λ w e. outcome_read l answers end (given (ran s) a) (says_read_on l answers s a w h e) last)
+
+  no_fault_read : (stop : Stop) → IsNoFault stop → IsReadStop stop
+  no_fault_read stop.Quit h = tt
+  no_fault_read (FaultAt a f) h = absurd h
+  no_fault_read (LimitAt a m) h = tt
+  no_fault_read stop.EndOfInput h = tt
+  no_fault_read stop.Read h = tt
+  no_fault_read stop.Write h = tt
+  no_fault_read stop.Memory h = tt
+
+  begun_read : (story : List ℕ) (seed : ℕ) (l : Limits) (view : View) (answers : List Answer) → StaysClean story P → SaysRead l answers (begun story seed l view)
+  unfolding begun
+  begun_read story seed l view answers clean = (record { limits = refl; each = λ e. clean.read seed l view answers }, tt)
+
+  pub stops_read : (story : List ℕ) → StaysClean story P → StopsRead story P
+  unfolding StopsRead
+  stops_read story clean seed l view answers end a f other e inside =
+      subst IsReadStop e (outcome_read clean.answers l answers end (begun story seed l view) (begun_read story seed l view answers clean) (no_fault_read end other)) inside
+
+pub clean_stops_read : CleanStopsRead
+clean_stops_read story is_in clean = stops_read (λ a. is_in a ≡ true) story clean

@@ -16,9 +16,11 @@ use Rattle.zk_step.specs.declared.game_state.View.{View}
 use Rattle.zk_step.specs.Laws.{KeepsStory, ReturnInto, is_of_reading}
 use Rattle.zk_step.specs.Routing.{Texts}
 use Rattle.zk_vm.specs.declared.limits.Limits.{Limits}
+use Rattle.zk_vm.specs.declared.stop.Stop.{Stop}
+use Rattle.zk_vm.specs.declared.stop.Stop.TheVariants.{Fault as FaultAt}
 use Rattle.zk_vm.specs.declared.waiting.Waiting.{Waiting}
 use Rattle.zk_vm.specs.Answers.{Answer, answered, file_of}
-use Rattle.zk_vm.specs.Outcome.{Leads, Session, begun, given, given_all, ran}
+use Rattle.zk_vm.specs.Outcome.{Leads, Session, begun, given, given_all, outcome, ran}
 use Rattle.zk_vm.specs.Step.{State, Verdict, step, state_after, verdict_of}
 use Rattle.zk_vm.specs.Step.Step.{Faults}
 use Rattle.zk_vm.specs.Step.Verdict.{GoesOn, WaitsFor, StopsBy}
@@ -110,6 +112,21 @@ pub record StaysClean (story : List ℕ) (P : ℕ → Type 0) : Type 0 where
 -- so it is for each clean set
 abbrev pub CleanStays : Type 0
 CleanStays = (story : List ℕ) (undo_states : ℕ) (is_in : ℕ → Bool) → refusal story ≡ None → IsClean (fresh story undo_states) (λ a. is_in a ≡ true) → StaysClean story (λ a. is_in a ≡ true)
+
+-- a stop that is no fault
+abbrev pub IsNoFault : Stop → Type 0
+IsNoFault (FaultAt a f) = ⊥
+IsNoFault _ = Unit {0}
+
+-- no run of a story stops at an address of a set by a fault of reading the instruction there, whatever answers it gets; where
+-- it finds none, its stop is another
+unfoldable pub StopsRead : List ℕ → (ℕ → Type 0) → Type 0
+StopsRead story P = (seed : ℕ) (l : Limits) (view : View) (answers : List Answer) (end : Stop) (a : ℕ) (f : Fault) → IsNoFault end →
+    (outcome answers end (begun story seed l view)).stop ≡ FaultAt a f → P a → is_of_reading f ≡ false
+
+-- so it is where runs stay clean
+abbrev pub CleanStopsRead : Type 0
+CleanStopsRead = (story : List ℕ) (is_in : ℕ → Bool) → StaysClean story (λ a. is_in a ≡ true) → StopsRead story (λ a. is_in a ≡ true)
 
 -- a machine makes a step from a state, as the one after n others since its last answer
 abbrev pub StepsFrom : ℕ → Session → State → Type 0

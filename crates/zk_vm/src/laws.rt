@@ -3,7 +3,7 @@
 ghost use Rattle.std.specs.Prelude.{Bool};
 ghost use Rattle.zk_vm.specs.declared.waiting.Waiting.{Waiting};
 ghost use Rattle.zk_vm.specs.Answers.{Answer};
-ghost use Rattle.zk_vm.specs.Inside.{CleanStays, EachIsSaid};
+ghost use Rattle.zk_vm.specs.Inside.{CleanStays, CleanStopsRead, EachIsSaid};
 ghost use Rattle.zk_vm.specs.Laws.{RunsStayWithin, StepLimitOnlyCuts, StepLimitCutsThere, FrameLimitsOnlyCut, LimitsCutThere, StepLimitOnlyCutsRuns, FrameLimitsOnlyCutRuns, LimitsCutRuns};
 ghost use Rattle.zk_vm.specs.Step.{State};
 
@@ -53,6 +53,11 @@ pub fn limits_cut_runs()
 /// instruction; and from the static base on memory always has the bytes of the story file.
 pub fn clean_stays()
     ensures { CleanStays }
+{}
+
+/// Where runs stay clean in a set of addresses, none stops at an address of it by a fault of reading the instruction there.
+pub fn clean_stops_read()
+    ensures { CleanStopsRead }
 {}
 
 /// What may hold of a state of play, for a law about all that may.
