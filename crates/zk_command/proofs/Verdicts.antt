@@ -16,9 +16,10 @@ use Rattle.zk_inspect.specs.declared.finding.Number.{Number}
 use Rattle.zk_inspect.specs.declared.finding.Number.TheVariants.{UndecodableCode, TargetOutOfTheStory, CodeBelowTheStaticBase}
 use Rattle.zk_inspect.specs.Findings.{AreFindings, Finds}
 use Rattle.zk_inspect.proofs.FindingLaw.{findings_are_all}
-use Rattle.zk_vm.specs.Inside.{StaysClean}
+use Rattle.zk_vm.specs.Inside.{StopsRead}
 use Rattle.zk_vm.proofs.CleanRuns.{stays_clean}
-use Rattle.zk_command.specs.Verdict.{IsStart}
+use Rattle.zk_vm.proofs.EachSaid.{stops_read}
+use Rattle.zk_command.specs.Verdict.{CleanWhereNone, HasCleanRuns, IsStart}
 
 module _ (m : MemoryMap) (bytes : HasBytes m) (none : (n : Number) (a : ℕ) → Finds m n a → ⊥) where
   found : (a : ℕ) (r : Result Instr Fault) → IsReached m a → instr_at m a ≡ r → (i : Instr) × IsInstruction m a i i.next
@@ -35,9 +36,17 @@ module _ (m : MemoryMap) (bytes : HasBytes m) (none : (n : Number) (a : ℕ) →
     above = λ a b i reached stands low. none CodeBelowTheStaticBase a (record { next = b; instr = i; reached = reached; stands = stands; low = low });
   }
 
-pub clean_where_none : (m : MemoryMap) (fs : List Finding) → HasBytes m → IsStart m → AreFindings m fs → fs ≡ [] → StaysClean m.file (IsReached m)
-clean_where_none m fs bytes start h e =
-    stays_clean m.file m.undo_states (IsReached m) start.story (subst (λ (n : MemoryMap). IsClean n (IsReached m)) start.fresh_is (clean m bytes ((findings_are_all m fs h).none.0 e)))
+pub has_clean_runs : (m : MemoryMap) (fs : List Finding) → HasBytes m → IsStart m → AreFindings m fs → fs ≡ [] → HasCleanRuns m
+has_clean_runs m fs bytes start h e =
+    let code = clean m bytes ((findings_are_all m fs h).none.0 e) in
+    let runs = stays_clean m.file m.undo_states (IsReached m) start.story (subst (λ (n : MemoryMap). IsClean n (IsReached m)) start.fresh_is code) in
+    record { code = code; runs = runs; stops = stops_read (IsReached m) m.file runs }
+
+pub stops_where_none : (m : MemoryMap) (fs : List Finding) → HasBytes m → IsStart m → AreFindings m fs → fs ≡ [] → StopsRead m.file (IsReached m)
+stops_where_none m fs bytes start h e = (has_clean_runs m fs bytes start h e).stops
+
+pub clean_where_none : CleanWhereNone
+clean_where_none m bytes start h = has_clean_runs m [] bytes start h refl
 
 -- a memory that was started from a story is at its start
 pub starts : (m : MemoryMap) (story : List ℕ) (k : ℕ) → m ≡ fresh story k → refusal story ≡ None → IsStart m

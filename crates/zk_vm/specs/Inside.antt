@@ -16,9 +16,11 @@ use Rattle.zk_step.specs.declared.game_state.View.{View}
 use Rattle.zk_step.specs.Laws.{KeepsStory, ReturnInto, is_of_reading}
 use Rattle.zk_step.specs.Routing.{Texts}
 use Rattle.zk_vm.specs.declared.limits.Limits.{Limits}
+use Rattle.zk_vm.specs.declared.stop.Stop.{Stop}
+use Rattle.zk_vm.specs.declared.stop.Stop.TheVariants.{Fault as FaultAt}
 use Rattle.zk_vm.specs.declared.waiting.Waiting.{Waiting}
 use Rattle.zk_vm.specs.Answers.{Answer, answered, file_of}
-use Rattle.zk_vm.specs.Outcome.{Leads, begun, given_all}
+use Rattle.zk_vm.specs.Outcome.{Leads, Session, begun, given, given_all, outcome, ran}
 use Rattle.zk_vm.specs.Step.{State, Verdict, step, state_after, verdict_of}
 use Rattle.zk_vm.specs.Step.Step.{Faults}
 use Rattle.zk_vm.specs.Step.Verdict.{GoesOn, WaitsFor, StopsBy}
@@ -111,8 +113,38 @@ pub record StaysClean (story : List ℕ) (P : ℕ → Type 0) : Type 0 where
 abbrev pub CleanStays : Type 0
 CleanStays = (story : List ℕ) (undo_states : ℕ) (is_in : ℕ → Bool) → refusal story ≡ None → IsClean (fresh story undo_states) (λ a. is_in a ≡ true) → StaysClean story (λ a. is_in a ≡ true)
 
--- what is said of each step of a run is said of each state from which a step is made, after whatever answers
-abbrev pub EachIsSaid : Type 0
-EachIsSaid = (story : List ℕ) (seed : ℕ) (l : Limits) (view : View) (answers : List Answer) (is_so : State → Bool) (n : ℕ) (end : State) (text : Texts) →
-    EachOfRun (λ s. is_so s ≡ true) never never_ends l answers (begun story seed l view).state → (given_all answers (begun story seed l view)).stopped ≡ None →
-    Leads n (record (given_all answers (begun story seed l view)).state { due = [] }) end text → n < l.steps - (given_all answers (begun story seed l view)).state.steps → is_so end ≡ true
+-- a stop that is no fault
+abbrev pub IsNoFault : Stop → Type 0
+IsNoFault (FaultAt a f) = ⊥
+IsNoFault _ = Unit {0}
+
+-- no run of a story stops at an address of a set by a fault of reading the instruction there, whatever answers it gets; where
+-- it finds none, its stop is another
+unfoldable pub StopsRead : List ℕ → (ℕ → Type 0) → Type 0
+StopsRead story P = (seed : ℕ) (l : Limits) (view : View) (answers : List Answer) (end : Stop) (a : ℕ) (f : Fault) → IsNoFault end →
+    (outcome answers end (begun story seed l view)).stop ≡ FaultAt a f → P a → is_of_reading f ≡ false
+
+-- so it is where runs stay clean
+abbrev pub CleanStopsRead : Type 0
+CleanStopsRead = (story : List ℕ) (is_in : ℕ → Bool) → StaysClean story (λ a. is_in a ≡ true) → StopsRead story (λ a. is_in a ≡ true)
+
+-- a machine makes a step from a state, as the one after n others since its last answer
+abbrev pub StepsFrom : ℕ → Session → State → Type 0
+StepsFrom n s t = (n < s.limits.steps - s.state.steps) × ((text : Texts) × Leads n (record s.state { due = [] }) t text)
+
+-- none of the steps that a machine makes before its n-th is the last
+abbrev pub NoneLast : (State → Bool) → ℕ → Session → Type 0
+NoneLast is_last n s = (k : ℕ) (t : State) → k < n → StepsFrom k s t → is_last t ≡ false
+
+-- no step that a machine makes for some answers is the last, and none of these answers is
+abbrev pub NoneEnds : (State → Bool) → (State → Waiting → Answer → Bool) → List Answer → Session → Type 0
+NoneEnds is_last ends [] s = Unit {0}
+NoneEnds is_last ends (a ∷ answers) s =
+    NoneLast is_last (s.limits.steps - s.state.steps) s × ((w : Waiting) → (ran s).waiting ≡ Some w → ends (ran s).state w a ≡ false) × NoneEnds is_last ends answers (given (ran s) a)
+
+-- what is said of each step of a run is so in each state from which a step is made, after whatever answers, as long as no
+-- step before it and no answer was the last
+abbrev pub EachIsSaid : (State → Type 0) → (State → Bool) → (State → Waiting → Answer → Bool) → Type 0
+EachIsSaid At is_last ends = (story : List ℕ) (seed : ℕ) (l : Limits) (view : View) (answers : List Answer) (n : ℕ) (end : State) →
+    EachOfRun At is_last ends l answers (begun story seed l view).state → (given_all answers (begun story seed l view)).stopped ≡ None →
+    NoneEnds is_last ends answers (begun story seed l view) → NoneLast is_last n (given_all answers (begun story seed l view)) → StepsFrom n (given_all answers (begun story seed l view)) end → At end

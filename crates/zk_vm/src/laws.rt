@@ -1,7 +1,11 @@
 // Laws of runs.
 
-ghost use Rattle.zk_vm.specs.Inside.{CleanStays, EachIsSaid};
+ghost use Rattle.std.specs.Prelude.{Bool};
+ghost use Rattle.zk_vm.specs.declared.waiting.Waiting.{Waiting};
+ghost use Rattle.zk_vm.specs.Answers.{Answer};
+ghost use Rattle.zk_vm.specs.Inside.{CleanStays, CleanStopsRead, EachIsSaid};
 ghost use Rattle.zk_vm.specs.Laws.{RunsStayWithin, StepLimitOnlyCuts, StepLimitCutsThere, FrameLimitsOnlyCut, LimitsCutThere, StepLimitOnlyCutsRuns, FrameLimitsOnlyCutRuns, LimitsCutRuns};
+ghost use Rattle.zk_vm.specs.Step.{State};
 
 /// Every state that a run passes, whatever answers it gets, has no more frames, words, steps, reads and states to go back
 /// to than its limits say.
@@ -51,7 +55,22 @@ pub fn clean_stays()
     ensures { CleanStays }
 {}
 
-/// What is said of each step of a run is said of each state from which a step is made, whatever answers the run gets.
-pub fn each_is_said()
-    ensures { EachIsSaid }
+/// Where runs stay clean in a set of addresses, none stops at an address of it by a fault of reading the instruction there.
+pub fn clean_stops_read()
+    ensures { CleanStopsRead }
+{}
+
+/// What may hold of a state of play, for a law about all that may.
+pub trait Holds {
+    ghost use Rattle.zk_vm.specs.Step.{State};
+
+    // that it holds
+    ghost at: { State → Type 0 };
+}
+
+/// What is said of each step of a run holds of each state from which a step is made, whatever answers the run gets, up to a
+/// step or an answer that is the last of which it is said.
+pub fn each_is_said<H: Holds>()
+    ensures { (is_last : State → Bool) (ends : State → Waiting → Answer → Bool) →
+        EachIsSaid H.at is_last ends }
 {}
