@@ -16,6 +16,10 @@ pub record IsListed (m : MemoryMap) (o entry : ℕ) : Type 0 where
   pub stands : entry_of m o ≡ Ok entry
   pub below : (p table : ℕ) → p < o → table_of m p ≡ Ok table → entry < table
 
+-- an object of a story
+abbrev pub IsObject : MemoryMap → ℕ → Type 0
+IsObject m o = (entry : ℕ) × IsListed m o entry
+
 -- a link of an object names an object that is not listed
 pub record LeadsPast (m : MemoryMap) (o : ℕ) : Type 0 where
   pub named : ℕ

@@ -1,11 +1,13 @@
 -- The lines of the tree of objects (Standard, section 12.3). What a line looks like is zkit's choice.
-use Rattle.std.specs.Prelude.{◌≡◌, ℕ, Bool, true, false, List, ◌++◌, Result, Ok, Err, codes, decimal, if◌then◌else◌}
+use Rattle.std.specs.Prelude.{◌≡◌, ◌<◌, ◌≤◌, ℕ, Bool, true, false, List, All, Contains, ◌++◌, Result, Ok, Err, codes, decimal, if◌then◌else◌}
 use Rattle.std.specs.List.{flat_map, range_with_len}
 use Rattle.zk_mem.specs.Map.{MemoryMap}
+use Rattle.zk_tables.specs.Links.{link_at, parent_of}
 use Rattle.zk_inspect.specs.declared.error.ListError.{ListError}
 use Rattle.zk_inspect.specs.declared.error.ListError.TheVariants.{Memory, Write}
 use Rattle.zk_inspect.specs.declared.tree_lines.Row.{Row}
-use Rattle.zk_inspect.specs.ObjectLines.{label_text}
+use Rattle.zk_inspect.specs.ObjectLines.{label_text, number_or_none}
+use Rattle.zk_inspect.specs.Objects.{IsObject}
 
 -- two spaces for each level
 unfoldable pub indent : ℕ → List ℕ
@@ -23,10 +25,36 @@ row_text m row = if row.again then again_text row.object else label_text m row.o
 unfoldable pub row_line : MemoryMap → Row → List ℕ
 row_line m row = indent row.level ++ row_text m row ++ codes "\n"
 
--- the lines of some objects
-pub record AreRows (m : MemoryMap) (text : List ℕ) : Type 0 where
+-- among some rows stands an object with none above it
+abbrev pub StandsAtTop : List Row → ℕ → Type 0
+StandsAtTop rows o = (again : Bool) × Contains rows (record { level = 0; object = o; again = again })
+
+-- the lines of rows of some objects, among which stand at least those that are wanted at the top
+pub record AreRows (m : MemoryMap) (Has Wants : ℕ → Type 0) (text : List ℕ) : Type 0 where
   pub rows : List Row
   pub lines : text ≡ flat_map (row_line m) rows
+  pub objects : All (λ row. Has row.object) rows
+  pub top : (o : ℕ) → Wants o → StandsAtTop rows o
+
+-- one of the first objects
+abbrev pub IsUpTo : ℕ → ℕ → Type 0
+IsUpTo count o = (0 < o) × (o ≤ count)
+
+-- an object that names no parent, or none that can be read
+abbrev pub HasNoParent : MemoryMap → ℕ → Type 0
+HasNoParent m o = number_or_none (link_at m (parent_of o)) ≡ 0
+
+-- a root of the tree: an object of a story without a parent
+abbrev pub IsRoot : MemoryMap → ℕ → Type 0
+IsRoot m o = IsObject m o × HasNoParent m o
+
+-- rows of objects of a story
+abbrev pub AreSomeRows : MemoryMap → List ℕ → Type 0
+AreSomeRows m = AreRows m (IsObject m) (λ o. ⊥)
+
+-- rows of objects of a story, with one of each root
+abbrev pub AreTreeRows : MemoryMap → List ℕ → Type 0
+AreTreeRows m = AreRows m (IsObject m) (IsRoot m)
 
 -- a write has failed
 abbrev pub has_failed : {A : Type 0} → Result A ListError → Bool

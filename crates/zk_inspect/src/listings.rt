@@ -1,7 +1,7 @@
 // Listings of a story's header, of where its parts begin, of its abbreviations, its dictionary and its objects,
 // and of its name in catalogues.
 
-ghost use Rattle.std.specs.Prelude.{◌≡◌, ◌||◌, is_err, IfErr, OnErr, OnOk};
+ghost use Rattle.std.specs.Prelude.{◌≡◌, ◌||◌, false, is_err, IfErr, OnErr, OnOk};
 ghost use Rattle.std.specs.Io.KnownBytes.{Appends};
 ghost use Rattle.zk_term.specs.Devices.{TookPart};
 ghost use Rattle.zk_inspect.specs.AbbreviationLines.{abbreviation_lines};
@@ -11,7 +11,7 @@ ghost use Rattle.zk_inspect.specs.Ifid.{ifid_line};
 ghost use Rattle.zk_inspect.specs.MapLines.{map_lines};
 ghost use Rattle.zk_inspect.specs.ObjectLines.{AreObjectLines};
 ghost use Rattle.zk_term.specs.Pages.{WroteSome};
-ghost use Rattle.zk_inspect.specs.TreeLines.{AreRows, has_failed};
+ghost use Rattle.zk_inspect.specs.TreeLines.{AreSomeRows, AreTreeRows, has_failed};
 ghost use Rattle.zk_inspect.specs.Written.{GaveSome};
 
 use crate::abbreviation_lines::write_abbreviations;
@@ -155,12 +155,13 @@ pub fn objects<T: Target>(memory: &Memory, target: &mut T) -> Result<(), ListErr
 /// a star in place of its name, and is not followed; nor is a link to an object that `objects` does not list. Or, where a write
 /// fails, it writes a first part of that, and refuses. It is `Memory` where there is no memory for a note on each object.
 pub fn tree<T: Target>(alloc: Global, memory: &Memory, target: &mut T) -> Result<(), ListError>
-    ensures { GaveSome (AreRows memory.now) T.taken T.failed (has_failed result) target.old
+    ensures rows { GaveSome (AreSomeRows memory.now) T.taken T.failed (has_failed result) target.old
         target.new }
+    ensures roots { OnOk result (GaveSome (AreTreeRows memory.now) T.taken T.failed false target.old
+        target.new) }
 {
-    let count = count_objects(memory);
     let mut page = TargetPage::new(target);
-    let listed = write_tree(alloc, memory, count, &mut page);
+    let listed = write_tree(alloc, memory, &mut page);
     match page.finish() {
         Ok(()) => match listed {
             Ok(()) => Ok(()),

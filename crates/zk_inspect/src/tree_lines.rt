@@ -1,11 +1,14 @@
 // The lines of the tree of objects.
 
-ghost use Rattle.std.specs.Prelude.{◌≡◌, ◌<◌, length, OnOk};
-ghost use Rattle.zk_inspect.specs.TreeLines.{AreRows, again_text, indent, row_line, row_text};
+ghost use Rattle.std.specs.Prelude.{◌≡◌, ◌<◌, ◌≤◌, ◌==◌, [], length, OnOk};
+ghost use Rattle.zk_tables.specs.Links.{link_at, parent_of};
+ghost use Rattle.zk_inspect.specs.ObjectLines.{number_or_none};
+ghost use Rattle.zk_inspect.specs.TreeLines.{AreRows, AreSomeRows, AreTreeRows, HasNoParent, IsUpTo, again_text, indent, row_line, row_text};
 ghost use Rattle.zk_term.specs.Pages.{WroteSome};
 
 use crate::address_set::AddressSet;
 use crate::object_lines::{number_or_none, write_label};
+use crate::objects::count_objects;
 use itoa::Buffer;
 use std::alloc::{AllocError, Global};
 use zk_mem::memory::Memory;
@@ -109,7 +112,12 @@ impl Walk {
     ) -> Result<Option<u16>, AllocError>
         requires { self.old.count < length self.old.listed }
         ensures kept { OnOk result (self.new.count < length self.new.listed) }
-        ensures rows { WroteSome (AreRows memory.now) P.wrote page.old page.new }
+        ensures count { OnOk result (self.new.count ≡ self.old.count) }
+        ensures rows { WroteSome (AreRows memory.now (IsUpTo self.old.count) (λ o. ⊥)) P.wrote page.old
+            page.new }
+        ensures top { self.old.above.items ≡ [] → IsUpTo self.old.count object →
+            WroteSome (AreRows memory.now (IsUpTo self.old.count) (λ o. o ≡ object)) P.wrote page.old
+            page.new }
     {
         if object == 0 || object > self.count {
             return Ok(self.go_beside(memory));
@@ -140,11 +148,17 @@ impl Walk {
     ) -> Result<(), AllocError>
         requires { self.old.count < length self.old.listed }
         ensures kept { OnOk result (self.new.count < length self.new.listed) }
-        ensures rows { WroteSome (AreRows memory.now) P.wrote page.old page.new }
+        ensures count { OnOk result (self.new.count ≡ self.old.count) }
+        ensures rows { WroteSome (AreRows memory.now (IsUpTo self.old.count) (λ o. ⊥)) P.wrote page.old
+            page.new }
+        ensures top { IsUpTo self.old.count root → OnOk result
+            (WroteSome (AreRows memory.now (IsUpTo self.old.count) (λ o. o ≡ root)) P.wrote page.old
+            page.new) }
     {
-        let mut next = Some(root);
+        self.above.clear();
+        let mut next = self.step(page, memory, root)?;
         // each turn lists an object, or ends a chain of siblings that one has begun
-        for _turn in 0..2 * self.count as u32 + 1 {
+        for _turn in 0..2 * self.count as u32 {
             let Some(object) = next else {
                 return Ok(());
             };
@@ -155,7 +169,9 @@ impl Walk {
 }
 
 /// Whether an object is a root: it has no parent.
-fn is_root(memory: &Memory, object: u16) -> bool {
+fn is_root(memory: &Memory, object: u16) -> bool
+    ensures { result ≡ (number_or_none (link_at memory.now (parent_of object)) == 0) }
+{
     number_or_none(parent(memory, object)) == 0
 }
 
@@ -168,7 +184,12 @@ fn list_root<P: Page>(
 ) -> Result<(), AllocError>
     requires { walk.old.count < length walk.old.listed }
     ensures kept { OnOk result (walk.new.count < length walk.new.listed) }
-    ensures rows { WroteSome (AreRows memory.now) P.wrote page.old page.new }
+    ensures count { OnOk result (walk.new.count ≡ walk.old.count) }
+    ensures rows { WroteSome (AreRows memory.now (IsUpTo walk.old.count) (λ o. ⊥)) P.wrote page.old
+        page.new }
+    ensures top { IsUpTo walk.old.count object → HasNoParent memory.now object → OnOk result
+        (WroteSome (AreRows memory.now (IsUpTo walk.old.count) (λ o. o ≡ object)) P.wrote page.old
+        page.new) }
 {
     if !is_root(memory, object) {
         return Ok(());
@@ -176,36 +197,35 @@ fn list_root<P: Page>(
     walk.list_below(page, memory, object)
 }
 
-/// Lists the trees of so many objects.
-fn list_trees<P: Page>(
-    walk: &mut Walk,
-    memory: &Memory,
-    count: u16,
-    page: &mut P,
-) -> Result<(), AllocError>
+/// Lists the trees of all objects.
+fn list_trees<P: Page>(walk: &mut Walk, memory: &Memory, page: &mut P) -> Result<(), AllocError>
     requires { walk.old.count < length walk.old.listed }
-    ensures { WroteSome (AreRows memory.now) P.wrote page.old page.new }
+    ensures rows { WroteSome (AreRows memory.now (IsUpTo walk.old.count) (λ o. ⊥)) P.wrote page.old
+        page.new }
+    ensures top { OnOk result (WroteSome (AreRows memory.now (IsUpTo walk.old.count)
+        (λ o. IsUpTo walk.old.count o × HasNoParent memory.now o)) P.wrote page.old page.new) }
 {
-    for before in 0..count {
+    for before in 0..walk.count {
         list_root(walk, memory, before + 1, page)?;
     }
     Ok(())
 }
 
-/// Writes the lines of the tree of so many objects.
+/// Writes the lines of the tree.
 pub(crate) fn write_tree<P: Page>(
     alloc: Global,
     memory: &Memory,
-    count: u16,
     page: &mut P,
 ) -> Result<(), AllocError>
-    ensures { WroteSome (AreRows memory.now) P.wrote page.old page.new }
+    ensures rows { WroteSome (AreSomeRows memory.now) P.wrote page.old page.new }
+    ensures roots { OnOk result (WroteSome (AreTreeRows memory.now) P.wrote page.old page.new) }
 {
+    let count = count_objects(memory);
     let listed = AddressSet::none(alloc, count as usize + 1)?;
     let mut walk = Walk {
         count,
         listed,
         above: Vec::new(alloc),
     };
-    list_trees(&mut walk, memory, count, page)
+    list_trees(&mut walk, memory, page)
 }
