@@ -1,0 +1,5 @@
+use Rattle.zk_command.proofs.Listings.{left_out}
+use Rattle.zk_command.proofs.listing.list_file.Goals as goal
+
+pub returns-in-Err : goal.returns-in-Err
+returns-in-Err g c = left_out c.args.listing _ _ _ _ c.in-Err.exit _ c.in-Err.ensures c.leave_out.ensures
