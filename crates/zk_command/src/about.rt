@@ -100,4 +100,12 @@ impl<'a> About<'a> {
             script: Notes::new(),
         }
     }
+
+    /// Of a listing that has not begun, by the story's path, and how that is shown where it is one of several.
+    pub fn listed(path: &'a str, heading: Option<&'a str>) -> About<'a> {
+        About {
+            heading,
+            ..About::new(path, "")
+        }
+    }
 }

@@ -3,7 +3,7 @@
 ghost use Rattle.std.specs.Prelude.{◌≡◌, false, is_err, [], IfOk, OnSome};
 ghost use Rattle.std.specs.List.{flat_map};
 ghost use Rattle.zk_term.specs.Devices.{Took, device};
-ghost use Rattle.zk_command.specs.LastLine.{IsExplained, TookExplained, cause_at, last_line, line, refused_words, stop_line, unread_words, words_line};
+ghost use Rattle.zk_command.specs.LastLine.{IsExplained, TookExplained, TookWords, cause_at, last_line, line, refused_words, stop_line, unread_words, words_line};
 ghost use Rattle.zk_command.specs.Status.{exit_status};
 
 use crate::about::About;
@@ -226,21 +226,23 @@ fn words_on(
     }
 }
 
-/// Writes what has happened, in words, where there is memory for them.
+/// Writes what has happened, in words, where there is memory for them, after a new line where the screen does not stand at
+/// the start of a line.
 fn write_words<E: Target>(
     alloc: Global,
     exit: &Exit,
     limits: &Limits,
     about: &About,
+    apart: bool,
     errors: &mut E,
 ) -> Result<(), Failed>
     requires { E.failed errors.old ≡ false }
-    ensures text { TookExplained exit.now [] (device E.taken E.failed errors.old)
+    ensures text { TookWords apart exit.now (device E.taken E.failed errors.old)
         (device E.taken E.failed errors.new) }
     ensures failed { E.failed errors.new ≡ is_err result }
 {
     match words_on(alloc, exit, limits, about) {
-        Ok(Some(words)) => write_words_line(errors, !about.screen.begins_line(), words.as_bytes()),
+        Ok(Some(words)) => write_words_line(errors, apart, words.as_bytes()),
         _ => Ok(()),
     }
 }
@@ -291,7 +293,8 @@ pub fn report<E: Target>(
     ensures lines { TookExplained exit.now (last_line exit.now) (device E.taken E.failed errors.old)
         (device E.taken E.failed errors.new) }
 {
-    match write_words(alloc, exit, limits, about, errors) {
+    let apart = !about.screen.begins_line();
+    match write_words(alloc, exit, limits, about, apart, errors) {
         Ok(()) => report_briefly(exit, errors),
         Err(Failed) => status(exit),
     }

@@ -83,10 +83,9 @@ fn play<T: Target + Drop, K: SaveSlot + Drop>(
 }
 
 /// Lists the story in a file, below its heading where it is one of several, and answers the program's status.
-fn list(rt: &HostRuntime, path: &str, heading: Option<&str>, listing: Listing) -> u8 {
+fn list<'a>(rt: &HostRuntime, path: &'a str, heading: Option<&'a str>, listing: Listing) -> u8 {
     let mut errors = Over::new(rt.stderr());
-    let mut about = About::new(path, "");
-    about.heading = heading;
+    let about = About::listed(path, heading);
     let mut screen = screen_of(rt, &about);
     match File::open(rt, path) {
         Err(error) => {
