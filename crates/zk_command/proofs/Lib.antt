@@ -3,3 +3,5 @@ pub mod CommandLines
 pub mod Readings
 pub mod Reports
 pub mod Verdicts
+pub mod Listings
+pub mod NoFile

@@ -5,7 +5,7 @@ use Rattle.zk_term.specs.Devices.{Device, Took}
 use Rattle.zk_term.specs.Pages.{Wrote}
 use Rattle.zk_term.proofs.Shown.{took_twice}
 use Rattle.zk_command.specs.declared.exit.Exit.{Exit}
-use Rattle.zk_command.specs.LastLine.{IsExplained, TookExplained, words_line, last_line}
+use Rattle.zk_command.specs.LastLine.{IsExplained, TookExplained, TookWords, words_line, last_line}
 
 -- a device with a failed write was given any text, and took nothing of it
 pub took_past : (a : Device) (text : List ℕ) → a.failed ≡ true → Took a a text
@@ -19,18 +19,17 @@ took_past a text e = record {
 }
 
 -- a report: the words, and then the last line
-pub reported : (exit : Exit) (a b c : Device) → TookExplained exit [] a b → Took b c (last_line exit) → TookExplained exit (last_line exit) a c
-reported exit a b c (inl h) k = inl (took_twice a b c [] (last_line exit) h k)
-reported exit a b c (inr h) k =
-    inr (h.0, (h.1.0, (h.1.1.0, subst (λ (t : List ℕ). Took a c t) (append_assoc (words_line h.1.0 h.1.1.0) [] (last_line exit)) (took_twice a b c (words_line h.1.0 h.1.1.0 ++ []) (last_line exit) h.1.1.1 k))))
+pub reported : (exit : Exit) (apart : Bool) (a b c : Device) → TookWords apart exit a b → Took b c (last_line exit) → TookExplained exit (last_line exit) a c
+reported exit apart a b c (inl h) k = inl (took_twice a b c [] (last_line exit) h k)
+reported exit apart a b c (inr h) k = inr (h.0, (apart, (h.1, took_twice a b c (words_line apart h.1) (last_line exit) h.2 k)))
 
 -- the words alone, where a write has failed
-pub cut_off : (exit : Exit) (a b : Device) → b.failed ≡ true → TookExplained exit [] a b → TookExplained exit (last_line exit) a b
-cut_off exit a b e h = reported exit a b b h (took_past b (last_line exit) e)
+pub cut_off : (exit : Exit) (apart : Bool) (a b : Device) → b.failed ≡ true → TookWords apart exit a b → TookExplained exit (last_line exit) a b
+cut_off exit apart a b e h = reported exit apart a b b h (took_past b (last_line exit) e)
 
 -- words on an ending that can be explained
-pub explained : (exit : Exit) (a b : Device) (apart : Bool) (words : List ℕ) → IsExplained exit → Took a b (words_line apart words) → TookExplained exit [] a b
-explained exit a b apart words h k = inr (h, (apart, (words, subst (λ (t : List ℕ). Took a b t) (sym (append-nil (words_line apart words))) k)))
+pub explained : (exit : Exit) (a b : Device) (apart : Bool) (words : List ℕ) → IsExplained exit → Took a b (words_line apart words) → TookWords apart exit a b
+explained exit a b apart words h k = inr (h, words, k)
 
 -- a device that had not failed took what was written, or a first part of it where a write has failed
 pub took_by : (e : Bool) (a b : Device) (text : List ℕ) → a.failed ≡ false → Wrote e a.taken b.taken text → b.failed ≡ e → Took a b text

@@ -34,19 +34,19 @@ stop_line Write = line (codes "write failed")
 stop_line Memory = line (codes "out of memory")
 
 -- after a file that is no story
-abbrev pub refused_line : OpenError → List ℕ
-refused_line OutOfMemory = line (codes "out of memory")
-refused_line e = line (codes "refused " ++ decimal (refusal_number e))
+abbrev pub refused_words : OpenError → List ℕ
+refused_words OutOfMemory = codes "out of memory"
+refused_words e = codes "refused " ++ decimal (refusal_number e)
 
 -- after a file that can't be read
-abbrev pub unread_line : ErrorKind → List ℕ
-unread_line kind.OutOfMemory = line (codes "out of memory")
-unread_line _ = line (codes "read failed")
+abbrev pub unread_words : ErrorKind → List ℕ
+unread_words kind.OutOfMemory = codes "out of memory"
+unread_words _ = codes "read failed"
 
 -- after a play, a listing or a check; what was found stands on the screen
 abbrev pub last_line : Exit → List ℕ
-last_line (Unread e) = unread_line (error_kind e)
-last_line (Refused e) = refused_line e
+last_line (Unread e) = line (unread_words (error_kind e))
+last_line (Refused e) = line (refused_words e)
 last_line (Stopped stop) = stop_line stop
 last_line Found = []
 
@@ -63,6 +63,10 @@ IsExplained _ = ⊥
 -- a line in words, perhaps after a new line, since the screen may stand in the middle of one
 abbrev pub words_line : Bool → List ℕ → List ℕ
 words_line apart words = if apart then 10 ∷ line words else line words
+
+-- a device was given a line in words on an ending, after a new line or not, or nothing
+abbrev pub TookWords : Bool → Exit → Device → Device → Type 0
+TookWords apart exit old new = Took old new [] ⊎ (IsExplained exit × (words : List ℕ) × Took old new (words_line apart words))
 
 -- a device was given a line in words on an ending and then some text, or that text alone
 abbrev pub TookExplained : Exit → List ℕ → Device → Device → Type 0

@@ -71,12 +71,14 @@ impl Looks {
     }
 }
 
-/// What is known of a run: the paths of its files, what the story's file looks like, how its devices went, and where a bad
-/// target leads.
+/// What is known of a run: the paths of its files, what stands in the line before a listing, what the story's file looks
+/// like, how its devices went, and where a bad target leads.
 #[derive(Drop)]
 pub struct About<'a> {
     pub path: &'a str,
     pub script_path: &'a str,
+    /// The path of one of several stories that are listed, as it is shown.
+    pub heading: Option<&'a str>,
     pub looks: Cell<Looks>,
     pub astray: Cell<Option<Astray>>,
     pub input: Notes,
@@ -90,11 +92,20 @@ impl<'a> About<'a> {
         About {
             path,
             script_path,
+            heading: None,
             looks: Cell::new(Looks::Unknown),
             astray: Cell::new(None),
             input: Notes::new(),
             screen: Notes::new(),
             script: Notes::new(),
+        }
+    }
+
+    /// Of a listing that has not begun, by the story's path, and how that is shown where it is one of several.
+    pub fn listed(path: &'a str, heading: Option<&'a str>) -> About<'a> {
+        About {
+            heading,
+            ..About::new(path, "")
         }
     }
 }

@@ -66,6 +66,50 @@ pub(crate) struct CommandOption {
     help: &'static str,
 }
 
+/// The numbers that an option of `play` takes: what is read and what is said of a mistake go by them.
+#[derive(Clone, Copy)]
+pub(crate) struct Range {
+    option: &'static str,
+    least: u64,
+    most: u64,
+}
+
+const FRAMES: Range = Range {
+    option: "frames",
+    least: 1,
+    most: 65_535,
+};
+
+const WORDS: Range = Range {
+    option: "words",
+    least: 0,
+    most: 65_535,
+};
+
+const UNDO: Range = Range {
+    option: "undo",
+    least: 0,
+    most: 64,
+};
+
+const STEPS: Range = Range {
+    option: "steps",
+    least: 1,
+    most: 1_000_000_000,
+};
+
+const SEED: Range = Range {
+    option: "seed",
+    least: 0,
+    most: 18_446_744_073_709_551_615,
+};
+
+const WIDTH: Range = Range {
+    option: "width",
+    least: 20,
+    most: 255,
+};
+
 /// The options of `play`.
 const PLAY_OPTIONS: [CommandOption; 10] = [
     CommandOption {
@@ -294,28 +338,28 @@ fn command_line_of<'a>(alloc: Global) -> Result<Command<'a>, AllocError>
 }
 
 /// The number that a word says, if it lies in a range.
-fn number_from(word: &str, least: u64, most: u64) -> Option<u64>
-    ensures { SomeIff result (IsNumberIn least most word.now) (number_in word.now) }
+fn number_from(word: &str, range: Range) -> Option<u64>
+    ensures { SomeIff result (IsNumberIn range.least range.most word.now) (number_in word.now) }
 {
     match word.parse::<u64>() {
-        Ok(n) if n >= least && n <= most => Some(n),
+        Ok(n) if n >= range.least && n <= range.most => Some(n),
         _ => None,
     }
 }
 
-/// The number of an option, if it lies in a range.
-fn number_of(matches: &ArgMatches<'_>, option: &str, least: u64, most: u64) -> Option<u64>
+/// The number of an option, if it lies in its range.
+fn number_of(matches: &ArgMatches<'_>, range: Range) -> Option<u64>
     ensures says { IfSome result
-        (λ n. SaysNumber (rows_of (found_of matches.now)) option.now least most n) }
-    ensures least { IfSome result (λ n. least ≤ n) }
-    ensures most { IfSome result (λ n. n ≤ most) }
-    ensures none { IfNone result
-        ((n : ℕ) → SaysNumber (rows_of (found_of matches.now)) option.now least most n → ⊥) }
+        (λ n. SaysNumber (rows_of (found_of matches.now)) range.option.now range.least range.most n) }
+    ensures least { IfSome result (λ n. range.least ≤ n) }
+    ensures most { IfSome result (λ n. n ≤ range.most) }
+    ensures none { IfNone result ((n : ℕ)
+        → SaysNumber (rows_of (found_of matches.now)) range.option.now range.least range.most n → ⊥) }
 {
-    let Some(word) = matches.get_str(option) else {
+    let Some(word) = matches.get_str(range.option) else {
         return None;
     };
-    number_from(word, least, most)
+    number_from(word, range)
 }
 
 /// An error of the command line.
@@ -343,12 +387,33 @@ fn option_error(alloc: Global, text: &str) -> Error
 }
 
 /// The error of an option that is no number in its range.
-fn out_of_range(alloc: Global, option: &str, least: u64, most: u64) -> Error
+fn out_of_range(alloc: Global, range: Range) -> Error
     ensures { 1 ≤ usage_status (kind_of result) }
 {
+    let Range {
+        option,
+        least,
+        most,
+    } = range;
     match format!(in alloc; "'--{option} <n>' takes a number from {least} to {most}") {
         Ok(text) => option_error(alloc, text.as_str()),
         Err(error) => Error::from(error),
+    }
+}
+
+/// The number of an option that always has one, or the error where it lies out of its range.
+fn number_or_error(alloc: Global, matches: &ArgMatches<'_>, range: Range) -> Result<u64, Error>
+    ensures says { IfOk result
+        (λ n. SaysNumber (rows_of (found_of matches.now)) range.option.now range.least range.most n) }
+    ensures least { IfOk result (λ n. range.least ≤ n) }
+    ensures most { IfOk result (λ n. n ≤ range.most) }
+    ensures mistake { IfErr result (λ e. 1 ≤ usage_status (kind_of e)) }
+    ensures none { OnErr result ((n : ℕ)
+        → SaysNumber (rows_of (found_of matches.now)) range.option.now range.least range.most n → ⊥) }
+{
+    match number_of(matches, range) {
+        Some(n) => Ok(n),
+        None => Err(out_of_range(alloc, range)),
     }
 }
 
@@ -370,17 +435,21 @@ fn limits_of(alloc: Global, play: &ArgMatches<'_>) -> Result<Limits, Error>
     ensures says_none { OnErr result
         ((l : Limits) → SaysLimits (rows_of (found_of play.now)) l → ⊥) }
 {
-    let Some(frames) = number_of(play, "frames", 1, 65_535) else {
-        return Err(out_of_range(alloc, "frames", 1, 65_535));
+    let frames = match number_or_error(alloc, play, FRAMES) {
+        Ok(frames) => frames,
+        Err(error) => return Err(error),
     };
-    let Some(words) = number_of(play, "words", 0, 65_535) else {
-        return Err(out_of_range(alloc, "words", 0, 65_535));
+    let words = match number_or_error(alloc, play, WORDS) {
+        Ok(words) => words,
+        Err(error) => return Err(error),
     };
-    let Some(undo) = number_of(play, "undo", 0, 64) else {
-        return Err(out_of_range(alloc, "undo", 0, 64));
+    let undo = match number_or_error(alloc, play, UNDO) {
+        Ok(undo) => undo,
+        Err(error) => return Err(error),
     };
-    let Some(steps) = number_of(play, "steps", 1, 1_000_000_000) else {
-        return Err(out_of_range(alloc, "steps", 1, 1_000_000_000));
+    let steps = match number_or_error(alloc, play, STEPS) {
+        Ok(steps) => steps,
+        Err(error) => return Err(error),
     };
     Ok(Limits {
         frames: frames as u16,
@@ -419,12 +488,12 @@ fn width_of(alloc: Global, play: &ArgMatches<'_>) -> Result<Option<u8>, Error>
     ensures says_none { OnErr result ((w : Option ℕ)
         → MaySayNumber (rows_of (found_of play.now)) (codes "width") 20 255 w → ⊥) }
 {
-    let Some(word) = play.get_str("width") else {
+    let Some(word) = play.get_str(WIDTH.option) else {
         return Ok(None);
     };
-    match number_from(word, 20, 255) {
+    match number_from(word, WIDTH) {
         Some(width) => Ok(Some(width as u8)),
-        None => Err(out_of_range(alloc, "width", 20, 255)),
+        None => Err(out_of_range(alloc, WIDTH)),
     }
 }
 
@@ -440,8 +509,9 @@ fn settings_of(alloc: Global, play: &ArgMatches<'_>) -> Result<Settings, Error>
         Ok(limits) => limits,
         Err(error) => return Err(error),
     };
-    let Some(seed) = number_of(play, "seed", 0, 18_446_744_073_709_551_615) else {
-        return Err(out_of_range(alloc, "seed", 0, 18_446_744_073_709_551_615));
+    let seed = match number_or_error(alloc, play, SEED) {
+        Ok(seed) => seed,
+        Err(error) => return Err(error),
     };
     let width = match width_of(alloc, play) {
         Ok(width) => width,

@@ -3,9 +3,13 @@
 
 pub mod about;
 mod astray;
+mod beside;
 pub mod choice;
 pub mod exit;
+mod heading;
+mod keeping;
 pub mod listing;
+mod no_game;
 pub mod opening;
 pub mod playing;
 mod reason;
@@ -14,5 +18,7 @@ pub mod same_file;
 pub mod save_file;
 pub mod script;
 pub mod settings;
+pub mod shown;
 pub mod verdict;
 pub mod watched;
+pub mod words;

@@ -1,18 +1,19 @@
 // Listings of a story, from the bytes of its file to the screen.
 
-ghost use Rattle.std.specs.Prelude.{◌≡◌, false, IfOk, None};
+ghost use Rattle.std.specs.Prelude.{◌≡◌, false, IfOk, None, Some, option_map};
+ghost use Rattle.std.specs.Io.KnownBytes.{Appends};
 ghost use Rattle.zk_mem.specs.Fresh.{fresh};
-ghost use Rattle.zk_mem.specs.Map.{MemoryMap};
 ghost use Rattle.zk_mem.specs.Story.{refusal};
 ghost use Rattle.zk_term.specs.Devices.{device};
-ghost use Rattle.zk_command.specs.Listing.{EndsListing, IsListed, Tells};
+ghost use Rattle.zk_command.specs.Headings.{heading};
+ghost use Rattle.zk_command.specs.Listing.{AreSections, EndsListing, IsAsked, IsLeftOut, IsListed, IsListing, IsOfSection, IsSection, IsWritten, Tells, all_sections, asks_for, exit_by, title};
 ghost use Rattle.zk_command.specs.Playing.{IsReported};
 ghost use Rattle.zk_command.specs.Verdict.{IsStart};
-ghost use Rattle.zk_command.specs.declared.listing.Listing.{Listing};
 ghost use Rattle.zk_command.specs.declared.listing.Listing.TheVariants as listing;
 
 use crate::about::About;
 use crate::exit::Exit;
+use crate::heading::write_heading;
 use crate::opening::open_story;
 use crate::report::report_listing;
 use crate::verdict::verdict;
@@ -25,7 +26,7 @@ use zk_inspect::listings::{abbreviations, dictionary, header, ifid, map, objects
 use zk_inspect::reach::reach;
 use zk_mem::memory::{Memory, Setup};
 use zk_mem::story::Story;
-use zk_term::target::{Target, write_all};
+use zk_term::target::{Failed, Target, write_all};
 use zk_vm::stop::Stop;
 
 /// How many states to go back to the header's fields speak of where a story is listed: what `play` has without `--undo`.
@@ -68,7 +69,9 @@ pub struct Sections {
 
 impl Sections {
     /// Whether a section is shown.
-    fn has(self, section: Section) -> bool {
+    fn has(self, section: Section) -> bool
+        ensures { result ≡ asks_for self section }
+    {
         match section {
             Section::Header => self.header,
             Section::Map => self.map,
@@ -93,7 +96,9 @@ pub enum Listing {
 }
 
 /// The line that begins a section.
-fn title(section: Section) -> &'static [u8] {
+fn title(section: Section) -> &'static [u8]
+    ensures { result.now ≡ title section }
+{
     match section {
         Section::Header => b"[header]\n",
         Section::Map => b"[map]\n",
@@ -105,16 +110,16 @@ fn title(section: Section) -> &'static [u8] {
     }
 }
 
-/// Writes a section.
-fn list_section<T: Target>(
+/// Writes what stands in a section.
+fn list_below<T: Target>(
     alloc: Global,
     memory: &Memory,
     section: Section,
     target: &mut T,
-) -> Result<(), ListError> {
-    let Ok(()) = write_all(target, title(section)) else {
-        return Err(ListError::Write);
-    };
+) -> Result<(), ListError>
+    ensures { IsWritten (IsOfSection section memory.now) result
+        (device T.taken T.failed target.old) (device T.taken T.failed target.new) }
+{
     match section {
         Section::Header => header(memory, target),
         Section::Map => map(memory, target),
@@ -126,23 +131,61 @@ fn list_section<T: Target>(
     }
 }
 
+/// Writes a section.
+fn list_section<T: Target>(
+    alloc: Global,
+    memory: &Memory,
+    section: Section,
+    target: &mut T,
+) -> Result<(), ListError>
+    ensures { IsWritten (IsSection section memory.now) result
+        (device T.taken T.failed target.old) (device T.taken T.failed target.new) }
+{
+    match write_all(target, title(section)) {
+        Ok(()) => list_below(alloc, memory, section, target),
+        Err(Failed) => Err(ListError::Write),
+    }
+}
+
+/// Writes a section where it is shown.
+fn list_asked<T: Target>(
+    alloc: Global,
+    memory: &Memory,
+    sections: Sections,
+    section: Section,
+    target: &mut T,
+) -> Result<(), ListError>
+    ensures { IsWritten (IsAsked (asks_for sections section) section memory.now) result
+        (device T.taken T.failed target.old) (device T.taken T.failed target.new) }
+{
+    if sections.has(section) {
+        list_section(alloc, memory, section, target)
+    } else {
+        Ok(())
+    }
+}
+
 /// Writes the sections that are shown.
 fn list_sections<T: Target>(
     alloc: Global,
     memory: &Memory,
     sections: Sections,
     target: &mut T,
-) -> Result<(), ListError> {
-    for section in SECTIONS {
-        if sections.has(section) {
-            list_section(alloc, memory, section, target)?;
-        }
+) -> Result<(), ListError>
+    ensures { IsWritten (AreSections sections memory.now all_sections) result
+        (device T.taken T.failed target.old) (device T.taken T.failed target.new) }
+{
+    for section in &SECTIONS {
+        list_asked(alloc, memory, sections, *section, target)?;
     }
     Ok(())
 }
 
 /// Writes a disassembly.
-fn list_code<T: Target>(alloc: Global, memory: &Memory, target: &mut T) -> Result<(), ListError> {
+fn list_code<T: Target>(alloc: Global, memory: &Memory, target: &mut T) -> Result<(), ListError>
+    ensures { IsWritten (IsListing listing.Code memory.now) result
+        (device T.taken T.failed target.old) (device T.taken T.failed target.new) }
+{
     let Ok(code) = reach(alloc, memory) else {
         return Err(ListError::Memory);
     };
@@ -156,7 +199,9 @@ fn list_findings<T: Target>(
     target: &mut T,
 ) -> Result<bool, ListError>
     requires { IsStart memory.now }
-    ensures { IfOk result (λ found. Tells listing.Findings memory.now found) }
+    ensures tells { IfOk result (λ found. Tells listing.Findings memory.now found) }
+    ensures written { IsWritten (IsListing listing.Findings memory.now) result
+        (device T.taken T.failed target.old) (device T.taken T.failed target.new) }
 {
     let Ok(findings) = verdict(alloc, memory) else {
         return Err(ListError::Memory);
@@ -175,25 +220,26 @@ fn list<T: Target>(
     target: &mut T,
 ) -> Result<bool, ListError>
     requires { IsStart memory.now }
-    ensures { IfOk result (λ found. Tells listing memory.now found) }
+    ensures tells { IfOk result (λ found. Tells listing memory.now found) }
+    ensures written { IsWritten (IsListing listing memory.now) result
+        (device T.taken T.failed target.old) (device T.taken T.failed target.new) }
 {
     match listing {
-        Listing::Info(sections) => {
-            list_sections(alloc, memory, sections, target)?;
-            Ok(false)
-        }
-        Listing::Code => {
-            list_code(alloc, memory, target)?;
-            Ok(false)
-        }
+        Listing::Info(sections) => match list_sections(alloc, memory, sections, target) {
+            Ok(()) => Ok(false),
+            Err(error) => Err(error),
+        },
+        Listing::Code => match list_code(alloc, memory, target) {
+            Ok(()) => Ok(false),
+            Err(error) => Err(error),
+        },
         Listing::Findings => list_findings(alloc, memory, target),
     }
 }
 
 /// How a listing ends.
 fn exit_after(listed: Result<bool, ListError>) -> Exit
-    ensures { (listing : Listing) (m : MemoryMap) → IfOk listed (λ found. Tells listing m found)
-        → IsListed listing m result }
+    ensures { result ≡ exit_by listed }
 {
     match listed {
         Ok(true) => Exit::Found,
@@ -203,13 +249,23 @@ fn exit_after(listed: Result<bool, ListError>) -> Exit
     }
 }
 
-/// Lists a story.
-fn list_story<S: Target>(alloc: Global, story: Story, listing: Listing, screen: &mut S) -> Exit
+/// Lists a story, below its path where it is one of several.
+fn list_story<S: Target>(
+    alloc: Global,
+    story: Story,
+    about: &About,
+    listing: Listing,
+    screen: &mut S,
+) -> Exit
     requires { refusal story ≡ None }
-    ensures { IsListed listing (fresh story 16) result }
+    ensures { IsListed listing (fresh story 16) (option_map (λ p. p.now) about.now.heading)
+        (device S.taken S.failed screen.old) (device S.taken S.failed screen.new) result }
 {
     let setup = Setup {
         undo_states: UNDO_STATES,
+    };
+    let Ok(()) = write_heading(screen, about.heading, None) else {
+        return Exit::Stopped(Stop::Write);
     };
     match Memory::start(alloc, story, setup) {
         Ok(memory) => exit_after(list(alloc, &memory, listing, screen)),
@@ -217,7 +273,18 @@ fn list_story<S: Target>(alloc: Global, story: Story, listing: Listing, screen: 
     }
 }
 
-/// Lists the story that a reader gives.
+/// Says on the screen why one of several stories is not listed, and answers how that ends: so, unless the write fails.
+pub fn leave_out<S: Target>(about: &About, exit: Exit, screen: &mut S) -> Exit
+    ensures { IsLeftOut (option_map (λ p. p.now) about.now.heading) exit
+        (device S.taken S.failed screen.old) (device S.taken S.failed screen.new) result }
+{
+    match write_heading(screen, about.heading, Some(&exit)) {
+        Ok(()) => exit,
+        Err(Failed) => Exit::Stopped(Stop::Write),
+    }
+}
+
+/// Lists the story that a reader gives, below its path where it is one of several.
 pub fn list_file<R: Read + Drop, S: Target>(
     alloc: Global,
     reader: R,
@@ -225,11 +292,12 @@ pub fn list_file<R: Read + Drop, S: Target>(
     listing: Listing,
     screen: &mut S,
 ) -> Exit
-    ensures { EndsListing listing (R.remaining reader) result }
+    ensures { EndsListing listing (option_map (λ p. p.now) about.now.heading) (R.remaining reader)
+        (device S.taken S.failed screen.old) (device S.taken S.failed screen.new) result }
 {
     match open_story(alloc, reader, about) {
-        Err(exit) => exit,
-        Ok(story) => list_story(alloc, story, listing, screen),
+        Err(exit) => leave_out(about, exit, screen),
+        Ok(story) => list_story(alloc, story, about, listing, screen),
     }
 }
 
@@ -243,7 +311,8 @@ pub fn list_and_report<R: Read + Drop, S: Target, E: Target>(
     errors: &mut E,
 ) -> u8
     requires { E.failed errors.old ≡ false }
-    ensures { IsReported (EndsListing listing (R.remaining reader))
+    ensures { IsReported (EndsListing listing (option_map (λ p. p.now) about.now.heading) (R.remaining reader)
+        (device S.taken S.failed screen.old) (device S.taken S.failed screen.new))
         (device E.taken E.failed errors.old) (device E.taken E.failed errors.new) result }
 {
     let exit = list_file(alloc, reader, about, listing, screen);

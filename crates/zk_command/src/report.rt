@@ -3,13 +3,15 @@
 ghost use Rattle.std.specs.Prelude.{◌≡◌, false, is_err, [], IfOk, OnSome};
 ghost use Rattle.std.specs.List.{flat_map};
 ghost use Rattle.zk_term.specs.Devices.{Took, device};
-ghost use Rattle.zk_command.specs.LastLine.{IsExplained, TookExplained, cause_at, last_line, line, refused_line, stop_line, unread_line, words_line};
+ghost use Rattle.zk_command.specs.LastLine.{IsExplained, TookExplained, TookWords, cause_at, last_line, line, refused_words, stop_line, unread_words, words_line};
 ghost use Rattle.zk_command.specs.Status.{exit_status};
 
 use crate::about::About;
 use crate::exit::Exit;
 use crate::reason::Reason;
+use crate::shown::Shown;
 use crate::watched::Notes;
+use crate::words::NO_TEXT;
 use itoa::Buffer;
 use std::alloc::{AllocError, Global};
 use std::io::{self, ErrorKind};
@@ -90,7 +92,7 @@ fn write_stop<E: Target>(errors: &mut E, stop: &Stop) -> Result<(), Failed>
 fn write_refusal<E: Target>(errors: &mut E, error: &OpenError) -> Result<(), Failed>
     requires { E.failed errors.old ≡ false }
     ensures { Took (device E.taken E.failed errors.old) (device E.taken E.failed errors.new)
-        (refused_line error.now) }
+        (line (refused_words error.now)) }
 {
     match error {
         OpenError::OutOfMemory => write_line(errors, b"out of memory"),
@@ -105,7 +107,7 @@ fn write_refusal<E: Target>(errors: &mut E, error: &OpenError) -> Result<(), Fai
 fn write_unread<E: Target>(errors: &mut E, kind: ErrorKind) -> Result<(), Failed>
     requires { E.failed errors.old ≡ false }
     ensures { Took (device E.taken E.failed errors.old) (device E.taken E.failed errors.new)
-        (unread_line kind) }
+        (line (unread_words kind)) }
 {
     match kind {
         ErrorKind::OutOfMemory => write_line(errors, b"out of memory"),
@@ -153,12 +155,16 @@ fn words_on_limit(alloc: Global, limit: Limit, limits: &Limits) -> Result<String
 
 /// Why a story's file can't be read, in words.
 fn words_on_read(alloc: Global, error: &io::Error, about: &About) -> Result<String, AllocError> {
-    format!(in alloc; "{}: {}", about.path, Reason(error))
+    let path = Shown(about.path);
+    if about.path.contains(NO_TEXT) {
+        return format!(in alloc; "{path}: its name is no text (UTF-8)");
+    }
+    format!(in alloc; "{path}: {}", Reason(error))
 }
 
 /// Why a story's file is no story, in words.
 fn words_on_refusal(alloc: Global, error: &OpenError, about: &About) -> Result<String, AllocError> {
-    let path = about.path;
+    let path = Shown(about.path);
     match about.looks.get().text() {
         Some(text) => format!(in alloc; "{path}: not a story: {text}"),
         None => format!(in alloc; "{path}: not a story: {error}"),
@@ -173,8 +179,8 @@ fn words_on_device(
     otherwise: &str,
 ) -> Result<String, AllocError> {
     match notes.failure() {
-        Some(error) => format!(in alloc; "{name}: {}", Reason(&error)),
-        None => format!(in alloc; "{name}: {otherwise}"),
+        Some(error) => format!(in alloc; "{}: {}", Shown(name), Reason(&error)),
+        None => format!(in alloc; "{}: {otherwise}", Shown(name)),
     }
 }
 
@@ -220,21 +226,23 @@ fn words_on(
     }
 }
 
-/// Writes what has happened, in words, where there is memory for them.
+/// Writes what has happened, in words, where there is memory for them, after a new line where the screen does not stand at
+/// the start of a line.
 fn write_words<E: Target>(
     alloc: Global,
     exit: &Exit,
     limits: &Limits,
     about: &About,
+    apart: bool,
     errors: &mut E,
 ) -> Result<(), Failed>
     requires { E.failed errors.old ≡ false }
-    ensures text { TookExplained exit.now [] (device E.taken E.failed errors.old)
+    ensures text { TookWords apart exit.now (device E.taken E.failed errors.old)
         (device E.taken E.failed errors.new) }
     ensures failed { E.failed errors.new ≡ is_err result }
 {
     match words_on(alloc, exit, limits, about) {
-        Ok(Some(words)) => write_words_line(errors, !about.screen.begins_line(), words.as_bytes()),
+        Ok(Some(words)) => write_words_line(errors, apart, words.as_bytes()),
         _ => Ok(()),
     }
 }
@@ -285,7 +293,8 @@ pub fn report<E: Target>(
     ensures lines { TookExplained exit.now (last_line exit.now) (device E.taken E.failed errors.old)
         (device E.taken E.failed errors.new) }
 {
-    match write_words(alloc, exit, limits, about, errors) {
+    let apart = !about.screen.begins_line();
+    match write_words(alloc, exit, limits, about, apart, errors) {
         Ok(()) => report_briefly(exit, errors),
         Err(Failed) => status(exit),
     }

@@ -1,6 +1,6 @@
 // The file of a transcript.
 
-ghost use Rattle.std.specs.Prelude.{◌≡◌, ◌≤◌, ◌<◌, false, length, IfOk};
+ghost use Rattle.std.specs.Prelude.{◌≡◌, ◌≤◌, ◌<◌, false, length, IfOk, IsSome, OnOk};
 ghost use Rattle.zk_command.specs.ScriptFiles.{failed_in};
 
 use crate::watched::{Notes, Watched};
@@ -59,6 +59,7 @@ fn write_to<'a>(
 ) -> Result<usize, Failed>
     ensures count { IfOk result (λ n. n ≤ length bytes.now) }
     ensures progress { 0 < length bytes.now → IfOk result (λ n. 0 < n) }
+    ensures open { OnOk result (IsSome file.new) }
 {
     if let Some(open) = file {
         return open.write(bytes);
@@ -102,6 +103,18 @@ impl Target for ScriptFile<'_> {
     }
 
     fn flush(&mut self) -> Result<(), Failed> {
-        Ok(())
+        let Some(_path) = self.path else {
+            return Ok(());
+        };
+        let Some(file) = &mut self.file else {
+            return Ok(());
+        };
+        match file.flush() {
+            Ok(()) => Ok(()),
+            Err(Failed) => {
+                self.failed = true;
+                Err(Failed)
+            }
+        }
     }
 }

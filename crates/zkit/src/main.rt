@@ -8,27 +8,34 @@ ghost use Rattle.zk_command.specs.CommandLine.{usage_status};
 
 use clap::Error;
 use clap::error::ErrorKind;
-use std::fs::{self, File};
-use std::io::Printer;
+use std::alloc::AllocError;
+use std::env::{self, Env, FillError};
+use std::fs::{self, File, OpenOptions};
+use std::io::{self, Printer};
+use std::os::fd::{AsRawFd, IntoRawFd, RawFd};
 use std::process::ExitCode;
-use std::{env, io};
 use zk_command::about::About;
 use zk_command::choice::{Choice, choose, story_named, usage_status_of};
 use zk_command::exit::Exit;
-use zk_command::listing::{Listing, list_and_report};
+use zk_command::listing::{Listing, leave_out, list_and_report};
 use zk_command::playing::{Devices, play_and_report};
 use zk_command::report::{report, report_briefly, report_listing};
 use zk_command::same_file::is_same_file;
 use zk_command::save_file::SaveFile;
 use zk_command::script::ScriptFile;
 use zk_command::settings::Settings;
+use zk_command::shown::Shown;
 use zk_command::watched::Watched;
+use zk_command::words::{NO_TEXT, word_of};
 use zk_term::echo::Echo;
 use zk_term::over::Over;
-use zk_term::target::{Failed, Target, write_all};
+use zk_term::target::Target;
 use zk_term::wrapped::Wrapped;
 use zk_vm::slot::SaveSlot;
 use zk_vm::stop::Stop;
+
+/// So many bytes a word of the command line has at most.
+const MOST_BYTES: usize = 131_072;
 
 /// Standard output.
 fn screen_of<'a>(
@@ -75,32 +82,36 @@ fn play<T: Target + Drop, K: SaveSlot + Drop>(
     }
 }
 
-/// Writes the line with a story's path, before its listing.
-fn write_path<S: Target>(screen: &mut S, path: &str) -> Result<(), Failed> {
-    write_all(screen, path.as_bytes())?;
-    write_all(screen, b":\n")
+/// Lists the story in a file, below its heading where it is one of several, and answers the program's status.
+fn list<'a>(rt: &HostRuntime, path: &'a str, heading: Option<&'a str>, listing: Listing) -> u8 {
+    let mut errors = Over::new(rt.stderr());
+    let about = About::listed(path, heading);
+    let mut screen = screen_of(rt, &about);
+    match File::open(rt, path) {
+        Err(error) => {
+            let exit = leave_out(&about, Exit::Unread(error), &mut screen);
+            report_listing(rt.alloc(), &exit, &about, &mut errors)
+        }
+        Ok(file) => list_and_report(rt.alloc(), file, &about, listing, &mut screen, &mut errors),
+    }
 }
 
-/// Lists the story in a file, after its path where it is one of several, and answers the program's status.
-fn list(rt: &HostRuntime, path: &str, listing: Listing, is_one_of_several: bool) -> u8 {
-    let mut errors = Over::new(rt.stderr());
-    let about = About::new(path, "");
-    let mut screen = screen_of(rt, &about);
-    if is_one_of_several && write_path(&mut screen, path).is_err() {
-        let exit = Exit::Stopped(Stop::Write);
-        return report_listing(rt.alloc(), &exit, &about, &mut errors);
-    }
-    match File::open(rt, path) {
-        Err(error) => report_listing(rt.alloc(), &Exit::Unread(error), &about, &mut errors),
-        Ok(file) => list_and_report(rt.alloc(), file, &about, listing, &mut screen, &mut errors),
+/// Lists one of several stories, below its path, and answers the program's status.
+fn list_one_of_several(rt: &HostRuntime, path: &str, listing: Listing) -> u8 {
+    match format!(in rt.alloc(); "{}", Shown(path)) {
+        Ok(heading) => list(rt, path, Some(heading.as_str()), listing),
+        Err(_) => out_of_memory(rt),
     }
 }
 
 /// Lists the stories in files, and answers the greatest status.
 fn list_each(rt: &HostRuntime, stories: &[&str], listing: Listing) -> u8 {
+    if let [path] = stories {
+        return list(rt, path, None, listing);
+    }
     let mut status = 0;
     for path in stories {
-        status = list(rt, path, listing, stories.len() > 1).max(status);
+        status = list_one_of_several(rt, path, listing).max(status);
     }
     status
 }
@@ -163,11 +174,38 @@ fn tell_command(rt: &HostRuntime, words: &[&str], error: &Error) {
         return;
     };
     if fs::exists(rt, *word).unwrap_or(false) {
-        let _ = eprintln!(rt; "\nto play it: zkit play {}", word);
+        let _ = eprintln!(rt; "\nto play it: zkit play {}", Shown(word));
     }
 }
 
-/// Does what the words ask for, and answers the program's status.
+/// Plays the story in a file, unless an option names that file.
+fn play_with(
+    rt: &HostRuntime,
+    story: &str,
+    save: Option<&str>,
+    script: Option<&str>,
+    settings: Settings,
+) -> u8
+    requires { AreInRange settings.limits }
+{
+    if let Some(option) = option_on_story(rt, story, save, script) {
+        return tell_usage(rt, &story_named(rt.alloc(), option));
+    }
+    let about = About::new(story, script.unwrap_or(""));
+    let file = ScriptFile::new(rt, script, &about.script);
+    play(rt, &about, settings, file, SaveFile::new(rt, save))
+}
+
+/// Tells that a word is no text, and answers the program's status.
+fn tell_no_text(rt: &HostRuntime) -> u8
+    ensures { result ≡ 1 }
+{
+    let _ = eprintln!(rt; "zkit: the words after the program's name are no text");
+    1
+}
+
+/// Does what the words ask for, and answers the program's status. A path that is no text is left out where stories are
+/// listed; nothing else is done by such a word.
 fn answer(rt: &HostRuntime, words: &[String]) -> u8 {
     let Ok(words) = words
         .iter()
@@ -176,7 +214,10 @@ fn answer(rt: &HostRuntime, words: &[String]) -> u8 {
     else {
         return out_of_memory(rt);
     };
+    let are_text = !words.iter().any(|word| word.contains(NO_TEXT));
     match choose(rt.alloc(), words.as_slice()) {
+        Ok(Choice::Show { stories, listing }) => list_each(rt, stories.as_slice(), listing),
+        _ if !are_text => tell_no_text(rt),
         Ok(
             Choice::Play {
                 story,
@@ -184,15 +225,7 @@ fn answer(rt: &HostRuntime, words: &[String]) -> u8 {
                 script,
                 settings,
             },
-        ) => match option_on_story(rt, story, save, script) {
-            Some(option) => tell_usage(rt, &story_named(rt.alloc(), option)),
-            None => {
-                let about = About::new(story, script.unwrap_or(""));
-                let file = ScriptFile::new(rt, script, &about.script);
-                play(rt, &about, settings, file, SaveFile::new(rt, save))
-            }
-        },
-        Ok(Choice::Show { stories, listing }) => list_each(rt, stories.as_slice(), listing),
+        ) => play_with(rt, story, save, script, settings),
         Err(error) => {
             let status = tell_usage(rt, &error);
             tell_command(rt, words.as_slice(), &error);
@@ -201,20 +234,60 @@ fn answer(rt: &HostRuntime, words: &[String]) -> u8 {
     }
 }
 
-/// The words that the program is called with, its name first.
-fn read_words(rt: &HostRuntime) -> io::Result<Vec<String>> {
-    let words = env::args(rt)?.collect(rt.alloc())?;
+/// A word that the program is called with, by its number, if there are so many.
+fn read_word(rt: &HostRuntime, number: usize) -> Result<Option<String>, AllocError> {
+    let mut bytes = vec![in rt.alloc(); 0; MOST_BYTES]?;
+    match rt.arg(number, bytes.as_mut_slice()) {
+        Ok(count) => Ok(Some(word_of(rt.alloc(), &bytes[..count])?)),
+        Err(FillError::NotPresent) => Ok(None),
+        Err(FillError::TooLong) => Err(AllocError),
+    }
+}
+
+/// The words that the program is called with, its name first, where one of them is no text.
+fn read_words_apart(rt: &HostRuntime) -> io::Result<Vec<String>> {
+    let mut words = Vec::new(rt.alloc());
+    for number in 0..usize::MAX {
+        match read_word(rt, number)? {
+            Some(word) => words.push(word)?,
+            None => break,
+        }
+    }
     Ok(words)
 }
 
+/// The words that the program is called with, its name first.
+fn read_words(rt: &HostRuntime) -> io::Result<Vec<String>> {
+    match env::args(rt) {
+        Ok(words) => Ok(words.collect(rt.alloc())?),
+        Err(error) if error.kind() == io::ErrorKind::InvalidData => read_words_apart(rt),
+        Err(error) => Err(error),
+    }
+}
+
+/// Opens the null device where one of the first numbers of open files is free, up to `last`, and leaves it open.
+fn hold(rt: &HostRuntime, how: &OpenOptions, last: RawFd) {
+    match how.open(rt, "/dev/null") {
+        Ok(file) if file.as_raw_fd() <= last => {
+            file.into_raw_fd();
+        }
+        _ => {}
+    }
+}
+
+/// Sees that no file that is opened later gets the number of standard input, output or errors (0, 1, 2), where that is
+/// closed. A read or a write there fails, as it does where it is closed.
+fn hold_numbers(rt: &HostRuntime) {
+    hold(rt, OpenOptions::new().write(true), 0);
+    hold(rt, OpenOptions::new().read(true), 2);
+    hold(rt, OpenOptions::new().read(true), 2);
+}
+
 fn main(rt: HostRuntime) -> ExitCode {
+    hold_numbers(&rt);
     let status = match read_words(&rt) {
         Ok(words) => answer(&rt, words.as_slice()),
-        Err(error) if error.kind() == io::ErrorKind::OutOfMemory => out_of_memory(&rt),
-        Err(_) => {
-            let _ = eprintln!(rt; "zkit: the words after the program's name are no text");
-            1
-        }
+        Err(_) => out_of_memory(&rt),
     };
     ExitCode::from(status)
 }
