@@ -1,5 +1,5 @@
-/* Tries what play.c does not: stories that fault or go past a limit, a saved game that another handle restores, and calls
- * that are refused. It writes what comes of each.
+/* Tries what play.c does not: stories that fault or go past a limit, a saved game that another handle restores, calls that
+ * are refused, and memory that is given back. It writes what comes of each.
  *
  *     tries LIGHTHOUSE
  *
@@ -11,6 +11,31 @@
 #include "zkit.h"
 
 enum { SMALL = 4096, LONGEST_STORY = 524288 };
+
+/* The blocks of memory that this program and the library have. The linker puts these functions in place of malloc, realloc and
+ * free, as `make` tells it to. */
+static long blocks = 0;
+
+void *__real_malloc(size_t size);
+void *__real_realloc(void *block, size_t size);
+void __real_free(void *block);
+
+void *__wrap_malloc(size_t size) {
+    void *block = __real_malloc(size);
+    blocks += block != NULL;
+    return block;
+}
+
+void *__wrap_realloc(void *block, size_t size) {
+    void *moved = __real_realloc(block, size);
+    blocks += block == NULL && moved != NULL;
+    return moved;
+}
+
+void __wrap_free(void *block) {
+    blocks -= block != NULL;
+    __real_free(block);
+}
 
 /* A story of version 5 whose code stands at 00800. */
 static void make_story(uint8_t *story, const uint8_t *code, size_t count) {
@@ -224,6 +249,26 @@ static void type_character(const uint8_t *lighthouse, size_t length) {
     zkit_close(&game);
 }
 
+/* The memory of a play is given back where its handle gets another story, and where it is closed. */
+static void give_back(const uint8_t *story, size_t length) {
+    zkit game = ZKIT_CLOSED;
+    long before = blocks, open;
+    puts("memory that is given back");
+    open_game(&game, story, length);
+    zkit_turn(&game);
+    open = blocks - before;
+    say("an open handle has blocks", open > 0);
+    open_game(&game, story, length);
+    zkit_turn(&game);
+    say("with another story it has as many", blocks - before == open);
+    open_game(&game, story, 63);
+    say("so it has where one is refused", blocks - before == open);
+    zkit_close(&game);
+    say("a closed handle has none", blocks == before);
+    zkit_close(&game);
+    say("closed again it has none", blocks == before);
+}
+
 int main(int count, char **words) {
     static uint8_t lighthouse[LONGEST_STORY];
     FILE *file = count == 2 ? fopen(words[1], "rb") : NULL;
@@ -245,5 +290,7 @@ int main(int count, char **words) {
     refuse_stories();
     refuse_limits(lighthouse, length);
     type_character(lighthouse, length);
+    give_back(lighthouse, length);
+    say("blocks that are left of all", blocks);
     return 0;
 }

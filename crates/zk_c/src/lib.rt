@@ -134,12 +134,14 @@ pub extern "C" fn zkit_character(alloc: Global, game: &mut Zkit, character: u32)
     answer_number(answered)
 }
 
-/// Takes text of the screen, UTF-8, from the front into a buffer. Answers how many bytes: 0 where none are left.
+/// Takes text of the screen, UTF-8, from the front into a buffer. Answers how many bytes: 0 where none are left. What is
+/// behind them in the buffer stays as it was.
 #[unsafe(no_mangle)]
 pub extern "C" fn zkit_text(alloc: Global, game: &mut Zkit, buffer: &mut [u8]) -> usize
     ensures { OnPlay game.old.play game.new.play
-        (λ old new. IsTaken old.screen new.screen buffer.new result
-        × (new ≡ record old { screen = new.screen })) (result ≡ 0) }
+        (λ old new. IsTaken old.screen new.screen buffer.old buffer.new result
+        × (new ≡ record old { screen = new.screen }))
+        ((result ≡ 0) × (buffer.new ≡ buffer.old)) }
 {
     let Some(mut play) = game.take(alloc) else {
         return 0;
@@ -149,12 +151,14 @@ pub extern "C" fn zkit_text(alloc: Global, game: &mut Zkit, buffer: &mut [u8]) -
     count
 }
 
-/// Takes text of the transcript, UTF-8, from the front into a buffer. Answers how many bytes: 0 where none are left.
+/// Takes text of the transcript, UTF-8, from the front into a buffer. Answers how many bytes: 0 where none are left. What is
+/// behind them in the buffer stays as it was.
 #[unsafe(no_mangle)]
 pub extern "C" fn zkit_transcript(alloc: Global, game: &mut Zkit, buffer: &mut [u8]) -> usize
     ensures { OnPlay game.old.play game.new.play
-        (λ old new. IsTaken old.script new.script buffer.new result
-        × (new ≡ record old { script = new.script })) (result ≡ 0) }
+        (λ old new. IsTaken old.script new.script buffer.old buffer.new result
+        × (new ≡ record old { script = new.script }))
+        ((result ≡ 0) × (buffer.new ≡ buffer.old)) }
 {
     let Some(mut play) = game.take(alloc) else {
         return 0;

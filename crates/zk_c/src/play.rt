@@ -106,7 +106,7 @@ impl Play {
 
     /// Takes text of the screen from the front into a buffer, and says how many bytes.
     pub fn take_text(&mut self, buffer: &mut [u8]) -> usize
-        ensures text { IsTaken self.old.screen self.new.screen buffer.new result }
+        ensures text { IsTaken self.old.screen self.new.screen buffer.old buffer.new result }
         ensures beside { self.new ≡ record self.old { screen = self.new.screen } }
     {
         self.screen.take(buffer)
@@ -114,7 +114,7 @@ impl Play {
 
     /// Takes text of the transcript from the front into a buffer, and says how many bytes.
     pub fn take_script(&mut self, buffer: &mut [u8]) -> usize
-        ensures text { IsTaken self.old.script self.new.script buffer.new result }
+        ensures text { IsTaken self.old.script self.new.script buffer.old buffer.new result }
         ensures beside { self.new ≡ record self.old { script = self.new.script } }
     {
         self.script.take(buffer)

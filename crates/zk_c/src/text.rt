@@ -1,11 +1,11 @@
 // Text that waits to be taken.
 
-ghost use Rattle.std.specs.Prelude.{◌≡◌, [], Some, false};
+ghost use Rattle.std.specs.Prelude.{◌≡◌, ◌++◌, [], Some, drop, false, length, min, take};
 ghost use Rattle.zk_c.specs.Texts.{IsTaken};
 
 use std::alloc::Global;
 use std::collections::VecDeque;
-use std::io::{Read, Write};
+use std::io::{BufRead, Write};
 use std::marker::Model;
 use zk_term::target::{Failed, Target};
 
@@ -24,6 +24,16 @@ impl Model for Text {
     ghost Value = { Device };
 
     ghost view = { λ t. record { taken = Some t.bytes.items; failed = t.failed } };
+}
+
+/// Puts as many bytes at the front of a buffer as it has room for, and says how many.
+fn put_front(bytes: &[u8], buffer: &mut [u8]) -> usize
+    ensures count { result ≡ min (length bytes.now) (length buffer.old) }
+    ensures buffer { buffer.new ≡ take result bytes.now ++ drop result buffer.old }
+{
+    let count = bytes.len().min(buffer.len());
+    buffer[..count].copy_from_slice(&bytes[..count]);
+    count
 }
 
 impl Text {
@@ -45,14 +55,14 @@ impl Text {
     }
 
     /// Takes bytes from the front into a buffer, at most as many as it has room for, and says how many: none where none
-    /// wait or there is no room.
+    /// wait or there is no room. What is behind them in the buffer stays as it was.
     pub fn take(&mut self, buffer: &mut [u8]) -> usize
-        ensures { IsTaken self.old self.new buffer.new result }
+        ensures { IsTaken self.old self.new buffer.old buffer.new result }
     {
-        match self.bytes.read(buffer) {
-            Ok(count) => count,
-            Err(_) => unreachable!(),
-        }
+        let (first, _) = self.bytes.as_slices();
+        let count = put_front(first, buffer);
+        self.bytes.consume(count);
+        count
     }
 }
 

@@ -14,7 +14,7 @@ use Rattle.zk_inspect.specs.HeaderLines.{header_lines}
 use Rattle.zk_inspect.specs.MapLines.{map_lines}
 use Rattle.zk_inspect.specs.ObjectLines.{object_line}
 use Rattle.zk_term.specs.Numbers.{address_digits, word_digits, byte_digits}
-use Rattle.zk_inspect.specs.TreeLines.{row_line}
+use Rattle.zk_inspect.specs.TreeLines.{HasNoParent, row_line}
 use Rattle.zk_inspect.specs.Tests.{is_undecodable, leads_out}
 use Rattle.zk_inspect.specs.TextTests.{is_of, text_fails}
 use Rattle.zk_inspect.specs.declared.texts.TextAddresses.{TextAddresses}
@@ -240,6 +240,13 @@ KeysAreWords =
 abbrev pub listing_object : List ℕ → List ℕ → List ℕ → MemoryMap
 listing_object attributes links properties =
     memory_by 3 (replicate 10 0 ++ 0 ∷ 4 ∷ []) (replicate 66 0 ++ attributes ++ links ++ 0 ∷ 75 ∷ properties)
+
+-- an object is a root by its parent alone (section 12.3)
+abbrev pub RootsNameNoParent : Type 0
+RootsNameNoParent =
+    HasNoParent (listing_object (0 ∷ 0 ∷ 0 ∷ 0 ∷ []) (0 ∷ 8 ∷ 9 ∷ []) (0 ∷ 0 ∷ [])) 1
+    × (HasNoParent (listing_object (0 ∷ 0 ∷ 0 ∷ 0 ∷ []) (7 ∷ 0 ∷ 0 ∷ []) (0 ∷ 0 ∷ [])) 1 → ⊥)
+    × (HasNoParent (listing_object (0 ∷ 0 ∷ 0 ∷ 0 ∷ []) (1 ∷ 0 ∷ 0 ∷ []) (0 ∷ 0 ∷ [])) 1 → ⊥)
 
 -- links by parent, sibling and child; attributes from the top bit; a property by its number and the length of its data
 -- (sections 12.3.1, 12.4 and 12.4.1)

@@ -1,6 +1,6 @@
 // Worked examples of the definitions, which refuse one that is turned together with its body.
 
-ghost use Rattle.zk_inspect.specs.Examples.{AddressesHaveFiveDigits, WordsHaveFourDigits, FindingsOfTables, FindingsOfTextsAndCode, VariablesByNumber, OperandsByType, StoresBehindAnArrow, BranchesBehindAMark, LinesOfOperands, LinesOfBranches, LinesOfVariables, LinesOfJumps, LinesOfTexts, CharactersBetweenQuotes, LinesOfRoutines, RoutinesBehindCode, HeadersAreLines, MapsAreInOrder, AbbreviationsAreLines, NoTableNoLines, DictionariesAreLines, KeysAreWords, ObjectsAreLines, ListsPastTheEnd, UndecodableAddresses, LeadingOut, KindsOfFaults, TextsThatFail, RowsAreIndented, RowsAgain};
+ghost use Rattle.zk_inspect.specs.Examples.{AddressesHaveFiveDigits, WordsHaveFourDigits, FindingsOfTables, FindingsOfTextsAndCode, VariablesByNumber, OperandsByType, StoresBehindAnArrow, BranchesBehindAMark, LinesOfOperands, LinesOfBranches, LinesOfVariables, LinesOfJumps, LinesOfTexts, CharactersBetweenQuotes, LinesOfRoutines, RoutinesBehindCode, HeadersAreLines, MapsAreInOrder, AbbreviationsAreLines, NoTableNoLines, DictionariesAreLines, KeysAreWords, ObjectsAreLines, ListsPastTheEnd, UndecodableAddresses, LeadingOut, KindsOfFaults, TextsThatFail, RowsAreIndented, RowsAgain, RootsNameNoParent};
 ghost use Rattle.zk_inspect.specs.ListExamples.{FindingsAreLines, AllAbbreviationsAreLines, KeysAreInOrder, KeysBeginEntries, LinksPastTheLast, QuestionsOnObjects, LateObjectsAreLines};
 ghost use Rattle.zk_inspect.specs.CheckExamples.{EntriesAtTables, EntriesBelowTables, LinksLeadPast, NoTableNoObjects, TextsByConstants, WordsAreAddresses, WordsPastTheEnd};
 ghost use Rattle.zk_inspect.specs.NameExamples.{NamesByHeaders, NamesInFiles};
@@ -115,6 +115,7 @@ pub fn failing_texts_by_example()
 pub fn trees_by_example()
     ensures rows_are_indented { RowsAreIndented }
     ensures rows_again { RowsAgain }
+    ensures roots_name_no_parent { RootsNameNoParent }
 {}
 
 /// The objects that are listed (Standard, section 12.3).

@@ -15,6 +15,7 @@ use Rattle.zk_text.specs.Shown.{shown, shown_all}
 use Rattle.zk_term.specs.Numbers.{hex_digits, address_digits, word_digits, byte_digits}
 use Rattle.zk_inspect.specs.Listing.{quoted_bytes, units_text}
 use Rattle.zk_tables.specs.Layout.{layout_of, is_entry_in, is_entry, entry_of}
+use Rattle.zk_tables.specs.Links.{address_of, link_at, number_at}
 use Rattle.zk_tables.specs.PropertyList.{list_byte}
 use Rattle.zk_tables.specs.Properties.{table_of, name_of}
 use Rattle.zk_inspect.specs.ObjectLines.{name_text, label_text}
@@ -28,3 +29,7 @@ returns-clause-rows_are_indented c = (refl, refl)
 pub returns-clause-rows_again : goal.returns-clause-rows_again
 unfolding digits encode_utf8 byte_at word_at cell_at code_word_at header_of unit_length words_in words_at text_end_at alphabet_table letter_by standard_letters standard_characters unicode_table own_characters character values abbreviation text_units pieces_past z_characters shown shown_all hex_digits address_digits word_digits byte_digits quoted_bytes units_text layout_of is_entry_in is_entry entry_of list_byte table_of name_of name_text label_text indent again_text row_text row_line
 returns-clause-rows_again c = (refl, refl)
+
+pub returns-clause-roots_name_no_parent : goal.returns-clause-roots_name_no_parent
+unfolding byte_at cell_at header_of layout_of is_entry_in is_entry entry_of address_of number_at link_at
+returns-clause-roots_name_no_parent c = (refl, λ e. absurd cc, λ e. absurd cc)
