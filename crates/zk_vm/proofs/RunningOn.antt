@@ -1,5 +1,5 @@
 -- A run on two targets, up to where all that waits for them is given out.
-use Rattle.std.proofs.Common.{◌≡◌, ◌∙◌, ◌⊎◌, inl, inr, Bool, true, false, ℕ, List, [], ◌++◌, Some, None, Result, Err, refl, sym, subst, append-nil}
+use Rattle.std.proofs.Common.{◌≡◌, ◌∙◌, inl, inr, Bool, true, false, [], Some, None, Result, Err, refl, sym, subst, append-nil}
 use Rattle.zk_term.specs.Devices.{Sends, Shows}
 use Rattle.zk_term.proofs.Sending.{sends_shows}
 use Rattle.zk_step.specs.Routing.{Texts, text_joined}
