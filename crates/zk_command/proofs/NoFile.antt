@@ -1,13 +1,10 @@
 -- A play for which no file of a saved game is named keeps and finds nothing.
-use Rattle.std.proofs.Common.{◌≡◌, ◌∙◌, Bool, true, false, ℕ, List, [], ◌∷◌, Option, Some, None, ap, refl, sym, subst}
-use Rattle.std.specs.List.{AllByRecursion}
-use Rattle.zk_vm.specs.Answers.{Answer}
+use Rattle.std.proofs.Common.{◌≡◌, ◌∙◌, true, false, [], ◌∷◌, Option, Some, None, ap, refl}
 use Rattle.zk_vm.specs.Answers.Answer.{Typed, GameKept, File}
-use Rattle.zk_vm.specs.Outcome.{Session, given, ran}
-use Rattle.zk_vm.specs.Plays.{AreAnswers, ReadsCodes}
-use Rattle.zk_command.specs.declared.save_file.SaveFile.{SaveFile}
-use Rattle.zk_command.specs.NoFile.{KeepsNothing, NothingIsKept, file_tells}
-use Rattle.zk_command.specs.SaveFiles.{held_in, keeps_in}
+use Rattle.zk_vm.specs.Outcome.{given, ran}
+use Rattle.zk_vm.specs.Plays.{AreAnswers}
+use Rattle.zk_command.specs.NoFile.{NothingIsKept}
+use Rattle.zk_command.specs.SaveFiles.{held_in}
 
 -- a slot that has nothing names no file
 no_path : {P : Type 0} (path : Option P) → held_in path ≡ Some None → path ≡ None

@@ -1,5 +1,5 @@
 -- What a device is given of a report.
-use Rattle.std.proofs.Common.{◌≡◌, inl, inr, ℕ, Bool, List, [], ◌++◌, true, refl, sym, subst, append_assoc, append-nil, false}
+use Rattle.std.proofs.Common.{◌≡◌, inl, inr, ℕ, Bool, List, [], true, refl, sym, append-nil, false}
 use Rattle.std.proofs.KnownBytes.{Appends-nil}
 use Rattle.zk_term.specs.Devices.{Device, Took}
 use Rattle.zk_term.specs.Pages.{Wrote}

@@ -1,5 +1,5 @@
 -- The line before a listing, where a story is one of several.
-use Rattle.std.specs.Prelude.{ℕ, List, [], ◌∷◌, ◌++◌, Option, Some, None, codes}
+use Rattle.std.specs.Prelude.{ℕ, List, [], ◌++◌, Option, Some, None, codes}
 use Rattle.std.specs.IoError.{error_kind}
 use Rattle.zk_command.specs.LastLine.{refused_words, unread_words}
 use Rattle.zk_command.specs.declared.exit.Exit.{Exit}

@@ -1,5 +1,5 @@
 -- What a listing of a file shows, and how it ends.
-use Rattle.std.specs.Prelude.{◌≡◌, ◌≢◌, ◌⊎◌, ◌||◌, ℕ, Bool, true, false, List, [], ◌∷◌, ◌++◌, Option, Some, None, Result, Ok, Err, codes}
+use Rattle.std.specs.Prelude.{◌≡◌, ◌≢◌, ◌⊎◌, ℕ, Bool, true, false, List, [], ◌∷◌, ◌++◌, Option, Some, None, Result, Ok, Err, codes}
 use Rattle.std.specs.Io.KnownBytes.{Appends}
 use Rattle.std.specs.List.{flat_map}
 use Rattle.zk_mem.specs.Fresh.{fresh}
@@ -21,12 +21,11 @@ use Rattle.zk_inspect.specs.declared.code.Code as code
 use Rattle.zk_inspect.specs.declared.error.ListError.{ListError}
 use Rattle.zk_inspect.specs.declared.error.ListError.TheVariants as error
 use Rattle.zk_inspect.specs.declared.finding.Finding.{Finding}
-use Rattle.zk_vm.specs.declared.stop.Stop.{Stop}
 use Rattle.zk_vm.specs.declared.stop.Stop.TheVariants.{Quit, Write, Memory}
 use Rattle.zk_command.specs.Headings.{heading}
 use Rattle.zk_command.specs.Playing.{AreRead, EndsBy}
 use Rattle.zk_command.specs.declared.exit.Exit.{Exit}
-use Rattle.zk_command.specs.declared.exit.Exit.TheVariants.{Unread, Refused, Stopped, Found}
+use Rattle.zk_command.specs.declared.exit.Exit.TheVariants.{Stopped, Found}
 use Rattle.zk_command.specs.declared.listing.Listing.{Listing}
 use Rattle.zk_command.specs.declared.listing.Listing.TheVariants.{Info, Code, Findings}
 use Rattle.zk_command.specs.declared.listing.Section.{Section}
