@@ -1,6 +1,6 @@
 // From bytes to an instruction.
 
-ghost use Rattle.std.specs.Prelude.{ℕ, Ok, Err, IfErr, ◌≡◌, ◌≤◌, ◌<◌, ◌+◌, ◌^◌, length, IfOk};
+ghost use Rattle.std.specs.Prelude.{ℕ, [], Ok, Err, IfErr, MatchResult, ◌≡◌, ◌≤◌, ◌<◌, ◌+◌, ◌^◌, length, IfOk};
 ghost use Rattle.zk_mem.specs.declared.fault.Fault.{Fault};
 ghost use Rattle.zk_code.specs.declared.instr.Instr.{Instr};
 ghost use Rattle.zk_code.specs.Grammar.{IsInstruction, IsRefusal};
@@ -44,28 +44,33 @@ fn read_operand(
     }
 }
 
+/// Puts the operands of some types, which stand from a byte address on, into a list: the address after them.
 #[tactic(auto, using(crate::proofs::OperandSteps::loop_step, crate::proofs::OperandSteps::loop_stop, crate::proofs::OperandSteps::loop_fault, crate::proofs::OperandSteps::loop_end))]
+#[inline(never)]
 fn read_operands(
     memory: &Memory,
     types: &[OperandType],
     address: u32,
-) -> Result<(Operands, u32), Fault>
+    operands: &mut Operands,
+) -> Result<u32, Fault>
     requires near { address ≤ 2 ^ 20 }
     requires few { length types.now ≤ 8 }
-    ensures value { result ≡ operands_at memory.now types.now address }
-    ensures near { IfOk result (λ x. x.1 ≤ 2 ^ 20) }
+    requires none { operands.old ≡ [] }
+    ensures value { MatchResult result
+        (λ next. operands_at memory.now types.now address ≡ Ok (operands.new, next))
+        (λ e. operands_at memory.now types.now address ≡ Err e) }
+    ensures near { IfOk result (λ next. next ≤ 2 ^ 20) }
 {
-    let mut operands = Operands::new();
     let mut at = address;
     for operand_type in types {
         if operand_type.is_omitted() {
-            return Ok((operands, at));
+            return Ok(at);
         }
         let (operand, next) = read_operand(memory, *operand_type, at)?;
         operands.push(operand);
         at = next;
     }
-    Ok((operands, at))
+    Ok(at)
 }
 
 #[tactic(auto, unfolding(crate::specs::Reading::store_at))]
@@ -159,7 +164,8 @@ fn read_instr(memory: &Memory, blocks: &[Option<BlockEnds>], address: u32) -> Re
 {
     let head = read_head(memory, address)?;
     let follows = head.entry.follows;
-    let (operands, at) = read_operands(memory, &head.types, head.next)?;
+    let mut operands = Operands::new();
+    let at = read_operands(memory, &head.types, head.next, &mut operands)?;
     let (store, at) = read_store(memory, follows, at)?;
     let (branch, at) = read_branch(memory, follows, at)?;
     let (text, next) = read_text(memory, blocks, follows, at)?;

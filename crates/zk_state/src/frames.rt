@@ -23,8 +23,8 @@ pub struct Return {
 #[derive(Drop)]
 pub struct Frames {
     records: Records,
-    words: Vec<u16>,
     top: usize,
+    words: Vec<u16>,
     most_frames: usize,
     most_words: usize,
 }

@@ -30,11 +30,11 @@ pub(crate) const FIRST: FrameRecord = FrameRecord {
 /// room is taken once, so that a call stores its own record and copies none.
 #[derive(Drop)]
 pub(crate) struct Records {
-    all: Vec<FrameRecord>,
-    depth: usize,
     // what the current record has, where instructions find it at once
     base: usize,
     stack_base: usize,
+    depth: usize,
+    all: Vec<FrameRecord>,
 }
 
 impl Model for Records {

@@ -23,8 +23,8 @@ pub enum View {
 /// them: it is decided once an effect has ended.
 #[derive(Drop)]
 pub struct GameState {
-    pub memory: Memory,
     pub frames: Frames,
+    pub memory: Memory,
     pub streams: Streams,
     pub windows: Windows,
     pub generators: Generators,
