@@ -6,7 +6,7 @@ mod arrays;
 mod assignment;
 pub mod call;
 pub mod codes;
-pub mod comparison;
+mod comparison;
 mod control;
 mod effects;
 pub mod ending;
