@@ -385,6 +385,13 @@ impl Memory {
         &self.bytes.as_slice()[..self.header.static_base as usize]
     }
 
+    /// The whole story as it stands.
+    pub fn current(&self) -> &[u8]
+        ensures { result.now ≡ self.now.bytes }
+    {
+        self.bytes.as_slice()
+    }
+
     /// The whole story file.
     pub fn original(&self) -> &[u8]
         ensures { result.now ≡ self.now.file }
