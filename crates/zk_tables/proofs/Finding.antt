@@ -1,14 +1,13 @@
 -- Looking a key up.
-use Rattle.std.proofs.Common.{◌≡◌, ◌≢◌, ◌≤◌, ◌<◌, ℕ, zero, suc, ◌+◌, ◌*◌, ◌-◌, true, false, List, [], ◌∷◌, length, drop, get_or, Option, Some, None, Result, Ok, Err, nat_lt, ◌==◌, drop-cons, add-one, refl, sym, ◌∙◌, ap, subst, arith, inl, inr}
+use Rattle.std.proofs.Common.{◌≡◌, ◌≤◌, ◌<◌, ℕ, zero, suc, ◌+◌, ◌*◌, ◌-◌, true, false, List, [], ◌∷◌, drop, get_or, Some, Result, Ok, Err, nat_lt, refl, sym, ◌∙◌, ap, subst, arith, inl, inr}
 use Rattle.std.specs.Prelude.{slice_get, IfOk}
 use Rattle.std.proofs.Math.Nat.{mul-le-mul_left, mul-suc}
-use Rattle.std.proofs.lemmas.Bool.{ne_eqb, eq-eqb, cases_Bool}
+use Rattle.std.proofs.lemmas.Bool.{cases_Bool}
 use Rattle.std.proofs.lemmas.Bool.Decides.{nat_tests}
-use Rattle.std.proofs.lemmas.List.{drop_all}
 use Rattle.zk_mem.specs.declared.fault.Fault.{Fault}
-use Rattle.zk_mem.specs.Map.{MemoryMap, readable_end, cell_at}
+use Rattle.zk_mem.specs.Map.{MemoryMap, readable_end}
 use Rattle.zk_tables.specs.declared.dictionary.Dictionary.{Dictionary}
-use Rattle.zk_tables.specs.Dictionaries.{key_length, magnitude, dictionary_byte, dictionary_word, dictionary_by, dictionary_at, IsDictionaryOf, parts_at, bytes_from, keys_from, begins_with, has_key, found_from, entry_start}
+use Rattle.zk_tables.specs.Dictionaries.{key_length, magnitude, dictionary_byte, dictionary_word, dictionary_by, dictionary_at, IsDictionaryOf, parts_at, bytes_from, keys_from, has_key, found_from, entry_start}
 use Rattle.zk_tables.proofs.Steps.{bind_ok}
 
 -- what stands after a byte that is there
@@ -16,34 +15,6 @@ pub drop_some : (xs : List ℕ) (i x : ℕ) → slice_get xs i ≡ Some x → dr
 drop_some [] i x h = absurd cc
 drop_some (y ∷ ys) zero x h = let same : y ≡ x = cc in rw same refl
 drop_some (y ∷ ys) (suc i) x h = drop_some ys i x h
-
-drop_none : (xs : List ℕ) (i : ℕ) → slice_get xs i ≡ None → drop i xs ≡ []
-drop_none [] zero h = refl
-drop_none [] (suc i) h = refl
-drop_none (y ∷ ys) zero h = absurd cc
-drop_none (y ∷ ys) (suc i) h = drop_none ys i h
-
-pub begins_on : (m : MemoryMap) (key : List ℕ) (a i x : ℕ) → i < length key → cell_at m (a + i) ≡ Some x → x ≡ get_or key i 0 → begins_with (drop (a + i) m.bytes) (drop i key) ≡ begins_with (drop (a + (i + 1)) m.bytes) (drop (i + 1) key)
-unfolding begins_with cell_at
-begins_on m key a i x h there same =
-    let next : a + (i + 1) ≡ suc (a + i) = omega arith in
-    let test : (x == get_or key i 0) ≡ true = eq-eqb x (get_or key i 0) same in
-    rw (next, drop_some m.bytes (a + i) x there, drop-cons key i 0, add-one, test) refl
-
-pub begins_not : (m : MemoryMap) (key : List ℕ) (a i x : ℕ) → i < length key → cell_at m (a + i) ≡ Some x → x ≢ get_or key i 0 → begins_with (drop (a + i) m.bytes) (drop i key) ≡ false
-unfolding begins_with cell_at
-begins_not m key a i x h there other =
-    let test : (x == get_or key i 0) ≡ false = ne_eqb x (get_or key i 0) other in
-    rw (drop_some m.bytes (a + i) x there, drop-cons key i 0, test) refl
-
-pub begins_past : (m : MemoryMap) (key : List ℕ) (a i : ℕ) → i < length key → (r : Option ℕ) → r ≡ cell_at m (a + i) → ((x : ℕ) → r ≡ Some x → ⊥) → begins_with (drop (a + i) m.bytes) (drop i key) ≡ false
-unfolding begins_with cell_at
-begins_past m key a i h None e gone = rw (drop_none m.bytes (a + i) (sym e), drop-cons key i 0) refl
-begins_past m key a i h (Some x) e gone = absurd (gone x refl)
-
-pub begins_end : (m : MemoryMap) (key : List ℕ) (a i : ℕ) → length key ≤ i → begins_with (drop (a + i) m.bytes) (drop i key) ≡ true
-unfolding begins_with
-begins_end m key a i h = rw (drop_all i key h) refl
 
 -- ---- the entries lie in data
 

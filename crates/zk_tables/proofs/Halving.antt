@@ -107,7 +107,7 @@ begins_in_bytes m a (k ∷ ks) h =
     rw (drop_some m.bytes a (get_or m.bytes a 0) there, ← add-one a, begins_in_bytes m (a + 1) ks (omega (arith, h))) refl
 
 -- an entry begins with a key where its own key does
-has_its_key : (m : MemoryMap) (d : Dictionary) (key : List ℕ) (i : ℕ) → IsDictionaryOf m d → length key ≡ key_length m.version → i < d.entries → has_key m d key i ≡ begins_with (entry_key m d i) key
+pub has_its_key : (m : MemoryMap) (d : Dictionary) (key : List ℕ) (i : ℕ) → IsDictionaryOf m d → length key ≡ key_length m.version → i < d.entries → has_key m d key i ≡ begins_with (entry_key m d i) key
 unfolding has_key
 has_its_key m d key i stands long below =
     let inside = entry_inside m d i stands below in

@@ -14,6 +14,7 @@ pub mod LookUpLaw
 pub mod Lasting
 pub mod TableLaw
 pub mod Halving
+pub mod Numbers
 pub mod OrderLaw
 pub mod TreeSteps
 pub mod ChainLaw

@@ -86,6 +86,17 @@ unfoldable pub bytes_from : MemoryMap → ℕ → ℕ → List ℕ
 bytes_from m a zero = []
 bytes_from m a (suc n) = get_or m.bytes a 0 ∷ bytes_from m (a + 1) n
 
+-- four bytes from an index on as one number, the first the highest
+abbrev pub front_at : List ℕ → ℕ → ℕ
+front_at bytes i = get_or bytes i 0 * 16777216 + get_or bytes (i + 1) 0 * 65536 + get_or bytes (i + 2) 0 * 256 + get_or bytes (i + 3) 0
+
+-- the key from an index on as one number, by the version
+unfoldable pub number_at : ℕ → List ℕ → ℕ → ℕ
+number_at version bytes i =
+    if nat_lt version 4
+    then front_at bytes i
+    else front_at bytes i * 65536 + (get_or bytes (i + 4) 0 * 256 + get_or bytes (i + 5) 0)
+
 -- the keys of n entries of a length, from an address on
 unfoldable pub keys_from : MemoryMap → ℕ → ℕ → ℕ → List (List ℕ)
 keys_from m a entry_length zero = []

@@ -1,8 +1,8 @@
 // Dictionaries.
 
-ghost use Rattle.std.specs.Prelude.{◌≡◌, ◌≤◌, ◌<◌, ◌+◌, ◌*◌, IfOk, true, length, drop, get_or};
+ghost use Rattle.std.specs.Prelude.{◌≡◌, ◌≤◌, ◌<◌, ◌+◌, ◌*◌, IfOk, true, length, get_or, ℕ};
 ghost use Rattle.zk_mem.specs.Map.{readable_end};
-ghost use Rattle.zk_tables.specs.Dictionaries.{key_length, magnitude, dictionary_byte, dictionary_word, dictionary_by, dictionary_at, IsDictionaryOf, begins_with, is_above, do_not_fall, bytes_from, keys_from, entry_start, has_key, found_from, found_in};
+ghost use Rattle.zk_tables.specs.Dictionaries.{key_length, magnitude, dictionary_byte, dictionary_word, dictionary_by, dictionary_at, IsDictionaryOf, begins_with, is_above, do_not_fall, bytes_from, front_at, number_at, keys_from, entry_start, has_key, found_from, found_in};
 ghost use Rattle.zk_tables.specs.Halves.{Place, entry_key, halved_whole, compared_to_end, compared_by_halves};
 
 use zk_mem::fault::Fault;
@@ -68,46 +68,59 @@ fn key_bytes(memory: &Memory) -> u8
     if memory.version() < 4 { 4 } else { 6 }
 }
 
-/// The byte at an address, or 0 past the story's end.
-#[tactic(auto, unfolding(zk_mem::specs::Map::cell_at), using(zk_text::proofs::Lists::read_or))]
-fn byte_or_zero(memory: &Memory, address: u32) -> u8
-    ensures { result ≡ get_or memory.now.bytes address 0 }
+/// Four bytes from an index on as one number, the first the highest.
+fn front_of(bytes: &[u8], index: usize) -> u32
+    requires { index + 3 < length bytes.now }
+    ensures { result ≡ front_at bytes.now index }
 {
-    memory.cell(address).unwrap_or(0)
+    bytes[index] as u32 * 16_777_216
+        + bytes[index + 1] as u32 * 65_536
+        + bytes[index + 2] as u32 * 256
+        + bytes[index + 3] as u32
 }
 
-/// Whether the key at an address is above the one at another: where they first differ, its byte is greater.
-#[tactic(auto, using(crate::proofs::Ordering::keys_on, crate::proofs::Ordering::keys_differ, crate::proofs::Ordering::keys_end))]
-fn key_falls(memory: &Memory, first: u32, second: u32) -> bool
-    requires first { first < 4294967000 }
-    requires second { second < 4294967000 }
-    ensures { result ≡ is_above (bytes_from memory.now first (key_length memory.now.version))
-        (bytes_from memory.now second (key_length memory.now.version)) }
+/// Two bytes from an index on as one number.
+fn back_of(bytes: &[u8], index: usize) -> u16
+    requires { index + 1 < length bytes.now }
+    ensures { result ≡ get_or bytes.now index 0 * 256 + get_or bytes.now (index + 1) 0 }
 {
-    let length = key_bytes(memory) as u32;
-    for i in 0..length {
-        let byte = byte_or_zero(memory, first + i);
-        let other = byte_or_zero(memory, second + i);
-        if byte != other {
-            return other < byte;
-        }
+    bytes[index] as u16 * 256 + bytes[index + 1] as u16
+}
+
+/// The key from an index on as one number, so that keys are compared at once.
+#[tactic(auto, unfolding(crate::specs::Dictionaries::number_at))]
+fn number_of(bytes: &[u8], index: usize, version: u8) -> u64
+    requires { index + key_length version ≤ length bytes.now }
+    ensures value { result ≡ number_at version bytes.now index }
+    ensures bytes { (i : ℕ) → get_or bytes.now i 0 < 256 }
+{
+    let front = front_of(bytes, index) as u64;
+    if version < 4 {
+        front
+    } else {
+        front * 65_536 + back_of(bytes, index + 4) as u64
     }
-    false
 }
 
 /// Whether no key of so many entries of a length, from an address on, is above the one after it.
-#[tactic(auto, using(crate::proofs::Ordering::falls_here, crate::proofs::Ordering::falls_on, crate::proofs::Ordering::falls_end))]
+#[tactic(auto, using(crate::proofs::Numbers::number_falls, crate::proofs::Numbers::number_goes_on, crate::proofs::Numbers::next_inside, crate::proofs::Ordering::falls_end, crate::proofs::Ordering::falls_count))]
 fn keys_do_not_fall(memory: &Memory, first: u32, entry_length: u8, entries: u16) -> bool
-    requires { first < 70000 }
+    requires room { key_length memory.now.version ≤ entry_length }
+    requires inside { first + entry_length * entries ≤ readable_end memory.now }
     ensures { result ≡ do_not_fall (keys_from memory.now first entry_length entries) }
 {
+    if entries == 0 {
+        return true;
+    }
     let mut address = first;
+    let mut before = number_of(memory.current(), address as usize, memory.version());
     for index in 1..entries {
-        let next = address + entry_length as u32;
-        if key_falls(memory, address, next) {
+        address += entry_length as u32;
+        let key = number_of(memory.current(), address as usize, memory.version());
+        if key < before {
             return false;
         }
-        address = next;
+        before = key;
     }
     true
 }
@@ -142,22 +155,6 @@ fn dictionary_with(
     })
 }
 
-/// Whether the bytes from an address on begin with a key.
-fn bytes_begin_with(memory: &Memory, address: u32, key: &[u8]) -> bool
-    requires { address + length key.now ≤ 65536 }
-    ensures { result ≡ begins_with (drop address memory.now.bytes) key.now }
-{
-    for i in 0..key.len() {
-        let Some(byte) = memory.cell(address + i as u32) else {
-            return false;
-        };
-        if byte != key[i] {
-            return false;
-        }
-    }
-    true
-}
-
 #[tactic(auto, unfolding(crate::specs::Dictionaries::dictionary_at))]
 fn read_dictionary(memory: &Memory, address: u32) -> Result<Dictionary, Fault>
     ensures { result ≡ dictionary_at memory.now address }
@@ -180,18 +177,6 @@ impl Dictionary {
         read_dictionary(memory, address)
     }
 
-    /// Whether an entry, counted from 0, begins with a key.
-    #[tactic(auto, unfolding(crate::specs::Dictionaries::has_key))]
-    fn entry_begins_with(&self, memory: &Memory, key: &[u8], index: u16) -> bool
-        requires stands { IsDictionaryOf memory.now self.now }
-        requires key { length key.now ≡ key_length memory.now.version }
-        requires index { index < self.now.entries }
-        ensures { result ≡ has_key memory.now self.now key.now index }
-    {
-        let start = self.start_of(memory, index);
-        bytes_begin_with(memory, start, key)
-    }
-
     /// The byte address of an entry, counted from 0.
     #[tactic(auto, using(crate::proofs::Finding::entry_inside, crate::proofs::Finding::dictionary_inside))]
     pub fn start_of(&self, memory: &Memory, index: u16) -> u32
@@ -204,7 +189,20 @@ impl Dictionary {
         self.address + self.separators as u32 + 4 + self.entry_length as u32 * index as u32
     }
 
+    /// The key of an entry, counted from 0, as one number.
+    #[tactic(auto, using(crate::proofs::Finding::entry_inside))]
+    fn key_of(&self, memory: &Memory, index: u16) -> u64
+        requires stands { IsDictionaryOf memory.now self.now }
+        requires index { index < self.now.entries }
+        ensures value { result ≡ number_at memory.now.version memory.now.bytes (entry_start self.now index) }
+        ensures bytes { (i : ℕ) → get_or memory.now.bytes i 0 < 256 }
+    {
+        let start = self.start_of(memory, index) as usize;
+        number_of(memory.current(), start, memory.version())
+    }
+
     /// Whether the key of an entry, counted from 0, is above that of another (Standard, section 13.5).
+    #[tactic(auto, using(crate::proofs::Numbers::entries_by_number))]
     pub fn is_key_above(&self, memory: &Memory, index: u16, other: u16) -> bool
         requires stands { IsDictionaryOf memory.now self.now }
         requires index { index < self.now.entries }
@@ -212,32 +210,12 @@ impl Dictionary {
         ensures { result
             ≡ is_above (entry_key memory.now self.now index) (entry_key memory.now self.now other) }
     {
-        let start = self.start_of(memory, index);
-        let other_start = self.start_of(memory, other);
-        key_falls(memory, start, other_start)
-    }
-
-    /// Whether the key of an entry, counted from 0, is below another.
-    #[tactic(auto, using(crate::proofs::Ordering::below_on, crate::proofs::Ordering::below_differs, crate::proofs::Ordering::below_end))]
-    fn entry_is_below(&self, memory: &Memory, key: &[u8], index: u16) -> bool
-        requires stands { IsDictionaryOf memory.now self.now }
-        requires key { length key.now ≡ key_length memory.now.version }
-        requires index { index < self.now.entries }
-        ensures { result ≡ is_above key.now (entry_key memory.now self.now index) }
-    {
-        let start = self.start_of(memory, index);
-        for i in 0..key.len() {
-            let byte = byte_or_zero(memory, start + i as u32);
-            if key[i] != byte {
-                return byte < key[i];
-            }
-        }
-        false
+        self.key_of(memory, other) < self.key_of(memory, index)
     }
 
     /// The first entry, counted from 0, whose key is not below another, or the number of entries where there
     /// is none; and how many keys were compared with it, each by halves.
-    #[tactic(auto, unfolding(crate::specs::Halves::halved_whole), using(crate::proofs::Halving::halved_out, crate::proofs::Halving::halved_up, crate::proofs::Halving::halved_down, crate::proofs::Halving::halved_end))]
+    #[tactic(auto, unfolding(crate::specs::Halves::halved_whole), using(crate::proofs::Halving::halved_out, crate::proofs::Halving::halved_up, crate::proofs::Halving::halved_down, crate::proofs::Halving::halved_end, crate::proofs::Numbers::number_below, crate::proofs::Numbers::number_not_below))]
     fn first_not_below(&self, memory: &Memory, key: &[u8]) -> (u16, u32)
         requires stands { IsDictionaryOf memory.now self.now }
         requires key { length key.now ≡ key_length memory.now.version }
@@ -245,6 +223,7 @@ impl Dictionary {
         ensures compared { result.1 ≡ (halved_whole memory.now self.now key.now).compared }
         ensures few { result.1 ≤ 15 }
     {
+        let wanted = number_of(key, 0, memory.version());
         let mut first = 0;
         let mut left = self.entries;
         for compared in 0..15 {
@@ -252,7 +231,7 @@ impl Dictionary {
                 return (first, compared);
             }
             let half = left / 2;
-            if self.entry_is_below(memory, key, first + half) {
+            if self.key_of(memory, first + half) < wanted {
                 first += half + 1;
                 left -= half + 1;
             } else {
@@ -280,7 +259,7 @@ impl Dictionary {
     }
 
     /// The same, for a key of that length.
-    #[tactic(auto, using(crate::proofs::Halving::first_past, crate::proofs::Halving::first_other, crate::proofs::Halving::first_here))]
+    #[tactic(auto, using(crate::proofs::Halving::first_past, crate::proofs::Halving::first_other, crate::proofs::Halving::first_here, crate::proofs::Numbers::number_is, crate::proofs::Numbers::number_is_not))]
     fn halve(&self, memory: &Memory, key: &[u8]) -> (u16, u32)
         requires stands { IsDictionaryOf memory.now self.now }
         requires key { length key.now ≡ key_length memory.now.version }
@@ -293,7 +272,7 @@ impl Dictionary {
         if index >= self.entries {
             return (0, compared);
         }
-        if !self.entry_begins_with(memory, key, index) {
+        if self.key_of(memory, index) != number_of(key, 0, memory.version()) {
             return (0, compared + 1);
         }
         (self.start_of(memory, index) as u16, compared + 1)
@@ -301,14 +280,15 @@ impl Dictionary {
 
     /// The address of the first entry whose first bytes are a key, or 0 where there is none: one entry after
     /// the other (Standard, section 13.5). The key has the length of one.
-    #[tactic(auto, using(crate::proofs::Finding::found_on, crate::proofs::Finding::found_here, crate::proofs::Finding::found_none))]
+    #[tactic(auto, using(crate::proofs::Finding::found_on, crate::proofs::Finding::found_here, crate::proofs::Finding::found_none, crate::proofs::Numbers::number_is, crate::proofs::Numbers::number_is_not))]
     fn walk(&self, memory: &Memory, key: &[u8]) -> u16
         requires stands { IsDictionaryOf memory.now self.now }
         requires key { length key.now ≡ key_length memory.now.version }
         ensures { result ≡ found_from memory.now self.now key.now self.now.entries 0 }
     {
+        let wanted = number_of(key, 0, memory.version());
         for index in 0..self.entries {
-            if self.entry_begins_with(memory, key, index) {
+            if self.key_of(memory, index) == wanted {
                 return self.start_of(memory, index) as u16;
             }
         }
