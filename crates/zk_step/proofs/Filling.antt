@@ -37,6 +37,17 @@ far_code e code h =
     let thirteen : (code == 13) ≡ false = grind (arith, nat_tests) in
     rw (zero, nine, eleven, thirteen, far_character e code h) refl
 
+pub plain_code : (e : ExtraTable) (code : ℕ) → 31 < code → code < 127 → code_stored e code ≡ code ∷ []
+unfolding character
+plain_code e code low high =
+    let zero : (code == 0) ≡ false = grind (arith, nat_tests) in
+    let from : nat_le 32 code ≡ true = grind (arith, nat_tests) in
+    let to : nat_lt code 127 ≡ true = grind (arith, nat_tests) in
+    let nine : (code == 9) ≡ false = grind (arith, nat_tests) in
+    let eleven : (code == 11) ≡ false = grind (arith, nat_tests) in
+    let thirteen : (code == 13) ≡ false = grind (arith, nat_tests) in
+    rw (zero, nine, eleven, thirteen, from, to) refl
+
 -- where there was no room for a text, there is none for a longer one
 pub longer : (e : ExtraTable) (a b : List ℕ) (us more : List Unit) → FirstPart b (a ++ stored_all e us) → FirstPart b (a ++ stored_all e (us ++ more))
 longer e a b us more h =

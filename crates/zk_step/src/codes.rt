@@ -54,7 +54,7 @@ impl Codes {
         if self.list.len() >= MOST_CODES {
             return Err(Full);
         }
-        self.list.push(code).unwrap();
+        self.list.push_reserved(code);
         Ok(())
     }
 

@@ -176,10 +176,13 @@ impl<'a> Sink for WindowPrinter<'a> {
 
 /// The code that a table of stream 3 gets for a ZSCII code: a question mark where it has no character.
 #[inline(always)]
-#[tactic(auto, using(crate::proofs::Filling::far_code))]
 fn code_stored(extra: &Extra<'_>, code: u16) -> Option<u8>
     ensures { option_to_list result ≡ code_stored extra.now code }
 {
+    // most are these
+    if code > 31 && code < 127 {
+        return Some(code as u8);
+    }
     if code == 0 {
         return None;
     }

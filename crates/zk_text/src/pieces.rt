@@ -1,6 +1,7 @@
 // From Z-characters to the pieces of a text, one at a time.
 
-ghost use Rattle.std.specs.Prelude.{◌≡◌, ◌∷◌, ◌++◌, List, ℕ};
+ghost use Rattle.std.specs.Prelude.{◌≡◌, ◌∷◌, ◌++◌, List, ℕ, IfSome};
+ghost use Rattle.zk_text.specs.declared.pieces.Pending.TheVariants as Pending;
 ghost use Rattle.zk_text.specs.Pieces.{pieces, piece_before};
 ghost use Rattle.zk_text.specs.Reading.{held_back};
 
@@ -51,6 +52,26 @@ fn begin(character: u8) -> (Pending, Option<Piece>)
         5 => (Pending::ShiftToA2, None),
         _ => (Pending::Nothing, Some(Piece::Letter(Row::A0, character))),
     }
+}
+
+/// The piece that a Z-character is by itself: a letter of A0 or a space, where nothing is held back. Most are, so that this
+/// is asked first.
+#[tactic(auto, unfolding(crate::specs::Pieces::pieces_past))]
+#[inline(always)]
+pub(crate) fn alone(held: Pending, character: u8) -> Option<Piece>
+    ensures { IfSome result (λ piece. (zs : List ℕ) → pieces (held_back held ++ character ∷ zs)
+        ≡ piece ∷ pieces (held_back Pending.Nothing ++ zs)) }
+{
+    if !matches!(held, Pending::Nothing) {
+        return None;
+    }
+    if character > 5 {
+        return Some(Piece::Letter(Row::A0, character));
+    }
+    if character == 0 {
+        return Some(Piece::Code(32));
+    }
+    None
 }
 
 /// The next Z-character: what is held back then, and the piece that it ends.

@@ -9,7 +9,7 @@ ghost use Rattle.zk_text.specs.Meaning.{value, meaning};
 ghost use Rattle.zk_text.specs.Walks.{Walked, Passes, trouble_of};
 
 use crate::alphabet::Alphabet;
-use crate::pieces::{Pending, Piece, advance};
+use crate::pieces::{Pending, Piece, advance, alone};
 use crate::sink::Sink;
 use crate::unit::Unit;
 use zk_mem::fault::Fault;
@@ -129,6 +129,10 @@ fn walk_character<A: Abbreviations, S: Sink>(
         Walked (Some t) (S.gave sink.old sink.new) (S.refused sink.old sink.new)
         (meaning memory.now (A.stands memory.now) (held_back held ++ character ∷ zs))) }
 {
+    if let Some(piece) = alone(held, character) {
+        walk_piece::<A, S>(memory, alphabet, piece, sink)?;
+        return Ok(Pending::Nothing);
+    }
     let (next, piece) = advance(held, character);
     if let Some(piece) = piece {
         walk_piece::<A, S>(memory, alphabet, piece, sink)?;
