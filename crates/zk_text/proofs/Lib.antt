@@ -2,6 +2,7 @@ pub mod Lists
 pub mod Joins
 pub mod TextWords
 pub mod Sweeping
+pub mod Faultless
 pub mod Spells
 pub mod Places
 pub mod SpellLaws

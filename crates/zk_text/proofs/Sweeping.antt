@@ -50,7 +50,7 @@ joined_fault (Err f) b = refl
 joined_fault (Ok us) (Err f) = refl
 joined_fault (Ok us) (Ok vs) = refl
 
-before_fault : (m : MemoryMap) (o : Option Piece) (ps : List Piece) → fault_of (values (letter_of m) (abbreviation m) (piece_before o ps)) ≡ first_of (piece_fault m o) (fault_of (values (letter_of m) (abbreviation m) ps))
+pub before_fault : (m : MemoryMap) (o : Option Piece) (ps : List Piece) → fault_of (values (letter_of m) (abbreviation m) (piece_before o ps)) ≡ first_of (piece_fault m o) (fault_of (values (letter_of m) (abbreviation m) ps))
 before_fault m None ps = refl
 before_fault m (Some p) ps = rw (values_cons (letter_of m) (abbreviation m) p ps) (joined_fault (value (letter_of m) (abbreviation m) p) (values (letter_of m) (abbreviation m) ps))
 

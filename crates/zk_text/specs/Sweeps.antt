@@ -1,5 +1,5 @@
 -- The faults of texts, found from the story's end backwards.
-use Rattle.std.specs.Prelude.{◌≡◌, ℕ, ◌+◌, List, ◌++◌, Option, Some, None, Ok, Err, slice_get}
+use Rattle.std.specs.Prelude.{◌≡◌, ℕ, ◌+◌, ◌<◌, true, List, ◌++◌, Option, Some, None, Ok, Err, slice_get}
 use Rattle.zk_mem.specs.declared.fault.Fault.{Fault}
 use Rattle.zk_mem.specs.Map.{MemoryMap}
 use Rattle.zk_mem.specs.Words.{words_at}
@@ -26,6 +26,10 @@ first_of (Some f) later = Some f
 -- the faults of abbreviations, by their numbers
 abbrev pub AreFaults : MemoryMap → List (Option Fault) → Type 0
 AreFaults m faults = (n : ℕ) (f : Option Fault) → slice_get faults n ≡ Some f → f ≡ fault_of (abbreviation m n)
+
+-- no abbreviation has a fault
+abbrev pub AreFaultless : MemoryMap → Type 0
+AreFaultless m = (n : ℕ) → n < 96 → fault_of (abbreviation m n) ≡ None
 
 -- the fault of what a piece stands for, where there is a piece
 abbrev pub piece_fault : MemoryMap → Option Piece → Option Fault
@@ -59,5 +63,6 @@ IsTextRest m a (Some r) = (ws : List ℕ) × (words_at m a ≡ Some ws) × IsRes
 -- a sweep has come down to an address
 pub record IsSweptTo (m : MemoryMap) (a : ℕ) (s : Sweep) : Type 0 where
   pub faults : AreFaults m s.faults.items
+  pub faultless : s.faultless ≡ true → AreFaultless m
   pub here : IsTextRest m a s.here
   pub behind : IsTextRest m (a + 1) s.behind

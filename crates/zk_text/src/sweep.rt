@@ -1,10 +1,11 @@
 // The faults of all texts of a story, in one sweep: a text has those of its rest, and all texts share their rests.
 
-ghost use Rattle.std.specs.Prelude.{◌≡◌, ◌≤◌, ◌+◌, ◌∷◌, ◌++◌, [], List, ℕ, IfOk, length, slice_get};
-ghost use Rattle.zk_mem.specs.Map.{MemoryMap};
+ghost use Rattle.std.specs.Prelude.{◌≡◌, ◌≤◌, ◌+◌, ◌∷◌, ◌++◌, [], List, ℕ, true, IfOk, Some, is_none, length, slice_get};
+ghost use Rattle.std.specs.List.{list_all};
+ghost use Rattle.zk_mem.specs.Map.{MemoryMap, code_word_at};
 ghost use Rattle.zk_text.specs.Meaning.{abbreviation, text_units};
 ghost use Rattle.zk_text.specs.Words.{z_characters};
-ghost use Rattle.zk_text.specs.Sweeps.{AreFaults, IsRestOf, IsSweptTo, IsTextRest, fault_behind, fault_of, first_of, kept_for, piece_fault};
+ghost use Rattle.zk_text.specs.Sweeps.{AreFaultless, AreFaults, IsRestOf, IsSweptTo, IsTextRest, fault_behind, fault_of, first_of, kept_for, piece_fault};
 
 use crate::pieces::{Pending, Piece, advance};
 use crate::text::check_abbreviation;
@@ -28,13 +29,21 @@ fn abbreviation_fault(memory: &Memory, number: u16) -> Option<Fault>
 
 /// The faults of the texts of the 96 abbreviations.
 fn list_faults(alloc: Global, memory: &Memory) -> Result<Vec<Option<Fault>>, AllocError>
-    ensures { IfOk result (λ faults. AreFaults memory.now faults.items) }
+    ensures size { IfOk result (λ faults. length faults.items ≡ 96) }
+    ensures exact { IfOk result (λ faults. AreFaults memory.now faults.items) }
 {
     let mut faults = Vec::new(alloc);
     for number in 0..96 {
         faults.push(abbreviation_fault(memory, number))?;
     }
     Ok(faults)
+}
+
+/// Whether no fault is listed.
+fn are_faultless(faults: &[Option<Fault>]) -> bool
+    ensures { result ≡ list_all is_none faults.now }
+{
+    faults.iter().all(|fault| fault.is_none())
 }
 
 fn listed(faults: &[Option<Fault>], number: u16) -> Option<Option<Fault>>
@@ -179,20 +188,19 @@ fn word_before(memory: &Memory, faults: &[Option<Fault>], word: u16, rest: &Rest
     rest_before(memory, faults, (word / 1024 % 32) as u8, &second)
 }
 
-/// What is known of the text at an address, by the text of its second word.
+/// What is known of the text at an address, by its first word and the text of its second one.
 fn text_rest(
     memory: &Memory,
     faults: &[Option<Fault>],
     address: u32,
+    word: u16,
     further: Option<Rest>,
 ) -> Option<Rest>
     requires faults { AreFaults memory.now faults.now }
+    requires word { code_word_at memory.now address ≡ Some word }
     requires further { IsTextRest memory.now (address + 2) further }
     ensures { IsTextRest memory.now address result }
 {
-    let Some(word) = memory.code_word(address) else {
-        return None;
-    };
     if word >= 0x8000 {
         return Some(word_before(memory, faults, word, &Rest::none()));
     }
@@ -202,11 +210,27 @@ fn text_rest(
     }
 }
 
+/// The same where no abbreviation has a fault: then a text with an end has none.
+#[inline(always)]
+fn faultless_rest(memory: &Memory, address: u32, word: u16, further: Option<Rest>) -> Option<Rest>
+    requires faultless { AreFaultless memory.now }
+    requires word { code_word_at memory.now address ≡ Some word }
+    requires further { IsTextRest memory.now (address + 2) further }
+    ensures { IsTextRest memory.now address result }
+{
+    if word >= 0x8000 {
+        return Some(Rest::none());
+    }
+    further
+}
+
 /// The faults of all texts of a story, from an address past its end down to 0: a sweep knows that of the text at the address
 /// that it has come to. It looks at each word once, where `check_text` goes from each address to the text's end.
 #[derive(Drop)]
 pub struct Sweep {
     faults: Vec<Option<Fault>>,
+    // no abbreviation has a fault
+    faultless: bool,
     here: Option<Rest>,
     behind: Option<Rest>,
 }
@@ -218,11 +242,27 @@ impl Sweep {
             (λ sweep. (a : ℕ) → length memory.now.bytes ≤ a → IsSweptTo memory.now a sweep) }
     {
         let faults = list_faults(alloc, memory)?;
+        let faultless = are_faultless(faults.as_slice());
         Ok(Sweep {
             faults,
+            faultless,
             here: None,
             behind: None,
         })
+    }
+
+    /// What is known of the text at the address before the one that the sweep has come to, by its first word.
+    #[inline(always)]
+    fn rest_at(&self, memory: &Memory, address: u32, word: u16) -> Option<Rest>
+        requires swept { IsSweptTo memory.now (address + 1) self.now }
+        requires word { code_word_at memory.now address ≡ Some word }
+        ensures { IsTextRest memory.now address result }
+    {
+        if self.faultless {
+            faultless_rest(memory, address, word, self.behind)
+        } else {
+            text_rest(memory, self.faults.as_slice(), address, word, self.behind)
+        }
     }
 
     /// Goes down to an address.
@@ -230,7 +270,11 @@ impl Sweep {
         requires { IsSweptTo memory.now (address + 1) self.old }
         ensures { IsSweptTo memory.now address self.new }
     {
-        let rest = text_rest(memory, self.faults.as_slice(), address, self.behind);
+        // no text begins where there is no word
+        let Some(word) = memory.code_word(address) else {
+            return;
+        };
+        let rest = self.rest_at(memory, address, word);
         self.behind = self.here;
         self.here = rest;
     }
