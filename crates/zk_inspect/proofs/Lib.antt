@@ -11,6 +11,7 @@ pub mod Answered
 pub mod TextMarks
 pub mod FarSiblings
 pub mod LastMarks
+pub mod DescendingLists
 pub mod LastLists
 pub mod Falling
 pub mod TableMarks

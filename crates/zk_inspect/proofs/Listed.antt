@@ -56,10 +56,10 @@ kept_cases p x xs a true e rest (inr k) h = let c = rest k h in (suc c.0, (let l
 kept_cases p x xs a false e rest (inl s) h = absurd (let q : p x ≡ true = subst (λ (y : ℕ). p y ≡ true) (sym s) h in cc)
 kept_cases p x xs a false e rest (inr k) h = rest k h
 
-in_first : (x : ℕ) (xs : List ℕ) → Contains (x ∷ xs) x
+pub in_first : (x : ℕ) (xs : List ℕ) → Contains (x ∷ xs) x
 in_first x xs = (0, omega arith, refl)
 
-in_rest : (x a : ℕ) (xs : List ℕ) → Contains xs a → Contains (x ∷ xs) a
+pub in_rest : (x a : ℕ) (xs : List ℕ) → Contains xs a → Contains (x ∷ xs) a
 in_rest x a xs k = (suc k.0, (let lt = k.1 in omega arith), k.2)
 
 was_cases : (p : ℕ → Bool) (x : ℕ) (xs : List ℕ) (a : ℕ) (b : Bool) → p x ≡ b → (Contains (filter p xs) a → Contains xs a × (p a ≡ true)) → Contains (if b then x ∷ filter p xs else filter p xs) a → Contains (x ∷ xs) a × (p a ≡ true)

@@ -1,5 +1,6 @@
 -- What is found of texts.
-use Rattle.std.proofs.Common.{◌≡◌, ◌∙◌, ℕ, ◌<◌, ◌⊎◌, inl, inr, Bool, true, false, ◌||◌, ◌&&◌, List, get_or, Ok, Err, refl, ap, arith}
+use Rattle.std.proofs.Common.{◌≡◌, ◌∙◌, ℕ, ◌<◌, ◌⊎◌, inl, inr, Bool, true, false, ◌||◌, ◌&&◌, get_or, Ok, Err, refl, ap, arith}
+use Rattle.std.specs.Prelude.{◌↔◌}
 use Rattle.zk_mem.specs.declared.fault.Fault.{Fault}
 use Rattle.zk_mem.specs.declared.fault.Fault.TheVariants.{CodePastEnd, BadOpcode, MissingOperand, StackEmpty, NoSuchLocal, BadAddress, ReadOnly, DivisionByZero, BadObject, BadProperty, BadTree, TextPastEnd, NestedAbbreviation, StreamDepth, BadFrame, ReturnFromMain, BadTarget, BadDictionary}
 use Rattle.zk_mem.specs.Map.{MemoryMap}
@@ -9,10 +10,9 @@ use Rattle.zk_inspect.specs.declared.text_faults.TextFault.{TextFault}
 use Rattle.zk_inspect.specs.declared.text_faults.TextFault.TheVariants.{PastEnd, Nested}
 use Rattle.zk_inspect.specs.declared.texts.TextAddresses.{TextAddresses}
 use Rattle.zk_inspect.specs.Findings.{Finds}
-use Rattle.zk_inspect.specs.Lists.{IsListOf, IsMarked}
+use Rattle.zk_inspect.specs.Lists.{IsMarked}
 use Rattle.zk_inspect.specs.Texts.{HasFault, IsUnread}
 use Rattle.zk_inspect.specs.TextTests.{AreTextMarks, has_kind, is_of, text_fails}
-use Rattle.zk_inspect.proofs.Listed.{list_same}
 use Rattle.zk_inspect.proofs.Marking.{marked_inside}
 
 -- the fault of a kind
@@ -158,12 +158,16 @@ nested_found : (m : MemoryMap) (a : ℕ) → Finds m NestedNumber a → Found m 
 unfolding Found Finds
 nested_found m a p = inl p
 
-pub texts_past_end : (m : MemoryMap) (t : TextAddresses) (xs : List ℕ) → AreTextMarks m t → IsListOf (λ a. text_fails m t PastEnd a ≡ true) xs → IsListOf (Finds m TextPastTheEnd) xs
-texts_past_end m t xs h k = list_same (λ a. text_fails m t PastEnd a ≡ true) (Finds m TextPastTheEnd) xs k
-    (λ a p. found_past m a (fails_found m t PastEnd a h (fails m t PastEnd a p)))
-    (λ a p. fails_so m t PastEnd a (found_fails m t PastEnd a h (past_found m a p)))
+-- the tests tell what is found
+pub fails_past : (m : MemoryMap) (t : TextAddresses) (a : ℕ) → AreTextMarks m t → text_fails m t PastEnd a ≡ true ↔ Finds m TextPastTheEnd a
+fails_past m t a h = (λ p. found_past m a (fails_found m t PastEnd a h (fails m t PastEnd a p)), λ p. fails_so m t PastEnd a (found_fails m t PastEnd a h (past_found m a p)))
 
-pub texts_nested : (m : MemoryMap) (t : TextAddresses) (xs : List ℕ) → AreTextMarks m t → IsListOf (λ a. text_fails m t Nested a ≡ true) xs → IsListOf (Finds m NestedNumber) xs
-texts_nested m t xs h k = list_same (λ a. text_fails m t Nested a ≡ true) (Finds m NestedNumber) xs k
-    (λ a p. found_nested m a (fails_found m t Nested a h (fails m t Nested a p)))
-    (λ a p. fails_so m t Nested a (found_fails m t Nested a h (nested_found m a p)))
+pub fails_nested : (m : MemoryMap) (t : TextAddresses) (a : ℕ) → AreTextMarks m t → text_fails m t Nested a ≡ true ↔ Finds m NestedNumber a
+fails_nested m t a h = (λ p. found_nested m a (fails_found m t Nested a h (fails m t Nested a p)), λ p. fails_so m t Nested a (found_fails m t Nested a h (nested_found m a p)))
+
+-- what is found is not further on than it is looked for
+pub past_near : (m : MemoryMap) (t : TextAddresses) (a : ℕ) → AreTextMarks m t → Finds m TextPastTheEnd a → a < 524289
+past_near m t a h p = fails_near m t PastEnd a h ((fails_past m t a h).1 p)
+
+pub nested_near : (m : MemoryMap) (t : TextAddresses) (a : ℕ) → AreTextMarks m t → Finds m NestedNumber a → a < 524289
+nested_near m t a h p = fails_near m t Nested a h ((fails_nested m t a h).1 p)

@@ -1,5 +1,5 @@
 -- Lists of addresses, and marks on them.
-use Rattle.std.specs.Prelude.{◌≡◌, ◌↔◌, ℕ, ◌+◌, ◌<◌, ◌≤◌, Bool, true, false, List, length, get_or}
+use Rattle.std.specs.Prelude.{◌≡◌, ◌↔◌, ℕ, ◌+◌, ◌<◌, ◌≤◌, Bool, true, false, List, [], ◌∷◌, ◌++◌, length, get_or, reverse, if◌then◌else◌}
 use Rattle.std.specs.List.{Contains}
 use Rattle.std.specs.List.Sorted.{IsStrictlyIncreasing}
 
@@ -18,3 +18,11 @@ pub record AreLastMarks (P : ℕ → Type 0) (size end behind : ℕ) (marks : Li
   pub size_is : length marks ≡ size
   pub known : (a : ℕ) → end ≤ a + behind → IsMarked marks a ↔ P a
   pub free : (a : ℕ) → a + behind < end → IsMarked marks a → ⊥
+
+-- a number after others, where a test says so
+abbrev pub listed_if : Bool → List ℕ → ℕ → List ℕ
+listed_if test xs a = if test then xs ++ a ∷ [] else xs
+
+-- the numbers that something holds of, of the last so many below an end and of those after it, the last one first
+abbrev pub IsLastList : (ℕ → Type 0) → ℕ → ℕ → List ℕ → Type 0
+IsLastList P end behind xs = IsListOf (λ a. (end ≤ a + behind) × P a) (reverse xs)

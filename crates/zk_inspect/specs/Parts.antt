@@ -9,14 +9,14 @@ use Rattle.zk_inspect.specs.Codes.{IsCodeOf}
 use Rattle.zk_inspect.specs.Findings.{Finds, at_address}
 use Rattle.zk_inspect.specs.Lists.{IsListOf}
 use Rattle.zk_inspect.specs.ObjectTests.{AreObjects}
-use Rattle.zk_inspect.specs.TextTests.{AreTextMarks}
+use Rattle.zk_inspect.specs.TextTests.{AreFailing}
 
--- the ends of texts, the code, the objects and the texts of a story
+-- the ends of texts, the code, the objects and the texts with a fault of a story
 pub record AreParts (m : MemoryMap) (parts : Parts) : Type 0 where
   pub ends : KnowsEnds m parts.ends
   pub code : IsCodeOf m parts.code
   pub objects : AreObjects m parts.objects
-  pub texts : AreTextMarks m parts.texts
+  pub texts : AreFailing m parts.texts
 
 -- all findings of a number stand after others
 pub record Adds (m : MemoryMap) (n : Number) (old new : List Finding) : Type 0 where

@@ -1,5 +1,5 @@
 -- Tests on the texts of a story, and marks on them.
-use Rattle.std.specs.Prelude.{◌≡◌, ◌⊎◌, ◌↔◌, ℕ, ◌*◌, ◌<◌, ◌≤◌, Bool, true, false, ◌&&◌, ◌||◌, List, length, get_or, Some, Ok, Err}
+use Rattle.std.specs.Prelude.{◌≡◌, ◌⊎◌, ◌↔◌, ℕ, ◌*◌, ◌<◌, ◌≤◌, Bool, true, false, ◌&&◌, ◌||◌, List, length, get_or, reverse, Some, Ok, Err}
 use Rattle.zk_mem.specs.declared.fault.Fault.{Fault}
 use Rattle.zk_mem.specs.declared.fault.Fault.TheVariants.{BadAddress, TextPastEnd, NestedAbbreviation}
 use Rattle.zk_mem.specs.Map.{MemoryMap, word_at}
@@ -7,10 +7,13 @@ use Rattle.zk_text.specs.Meaning.{Units, meaning_at, no_abbreviation, text_units
 use Rattle.zk_tables.specs.Properties.{name_of}
 use Rattle.zk_code.specs.declared.instr.Instr.{Instr}
 use Rattle.zk_code.specs.Grammar.{IsInstruction}
+use Rattle.zk_inspect.specs.declared.finding.Number.TheVariants as number
 use Rattle.zk_inspect.specs.declared.texts.TextAddresses.{TextAddresses}
+use Rattle.zk_inspect.specs.declared.text_faults.FailingTexts.{FailingTexts}
 use Rattle.zk_inspect.specs.declared.text_faults.TextFault.{TextFault}
 use Rattle.zk_inspect.specs.declared.text_faults.TextFault.TheVariants.{PastEnd, Nested}
-use Rattle.zk_inspect.specs.Lists.{IsMarked}
+use Rattle.zk_inspect.specs.Findings.{Finds}
+use Rattle.zk_inspect.specs.Lists.{IsListOf, IsMarked}
 use Rattle.zk_inspect.specs.Objects.{IsListed}
 use Rattle.zk_inspect.specs.Texts.{IsAbbreviation, IsPrinted, IsUnread, constant_text, table_place}
 
@@ -25,6 +28,10 @@ is_of Nested _ = false
 abbrev pub has_kind : TextFault → Units → Bool
 has_kind kind (Ok us) = false
 has_kind kind (Err f) = is_of kind f
+
+-- there is a mark at an address
+abbrev pub is_marked : TextAddresses → ℕ → Bool
+is_marked marks a = get_or marks.printed a false || get_or marks.abbreviations a false || get_or marks.unread a false
 
 -- a text at an address has one: one that is printed, or one of an abbreviation; or a word of the table of abbreviations
 -- can't be read, for which they have no end
@@ -72,3 +79,8 @@ pub record AreTextMarks (m : MemoryMap) (marks : TextAddresses) : Type 0 where
   pub size : length marks.printed ≡ 524289
   pub printed : (a : ℕ) → IsMarked marks.printed a ↔ IsPrinted m a
   pub table : AreTableMarks m marks.abbreviations marks.unread
+
+-- all texts that have a fault, the last one first
+pub record AreFailing (m : MemoryMap) (failing : FailingTexts) : Type 0 where
+  pub past_end : IsListOf (Finds m number.TextPastTheEnd) (reverse failing.past_end)
+  pub nested : IsListOf (Finds m number.NestedAbbreviation) (reverse failing.nested)

@@ -15,8 +15,8 @@ use crate::finding::{Finding, Number};
 use crate::keys::{find_bad_dictionary, find_unordered};
 use crate::objects::{Objects, Question, find_objects, list_objects};
 use crate::reach::reach;
-use crate::text_faults::{find_nested, find_past_end};
-use crate::texts::{TextAddresses, mark_all_texts};
+use crate::text_faults::{FailingTexts, find_nested, find_past_end, list_failing};
+use crate::texts::mark_all_texts;
 use std::alloc::{AllocError, Global};
 use zk_code::branch::{Branch, Target};
 use zk_code::decode::decode_by;
@@ -277,17 +277,18 @@ struct Parts {
     ends: TextEnds,
     code: Code,
     objects: Objects,
-    texts: TextAddresses,
+    texts: FailingTexts,
 }
 
-/// The ends of texts, the code, the objects and the texts of a story.
+/// The ends of texts, the code, the objects and the texts with a fault of a story.
 fn find_parts(alloc: Global, memory: &Memory) -> Result<Parts, AllocError>
     ensures { IfOk result (λ parts. AreParts memory.now parts) }
 {
     let ends = TextEnds::find(alloc, memory)?;
     let code = reach(alloc, memory)?;
     let objects = find_objects(alloc, memory)?;
-    let texts = mark_all_texts(alloc, memory, &ends, objects.count, &code)?;
+    let marks = mark_all_texts(alloc, memory, &ends, objects.count, &code)?;
+    let texts = list_failing(alloc, memory, &marks)?;
     Ok(Parts {
         ends,
         code,

@@ -1,6 +1,6 @@
 // The code of a story.
 
-ghost use Rattle.std.specs.Prelude.{◌≡◌, [], ◌∷◌, ◌++◌, IfOk, OnOk, slice_get, if◌then◌else◌};
+ghost use Rattle.std.specs.Prelude.{◌≡◌, [], ◌∷◌, ◌++◌, IfOk, OnOk, reverse, slice_get, if◌then◌else◌};
 
 use std::alloc::{AllocError, Global};
 use std::marker::Model;
@@ -44,6 +44,14 @@ impl Addresses {
     {
         self.list.push(address)?;
         Ok(())
+    }
+
+    /// The same addresses, the last one first.
+    pub(crate) fn reversed(&self, alloc: Global) -> Result<Addresses, AllocError>
+        ensures { IfOk result (λ list. list ≡ reverse self.now) }
+    {
+        let list = self.list.iter().rev().copied().collect(alloc)?;
+        Ok(Addresses { list })
     }
 
     /// The address at an index, counted from 0.

@@ -1,13 +1,12 @@
 // What is wrong with the texts of a story.
 
-ghost use Rattle.std.specs.Prelude.{◌≡◌, ◌≤◌, ◌<◌, ◌↔◌, ◌^◌, ℕ, true, IfOk, length};
+ghost use Rattle.std.specs.Prelude.{◌≡◌, ◌<◌, IfOk, OnOk};
 ghost use Rattle.zk_text.specs.Meaning.{meaning_at, no_abbreviation, text_units};
 ghost use Rattle.zk_text.specs.Sweeps.{IsSweptTo};
 ghost use Rattle.zk_inspect.specs.Findings.{Finds};
-ghost use Rattle.zk_inspect.specs.Lists.{IsListOf, IsMarked};
-ghost use Rattle.zk_inspect.specs.TextTests.{AreTextMarks, has_kind, is_of, text_fails};
+ghost use Rattle.zk_inspect.specs.Lists.{IsListOf, listed_if};
+ghost use Rattle.zk_inspect.specs.TextTests.{AreFailing, AreTextMarks, has_kind, is_of, text_fails};
 
-use crate::address_set::{AddressSet, unmarked};
 use crate::code::Addresses;
 use crate::finding::Number;
 use crate::texts::{TEXTS_END, TextAddresses};
@@ -75,44 +74,100 @@ fn text_fails(
         || (is_of(kind, Fault::TextPastEnd) && marks.unread.is_marked(address))
 }
 
-/// Marks the texts that have a fault of a kind, from the last address on.
-fn mark_failing(
+/// Lists the address that a sweep has come to, if a text there has a fault of a kind.
+fn list_if_failing(
+    memory: &Memory,
+    marks: &TextAddresses,
+    sweep: &Sweep,
+    kind: TextFault,
+    address: u32,
+    failing: &mut Addresses,
+) -> Result<(), AllocError>
+    requires swept { IsSweptTo memory.now address sweep.now }
+    requires marks { AreTextMarks memory.now marks.now }
+    requires near { address < 524289 }
+    ensures { OnOk result (failing.new
+        ≡ listed_if (text_fails memory.now marks.now kind address) failing.old address) }
+{
+    if text_fails(memory, marks, sweep, kind, address) {
+        failing.push(address)?;
+    }
+    Ok(())
+}
+
+/// The addresses of texts that have a fault, the last one first.
+#[derive(Drop)]
+pub(crate) struct FailingTexts {
+    /// Of those that have no end in the story, or that use an abbreviation without one, and of the words of the table of
+    /// abbreviations that can't be read.
+    past_end: Addresses,
+    /// Of abbreviations that use one, and of texts that use such an abbreviation.
+    nested: Addresses,
+}
+
+impl FailingTexts {
+    /// Lists the address that a sweep has come to, if a text there has a fault.
+    #[inline(always)]
+    fn add(
+        &mut self,
+        memory: &Memory,
+        marks: &TextAddresses,
+        sweep: &Sweep,
+        address: u32,
+    ) -> Result<(), AllocError>
+        requires swept { IsSweptTo memory.now address sweep.now }
+        requires marks { AreTextMarks memory.now marks.now }
+        requires near { address < 524289 }
+        ensures past_end { OnOk result (self.new.past_end
+            ≡ listed_if (text_fails memory.now marks.now TextFault.PastEnd address) self.old.past_end address) }
+        ensures nested { OnOk result (self.new.nested
+            ≡ listed_if (text_fails memory.now marks.now TextFault.Nested address) self.old.nested address) }
+    {
+        if !marks.has(address) {
+            return Ok(());
+        }
+        list_if_failing(
+            memory,
+            marks,
+            sweep,
+            TextFault::PastEnd,
+            address,
+            &mut self.past_end,
+        )?;
+        list_if_failing(
+            memory,
+            marks,
+            sweep,
+            TextFault::Nested,
+            address,
+            &mut self.nested,
+        )?;
+        Ok(())
+    }
+}
+
+/// Lists the texts that have a fault.
+pub(crate) fn list_failing(
     alloc: Global,
     memory: &Memory,
     marks: &TextAddresses,
-    kind: TextFault,
-) -> Result<AddressSet, AllocError>
+) -> Result<FailingTexts, AllocError>
     requires { AreTextMarks memory.now marks.now }
-    ensures size { IfOk result (λ failing. length failing ≤ 2 ^ 20) }
-    ensures exact { IfOk result
-        (λ failing. (a : ℕ) → IsMarked failing a ↔ text_fails memory.now marks.now kind a ≡ true) }
+    ensures { IfOk result (λ failing. AreFailing memory.now failing) }
 {
     // no story is longer
     memory.len();
-    let mut failing = unmarked(alloc, TEXTS_END)?;
+    let mut failing = FailingTexts {
+        past_end: Addresses::new(alloc),
+        nested: Addresses::new(alloc),
+    };
     let mut sweep = Sweep::begin(alloc, memory)?;
     for behind in 0..TEXTS_END {
         let address = TEXTS_END - 1 - behind;
         sweep.back(memory, address);
-        if text_fails(memory, marks, &sweep, kind, address) {
-            failing.mark(address);
-        }
+        failing.add(memory, marks, &sweep, address)?;
     }
     Ok(failing)
-}
-
-/// The addresses of texts that have a fault of a kind.
-fn list_failing(
-    alloc: Global,
-    memory: &Memory,
-    marks: &TextAddresses,
-    kind: TextFault,
-) -> Result<Addresses, AllocError>
-    requires { AreTextMarks memory.now marks.now }
-    ensures { IfOk result (IsListOf (λ a. text_fails memory.now marks.now kind a ≡ true)) }
-{
-    let failing = mark_failing(alloc, memory, marks, kind)?;
-    failing.list(alloc)
 }
 
 /// The addresses of texts that have no end in the story, or that use an abbreviation without one, and the words of the
@@ -120,22 +175,22 @@ fn list_failing(
 pub(crate) fn find_past_end(
     alloc: Global,
     memory: &Memory,
-    marks: &TextAddresses,
+    failing: &FailingTexts,
 ) -> Result<Addresses, AllocError>
-    requires { AreTextMarks memory.now marks.now }
+    requires { AreFailing memory.now failing.now }
     ensures { IfOk result (IsListOf (Finds memory.now Number.TextPastTheEnd)) }
 {
-    list_failing(alloc, memory, marks, TextFault::PastEnd)
+    failing.past_end.reversed(alloc)
 }
 
 /// The addresses of abbreviations that use one, and of texts that use such an abbreviation.
 pub(crate) fn find_nested(
     alloc: Global,
     memory: &Memory,
-    marks: &TextAddresses,
+    failing: &FailingTexts,
 ) -> Result<Addresses, AllocError>
-    requires { AreTextMarks memory.now marks.now }
+    requires { AreFailing memory.now failing.now }
     ensures { IfOk result (IsListOf (Finds memory.now Number.NestedAbbreviation)) }
 {
-    list_failing(alloc, memory, marks, TextFault::Nested)
+    failing.nested.reversed(alloc)
 }

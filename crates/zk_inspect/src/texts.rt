@@ -8,7 +8,7 @@ ghost use Rattle.zk_code.specs.Reach.{IsReached};
 ghost use Rattle.zk_inspect.specs.Codes.{IsCodeOf};
 ghost use Rattle.zk_inspect.specs.ObjectTests.{IsCounted};
 ghost use Rattle.zk_inspect.specs.Texts.{IsPrinted, addressed_by, constant_text, text_named};
-ghost use Rattle.zk_inspect.specs.TextTests.{AreTableMarks, AreTextMarks, IsTableMarks, IsTextMarks, Keeps, NamesMarked, TextsMarked};
+ghost use Rattle.zk_inspect.specs.TextTests.{AreTableMarks, AreTextMarks, IsTableMarks, IsTextMarks, Keeps, NamesMarked, TextsMarked, is_marked};
 ghost use Rattle.zk_inspect.specs.Lists.{IsMarked};
 
 use crate::address_set::{AddressSet, unmarked};
@@ -219,6 +219,19 @@ pub(crate) struct TextAddresses {
     pub abbreviations: AddressSet,
     /// The words of the table of abbreviations that can't be read.
     pub unread: AddressSet,
+}
+
+impl TextAddresses {
+    /// Whether an address is any of these.
+    #[inline(always)]
+    pub fn has(&self, address: u32) -> bool
+        requires { address < length self.now.printed }
+        ensures { result ≡ is_marked self.now address }
+    {
+        self.printed.has(address)
+            || self.abbreviations.is_marked(address)
+            || self.unread.is_marked(address)
+    }
 }
 
 /// Marks on all texts.
