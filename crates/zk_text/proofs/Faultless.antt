@@ -1,4 +1,4 @@
--- Texts where no abbreviation has a fault, and where there is none.
+-- Texts where no abbreviation has a fault, and places past the last word.
 use Rattle.std.proofs.Common.{◌≡◌, ◌∙◌, ℕ, zero, suc, ◌+◌, ◌*◌, ◌-◌, ◌<◌, ◌≤◌, List, [], ◌∷◌, length, Bool, true, false, nat_lt, ◌==◌, Option, Some, None, refl, sym, arith, if◌then◌else◌}
 use Rattle.std.specs.Prelude.{is_none, slice_get}
 use Rattle.std.specs.List.{list_all}
