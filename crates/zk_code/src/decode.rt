@@ -1,6 +1,6 @@
 // From bytes to an instruction.
 
-ghost use Rattle.std.specs.Prelude.{ℕ, [], Ok, Err, IfErr, MatchResult, ◌≡◌, ◌≤◌, ◌<◌, ◌+◌, ◌^◌, length, IfOk};
+ghost use Rattle.std.specs.Prelude.{ℕ, [], Ok, Err, IfErr, MatchResult, ◌≡◌, ◌≤◌, ◌<◌, ◌+◌, ◌^◌, length, IfOk, OnOk};
 ghost use Rattle.zk_mem.specs.declared.fault.Fault.{Fault};
 ghost use Rattle.zk_code.specs.declared.instr.Instr.{Instr};
 ghost use Rattle.zk_code.specs.Grammar.{IsInstruction, IsRefusal};
@@ -156,30 +156,48 @@ fn read_text(
     }
 }
 
+/// Reads an instruction into one that has no operands yet, so that it is not moved part by part.
 #[tactic(auto, unfolding(crate::specs::Reading::instr_at))]
+#[inline(never)]
+fn fill_instr(
+    memory: &Memory,
+    blocks: &[Option<BlockEnds>],
+    address: u32,
+    instr: &mut Instr,
+) -> Result<(), Fault>
+    requires known { AreEnds memory.now blocks.now }
+    requires none { instr.old.operands ≡ [] }
+    ensures value { MatchResult result (λ _. instr_at memory.now address ≡ Ok instr.new)
+        (λ e. instr_at memory.now address ≡ Err e) }
+    ensures near { OnOk result (instr.new.next ≤ 2 ^ 20) }
+{
+    let head = read_head(memory, address)?;
+    let follows = head.entry.follows;
+    let at = read_operands(memory, &head.types, head.next, &mut instr.operands)?;
+    let (store, at) = read_store(memory, follows, at)?;
+    let (branch, at) = read_branch(memory, follows, at)?;
+    let (text, next) = read_text(memory, blocks, follows, at)?;
+    if instr.operands.len() < head.entry.least as usize {
+        return Err(Fault::MissingOperand);
+    }
+    instr.opcode = head.entry.opcode;
+    instr.store = store;
+    instr.branch = branch;
+    instr.text = text;
+    instr.next = next;
+    Ok(())
+}
+
 fn read_instr(memory: &Memory, blocks: &[Option<BlockEnds>], address: u32) -> Result<Instr, Fault>
     requires { AreEnds memory.now blocks.now }
     ensures value { result ≡ instr_at memory.now address }
     ensures near { IfOk result (λ i. i.next ≤ 2 ^ 20) }
 {
-    let head = read_head(memory, address)?;
-    let follows = head.entry.follows;
-    let mut operands = Operands::new();
-    let at = read_operands(memory, &head.types, head.next, &mut operands)?;
-    let (store, at) = read_store(memory, follows, at)?;
-    let (branch, at) = read_branch(memory, follows, at)?;
-    let (text, next) = read_text(memory, blocks, follows, at)?;
-    if operands.len() < head.entry.least as usize {
-        return Err(Fault::MissingOperand);
+    let mut instr = Instr::empty();
+    match fill_instr(memory, blocks, address, &mut instr) {
+        Ok(()) => Ok(instr),
+        Err(fault) => Err(fault),
     }
-    Ok(Instr {
-        opcode: head.entry.opcode,
-        operands,
-        store,
-        branch,
-        text,
-        next,
-    })
 }
 
 /// The instruction at an address (Standard, section 4).

@@ -1,7 +1,9 @@
 // One instruction.
 
+ghost use Rattle.std.specs.Prelude.{◌≡◌, []};
+
 use crate::branch::Branch;
-use crate::opcode::Opcode;
+use crate::opcode::{Idle, Opcode};
 use crate::operands::Operands;
 
 /// An instruction (Standard, section 4.1).
@@ -16,4 +18,20 @@ pub struct Instr {
     pub text: Option<u32>,
     /// The byte address after the instruction.
     pub next: u32,
+}
+
+impl Instr {
+    /// One that is still to be read.
+    pub(crate) fn empty() -> Instr
+        ensures { result.operands ≡ [] }
+    {
+        Instr {
+            opcode: Opcode::Idle(Idle::Nop),
+            operands: Operands::new(),
+            store: None,
+            branch: None,
+            text: None,
+            next: 0,
+        }
+    }
 }
