@@ -16,62 +16,66 @@ pub same_grids : (f g : ℕ → ℕ → ℕ) → ((row column : ℕ) → OnGrid 
 same_grids f g each = same_cells (on_grid f) (on_grid g) (λ row column on.
     at-on_grid f row column on ∙ (each row column (is_on_grid-true row column on) on ∙ sym (at-on_grid g row column on)))
 
-pub at-cells_of : (items : List ℕ) (row column : ℕ) → is_on_grid row column ≡ true → (cells_of items).at row column ≡ get_or items (cell_number row column) 0
+pub at-cells_of : (items : List ℕ) (row column : ℕ) → is_on_grid row column ≡ true → (cells_of items).at row column ≡ get_or items (cell_number row column) 32
 unfolding cells_of
-at-cells_of items row column on = at-on_grid (λ r q. get_or items (cell_number r q) 0) row column on
+at-cells_of items row column on = at-on_grid (λ r q. get_or items (cell_number r q) 32) row column on
 
 -- two cells stand at two places
 same_place : (row column row' column' : ℕ) → OnGrid row column → OnGrid row' column' → cell_number row column ≡ cell_number row' column' → (row ≡ row') × (column ≡ column')
 same_place row column row' column' a b same = (omega arith, omega arith)
 
 -- a character put into a list is put into its cell
-set_elsewhere : (items : List ℕ) (row column k c r q : ℕ) → OnGrid row column → OnGrid r q → k ≡ cell_number row column → (nat_eq r row && nat_eq q column) ≡ false → get_or (set items k c) (cell_number r q) 0 ≡ get_or items (cell_number r q) 0
+set_elsewhere : (items : List ℕ) (row column k c r q : ℕ) → OnGrid row column → OnGrid r q → k ≡ cell_number row column → (nat_eq r row && nat_eq q column) ≡ false → get_or (set items k c) (cell_number r q) 32 ≡ get_or items (cell_number r q) 32
 set_elsewhere items row column k c r q here on is other =
     let apart : cell_number r q ≢ k = λ e.
     let both = same_place r q row column on here (e ∙ is) in
     elim (and_cases (nat_eq r row) (nat_eq q column) other) [ inl a ↦ eqb-false r row a both.0 | inr a ↦ eqb-false q column a both.1 ] in
-    get_or-set_other items k (cell_number r q) c 0 apart
+    get_or-set_other items k (cell_number r q) c 32 apart
 
-set_here : (items : List ℕ) (row column k c r q : ℕ) → length items ≡ 20400 → OnGrid row column → k ≡ cell_number row column → (nat_eq r row && nat_eq q column) ≡ true → get_or (set items k c) (cell_number r q) 0 ≡ c
-set_here items row column k c r q long here is both =
+set_here : (items : List ℕ) (row column k c r q : ℕ) → k < length items → k ≡ cell_number row column → (nat_eq r row && nat_eq q column) ≡ true → get_or (set items k c) (cell_number r q) 32 ≡ c
+set_here items row column k c r q within is both =
     let parts = and_parts (nat_eq r row) (nat_eq q column) both in
     let same_row : r ≡ row = eqb-true r row parts.0 in
     let same_column : q ≡ column = eqb-true q column parts.1 in
-    get_or-set_at items k (cell_number r q) c 0 (omega arith) (omega arith)
+    get_or-set_at items k (cell_number r q) c 32 (omega arith) within
 
-put_or_not : (items : List ℕ) (row column k c r q : ℕ) → length items ≡ 20400 → OnGrid row column → k ≡ cell_number row column → OnGrid r q → is_on_grid r q ≡ true → get_or (set items k c) (cell_number r q) 0 ≡ cond (nat_eq r row && nat_eq q column) c ((cells_of items).at r q)
-put_or_not items row column k c r q long here is place on = elim (cases_Bool (nat_eq r row && nat_eq q column)) [
-  | inl both ↦ set_here items row column k c r q long here is both ∙ sym (cond-true _ c ((cells_of items).at r q) both)
+put_or_not : (items : List ℕ) (row column k c r q : ℕ) → k < length items → OnGrid row column → k ≡ cell_number row column → OnGrid r q → is_on_grid r q ≡ true → get_or (set items k c) (cell_number r q) 32 ≡ cond (nat_eq r row && nat_eq q column) c ((cells_of items).at r q)
+put_or_not items row column k c r q within here is place on = elim (cases_Bool (nat_eq r row && nat_eq q column)) [
+  | inl both ↦ set_here items row column k c r q within is both ∙ sym (cond-true _ c ((cells_of items).at r q) both)
   | inr other ↦ set_elsewhere items row column k c r q here place is other ∙ (sym (at-cells_of items r q on) ∙ sym (cond-false _ c ((cells_of items).at r q) other))
 ]
 
-pub cells_of-set : (items : List ℕ) (row column k c : ℕ) → length items ≡ 20400 → OnGrid row column → k ≡ cell_number row column → cells_of (set items k c) ≡ cell_put (cells_of items) row column c
+pub cells_of-set : (items : List ℕ) (row column k c : ℕ) → k < length items → OnGrid row column → k ≡ cell_number row column → cells_of (set items k c) ≡ cell_put (cells_of items) row column c
 unfolding cells_of cell_put
-cells_of-set items row column k c long here is = same_grids _ _ (λ r q place on. put_or_not items row column k c r q long here is place on)
+cells_of-set items row column k c within here is = same_grids _ _ (λ r q place on. put_or_not items row column k c r q within here is place on)
 
--- a list of which the items from one place up to another are blank, and the others are as before
+-- lists that have the same cells
+pub cells_of-same : (old new : List ℕ) → ((k : ℕ) → get_or new k 32 ≡ get_or old k 32) → cells_of new ≡ cells_of old
+unfolding cells_of
+cells_of-same old new given = same_grids _ _ (λ r q place on. given (cell_number r q))
+
+-- a list of which the cells from one place up to another are blank, and the others are as before
 abbrev pub AreEmptied : List ℕ → List ℕ → ℕ → ℕ → Type 0
-AreEmptied old new from to =
-    (k : ℕ) → k < length old → get_or new k 0 ≡ (if nat_le from k && nat_lt k to then 32 else get_or old k 0)
+AreEmptied old new from to = (k : ℕ) → get_or new k 32 ≡ (if nat_le from k && nat_lt k to then 32 else get_or old k 32)
 
-emptied_or_not : (old new : List ℕ) (from to : ℕ) (among : ℕ → ℕ → Bool) (r q : ℕ) → length old ≡ 20400 → AreEmptied old new from to → OnGrid r q → is_on_grid r q ≡ true → (nat_le from (cell_number r q) && nat_lt (cell_number r q) to) ≡ among r q → get_or new (cell_number r q) 0 ≡ cond (among r q) 32 ((cells_of old).at r q)
-emptied_or_not old new from to among r q long given place on same =
-    given (cell_number r q) (omega (arith, place.row_from, place.row_to, place.column_from, place.column_to))
-    ∙ (ap (λ (b : Bool). cond b 32 (get_or old (cell_number r q) 0)) same ∙ ap (λ (c : ℕ). cond (among r q) 32 c) (sym (at-cells_of old r q on)))
+emptied_or_not : (old new : List ℕ) (from to : ℕ) (among : ℕ → ℕ → Bool) (r q : ℕ) → AreEmptied old new from to → is_on_grid r q ≡ true → (nat_le from (cell_number r q) && nat_lt (cell_number r q) to) ≡ among r q → get_or new (cell_number r q) 32 ≡ cond (among r q) 32 ((cells_of old).at r q)
+emptied_or_not old new from to among r q given on same =
+    given (cell_number r q)
+    ∙ (ap (λ (b : Bool). cond b 32 (get_or old (cell_number r q) 32)) same ∙ ap (λ (c : ℕ). cond (among r q) 32 c) (sym (at-cells_of old r q on)))
 
-pub cells_of-emptied : (old new : List ℕ) (from to : ℕ) (among : ℕ → ℕ → Bool) → length old ≡ 20400 → AreEmptied old new from to → ((r q : ℕ) → OnGrid r q → (nat_le from (cell_number r q) && nat_lt (cell_number r q) to) ≡ among r q) → cells_of new ≡ emptied among (cells_of old)
+pub cells_of-emptied : (old new : List ℕ) (from to : ℕ) (among : ℕ → ℕ → Bool) → AreEmptied old new from to → ((r q : ℕ) → OnGrid r q → (nat_le from (cell_number r q) && nat_lt (cell_number r q) to) ≡ among r q) → cells_of new ≡ emptied among (cells_of old)
 unfolding cells_of emptied
-cells_of-emptied old new from to among long given same =
-    same_grids _ _ (λ r q place on. emptied_or_not old new from to among r q long given place on (same r q place))
+cells_of-emptied old new from to among given same =
+    same_grids _ _ (λ r q place on. emptied_or_not old new from to among r q given on (same r q place))
 
-pub cells_of-blank : (items : List ℕ) → ((k : ℕ) → k < 20400 → get_or items k 0 ≡ 32) → cells_of items ≡ no_cells
+pub cells_of-blank : (items : List ℕ) → ((k : ℕ) → k < 20400 → get_or items k 32 ≡ 32) → cells_of items ≡ no_cells
 unfolding cells_of no_cells
 cells_of-blank items given =
     same_grids _ _ (λ r q place on. given (cell_number r q) (omega (arith, place.row_from, place.row_to, place.column_from, place.column_to)))
 
-pub cells_of-all_emptied : (old new : List ℕ) → length old ≡ 20400 → AreEmptied old new 0 20400 → cells_of new ≡ no_cells
-cells_of-all_emptied old new long given = cells_of-blank new (λ k low.
-    given k (omega arith) ∙ cond-true _ 32 (get_or old k 0) (and_from _ _ (le-leb 0 k (omega arith)) (lt-ltb k 20400 low)))
+pub cells_of-all_emptied : (old new : List ℕ) → AreEmptied old new 0 20400 → cells_of new ≡ no_cells
+cells_of-all_emptied old new given = cells_of-blank new (λ k low.
+    given k ∙ cond-true _ 32 (get_or old k 32) (and_from _ _ (le-leb 0 k (omega arith)) (lt-ltb k 20400 low)))
 
 -- the places past a height
 pub past_all : (version height from r q : ℕ) → version ≡ 3 → from ≡ 0 → OnGrid r q → (nat_le from (cell_number r q) && nat_lt (cell_number r q) 20400) ≡ past version height r q

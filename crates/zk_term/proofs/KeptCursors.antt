@@ -1,5 +1,5 @@
 -- Splits, erasures and the cursor.
-use Rattle.std.proofs.Common.{◌≡◌, ◌≢◌, ◌∙◌, ◌<◌, ◌≤◌, ◌&&◌, ℕ, Bool, true, false, List, [], ◌∷◌, ◌++◌, suc, map, arith, ap, sym, refl, inl, inr, cond, min, nat_le, nat_lt, nat_eq, if◌then◌else◌}
+use Rattle.std.proofs.Common.{◌≡◌, ◌≢◌, ◌∙◌, ◌<◌, ◌≤◌, ◌&&◌, ℕ, Bool, true, false, List, [], ◌∷◌, ◌++◌, suc, arith, ap, sym, refl, inl, inr, cond, min, nat_le, nat_lt, nat_eq, if◌then◌else◌}
 use Rattle.std.proofs.lemmas.Bool.{cases_Bool, cond_both, cond-true, cond-false, eq-eqb, ne_eqb, eqb-true, eqb-false, lt-ltb, le-ltb}
 use Rattle.zk_term.specs.declared.windows.Window.{Window}
 use Rattle.zk_term.specs.declared.windows.Window.TheVariants.{Lower, Upper}
@@ -7,6 +7,7 @@ use Rattle.zk_term.specs.Grid.{Cells, blank, is_on_grid, no_cells, emptied, cell
 use Rattle.zk_term.specs.Windows.{Windows, first_windows, homed, past, split, window_selected, cleared, unsplit, line_erased, cursor_set, next_row, character_put, moved_right, character_printed, printed, before_blanks, without_last_blanks, columns_from, row_text}
 use Rattle.zk_term.specs.WindowLaws.{IsSplit, SplitsEmptyThePast, IsNearTheGrid, KeepsTheCursor, IsWithoutLastSpaces, SpacesAtTheEndGo, ClearedRowsHaveNoText}
 use Rattle.zk_term.proofs.Grids.{at-on_grid}
+use Rattle.zk_term.proofs.Rows.{no_text}
 
 -- ---- cells that are emptied
 
@@ -163,12 +164,6 @@ pub spaces_at_the_end_go : SpacesAtTheEndGo
 unfolding without_last_blanks
 spaces_at_the_end_go [] = record { spaces = 0; rest = refl; ending = no_end 32 }
 spaces_at_the_end_go (c ∷ cs) = spaces_before c (without_last_blanks cs) cs (spaces_at_the_end_go cs)
-
-no_text : (f : ℕ → ℕ) → ((k : ℕ) → f k ≡ 32) → (ks : List ℕ) → without_last_blanks (map f ks) ≡ []
-unfolding without_last_blanks
-no_text f all [] = refl
-no_text f all (k ∷ ks) =
-    ap (before_blanks (f k)) (no_text f all ks) ∙ cond-true (nat_eq (f k) 32) [] (f k ∷ []) (eq-eqb (f k) 32 (all k))
 
 pub cleared_rows_have_no_text : ClearedRowsHaveNoText
 unfolding row_text cleared

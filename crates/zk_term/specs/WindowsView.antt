@@ -1,5 +1,5 @@
 -- How contracts see the fields of `Windows`, and what always holds of them.
-use Rattle.std.specs.Prelude.{◌≡◌, ◌≤◌, ◌<◌, ◌*◌, ℕ, length, slice_index}
+use Rattle.std.specs.Prelude.{◌≡◌, ◌≤◌, ◌*◌, ℕ, length, slice_index_or, vec_capacity}
 use Rattle.zk_term.specs.declared.windows.Windows.TheInside.{Inside}
 use Rattle.zk_term.specs.Places.{cells_of}
 use Rattle.zk_term.specs.Windows.{Windows}
@@ -8,10 +8,12 @@ use Rattle.zk_term.specs.Windows.{Windows}
 abbrev pub windows_of : Inside → Windows
 windows_of w = record { cells = cells_of w.cells.items; height = w.height; row = w.row; column = w.column; selected = w.selected }
 
--- the rows that are not shown are blank, and the cursor may stand past the last row and column
+-- There is room for the whole grid. The rows that are shown have cells, those that are not are blank, and the cursor may
+-- stand past the last row and column.
 pub record IsKept (w : Inside) : Type 0 where
-  pub cells : length w.cells.items ≡ 20400
-  pub blank : (k : ℕ) → w.height * 80 ≤ k → k < 20400 → slice_index w.cells.items k ≡ 32
+  pub room : 20400 ≤ vec_capacity w.cells
+  pub shown : w.height * 80 ≤ length w.cells.items
+  pub blank : (k : ℕ) → w.height * 80 ≤ k → slice_index_or w.cells.items k 32 ≡ 32
   pub row_from : 1 ≤ w.row
   pub row_to : w.row ≤ 256
   pub column_from : 1 ≤ w.column

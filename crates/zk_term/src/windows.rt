@@ -1,6 +1,6 @@
 // The upper window: a grid of characters with a cursor.
 
-ghost use Rattle.std.specs.Prelude.{◌≡◌, ◌≤◌, ◌<◌, ◌&&◌, ◌*◌, ℕ, IfOk, if◌then◌else◌, length, nat_le, nat_lt, slice_index};
+ghost use Rattle.std.specs.Prelude.{◌≡◌, ◌≤◌, ◌<◌, ◌&&◌, ◌*◌, ℕ, IfOk, if◌then◌else◌, length, nat_le, nat_lt, slice_index_or, vec_capacity};
 ghost use Rattle.zk_term.specs.Windows.{first_windows, homed, past, split, window_selected, cleared, unsplit, line_erased, cursor_set, next_row, character_put, character_printed, row_text, without_last_blanks};
 ghost use Rattle.zk_term.specs.Grid.{emptied};
 ghost use Rattle.zk_term.specs.Places.{cell_number};
@@ -23,10 +23,10 @@ pub enum Window {
 /// The upper window of the screen (Z-Machine Standards Document 1.1, sections 8.6 and 8.7): a grid of 255 rows
 /// and 80 columns, numbered from 1 on, of which as many rows are shown as its height says, and a cursor, which
 /// may stand past the last column or row. Contracts see each cell by its row and column. It takes memory when
-/// it is made, and none later.
+/// it is made, and none later; what is taken is first written where rows are first shown.
 #[derive(Drop)]
 pub struct Windows {
-    // the rows one after another, with spaces alone in those that are not shown
+    // the rows that were ever shown, one after another, with spaces alone in those that are not shown now
     cells: Vec<char>,
     height: u8,
     row: u16,
@@ -49,19 +49,12 @@ impl Model for Windows {
     ghost invariant = { IsKept };
 }
 
-/// So many spaces.
-fn spaces(alloc: Global, count: usize) -> Result<Vec<char>, AllocError>
-    ensures len { IfOk result (λ v. length v.items ≡ count) }
-    ensures value { IfOk result (λ v. (k : ℕ) → k < count → slice_index v.items k ≡ 32) }
-{
-    vec![in alloc; ' '; count]
-}
-
 /// Empties cells from one place up to another, which is none of them.
 fn empty(cells: &mut Vec<char>, from: usize, to: usize)
     ensures len { length cells.new.items ≡ length cells.old.items }
-    ensures value { (k : ℕ) → k < length cells.old.items → slice_index cells.new.items k
-        ≡ (if nat_le from k && nat_lt k to then 32 else slice_index cells.old.items k) }
+    ensures room { vec_capacity cells.new ≡ vec_capacity cells.old }
+    ensures value { (k : ℕ) → slice_index_or cells.new.items k 32
+        ≡ (if nat_le from k && nat_lt k to then 32 else slice_index_or cells.old.items k 32) }
 {
     let end = to.min(cells.len());
     for k in from..end {
@@ -72,10 +65,24 @@ fn empty(cells: &mut Vec<char>, from: usize, to: usize)
 /// Empties the rows up to a height.
 fn empty_shown(cells: &mut Vec<char>, height: u8)
     ensures len { length cells.new.items ≡ length cells.old.items }
-    ensures value { (k : ℕ) → k < length cells.old.items → slice_index cells.new.items k
-        ≡ (if nat_le 0 k && nat_lt k (height * 80) then 32 else slice_index cells.old.items k) }
+    ensures room { vec_capacity cells.new ≡ vec_capacity cells.old }
+    ensures value { (k : ℕ) → slice_index_or cells.new.items k 32
+        ≡ (if nat_le 0 k && nat_lt k (height * 80) then 32 else slice_index_or cells.old.items k 32) }
 {
     empty(cells, 0, height as usize * COLUMNS);
+}
+
+/// Puts spaces after the last cell, up to a place.
+fn fill_up(cells: &mut Vec<char>, to: usize)
+    requires { to ≤ vec_capacity cells.old }
+    ensures len { to ≤ length cells.new.items }
+    ensures room { vec_capacity cells.old ≤ vec_capacity cells.new }
+    ensures same { (k : ℕ) → slice_index_or cells.new.items k 32 ≡ slice_index_or cells.old.items k 32 }
+{
+    if cells.len() < to {
+        // there is room, so this does not fail
+        let _ = cells.resize(to, ' ');
+    }
 }
 
 /// The characters of a row without the spaces at its end.
@@ -104,7 +111,7 @@ impl Windows {
     pub fn new(alloc: Global) -> Result<Windows, AllocError>
         ensures { IfOk result (λ w. w ≡ first_windows) }
     {
-        let cells = spaces(alloc, ROWS * COLUMNS)?;
+        let cells = Vec::with_capacity(alloc, ROWS * COLUMNS)?;
         Ok(Windows {
             cells,
             height: 0,
@@ -134,6 +141,7 @@ impl Windows {
         };
         // past the rows that were shown there are spaces alone
         empty(&mut self.cells, from, self.height as usize * COLUMNS);
+        fill_up(&mut self.cells, height as usize * COLUMNS);
         self.height = height;
     }
 
@@ -269,6 +277,10 @@ impl Windows {
         ensures value { result.now ≡ row_text self.now row }
         ensures within { length result.now ≤ 80 }
     {
+        // a row that is not shown is blank
+        if self.height < row {
+            return &[];
+        }
         let start = place(row as u16, 1);
         without_last_spaces(&self.cells[start..start + COLUMNS])
     }

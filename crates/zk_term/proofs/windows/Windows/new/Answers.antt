@@ -1,4 +1,4 @@
-use Rattle.std.proofs.Common.{◌≡◌, refl}
+use Rattle.std.proofs.Common.{◌≡◌, [], refl}
 use Rattle.zk_term.specs.Grid.{no_cells}
 use Rattle.zk_term.specs.Places.{cells_of}
 use Rattle.zk_term.specs.Windows.{first_windows}
@@ -8,5 +8,5 @@ use Rattle.zk_term.proofs.windows.Windows.new.Goals as goal
 pub returns : goal.returns
 unfolding first_windows
 returns c =
-    let empty : cells_of c.in_ok-cells.cells.items ≡ no_cells = cells_of-blank c.in_ok-cells.cells.items c.in_ok-cells.ensures.value in
-    rw empty refl
+    let empty : cells_of [] ≡ no_cells = cells_of-blank [] (λ k low. refl) in
+    rw (c.in_ok-cells.ensures.items, empty) refl
