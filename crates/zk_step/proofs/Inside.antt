@@ -183,10 +183,7 @@ module _ (m : MemoryMap) (P : ℕ → Type 0) (clean : IsClean m P) (keeps : Kee
       ends_inside (ending.Return x) by = tt
       ends_inside (ending.Throw x n) by = tt
       ends_inside ending.Restart by = subst (λ (file : List ℕ). P (header_of file).first_instruction) (sym story.file) clean.closed.first
-      ends_inside ending.Keep by = tt
-      ends_inside ending.Resume by = tt
-      ends_inside (ending.Wait for) by = tt
-      ends_inside ending.Quit by = tt
+      ends_inside (ending.Asks request) by = tt
 
   -- the instruction is read there in each memory of the story
   pub read_inside : (n : MemoryMap) → KeepsStory n → IsOneStory m n → instr_at n a ≡ Ok i

@@ -2,7 +2,7 @@
 use Rattle.std.proofs.Common.{◌≡◌, ℕ, None, Some, refl}
 use Rattle.zk_mem.specs.Map.{MemoryMap}
 use Rattle.zk_step.specs.declared.ending.Ending.{Ending}
-use Rattle.zk_step.specs.declared.ending.Ending.TheVariants.{GoOn, Jump, Call, Return, Throw, Restart, Keep, Resume, Wait, Quit}
+use Rattle.zk_step.specs.declared.ending.Ending.TheVariants.{GoOn, Jump, Call, Return, Throw, Restart, Asks}
 use Rattle.zk_step.specs.declared.ending.Output.{Output}
 use Rattle.zk_step.specs.declared.ending.Output.TheVariants.{Nothing, Code, Character, Number, Text, Line, Rows, Status}
 use Rattle.zk_step.specs.Printing.{IsPlainEnd, IsReady, IsPrintable}
@@ -16,10 +16,7 @@ plain_by (Call x most) h other = absurd h
 plain_by (Return x) h other = absurd (other x refl)
 plain_by (Throw x n) h other = absurd h
 plain_by Restart h other = absurd h
-plain_by Keep h other = absurd h
-plain_by Resume h other = absurd h
-plain_by (Wait for) h other = absurd h
-plain_by Quit h other = absurd h
+plain_by (Asks request) h other = absurd h
 
 pub printable_parts : (before after : MemoryMap) (o : Output) (e : Ending) → IsPrintable before after o e → (o ≡ Nothing → ⊥) → (after ≡ before) × IsReady before o × IsPlainEnd e
 printable_parts before after Nothing e h none = absurd (none refl)

@@ -9,10 +9,8 @@ use Rattle.zk_state.specs.declared.frames.Return.{Return}
 use Rattle.zk_state.specs.declared.refusal.Refusal.{Refusal}
 use Rattle.zk_state.specs.declared.refusal.Refusal.TheVariants as refusal
 use Rattle.zk_state.specs.Frames.{FrameList, left, within_bounds, taken, given_back, GivesBack, RefusesBack}
-use Rattle.zk_step.specs.declared.ending.Next.{Next}
-use Rattle.zk_step.specs.declared.ending.Next.TheVariants.{At}
 use Rattle.zk_step.specs.declared.game_state.GameState.{GameState}
-use Rattle.zk_step.specs.Limited.{kept, limited_next}
+use Rattle.zk_step.specs.Limited.{kept, limited_place}
 use Rattle.zk_step.specs.Routines.{stored, returned}
 use Rattle.zk_step.specs.Variables.{with_frames, with_memory, global_address, variable_written, named_written}
 
@@ -49,8 +47,8 @@ global_stored w v x h =
 abbrev with_back : Return → FrameList → FrameList × Return
 with_back b u = (u, b)
 
-abbrev goes_at : ℕ → GameState → GameState × Next
-goes_at place w = (w, At place)
+abbrev goes_at : ℕ → GameState → GameState × ℕ
+goes_at place w = (w, place)
 
 -- the caller takes the value
 taken_is : (s t : FrameList) (b back : Return) (x : ℕ) → (taken s b.result x >>= λ u. Ok (with_back b u)) ≡ Ok (t, back) → (taken s b.result x ≡ Ok t) × (b ≡ back)
@@ -73,7 +71,7 @@ left_is s t back x h = go (left s) refl h
         (p.0, e ∙ ap (λ (b : Return). let both : FrameList × Return = (p.0, b) in Ok both) parts.1, subst (λ (b : Return). taken p.0 b.result x ≡ Ok t) parts.1 parts.0)
     go (Err f) e k = absurd cc
 
-returned_own : (w : GameState) (x : ℕ) (t : FrameList) (back : Return) → given_back w.frames x ≡ Ok (t, back) → IsOwn back.result → returned w x ≡ Ok (with_frames w t, At back.place)
+returned_own : (w : GameState) (x : ℕ) (t : FrameList) (back : Return) → given_back w.frames x ≡ Ok (t, back) → IsOwn back.result → returned w x ≡ Ok (with_frames w t, back.place)
 unfolding returned
 returned_own w x t back h own =
     let parts = left_is w.frames t back x h in
@@ -104,22 +102,22 @@ returned_global w x v t back h result high =
 kept_is_ok : {B : Type 0} (s t : FrameList) (y : B) → within_bounds s ≡ Ok t → IsOk (kept (within_bounds s) y)
 kept_is_ok s t y h = rw h refl
 
-pub own_returns : (w : GameState) (x : ℕ) (v : Option ℕ) → GivesBack w.frames x v → ((n : ℕ) → v ≡ Some n → n < 16) → IsOk (limited_next (returned w x))
+pub own_returns : (w : GameState) (x : ℕ) (v : Option ℕ) → GivesBack w.frames x v → ((n : ℕ) → v ≡ Some n → n < 16) → IsOk (limited_place (returned w x))
 unfolding IsOwn
-own_returns w x v g own = rw (returned_own w x g.frames g.back g.given (go v g.result own)) (kept_is_ok {B = GameState × Next} g.frames g.frames (with_frames w g.frames, At g.back.place) g.within)
+own_returns w x v g own = rw (returned_own w x g.frames g.back g.given (go v g.result own)) (kept_is_ok {B = GameState × ℕ} g.frames g.frames (with_frames w g.frames, g.back.place) g.within)
   where
     go : (u : Option ℕ) → g.back.result ≡ u → ((n : ℕ) → u ≡ Some n → n < 16) → IsOwn g.back.result
     go None e k = rw e tt
     go (Some n) e k = rw e (k n refl)
 
-pub global_returns : (w : GameState) (x n : ℕ) → GivesBack w.frames x (Some n) → 16 ≤ n → IsOk (word_put w.memory (global_address w.memory n) x) → IsOk (limited_next (returned w x))
+pub global_returns : (w : GameState) (x n : ℕ) → GivesBack w.frames x (Some n) → 16 ≤ n → IsOk (word_put w.memory (global_address w.memory n) x) → IsOk (limited_place (returned w x))
 global_returns w x n g high put = rw (returned_global w x n g.frames g.back g.given g.result high) (go (word_put w.memory (global_address w.memory n) x) put)
   where
-    go : (r : Result MemoryMap Fault) → IsOk r → IsOk (limited_next (r >>= λ m. Ok (goes_at g.back.place (with_memory (with_frames w g.frames) m))))
-    go (Ok m) ok = kept_is_ok {B = GameState × Next} g.frames g.frames (with_memory (with_frames w g.frames) m, At g.back.place) g.within
+    go : (r : Result MemoryMap Fault) → IsOk r → IsOk (limited_place (r >>= λ m. Ok (goes_at g.back.place (with_memory (with_frames w g.frames) m))))
+    go (Ok m) ok = kept_is_ok {B = GameState × ℕ} g.frames g.frames (with_memory (with_frames w g.frames) m, g.back.place) g.within
     go (Err f) ok = search rules
 
-pub global_refused : (w : GameState) (x n : ℕ) (f : Fault) → GivesBack w.frames x (Some n) → 16 ≤ n → word_put w.memory (global_address w.memory n) x ≡ Err f → limited_next (returned w x) ≡ Err (refusal.Fault f)
+pub global_refused : (w : GameState) (x n : ℕ) (f : Fault) → GivesBack w.frames x (Some n) → 16 ≤ n → word_put w.memory (global_address w.memory n) x ≡ Err f → limited_place (returned w x) ≡ Err (refusal.Fault f)
 global_refused w x n f g high put = rw (returned_global w x n g.frames g.back g.given g.result high, put) refl
 
 -- a caller that can't take a value has no such local variable
@@ -144,7 +142,7 @@ returned_fails w x f h = go (left w.frames) h
     go (Ok p) k = taken_fails w p.0 p.1 x f (taken p.0 p.1.result x) refl k
     go (Err g) k = cc
 
-pub refused_returns : (w : GameState) (x : ℕ) (e : Refusal) → RefusesBack w.frames x e → limited_next (returned w x) ≡ Err e
+pub refused_returns : (w : GameState) (x : ℕ) (e : Refusal) → RefusesBack w.frames x e → limited_place (returned w x) ≡ Err e
 unfolding IsOwn
 refused_returns w x (refusal.Fault f) h = rw (returned_fails w x f h) refl
 refused_returns w x (refusal.Limit l) h = rw (returned_own w x h.0 h.1 h.2 (rw h.3 (omega arith)), h.4) refl

@@ -9,7 +9,7 @@ use Rattle.zk_step.specs.declared.ending.Ending.TheVariants as ending
 use Rattle.zk_code.specs.declared.instr.Instr.{Instr}
 use Rattle.zk_step.specs.declared.ending.Effect.{Effect}
 use Rattle.zk_step.specs.declared.ending.Next.{Next}
-use Rattle.zk_step.specs.declared.ending.Next.TheVariants.{At, Waits, Keeps, Resumes, End}
+use Rattle.zk_step.specs.declared.ending.Next.TheVariants.{At, Asks}
 use Rattle.zk_step.specs.declared.ending.Output.{Output}
 use Rattle.zk_step.specs.declared.ending.Output.TheVariants.{Nothing, Code, Character, Number, Text, Line, Rows, Status}
 use Rattle.zk_step.specs.declared.game_state.GameState.{GameState}
@@ -21,7 +21,8 @@ use Rattle.zk_step.specs.Routing.{Texts, no_text, routed, text_routed}
 use Rattle.zk_step.proofs.Steps.{finish_refused, route_refused}
 use Rattle.zk_step.specs.Silence.{IsQuiet}
 use Rattle.zk_step.specs.Routes.{finished_after}
-use Rattle.zk_step.proofs.Ends.{ends_as, next_is, prints_nothing}
+use Rattle.zk_step.proofs.Ends.{ends_as, prints_nothing}
+use Rattle.zk_step.proofs.WithinBounds.{next_is}
 
 -- an instruction that is not refused shows its texts
 pub told : (r : Result (GameState × (Next × Texts)) Refusal) (w : GameState) (n : Next) (t : Texts) → r ≡ Ok (w, (n, t)) → r ≡ Ok (w, (n, text_in r))
@@ -71,7 +72,7 @@ pub shown_nothing : {S : Type 0} (shows : S → S → List ℕ → List ℕ → 
 shown_nothing {S} shows t r e a b (inl none) h k = rw none at k
 shown_nothing {S} shows t r e a b (inr ok) h k = let never = rw h at ok in absurd (search rules)
 
--- an instruction that waits, keeps a state or goes back shows nothing
+-- an instruction that asks something of the machine shows nothing
 silent : (m : MemoryMap) (w : GameState) (o : Output) → o ≡ Nothing → text_routed (routed m w o) ≡ no_text
 unfolding routed
 silent m w o h = rw h refl
@@ -79,10 +80,7 @@ silent m w o h = rw h refl
 quiet_by : (m : MemoryMap) (w : GameState) (before after : MemoryMap) (e : Effect) (end : Ending) → e.ending ≡ end → (IsPlainEnd end → ⊥) → IsPrintable before after e.output e.ending → text_routed (routed m w e.output) ≡ no_text
 quiet_by m w before after e end is other ready = silent m w e.output (prints_nothing before after e.output e.ending (λ plain. other (subst IsPlainEnd is plain)) ready)
 
-pub quiet_wait : (w : GameState) (i : Instr) (vs : List ℕ) (e : Effect) (v : GameState) (n : Next) (found : MemoryMap) (u : GameState) (before after : MemoryMap) → IsPrintable before after e.output e.ending
+pub quiet_asked : (w : GameState) (i : Instr) (vs : List ℕ) (e : Effect) (v : GameState) (n : Next) (found : MemoryMap) (u : GameState) (before after : MemoryMap) → IsPrintable before after e.output e.ending
     → limited_next (finished w i vs e.ending) ≡ Ok (v, n) → IsQuiet n (text_routed (routed found u e.output))
-quiet_wait w i vs e v (At place) found u before after ready h = tt
-quiet_wait w i vs e v (Waits x) found u before after ready h = quiet_by found u before after e (ending.Wait x) (ends_as w i vs e.ending v (Waits x) (next_is _ v (Waits x) h)) (λ plain. plain) ready
-quiet_wait w i vs e v Keeps found u before after ready h = quiet_by found u before after e ending.Keep (ends_as w i vs e.ending v Keeps (next_is _ v Keeps h)) (λ plain. plain) ready
-quiet_wait w i vs e v Resumes found u before after ready h = quiet_by found u before after e ending.Resume (ends_as w i vs e.ending v Resumes (next_is _ v Resumes h)) (λ plain. plain) ready
-quiet_wait w i vs e v End found u before after ready h = tt
+quiet_asked w i vs e v (At place) found u before after ready h = tt
+quiet_asked w i vs e v (Asks x) found u before after ready h = quiet_by found u before after e (ending.Asks x) (ends_as w i vs e.ending v (Asks x) (next_is _ (v, Asks x) h)) (λ plain. plain) ready

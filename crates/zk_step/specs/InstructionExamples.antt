@@ -10,8 +10,9 @@ use Rattle.zk_code.specs.declared.opcode.Printing.TheVariants.{PrintChar}
 use Rattle.zk_code.specs.declared.opcode.Reading.TheVariants.{Sread}
 use Rattle.zk_code.specs.declared.opcode.Words.TheVariants.{EncodeText}
 use Rattle.zk_code.specs.declared.operands.Operand.TheVariants.{Large, Small, Variable}
-use Rattle.zk_step.specs.declared.ending.Next.TheVariants.{At, Waits, End}
-use Rattle.zk_step.specs.declared.ending.Wait.TheVariants.{Line, Char}
+use Rattle.zk_step.specs.declared.ending.Next.TheVariants.{Asks, At}
+use Rattle.zk_step.specs.declared.ending.Event.TheVariants.{Line, Char}
+use Rattle.zk_step.specs.declared.ending.Request.TheVariants as request
 use Rattle.zk_step.specs.declared.game_state.GameState.{GameState}
 use Rattle.zk_step.specs.Instructions.{carried_out}
 use Rattle.zk_step.specs.Limited.{limited, limited_next}
@@ -50,7 +51,7 @@ CarriesOutPrinting =
 abbrev pub CarriesOutInput : Type 0
 CarriesOutInput =
     (carried_out (in_routine [] (44 ∷ 55 ∷ [])) (instruction (opcode.Reading Sread) (Variable 0 ∷ Small 8 ∷ []) None None)
-    ≡ Ok (in_routine [] (44 ∷ []), (Waits (Line 55 8), silent)))
+    ≡ Ok (in_routine [] (44 ∷ []), (Asks (request.Answer (Line 55 8)), silent)))
     × (carried_out (with_bytes (105 ∷ 9 ∷ 9 ∷ 9 ∷ 9 ∷ 9 ∷ 9 ∷ [])) (instruction (opcode.Words EncodeText) (Small 0 ∷ Small 1 ∷ Small 0 ∷ Small 1 ∷ []) None None)
     ≡ Ok (with_bytes (105 ∷ 0x38 ∷ 0xa5 ∷ 0x14 ∷ 0xa5 ∷ 0x94 ∷ 0xa5 ∷ []), (At 9, silent)))
 
@@ -72,8 +73,8 @@ BoundsAreLookedFor =
 -- where the story has ended no bound is looked for (section 6.3)
 abbrev pub NoBoundAtTheEnd : Type 0
 NoBoundAtTheEnd =
-    (limited_next (Ok (waiting 5 1, At 9)) ≡ Err (Limit Frames)) × (limited_next (Ok (waiting 5 1, End)) ≡ Ok (waiting 5 1, End))
+    (limited_next (Ok (waiting 5 1, At 9)) ≡ Err (Limit Frames)) × (limited_next (Ok (waiting 5 1, Asks request.Quit)) ≡ Ok (waiting 5 1, Asks request.Quit))
 
 -- nor where it waits
 abbrev pub NoBoundWhereItWaits : Type 0
-NoBoundWhereItWaits = limited_next (Ok (waiting 5 1, Waits Char)) ≡ Ok (waiting 5 1, Waits Char)
+NoBoundWhereItWaits = limited_next (Ok (waiting 5 1, Asks (request.Answer Char))) ≡ Ok (waiting 5 1, Asks (request.Answer Char))

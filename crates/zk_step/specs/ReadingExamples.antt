@@ -7,8 +7,8 @@ use Rattle.zk_code.specs.declared.opcode.Opcode.TheVariants as opcode
 use Rattle.zk_code.specs.declared.opcode.Reading.TheVariants.{Sread, Aread, ReadChar}
 use Rattle.zk_code.specs.declared.opcode.Words.TheVariants.{Tokenise, EncodeText}
 use Rattle.zk_step.specs.declared.ending.Ending.TheVariants as ending
-use Rattle.zk_step.specs.declared.ending.Next.TheVariants.{At}
-use Rattle.zk_step.specs.declared.ending.Wait.TheVariants.{Line, Char}
+use Rattle.zk_step.specs.declared.ending.Event.TheVariants.{Line, Char}
+use Rattle.zk_step.specs.declared.ending.Request.TheVariants as request
 use Rattle.zk_step.specs.declared.game_state.GameState.{GameState}
 use Rattle.zk_step.specs.Endings.{ends}
 use Rattle.zk_step.specs.Inputs.{reading, line_answered, character_answered}
@@ -234,10 +234,10 @@ KeysInOrder =
 -- waits for a character (section 15)
 abbrev pub ReadsWait : Type 0
 ReadsWait =
-    (reading Sread (7 ∷ 8 ∷ []) ≡ ends (ending.Wait (Line 7 8)))
-    × (reading Aread (7 ∷ 8 ∷ 9 ∷ 10 ∷ []) ≡ ends (ending.Wait (Line 7 8)))
-    × (reading Aread (7 ∷ []) ≡ ends (ending.Wait (Line 7 0)))
-    × (reading ReadChar (1 ∷ []) ≡ ends (ending.Wait Char))
+    (reading Sread (7 ∷ 8 ∷ []) ≡ ends (ending.Asks (request.Answer (Line 7 8))))
+    × (reading Aread (7 ∷ 8 ∷ 9 ∷ 10 ∷ []) ≡ ends (ending.Asks (request.Answer (Line 7 8))))
+    × (reading Aread (7 ∷ []) ≡ ends (ending.Asks (request.Answer (Line 7 0))))
+    × (reading ReadChar (1 ∷ []) ≡ ends (ending.Asks (request.Answer Char)))
 
 -- a read of a line that stores into a variable
 abbrev pub read_into : ℕ → Instr
@@ -251,27 +251,27 @@ reader memory local = working memory (routine_with (local ∷ []) [] None) []
 -- variable is looked for before the line is stored (section 15, `aread`)
 abbrev pub LinesGiveThirteen : Type 0
 LinesGiveThirteen =
-    (line_answered (reader (memory_of 5 (3 ∷ 0 ∷ 9 ∷ 9 ∷ 9 ∷ [])) 11) (read_into 1) 0 0 (codes "Go") ≡ Ok (reader (memory_of 5 (3 ∷ 2 ∷ 103 ∷ 111 ∷ 9 ∷ [])) 13, At 9))
-    × (line_answered (reader (memory_of 8 (3 ∷ 0 ∷ 9 ∷ 9 ∷ 9 ∷ [])) 11) (read_into 0) 0 0 (codes "Go") ≡ Ok (working (memory_of 8 (3 ∷ 2 ∷ 103 ∷ 111 ∷ 9 ∷ [])) (routine_with (11 ∷ []) (13 ∷ []) None) [], At 9))
+    (line_answered (reader (memory_of 5 (3 ∷ 0 ∷ 9 ∷ 9 ∷ 9 ∷ [])) 11) (read_into 1) 0 0 (codes "Go") ≡ Ok (reader (memory_of 5 (3 ∷ 2 ∷ 103 ∷ 111 ∷ 9 ∷ [])) 13, 9))
+    × (line_answered (reader (memory_of 8 (3 ∷ 0 ∷ 9 ∷ 9 ∷ 9 ∷ [])) 11) (read_into 0) 0 0 (codes "Go") ≡ Ok (working (memory_of 8 (3 ∷ 2 ∷ 103 ∷ 111 ∷ 9 ∷ [])) (routine_with (11 ∷ []) (13 ∷ []) None) [], 9))
     × (line_answered (reader (memory_of 5 (3 ∷ 0 ∷ 9 ∷ 9 ∷ 9 ∷ [])) 11) (read_into 2) 0 0 (codes "Go") ≡ Err NoSuchLocal)
     × (line_answered (reader (memory_of 5 (3 ∷ 0 ∷ 9 ∷ 9 ∷ 9 ∷ [])) 11) (read_into 2) 5 0 (codes "Go") ≡ Err BadAddress)
 
 -- the first global variable stands at 4, in the text buffer at 3: 13 is stored after the line (section 15, `aread`)
 abbrev pub LinesBeforeTheirResult : Type 0
 LinesBeforeTheirResult =
-    line_answered (reader (memory_of 5 (0 ∷ 0 ∷ 0 ∷ 4 ∷ 0 ∷ 9 ∷ 9 ∷ 9 ∷ [])) 11) (read_into 16) 3 0 (codes "Go") ≡ Ok (reader (memory_of 5 (0 ∷ 0 ∷ 0 ∷ 4 ∷ 0 ∷ 13 ∷ 111 ∷ 9 ∷ [])) 11, At 9)
+    line_answered (reader (memory_of 5 (0 ∷ 0 ∷ 0 ∷ 4 ∷ 0 ∷ 9 ∷ 9 ∷ 9 ∷ [])) 11) (read_into 16) 3 0 (codes "Go") ≡ Ok (reader (memory_of 5 (0 ∷ 0 ∷ 0 ∷ 4 ∷ 0 ∷ 13 ∷ 111 ∷ 9 ∷ [])) 11, 9)
 
 -- up to version 4 a line gives nothing (section 15, `sread`)
 abbrev pub EarlyLinesGiveNothing : Type 0
 EarlyLinesGiveNothing =
     (line_answered (reader (early_buffers 3 (0x32 ∷ 0x85 ∷ 0x94 ∷ 0xa5 ∷ []) (9 ∷ 9 ∷ 9 ∷ []) (1 ∷ 9 ∷ 9 ∷ 9 ∷ 9 ∷ 9 ∷ [])) 11) (read_into 1) 0 4 (codes "GO")
-    ≡ Ok (reader (early_buffers 3 (0x32 ∷ 0x85 ∷ 0x94 ∷ 0xa5 ∷ []) (103 ∷ 111 ∷ 0 ∷ []) (1 ∷ 1 ∷ 0 ∷ 14 ∷ 2 ∷ 1 ∷ [])) 11, At 9))
+    ≡ Ok (reader (early_buffers 3 (0x32 ∷ 0x85 ∷ 0x94 ∷ 0xa5 ∷ []) (103 ∷ 111 ∷ 0 ∷ []) (1 ∷ 1 ∷ 0 ∷ 14 ∷ 2 ∷ 1 ∷ [])) 11, 9))
     × (line_answered (reader (early_buffers 4 (replicate 6 9) (9 ∷ 9 ∷ 9 ∷ []) (1 ∷ 9 ∷ 9 ∷ 9 ∷ 9 ∷ 9 ∷ [])) 11) (read_into 1) 0 4 []
-    ≡ Ok (reader (early_buffers 4 (replicate 6 9) (0 ∷ 9 ∷ 9 ∷ []) (1 ∷ 0 ∷ 9 ∷ 9 ∷ 9 ∷ 9 ∷ [])) 11, At 9))
+    ≡ Ok (reader (early_buffers 4 (replicate 6 9) (0 ∷ 9 ∷ 9 ∷ []) (1 ∷ 0 ∷ 9 ∷ 9 ∷ 9 ∷ 9 ∷ [])) 11, 9))
 
 -- a character's code is stored as it is, a capital's too (section 15, `read_char`)
 abbrev pub CharactersAreGiven : Type 0
 CharactersAreGiven =
-    (character_answered (reader (memory_of 5 sixteen) 11) (instruction (opcode.Reading ReadChar) [] (Some 1) None) 129 ≡ Ok (reader (memory_of 5 sixteen) 129, At 9))
-    × (character_answered (reader (memory_of 4 sixteen) 11) (instruction (opcode.Reading ReadChar) [] (Some 1) None) 65 ≡ Ok (reader (memory_of 4 sixteen) 65, At 9))
+    (character_answered (reader (memory_of 5 sixteen) 11) (instruction (opcode.Reading ReadChar) [] (Some 1) None) 129 ≡ Ok (reader (memory_of 5 sixteen) 129, 9))
+    × (character_answered (reader (memory_of 4 sixteen) 11) (instruction (opcode.Reading ReadChar) [] (Some 1) None) 65 ≡ Ok (reader (memory_of 4 sixteen) 65, 9))
     × (character_answered (reader (memory_of 5 sixteen) 11) (instruction (opcode.Reading ReadChar) [] (Some 2) None) 65 ≡ Err NoSuchLocal)

@@ -7,20 +7,19 @@ use Rattle.zk_mem.specs.Map.{cell_at}
 use Rattle.zk_code.specs.declared.branch.Branch.{Branch}
 use Rattle.zk_code.specs.Reading.{Read, branch_here}
 use Rattle.zk_step.specs.declared.finish.Continuation.TheVariants.{To}
-use Rattle.zk_step.specs.declared.ending.Next.{Next}
 use Rattle.zk_step.specs.declared.game_state.GameState.{GameState}
 use Rattle.zk_step.specs.Finish.{gone, led, continuation_after}
 
 -- the branch of the `save` is taken as on success; one outside of the story is a bad target
-abbrev pub branch_taken : GameState → Read Branch → Result (GameState × Next) Fault
+abbrev pub branch_taken : GameState → Read Branch → Result (GameState × ℕ) Fault
 branch_taken w (Ok b) = led w (continuation_after (Some b.0) b.1 (Some true))
 branch_taken w (Err f) = Err BadTarget
 
 -- 2 is stored where the `save` stores; a store byte outside of the story is a bad target
-abbrev pub two_stored : GameState → ℕ → Option ℕ → Result (GameState × Next) Fault
+abbrev pub two_stored : GameState → ℕ → Option ℕ → Result (GameState × ℕ) Fault
 two_stored w place (Some v) = gone w (Some v) (Some 2) (To (place + 1))
 two_stored w place None = Err BadTarget
 
 -- the place is that of the branch in version 3, and of the store byte from version 4 on
-unfoldable pub resumed : GameState → ℕ → Result (GameState × Next) Fault
+unfoldable pub resumed : GameState → ℕ → Result (GameState × ℕ) Fault
 resumed w place = if nat_lt w.memory.version 4 then branch_taken w (branch_here w.memory place) else two_stored w place (cell_at w.memory place)

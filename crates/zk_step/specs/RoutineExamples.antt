@@ -7,7 +7,8 @@ use Rattle.zk_code.specs.declared.opcode.Call.TheVariants.{CallVs, Call1s, Call2
 use Rattle.zk_code.specs.declared.opcode.Control.TheVariants.{Jump, Quit}
 use Rattle.zk_code.specs.declared.opcode.Routine.TheVariants.{Rtrue, Rfalse, Ret, RetPopped, Catch, Throw, CheckArgCount}
 use Rattle.zk_step.specs.declared.ending.Ending.TheVariants as ending
-use Rattle.zk_step.specs.declared.ending.Next.TheVariants.{At, End}
+use Rattle.zk_step.specs.declared.ending.Next.TheVariants.{Asks, At}
+use Rattle.zk_step.specs.declared.ending.Request.TheVariants as request
 use Rattle.zk_step.specs.declared.finish.Continuation.TheVariants.{To, Back, Out}
 use Rattle.zk_step.specs.Control.{control}
 use Rattle.zk_step.specs.Endings.{gives, tests, ends}
@@ -52,7 +53,7 @@ CallsARoutine =
       working (memory_of 3 (with_header 2))
           (record { locals = 7 ∷ 0x0304 ∷ []; words = []; place = 9; result = Some 1; supplied = 1 })
           (routine_with [] (44 ∷ []) None ∷ []),
-      At 9,
+      9,
     )
 
 -- arguments without a local variable count as given, a choice of zkit (section 6.4.4)
@@ -63,7 +64,7 @@ DroppedArgumentsCount =
       working (memory_of 5 (with_header 1))
           (record { locals = 7 ∷ []; words = []; place = 9; result = None; supplied = 3 })
           (routine_with [] [] None ∷ []),
-      At 5,
+      5,
     )
 
 -- a value goes into local variable 1 of the caller, which goes on where the call ended; the routine's own words go
@@ -71,15 +72,15 @@ DroppedArgumentsCount =
 abbrev pub ReturnsToTheCaller : Type 0
 ReturnsToTheCaller =
     returned (in_routine (11 ∷ []) (44 ∷ [])) 9
-    ≡ Ok (working (memory_of 5 sixteen) (caller_with (9 ∷ 62 ∷ []) (63 ∷ [])) [], At 70)
+    ≡ Ok (working (memory_of 5 sixteen) (caller_with (9 ∷ 62 ∷ []) (63 ∷ [])) [], 70)
 
 -- a result for variable 0 is pushed on the caller's stack, and one for no variable is dropped (section 6.4.5)
 abbrev pub ResultsArePushedOrDropped : Type 0
 ResultsArePushedOrDropped =
     (returned (working (memory_of 5 sixteen) (routine_with [] (44 ∷ []) (Some 0)) (caller_with [] (63 ∷ []) ∷ [])) 9
-    ≡ Ok (working (memory_of 5 sixteen) (caller_with [] (63 ∷ 9 ∷ [])) [], At 70))
+    ≡ Ok (working (memory_of 5 sixteen) (caller_with [] (63 ∷ 9 ∷ [])) [], 70))
     × (returned (working (memory_of 5 sixteen) (routine_with [] (44 ∷ []) None) (caller_with [] (63 ∷ []) ∷ [])) 9
-    ≡ Ok (working (memory_of 5 sixteen) (caller_with [] (63 ∷ [])) [], At 70))
+    ≡ Ok (working (memory_of 5 sixteen) (caller_with [] (63 ∷ [])) [], 70))
 
 -- there is no return from the first frame (section 5.5)
 abbrev pub NoReturnFromMain : Type 0
@@ -90,8 +91,8 @@ NoReturnFromMain = returned (working (memory_of 5 sixteen) (routine_with [] (44 
 abbrev pub ThrowsToAFrame : Type 0
 ThrowsToAFrame =
     (thrown (working (memory_of 5 sixteen) (routine_with [] [] (Some 1)) (caller_with [] [] ∷ caller_with (1 ∷ 2 ∷ []) [] ∷ [])) 9 1
-    ≡ Ok (working (memory_of 5 sixteen) (caller_with (1 ∷ 9 ∷ []) []) [], At 80))
-    × (thrown (in_routine [] []) 9 1 ≡ Ok (working (memory_of 5 sixteen) (caller_with (9 ∷ 62 ∷ []) (63 ∷ [])) [], At 70))
+    ≡ Ok (working (memory_of 5 sixteen) (caller_with (1 ∷ 9 ∷ []) []) [], 80))
+    × (thrown (in_routine [] []) 9 1 ≡ Ok (working (memory_of 5 sixteen) (caller_with (9 ∷ 62 ∷ []) (63 ∷ [])) [], 70))
     × (thrown (in_routine [] []) 9 0 ≡ Err ReturnFromMain)
     × (thrown (in_routine [] []) 9 2 ≡ Err BadFrame)
 
@@ -153,13 +154,13 @@ BranchesThatReturn =
     × (continuation_after (Some (record { on = true; target = target.ReturnTrue })) 9 (Some true) ≡ Back 1)
     × (continuation_after (Some (record { on = true; target = target.Past 99 })) 9 (Some true) ≡ Out)
     × (led (in_routine [] []) Out ≡ Err BadTarget)
-    × (led (in_routine [] []) (Back 1) ≡ Ok (working (memory_of 5 sixteen) (caller_with (1 ∷ 62 ∷ []) (63 ∷ [])) [], At 70))
+    × (led (in_routine [] []) (Back 1) ≡ Ok (working (memory_of 5 sixteen) (caller_with (1 ∷ 62 ∷ []) (63 ∷ [])) [], 70))
 
 -- a result is stored first: local variable 1 gets 8 before the way is taken, and where there is no such variable, the
 -- fault goes before the return; a result for variable 0 is pushed, and one for none dropped (sections 4.6 and 4.7)
 abbrev pub StoresBeforeItGoes : Type 0
 StoresBeforeItGoes =
-    (gone (in_routine (11 ∷ []) []) (Some 1) (Some 8) (To 5) ≡ Ok (in_routine (8 ∷ []) [], At 5))
+    (gone (in_routine (11 ∷ []) []) (Some 1) (Some 8) (To 5) ≡ Ok (in_routine (8 ∷ []) [], 5))
     × (gone (in_routine [] []) (Some 2) (Some 8) (Back 1) ≡ Err NoSuchLocal)
     × (stored (in_routine [] []) (Some 0) (Some 8) ≡ Ok (in_routine [] (8 ∷ [])))
     × (stored (in_routine [] []) None (Some 8) ≡ Ok (in_routine [] []))
@@ -176,8 +177,8 @@ JumpsBySignedOffset =
 -- `quit` ends the story, and changes nothing (section 15, `quit`)
 abbrev pub Quits : Type 0
 Quits =
-    (control Quit [] ≡ ends ending.Quit)
-    × (finished (in_routine [] []) (instruction (opcode.Control Quit) [] None None) [] ending.Quit ≡ Ok (in_routine [] [], End))
+    (control Quit [] ≡ ends (ending.Asks request.Quit))
+    × (finished (in_routine [] []) (instruction (opcode.Control Quit) [] None None) [] (ending.Asks request.Quit) ≡ Ok (in_routine [] [], Asks request.Quit))
 
 -- a call passes so many of the operands after the first (section 6.4)
 abbrev pub PassesTheOperandsBehind : Type 0

@@ -11,8 +11,9 @@ use Rattle.zk_code.specs.declared.operands.Operand.TheVariants.{Variable}
 use Rattle.zk_term.specs.declared.windows.Window.TheVariants.{Upper}
 use Rattle.zk_term.specs.Windows.{first_windows, printed, split, window_selected}
 use Rattle.zk_step.specs.declared.ending.Ending.TheVariants as ending
-use Rattle.zk_step.specs.declared.ending.Next.TheVariants.{At, Waits, Keeps, Resumes}
-use Rattle.zk_step.specs.declared.ending.Wait.TheVariants as wait
+use Rattle.zk_step.specs.declared.ending.Next.TheVariants.{Asks, At}
+use Rattle.zk_step.specs.declared.ending.Event.TheVariants as event
+use Rattle.zk_step.specs.declared.ending.Request.TheVariants as request
 use Rattle.zk_step.specs.declared.game_state.View.TheVariants as view
 use Rattle.zk_step.specs.declared.game_state.GameState.{GameState}
 use Rattle.zk_step.specs.Endings.{ends, gives, tests}
@@ -36,16 +37,16 @@ no_memory = memory_of 5 []
 -- a whole game that is saved waits, in each of the three forms of `save` (section 15, `save`)
 abbrev pub SavesWait : Type 0
 SavesWait =
-    (saving SaveBranch no_memory [] ≡ ends (ending.Wait wait.Save))
-    × (saving SaveStore no_memory [] ≡ ends (ending.Wait wait.Save))
-    × (saving Save no_memory [] ≡ ends (ending.Wait wait.Save))
+    (saving SaveBranch no_memory [] ≡ ends (ending.Asks (request.Answer event.Save)))
+    × (saving SaveStore no_memory [] ≡ ends (ending.Asks (request.Answer event.Save)))
+    × (saving Save no_memory [] ≡ ends (ending.Asks (request.Answer event.Save)))
 
 -- so does one that is restored (section 15, `restore`)
 abbrev pub RestoresWait : Type 0
 RestoresWait =
-    (saving RestoreBranch no_memory [] ≡ ends (ending.Wait wait.Restore))
-    × (saving RestoreStore no_memory [] ≡ ends (ending.Wait wait.Restore))
-    × (saving Restore no_memory [] ≡ ends (ending.Wait wait.Restore))
+    (saving RestoreBranch no_memory [] ≡ ends (ending.Asks (request.Answer event.Restore)))
+    × (saving RestoreStore no_memory [] ≡ ends (ending.Asks (request.Answer event.Restore)))
+    × (saving Restore no_memory [] ≡ ends (ending.Asks (request.Answer event.Restore)))
 
 -- a table is neither saved nor restored: with operands, be they 0, the result is 0 (section 15, `save` and `restore`; a
 -- choice of zkit)
@@ -76,30 +77,30 @@ SumsAreVerified =
 abbrev pub StatesAreKept : Type 0
 StatesAreKept =
     (saving Restart no_memory [] ≡ ends ending.Restart)
-    × (saving SaveUndo no_memory [] ≡ ends ending.Keep)
-    × (saving RestoreUndo no_memory [] ≡ ends ending.Resume)
+    × (saving SaveUndo no_memory [] ≡ ends (ending.Asks request.SaveUndo))
+    × (saving RestoreUndo no_memory [] ≡ ends (ending.Asks request.RestoreUndo))
 
 -- ---- whole instructions
 
 -- operands are taken first; then the story waits, keeps its state or goes back to one, and nothing is stored yet
 abbrev pub CarriesOutSaving : Type 0
 CarriesOutSaving =
-    (carried_out (in_routine (5 ∷ []) (44 ∷ [])) (instruction (opcode.Saving Save) [] (Some 1) None) ≡ Ok (in_routine (5 ∷ []) (44 ∷ []), (Waits wait.Save, silent)))
+    (carried_out (in_routine (5 ∷ []) (44 ∷ [])) (instruction (opcode.Saving Save) [] (Some 1) None) ≡ Ok (in_routine (5 ∷ []) (44 ∷ []), (Asks (request.Answer event.Save), silent)))
     × (carried_out (in_routine (5 ∷ []) (44 ∷ [])) (instruction (opcode.Saving Save) (Variable 0 ∷ []) (Some 1) None) ≡ Ok (in_routine (0 ∷ []) [], (At 9, silent)))
     × (carried_out (in_routine (5 ∷ []) []) (instruction (opcode.Saving Save) (Variable 0 ∷ []) (Some 1) None) ≡ Err StackEmpty)
-    × (carried_out (in_routine (5 ∷ []) (44 ∷ [])) (instruction (opcode.Saving SaveUndo) [] (Some 1) None) ≡ Ok (in_routine (5 ∷ []) (44 ∷ []), (Keeps, silent)))
-    × (carried_out (in_routine (5 ∷ []) (44 ∷ [])) (instruction (opcode.Saving RestoreUndo) [] (Some 1) None) ≡ Ok (in_routine (5 ∷ []) (44 ∷ []), (Resumes, silent)))
+    × (carried_out (in_routine (5 ∷ []) (44 ∷ [])) (instruction (opcode.Saving SaveUndo) [] (Some 1) None) ≡ Ok (in_routine (5 ∷ []) (44 ∷ []), (Asks request.SaveUndo, silent)))
+    × (carried_out (in_routine (5 ∷ []) (44 ∷ [])) (instruction (opcode.Saving RestoreUndo) [] (Some 1) None) ≡ Ok (in_routine (5 ∷ []) (44 ∷ []), (Asks request.RestoreUndo, silent)))
 
 -- what keeps its state, or goes back to one, goes on nowhere, and stores nothing (section 15, `save_undo`)
 abbrev pub StatesAreLeft : Type 0
 StatesAreLeft =
-    (finished (in_routine (5 ∷ []) []) (instruction (opcode.Saving SaveUndo) [] (Some 1) None) [] ending.Keep ≡ Ok (in_routine (5 ∷ []) [], Keeps))
-    × (finished (in_routine (5 ∷ []) []) (instruction (opcode.Saving RestoreUndo) [] (Some 1) None) [] ending.Resume ≡ Ok (in_routine (5 ∷ []) [], Resumes))
+    (finished (in_routine (5 ∷ []) []) (instruction (opcode.Saving SaveUndo) [] (Some 1) None) [] (ending.Asks request.SaveUndo) ≡ Ok (in_routine (5 ∷ []) [], Asks request.SaveUndo))
+    × (finished (in_routine (5 ∷ []) []) (instruction (opcode.Saving RestoreUndo) [] (Some 1) None) [] (ending.Asks request.RestoreUndo) ≡ Ok (in_routine (5 ∷ []) [], Asks request.RestoreUndo))
 
 -- and no bound is looked for there (section 6.3)
 abbrev pub NoBoundWhereItKeeps : Type 0
 NoBoundWhereItKeeps =
-    (limited_next (Ok (waiting 5 1, Keeps)) ≡ Ok (waiting 5 1, Keeps)) × (limited_next (Ok (waiting 5 1, Resumes)) ≡ Ok (waiting 5 1, Resumes))
+    (limited_next (Ok (waiting 5 1, Asks request.SaveUndo)) ≡ Ok (waiting 5 1, Asks request.SaveUndo)) × (limited_next (Ok (waiting 5 1, Asks request.RestoreUndo)) ≡ Ok (waiting 5 1, Asks request.RestoreUndo))
 
 -- ---- restarts
 
@@ -164,17 +165,17 @@ branching_on_failure = instruction (opcode.Saving SaveBranch) [] None (Some (rec
 -- up to version 3 the branch is taken by the truth, and nothing is stored (section 15, `save`)
 abbrev pub TruthsBranch : Type 0
 TruthsBranch =
-    (result_answered (in_routine [] []) branching 1 true ≡ Ok (in_routine [] [], At 5))
-    × (result_answered (in_routine [] []) branching 0 false ≡ Ok (in_routine [] [], At 9))
-    × (result_answered (in_routine [] []) branching_on_failure 1 true ≡ Ok (in_routine [] [], At 9))
-    × (result_answered (in_routine [] []) branching_on_failure 0 false ≡ Ok (in_routine [] [], At 5))
+    (result_answered (in_routine [] []) branching 1 true ≡ Ok (in_routine [] [], 5))
+    × (result_answered (in_routine [] []) branching 0 false ≡ Ok (in_routine [] [], 9))
+    × (result_answered (in_routine [] []) branching_on_failure 1 true ≡ Ok (in_routine [] [], 9))
+    × (result_answered (in_routine [] []) branching_on_failure 0 false ≡ Ok (in_routine [] [], 5))
 
 -- from version 4 on the result is stored, whatever the truth is (section 15, `save`)
 abbrev pub ResultsAreStored : Type 0
 ResultsAreStored =
-    (result_answered (in_routine (5 ∷ 6 ∷ []) []) (instruction (opcode.Saving Save) [] (Some 2) None) 1 true ≡ Ok (in_routine (5 ∷ 1 ∷ []) [], At 9))
-    × (result_answered (in_routine (5 ∷ 6 ∷ []) []) (instruction (opcode.Saving Save) [] (Some 2) None) 0 false ≡ Ok (in_routine (5 ∷ 0 ∷ []) [], At 9))
-    × (result_answered (in_routine [] (44 ∷ [])) (instruction (opcode.Saving SaveUndo) [] (Some 0) None) 65535 false ≡ Ok (in_routine [] (44 ∷ 65535 ∷ []), At 9))
+    (result_answered (in_routine (5 ∷ 6 ∷ []) []) (instruction (opcode.Saving Save) [] (Some 2) None) 1 true ≡ Ok (in_routine (5 ∷ 1 ∷ []) [], 9))
+    × (result_answered (in_routine (5 ∷ 6 ∷ []) []) (instruction (opcode.Saving Save) [] (Some 2) None) 0 false ≡ Ok (in_routine (5 ∷ 0 ∷ []) [], 9))
+    × (result_answered (in_routine [] (44 ∷ [])) (instruction (opcode.Saving SaveUndo) [] (Some 0) None) 65535 false ≡ Ok (in_routine [] (44 ∷ 65535 ∷ []), 9))
 
 -- ---- states that are back
 
@@ -190,18 +191,18 @@ back_in_caller a b value = working (memory_of 3 (0 ∷ 0 ∷ a ∷ b ∷ replica
 -- and what stands after it follows (sections 4.7 and 15, `save`)
 abbrev pub BranchesAreTaken : Type 0
 BranchesAreTaken =
-    (resumed (back_at 3 0xc5 0) 2 ≡ Ok (back_at 3 0xc5 0, At 6))
-    × (resumed (back_at 3 0x45 0) 2 ≡ Ok (back_at 3 0x45 0, At 3))
-    × (resumed (back_at 3 0x80 4) 2 ≡ Ok (back_at 3 0x80 4, At 6))
-    × (resumed (back_at 3 0x00 4) 2 ≡ Ok (back_at 3 0x00 4, At 4))
-    × (resumed (back_at 3 0xbf 0xfe) 2 ≡ Ok (back_at 3 0xbf 0xfe, At 0))
+    (resumed (back_at 3 0xc5 0) 2 ≡ Ok (back_at 3 0xc5 0, 6))
+    × (resumed (back_at 3 0x45 0) 2 ≡ Ok (back_at 3 0x45 0, 3))
+    × (resumed (back_at 3 0x80 4) 2 ≡ Ok (back_at 3 0x80 4, 6))
+    × (resumed (back_at 3 0x00 4) 2 ≡ Ok (back_at 3 0x00 4, 4))
+    × (resumed (back_at 3 0xbf 0xfe) 2 ≡ Ok (back_at 3 0xbf 0xfe, 0))
 
 -- a branch by 1 returns true to the caller, and one by 0 false; the first frame has no caller (section 4.7.1)
 abbrev pub BranchesReturn : Type 0
 BranchesReturn =
-    (resumed (back_at 3 0xc1 9) 2 ≡ Ok (back_in_caller 0xc1 9 1, At 70))
-    × (resumed (back_at 3 0xc0 9) 2 ≡ Ok (back_in_caller 0xc0 9 0, At 70))
-    × (resumed (back_at 3 0x80 1) 2 ≡ Ok (back_in_caller 0x80 1 1, At 70))
+    (resumed (back_at 3 0xc1 9) 2 ≡ Ok (back_in_caller 0xc1 9 1, 70))
+    × (resumed (back_at 3 0xc0 9) 2 ≡ Ok (back_in_caller 0xc0 9 0, 70))
+    × (resumed (back_at 3 0x80 1) 2 ≡ Ok (back_in_caller 0x80 1 1, 70))
     × (resumed (back_in_caller 0xc1 9 61) 2 ≡ Err ReturnFromMain)
 
 -- a branch that leads out of the story, and one of which a byte lies past it, lead nowhere
@@ -215,10 +216,10 @@ BranchesMissTheStory =
 -- from version 4 on 2 is stored where the byte says, and what stands after it follows (section 15, `save`)
 abbrev pub TwoIsStored : Type 0
 TwoIsStored =
-    (resumed (back_at 4 1 0) 2 ≡ Ok (record (back_at 4 1 0) { frames = (in_routine (2 ∷ 6 ∷ []) (44 ∷ [])).frames }, At 3))
-    × (resumed (back_at 5 2 0) 2 ≡ Ok (record (back_at 5 2 0) { frames = (in_routine (5 ∷ 2 ∷ []) (44 ∷ [])).frames }, At 3))
-    × (resumed (back_at 5 0 1) 2 ≡ Ok (record (back_at 5 0 1) { frames = (in_routine (5 ∷ 6 ∷ []) (44 ∷ 2 ∷ [])).frames }, At 3))
-    × (resumed (back_at 5 17 0) 2 ≡ Ok (record (back_at 5 17 0) { memory = memory_of 5 (0 ∷ 0 ∷ 17 ∷ 0 ∷ 0 ∷ 0 ∷ 0 ∷ 2 ∷ 0 ∷ 0 ∷ []) }, At 3))
+    (resumed (back_at 4 1 0) 2 ≡ Ok (record (back_at 4 1 0) { frames = (in_routine (2 ∷ 6 ∷ []) (44 ∷ [])).frames }, 3))
+    × (resumed (back_at 5 2 0) 2 ≡ Ok (record (back_at 5 2 0) { frames = (in_routine (5 ∷ 2 ∷ []) (44 ∷ [])).frames }, 3))
+    × (resumed (back_at 5 0 1) 2 ≡ Ok (record (back_at 5 0 1) { frames = (in_routine (5 ∷ 6 ∷ []) (44 ∷ 2 ∷ [])).frames }, 3))
+    × (resumed (back_at 5 17 0) 2 ≡ Ok (record (back_at 5 17 0) { memory = memory_of 5 (0 ∷ 0 ∷ 17 ∷ 0 ∷ 0 ∷ 0 ∷ 0 ∷ 2 ∷ 0 ∷ 0 ∷ []) }, 3))
 
 -- a game state whose dynamic memory ends at an address
 abbrev pub dynamic_below : ℕ → GameState → GameState

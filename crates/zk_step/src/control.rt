@@ -3,7 +3,7 @@
 ghost use Rattle.std.specs.Prelude.{◌≡◌};
 ghost use Rattle.zk_step.specs.Control.{control};
 
-use crate::ending::{Effect, Ending, Output};
+use crate::ending::{Effect, Ending, Output, Request};
 use crate::values::Values;
 use zk_code::opcode::Control;
 
@@ -15,6 +15,6 @@ pub fn control_effect(operation: Control, values: &Values) -> Effect
 {
     match operation {
         Control::Jump => Effect::ends(Ending::Jump(values.first())),
-        Control::Quit => Effect::ends(Ending::Quit),
+        Control::Quit => Effect::ends(Ending::Asks(Request::Quit)),
     }
 }

@@ -17,14 +17,8 @@ pub enum Ending {
     Throw(u16, u16),
     /// Begins the story again.
     Restart,
-    /// Keeps the state that the instruction found.
-    Keep,
-    /// Goes back to the newest state that is kept.
-    Resume,
-    /// Waits for an answer.
-    Wait(Wait),
-    /// The story has ended.
-    Quit,
+    /// Asks something of the machine.
+    Asks(Request),
 }
 
 /// What an instruction yields: a result to store, a truth to branch on, both or neither.
@@ -34,16 +28,29 @@ pub struct Yield {
     pub truth: Option<bool>,
 }
 
-/// What an instruction waits for.
+/// What an instruction asks of the machine, which goes on nowhere by itself then.
 #[derive(Clone, Copy, PartialEq, Eq, Drop)]
-pub enum Wait {
-    /// A line, for the text buffer and the parse buffer at two byte addresses.
+pub enum Request {
+    /// To wait for an answer.
+    Answer(Event),
+    /// To keep the state that the instruction found, as one to go back to.
+    SaveUndo,
+    /// To go back to the newest state that is kept.
+    RestoreUndo,
+    /// To end the story.
+    Quit,
+}
+
+/// What a machine waits for.
+#[derive(Clone, Copy, PartialEq, Eq, Drop)]
+pub enum Event {
+    /// A line of input, for the text buffer and the parse buffer at two byte addresses.
     Line(u16, u16),
-    /// A character.
+    /// A character of input.
     Char,
-    /// Whether the saved game is kept.
+    /// Whether a save is kept.
     Save,
-    /// A saved game, or none.
+    /// A file to restore, or none.
     Restore,
 }
 
@@ -79,14 +86,8 @@ pub struct Effect {
 pub enum Next {
     /// At the instruction at a byte address.
     At(u32),
-    /// Nowhere, until there is an answer.
-    Waits(Wait),
-    /// Nowhere, until the state is kept.
-    Keeps,
-    /// Nowhere, until the newest state that is kept is back.
-    Resumes,
-    /// Nowhere: the story has ended.
-    End,
+    /// Nowhere, before what it asks of the machine is done.
+    Asks(Request),
 }
 
 impl Yield {
@@ -140,7 +141,7 @@ impl Yield {
 
 impl Effect {
     ghost use Rattle.std.specs.Prelude.{◌≡◌};
-    ghost use Rattle.zk_step.specs.Endings.{ends, ends_with, goes_on, gives, tests, prints};
+    ghost use Rattle.zk_step.specs.Endings.{ends, ends_with, goes_on, gives, tests, prints, awaits};
 
     /// Nothing is printed.
     pub fn ends(ending: Ending) -> Effect
@@ -178,6 +179,13 @@ impl Effect {
         ensures { result ≡ tests truth }
     {
         Effect::ends(Ending::GoOn(None, Some(truth)))
+    }
+
+    /// The instruction waits for an answer.
+    pub fn awaits(event: Event) -> Effect
+        ensures { result ≡ awaits event }
+    {
+        Effect::ends(Ending::Asks(Request::Answer(event)))
     }
 
     /// The instruction prints and goes on.

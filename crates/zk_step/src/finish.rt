@@ -2,9 +2,8 @@
 
 ghost use Rattle.zk_state.specs.Frames.{bounds_of, within_bounds};
 ghost use Rattle.std.specs.Prelude.{◌≡◌, ◌≤◌, ◌^◌, Bool, Ok, Err, IfErr, IsOk, OnOk, MatchResult, true, length};
-ghost use Rattle.zk_step.specs.declared.ending.Next.TheVariants.{At};
 ghost use Rattle.zk_step.specs.Finish.{continuation_of, continuation_after, led, gone, gone_on, finished, beside_stack, leads_away};
-ghost use Rattle.zk_step.specs.Limited.{limited_next};
+ghost use Rattle.zk_step.specs.Limited.{limited_next, limited_place, next_at};
 ghost use Rattle.zk_step.specs.Printing.{IsPlainEnd};
 ghost use Rattle.zk_step.specs.Routing.{with_line_start};
 ghost use Rattle.zk_step.specs.Restarts.{begun_again};
@@ -63,8 +62,8 @@ pub(crate) fn continuation_after(
 #[tactic(auto, unfolding(crate::specs::Finish::led))]
 pub(crate) fn lead(game: &mut GameState, continuation: Continuation) -> Result<u32, Refusal>
     ensures value { MatchResult result
-        (λ place. limited_next (led game.old continuation) ≡ Ok (game.new, At place))
-        (λ e. limited_next (led game.old continuation) ≡ Err e) }
+        (λ place. limited_place (led game.old continuation) ≡ Ok (game.new, place))
+        (λ e. limited_place (led game.old continuation) ≡ Err e) }
     ensures bounds { bounds_of game.new.frames ≡ bounds_of game.old.frames }
 {
     match continuation {
@@ -99,9 +98,9 @@ pub(crate) fn go_to(
     value: Option<u16>,
     place: u32,
 ) -> Result<u32, Refusal>
-    ensures value { MatchResult result (λ at. limited_next
-        (gone game.old variable value (Continuation.To place)) ≡ Ok (game.new, At at))
-        (λ e. limited_next (gone game.old variable value (Continuation.To place)) ≡ Err e) }
+    ensures value { MatchResult result (λ at. limited_place
+        (gone game.old variable value (Continuation.To place)) ≡ Ok (game.new, at))
+        (λ e. limited_place (gone game.old variable value (Continuation.To place)) ≡ Err e) }
     ensures bounds { bounds_of game.new.frames ≡ bounds_of game.old.frames }
 {
     store(game, variable, value)?;
@@ -119,8 +118,8 @@ pub fn go_away(
 ) -> Result<u32, Refusal>
     requires { leads_away continuation ≡ true }
     ensures value { MatchResult result
-        (λ at. limited_next (gone game.old variable value continuation) ≡ Ok (game.new, At at))
-        (λ e. limited_next (gone game.old variable value continuation) ≡ Err e) }
+        (λ at. limited_place (gone game.old variable value continuation) ≡ Ok (game.new, at))
+        (λ e. limited_place (gone game.old variable value continuation) ≡ Err e) }
     ensures bounds { bounds_of game.new.frames ≡ bounds_of game.old.frames }
 {
     match store_beside(game, variable, value) {
@@ -131,15 +130,15 @@ pub fn go_away(
 
 /// Stores a result and takes a branch: where it leads.
 #[tactic(auto, unfolding(crate::specs::Finish::gone_on))]
-fn go_on(
+pub(crate) fn go_on(
     game: &mut GameState,
     i: &Instr,
     value: Option<u16>,
     truth: Option<bool>,
 ) -> Result<u32, Refusal>
     ensures value { MatchResult result
-        (λ at. limited_next (gone_on game.old i.now value truth) ≡ Ok (game.new, At at))
-        (λ e. limited_next (gone_on game.old i.now value truth) ≡ Err e) }
+        (λ at. limited_place (gone_on game.old i.now value truth) ≡ Ok (game.new, at))
+        (λ e. limited_place (gone_on game.old i.now value truth) ≡ Err e) }
     ensures bounds { bounds_of game.new.frames ≡ bounds_of game.old.frames }
 {
     match continuation_after(i.branch, i.next, truth) {
@@ -152,10 +151,10 @@ fn go_on(
 /// Jumps by an offset from an instruction: where to.
 fn jump(game: &mut GameState, i: &Instr, offset: u16) -> Result<u32, Refusal>
     requires { i.now.next ≤ 2 ^ 20 }
-    ensures value { MatchResult result (λ at. limited_next (led game.old
+    ensures value { MatchResult result (λ at. limited_place (led game.old
         (continuation_of
         (jump_target (length game.old.memory.bytes) i.now.next offset)))
-        ≡ Ok (game.new, At at)) (λ e. limited_next (led game.old
+        ≡ Ok (game.new, at)) (λ e. limited_place (led game.old
         (continuation_of
         (jump_target (length game.old.memory.bytes) i.now.next offset))) ≡ Err e) }
     ensures bounds { bounds_of game.new.frames ≡ bounds_of game.old.frames }
@@ -165,8 +164,8 @@ fn jump(game: &mut GameState, i: &Instr, offset: u16) -> Result<u32, Refusal>
 }
 
 /// Begins the story again at its first instruction.
-fn begin_again(game: &mut GameState) -> Next
-    ensures next { result ≡ Next.At (header_of game.old.memory.file).first_instruction }
+fn begin_again(game: &mut GameState) -> u32
+    ensures next { result ≡ (header_of game.old.memory.file).first_instruction }
     ensures value { game.new ≡ begun_again game.old }
     ensures within { within_bounds game.new.frames ≡ Ok game.new.frames }
     ensures bounds { bounds_of game.new.frames ≡ bounds_of game.old.frames }
@@ -174,11 +173,22 @@ fn begin_again(game: &mut GameState) -> Next
     let start = game.memory.header().first_instruction;
     game.restart();
     game.is_bounded();
-    Next::At(start as u32)
+    start as u32
+}
+
+/// The machine goes on at a place that was found, unless it was refused.
+#[inline(always)]
+fn next_at(place: Result<u32, Refusal>) -> Result<Next, Refusal>
+    ensures { result ≡ next_at place }
+{
+    match place {
+        Ok(place) => Ok(Next::At(place)),
+        Err(refusal) => Err(refusal),
+    }
 }
 
 /// Stores an instruction's result and finds where the machine goes on.
-#[tactic(auto, unfolding(crate::specs::Finish::finished))]
+#[tactic(auto, unfolding(crate::specs::Finish::finished), using(crate::proofs::WithinBounds::next_told))]
 #[inline(always)]
 pub fn finish(
     game: &mut GameState,
@@ -193,25 +203,22 @@ pub fn finish(
     ensures bounds { bounds_of game.new.frames ≡ bounds_of game.old.frames }
 {
     match ending {
-        Ending::GoOn(value, truth) => Ok(Next::At(go_on(game, i, value, truth)?)),
-        Ending::Jump(offset) => Ok(Next::At(jump(game, i, offset)?)),
+        Ending::GoOn(value, truth) => next_at(go_on(game, i, value, truth)),
+        Ending::Jump(offset) => next_at(jump(game, i, offset)),
         Ending::Call(routine, most) => {
             let arguments = values.arguments(most);
-            Ok(Next::At(call_routine(game, i, routine, arguments)?))
+            next_at(call_routine(game, i, routine, arguments))
         }
-        Ending::Return(value) => Ok(Next::At(return_value(game, value)?)),
-        Ending::Throw(value, frame) => Ok(Next::At(throw_value(game, value, frame)?)),
-        Ending::Restart => Ok(begin_again(game)),
-        Ending::Keep => Ok(Next::Keeps),
-        Ending::Resume => Ok(Next::Resumes),
-        Ending::Wait(wait) => Ok(Next::Waits(wait)),
-        Ending::Quit => Ok(Next::End),
+        Ending::Return(value) => next_at(return_value(game, value)),
+        Ending::Throw(value, frame) => next_at(throw_value(game, value, frame)),
+        Ending::Restart => Ok(Next::At(begin_again(game))),
+        Ending::Asks(request) => Ok(Next::Asks(request)),
     }
 }
 
 /// Whether an instruction that prints can be finished: the refusals are those of `finish`, and nothing
 /// changes. What is printed is shown between the two, and the screen's last line may then end anywhere.
-#[tactic(auto, unfolding(crate::specs::Finish::finished))]
+#[tactic(auto, unfolding(crate::specs::Finish::finished), using(crate::proofs::WithinBounds::place_ok))]
 pub fn check_finish(
     game: &GameState,
     i: &Instr,

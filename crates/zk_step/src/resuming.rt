@@ -2,25 +2,23 @@
 
 ghost use Rattle.zk_state.specs.Frames.{bounds_of};
 ghost use Rattle.std.specs.Prelude.{◌≡◌, Ok, Err, MatchResult};
-ghost use Rattle.zk_step.specs.declared.ending.Next.TheVariants.{At};
-ghost use Rattle.zk_step.specs.Limited.{limited_next};
+ghost use Rattle.zk_step.specs.Limited.{limited_place};
 ghost use Rattle.zk_step.specs.Resuming.{resumed};
 
-use crate::ending::Next;
 use crate::finish::{continuation_after, go_to, lead};
 use crate::game_state::GameState;
 use zk_code::decode::decode_branch;
 use zk_mem::fault::Fault;
 use zk_state::refusal::Refusal;
 
-/// The place where a state was saved that is back now (Z-Machine Standards Document 1.1, section 15,
+/// Goes on where a state was saved that is back now, and tells the place (Z-Machine Standards Document 1.1, section 15,
 /// `save` and `restore_undo`): in version 3 the branch at that byte address is taken, from version 4 on 2 is
 /// stored by the store byte there. Where one of these bytes lies outside the story, this is `BadTarget`.
 #[tactic(auto, unfolding(crate::specs::Resuming::resumed))]
-fn place_back(game: &mut GameState, place: u32) -> Result<u32, Refusal>
+pub fn resume(game: &mut GameState, place: u32) -> Result<u32, Refusal>
     ensures value { MatchResult result
-        (λ at. limited_next (resumed game.old place) ≡ Ok (game.new, At at))
-        (λ e. limited_next (resumed game.old place) ≡ Err e) }
+        (λ at. limited_place (resumed game.old place) ≡ Ok (game.new, at))
+        (λ e. limited_place (resumed game.old place) ≡ Err e) }
     ensures bounds { bounds_of game.new.frames ≡ bounds_of game.old.frames }
 {
     if game.memory.version() < 4 {
@@ -32,18 +30,5 @@ fn place_back(game: &mut GameState, place: u32) -> Result<u32, Refusal>
     match game.memory.cell(place) {
         Some(variable) => go_to(game, Some(variable), Some(2), place + 1),
         None => Err(Refusal::Fault(Fault::BadTarget)),
-    }
-}
-
-/// Goes on where a state was saved that is back now.
-pub fn resume(game: &mut GameState, place: u32) -> Result<Next, Refusal>
-    ensures value { MatchResult result
-        (λ n. limited_next (resumed game.old place) ≡ Ok (game.new, n))
-        (λ e. limited_next (resumed game.old place) ≡ Err e) }
-    ensures bounds { bounds_of game.new.frames ≡ bounds_of game.old.frames }
-{
-    match place_back(game, place) {
-        Ok(at) => Ok(Next::At(at)),
-        Err(refusal) => Err(refusal),
     }
 }

@@ -2,8 +2,7 @@
 
 ghost use Rattle.zk_state.specs.Frames.{bounds_of};
 ghost use Rattle.std.specs.Prelude.{◌≡◌, ◌<◌, ℕ, Bool, Ok, Err, IfErr, IfSome, IsOk, OnOk, MatchResult};
-ghost use Rattle.zk_step.specs.declared.ending.Next.TheVariants.{At};
-ghost use Rattle.zk_step.specs.Limited.{limited, limited_next};
+ghost use Rattle.zk_step.specs.Limited.{limited, limited_place};
 ghost use Rattle.zk_step.specs.Routines.{returned, thrown, stored};
 ghost use Rattle.zk_step.specs.Routing.{with_line_start};
 
@@ -33,8 +32,8 @@ pub fn store(game: &mut GameState, variable: Option<u8>, value: Option<u16>) -> 
 #[inline(always)]
 pub fn return_value(game: &mut GameState, value: u16) -> Result<u32, Refusal>
     ensures value { MatchResult result
-        (λ place. limited_next (returned game.old value) ≡ Ok (game.new, At place))
-        (λ e. limited_next (returned game.old value) ≡ Err e) }
+        (λ place. limited_place (returned game.old value) ≡ Ok (game.new, place))
+        (λ e. limited_place (returned game.old value) ≡ Err e) }
     ensures bounds { bounds_of game.new.frames ≡ bounds_of game.old.frames }
 {
     let back = game.frames.leave()?;
@@ -51,8 +50,8 @@ pub fn return_value(game: &mut GameState, value: u16) -> Result<u32, Refusal>
 #[tactic(auto, unfolding(crate::specs::Routines::thrown), using(zk_state::proofs::BoundsKept::unwound_bounds))]
 pub fn throw_value(game: &mut GameState, value: u16, frame: u16) -> Result<u32, Refusal>
     ensures value { MatchResult result
-        (λ place. limited_next (thrown game.old value frame) ≡ Ok (game.new, At place))
-        (λ e. limited_next (thrown game.old value frame) ≡ Err e) }
+        (λ place. limited_place (thrown game.old value frame) ≡ Ok (game.new, place))
+        (λ e. limited_place (thrown game.old value frame) ≡ Err e) }
     ensures bounds { bounds_of game.new.frames ≡ bounds_of game.old.frames }
 {
     game.frames.unwind(frame)?;
@@ -63,9 +62,9 @@ pub fn throw_value(game: &mut GameState, value: u16, frame: u16) -> Result<u32, 
 /// `return_value`.
 pub fn check_return(game: &GameState) -> Result<(), Refusal>
     ensures ok { OnOk result ((value : ℕ) (b : Bool)
-        → IsOk (limited_next (returned (with_line_start b game.now) value))) }
+        → IsOk (limited_place (returned (with_line_start b game.now) value))) }
     ensures err { IfErr result (λ e. (value : ℕ) (b : Bool)
-        → limited_next (returned (with_line_start b game.now) value) ≡ Err e) }
+        → limited_place (returned (with_line_start b game.now) value) ≡ Err e) }
 {
     let variable = match game.frames.check_return() {
         Ok(variable) => variable,

@@ -3,18 +3,18 @@
 ghost use Rattle.std.specs.Prelude.{◌≡◌};
 ghost use Rattle.zk_step.specs.Saving.{waits_whole, saving};
 
-use crate::ending::{Effect, Ending, Output, Wait};
+use crate::ending::{Effect, Ending, Event, Output, Request};
 use crate::values::Values;
 use zk_code::opcode::Saving;
 use zk_mem::memory::Memory;
 
 /// The whole game is saved or restored; a table, which operands name, is not.
-fn wait_whole(wait: Wait, values: &Values) -> Effect
-    ensures value { result ≡ waits_whole wait values.now }
+fn wait_whole(event: Event, values: &Values) -> Effect
+    ensures value { result ≡ waits_whole event values.now }
     ensures silent { result.output ≡ Output.Nothing }
 {
     if values.is_empty() {
-        Effect::ends(Ending::Wait(wait))
+        Effect::awaits(event)
     } else {
         Effect::gives(0)
     }
@@ -27,13 +27,13 @@ pub fn saving_effect(operation: Saving, memory: &Memory, values: &Values) -> Eff
     ensures silent { result.output ≡ Output.Nothing }
 {
     match operation {
-        Saving::SaveBranch | Saving::SaveStore => Effect::ends(Ending::Wait(Wait::Save)),
-        Saving::Save => wait_whole(Wait::Save, values),
-        Saving::RestoreBranch | Saving::RestoreStore => Effect::ends(Ending::Wait(Wait::Restore)),
-        Saving::Restore => wait_whole(Wait::Restore, values),
+        Saving::SaveBranch | Saving::SaveStore => Effect::awaits(Event::Save),
+        Saving::Save => wait_whole(Event::Save, values),
+        Saving::RestoreBranch | Saving::RestoreStore => Effect::awaits(Event::Restore),
+        Saving::Restore => wait_whole(Event::Restore, values),
         Saving::Restart => Effect::ends(Ending::Restart),
         Saving::Verify => Effect::tests(memory.checksum_ok()),
-        Saving::SaveUndo => Effect::ends(Ending::Keep),
-        Saving::RestoreUndo => Effect::ends(Ending::Resume),
+        Saving::SaveUndo => Effect::ends(Ending::Asks(Request::SaveUndo)),
+        Saving::RestoreUndo => Effect::ends(Ending::Asks(Request::RestoreUndo)),
     }
 }

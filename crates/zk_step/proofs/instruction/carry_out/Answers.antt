@@ -1,6 +1,6 @@
 use Rattle.std.proofs.Common.{◌∙◌}
 use Rattle.zk_step.proofs.Steps.{carried_ok, finish_refused}
-use Rattle.zk_step.proofs.Showing.{quiet_wait, told, shown_text, refused_text, printable_after, same_route, stopped_there, shown_nothing}
+use Rattle.zk_step.proofs.Showing.{quiet_asked, told, shown_text, refused_text, printable_after, same_route, stopped_there, shown_nothing}
 use Rattle.zk_step.proofs.instruction.carry_out.Goals as goal
 
 pub route-requires : goal.route-requires
@@ -44,4 +44,4 @@ pub returns-in-Ok-finish-clause-quiet : goal.returns-in-Ok-finish-clause-quiet
 returns-in-Ok-finish-clause-quiet g c =
     let same = same_route c.args.game.now.memory c.begin.new.game.memory c.begin.new.game c.in-Ok.begun.effect.output c.in-Ok.begun.effect.ending c.in-Ok.ensures.ready in
     let whole = carried_ok c.args.game.now c.args.i.now c.in-Ok.begun.values c.begin.new.game c.in-Ok.begun.effect c.route.new.game _ c.finish.new.game c.in-Ok-finish.next c.in-Ok.ensures.ok (same ∙ c.in-Ok-route.ensures.value.0) c.in-Ok-finish.ensures.value in
-    rw (shown_text _ _ _ _ whole) (quiet_wait c.route.new.game c.args.i.now c.in-Ok.begun.values c.in-Ok.begun.effect c.finish.new.game c.in-Ok-finish.next c.begin.new.game.memory c.begin.new.game c.args.game.now.memory c.begin.new.game.memory c.in-Ok.ensures.ready c.in-Ok-finish.ensures.value)
+    rw (shown_text _ _ _ _ whole) (quiet_asked c.route.new.game c.args.i.now c.in-Ok.begun.values c.in-Ok.begun.effect c.finish.new.game c.in-Ok-finish.next c.begin.new.game.memory c.begin.new.game c.args.game.now.memory c.begin.new.game.memory c.in-Ok.ensures.ready c.in-Ok-finish.ensures.value)

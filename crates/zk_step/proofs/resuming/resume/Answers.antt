@@ -3,7 +3,7 @@ use Rattle.std.proofs.lemmas.Bool.Decides.{nat_tests}
 use Rattle.zk_mem.specs.Map.{cell_at}
 use Rattle.zk_code.specs.Reading.{branch_here}
 use Rattle.zk_step.specs.Resuming.{resumed}
-use Rattle.zk_step.proofs.resuming.place_back.Goals as goal
+use Rattle.zk_step.proofs.resuming.resume.Goals as goal
 
 pub returns-in-Ok-clause-value : goal.returns-in-Ok-clause-value
 unfolding resumed
