@@ -5,33 +5,30 @@ use Rattle.zk_mem.specs.Map.{MemoryMap}
 use Rattle.zk_code.specs.declared.instr.Instr.{Instr}
 use Rattle.zk_state.specs.Frames.{FrameList, bounds_of, with_frames, within_bounds}
 use Rattle.zk_save.specs.declared.restore.RestoreError.{RestoreError}
-use Rattle.zk_save.specs.declared.restore.RestoreError.TheVariants as restore_error
 use Rattle.zk_save.specs.Loading.{frames_fit, loaded, loaded_by, put_in_place, restored}
 use Rattle.zk_state.specs.declared.refusal.Refusal.{Refusal}
 use Rattle.zk_state.specs.declared.refusal.Refusal.TheVariants as refusal
 use Rattle.zk_state.specs.declared.refusal.Limit.{Limit}
 use Rattle.zk_save.specs.States.{AreOf, UndoStates, WholeState, memory_back, states_in}
-use Rattle.zk_step.specs.declared.ending.Next.{Next}
-use Rattle.zk_step.specs.declared.ending.Wait.{Wait}
-use Rattle.zk_step.specs.declared.ending.Wait.TheVariants as wait
+use Rattle.zk_step.specs.declared.ending.Event.{Event}
+use Rattle.zk_step.specs.declared.ending.Event.TheVariants as event
 use Rattle.zk_step.specs.declared.game_state.GameState.{GameState}
 use Rattle.zk_step.specs.Inputs.{character_answered, line_answered, result_answered}
 use Rattle.zk_step.specs.Restarts.{windows_closed}
 use Rattle.zk_step.specs.Resuming.{resumed}
 use Rattle.zk_step.specs.Laws.{fixed_parts}
-use Rattle.zk_step.specs.Limited.{limited_next}
+use Rattle.zk_step.specs.Limited.{limited_place}
 use Rattle.zk_step.proofs.Sweep.{answers_leave_stories}
 use Rattle.zk_vm.specs.declared.limits.Limits.{Limits}
 use Rattle.zk_fast.specs.declared.cache.Cache.{Cache}
 use Rattle.zk_fast.specs.Caches.{IsCacheOf}
 use Rattle.zk_vm.specs.declared.machine.Machine.TheInside.{Inside}
-use Rattle.zk_vm.specs.declared.stop.Event.TheVariants as event
 use Rattle.zk_vm.specs.declared.stop.Stop.{Stop}
 use Rattle.zk_vm.specs.declared.waiting.Waiting.{Waiting}
-use Rattle.zk_vm.specs.Answers.{Answer, answered, answer_settled, restored_from, restored_to, transcribed, truth_word}
+use Rattle.zk_vm.specs.Answers.{Answer, answered, answer_settled, limit_of, none_restored, restored_from, restored_to, transcribed, truth_word}
 use Rattle.zk_vm.specs.Answers.Answer.{Typed, GameKept, File}
-use Rattle.zk_vm.specs.Going.{verdict_by, place_by, steps_by, stopped_by, limit_of, restored_by, restored_on}
-use Rattle.zk_vm.specs.Halts.{CanAnswer, IsAnswerable, IsLeftAs, event_by, event_waited}
+use Rattle.zk_vm.specs.Going.{verdict_by, place_by, steps_by, stopped_by, restored_by, restored_on, unrestored_by}
+use Rattle.zk_vm.specs.Halts.{CanAnswer, IsAnswerable, IsLeftAs, event_waited}
 use Rattle.zk_vm.specs.Outcome.{given}
 use Rattle.zk_vm.specs.Sound.{state_seen, IsOfStory, IsSound}
 use Rattle.zk_vm.specs.Step.{State, goes_to, is_read, is_past_reads, most_reads}
@@ -47,60 +44,33 @@ pub answerable : (m : Inside) (w : Waiting) → IsSound m → m.waiting ≡ Some
 answerable m w is e = answerable_by (state_seen m) m.limits m.stopped m.waiting w e is.waits
 
 -- what is waited for
-asks : (x : Option Waiting) (w : Waiting) (e : _) → x ≡ Some w → event_waited x ≡ Some e → event_by w.wait ≡ e
-asks x w e h k = let same : event_waited x ≡ Some (event_by w.wait) = ap event_waited h in cc
-
-char_by : (x : Wait) → event_by x ≡ event.Char → x ≡ wait.Char
-char_by (wait.Line t p) h = absurd cc
-char_by wait.Char h = refl
-char_by wait.Save h = absurd cc
-char_by wait.Restore h = absurd cc
-
-save_by : (x : Wait) → event_by x ≡ event.Save → x ≡ wait.Save
-save_by (wait.Line t p) h = absurd cc
-save_by wait.Char h = absurd cc
-save_by wait.Save h = refl
-save_by wait.Restore h = absurd cc
-
-restore_by : (x : Wait) → event_by x ≡ event.Restore → x ≡ wait.Restore
-restore_by (wait.Line t p) h = absurd cc
-restore_by wait.Char h = absurd cc
-restore_by wait.Save h = absurd cc
-restore_by wait.Restore h = refl
-
-pub asks_char : (x : Option Waiting) (w : Waiting) → x ≡ Some w → event_waited x ≡ Some event.Char → w.wait ≡ wait.Char
-asks_char x w h k = char_by w.wait (asks x w event.Char h k)
-
-pub asks_save : (x : Option Waiting) (w : Waiting) → x ≡ Some w → event_waited x ≡ Some event.Save → w.wait ≡ wait.Save
-asks_save x w h k = save_by w.wait (asks x w event.Save h k)
-
-pub asks_restore : (x : Option Waiting) (w : Waiting) → x ≡ Some w → event_waited x ≡ Some event.Restore → w.wait ≡ wait.Restore
-asks_restore x w h k = restore_by w.wait (asks x w event.Restore h k)
+pub awaits : (x : Option Waiting) (w : Waiting) (e : Event) → x ≡ Some w → event_waited x ≡ Some e → w.wait ≡ e
+awaits x w e h k = let same : event_waited x ≡ Some w.wait = ap event_waited h in cc
 
 -- ---- saved games
 
-saves : (s : State) (w : Waiting) (k : Bool) → w.wait ≡ wait.Save → answered s w (GameKept k) ≡ goes_to s s.undo (result_answered s.game w.instruction (truth_word k) k)
+saves : (s : State) (w : Waiting) (k : Bool) → w.wait ≡ event.Save → answered s w (GameKept k) ≡ goes_to s s.undo (result_answered s.game w.instruction (truth_word k) k)
 unfolding answered
 saves s w k e = rw e refl
 
 -- a machine that was answered, and waits no more
-answered_sound : (m : Inside) (v : GameState) (place steps : ℕ) (stopped : Option Stop) (led : Result Next Refusal) → IsSound m → m.stopped ≡ None → m.steps < m.limits.steps → IsOfStory m → bounds_of v.frames ≡ bounds_of m.game.frames
-    → steps ≡ steps_by m.steps led → stopped ≡ stopped_by m.stopped (verdict_by m.place led) → ((n : Next) → led ≡ Ok n → fixed_parts v.memory ≡ fixed_parts m.game.memory) → IsSound (behind (record m { waiting = None }) v place steps stopped m.undo)
+answered_sound : (m : Inside) (v : GameState) (place steps : ℕ) (stopped : Option Stop) (led : Result ℕ Refusal) → IsSound m → m.stopped ≡ None → m.steps < m.limits.steps → IsOfStory m → bounds_of v.frames ≡ bounds_of m.game.frames
+    → steps ≡ steps_by m.steps led → stopped ≡ stopped_by m.stopped (verdict_by m.place led) → ((n : ℕ) → led ≡ Ok n → fixed_parts v.memory ≡ fixed_parts m.game.memory) → IsSound (behind (record m { waiting = None }) v place steps stopped m.undo)
 answered_sound m v place steps stopped led is runs room has bounds counts stops fixed =
     sound_after m (behind (record m { waiting = None }) v place steps stopped m.undo) m.place led is room refl refl counts refl refl bounds stops
     (λ n e. story_stays (behind (record m { waiting = None }) v place steps stopped m.undo) m.game has.are_of has.memory has.cache (fixed n e) bounds)
 
-pub save_answered : (m : Inside) (w : Waiting) (k : Bool) (word : ℕ) (led : Result Next Refusal) (v : GameState) (place steps : ℕ) (stopped : Option Stop) → IsSound m → m.waiting ≡ Some w → event_waited m.waiting ≡ Some event.Save → word ≡ truth_word k
-    → Told led (limited_next (result_answered m.game w.instruction word k)) v → bounds_of v.frames ≡ bounds_of m.game.frames
+pub save_answered : (m : Inside) (w : Waiting) (k : Bool) (word : ℕ) (led : Result ℕ Refusal) (v : GameState) (place steps : ℕ) (stopped : Option Stop) → IsSound m → m.waiting ≡ Some w → event_waited m.waiting ≡ Some event.Save → word ≡ truth_word k
+    → Told led (limited_place (result_answered m.game w.instruction word k)) v → bounds_of v.frames ≡ bounds_of m.game.frames
     → place ≡ place_by m.place led → steps ≡ steps_by m.steps led → stopped ≡ stopped_by m.stopped (verdict_by m.place led)
     → IsSound (behind (record m { waiting = None }) v place steps stopped m.undo)
     × IsLeftAs (seen (behind (record m { waiting = None }) v place steps stopped m.undo)) (given (seen m) (GameKept k)) (given (seen m) (GameKept k)).stopped
 save_answered m w k word led v place steps stopped is waits saving value told bounds at counts stops =
     let can = answerable m w is waits in
     let has = running m.stopped (IsOfStory m) can.runs is.story in
-    let fixed : (n : Next) → result_answered m.game w.instruction word k ≡ Ok (v, n) → fixed_parts v.memory ≡ fixed_parts m.game.memory
+    let fixed : (n : ℕ) → result_answered m.game w.instruction word k ≡ Ok (v, n) → fixed_parts v.memory ≡ fixed_parts m.game.memory
     = (λ n e. answers_leave_stories.result m.game w.instruction word k (v, n) e) in
-    let here = saves (state_seen m) w k (asks_save m.waiting w waits saving) in
+    let here = saves (state_seen m) w k (awaits m.waiting w event.Save waits saving) in
     let word_is = rw (← value) at here in (
       answered_sound m v place steps stopped led is can.runs can.steps has bounds counts stops (told_on led (result_answered m.game w.instruction word k) v told fixed),
       file_answered (seen m) w (GameKept k) (states_in v.memory.file m.undo) (result_answered m.game w.instruction word k) led v place steps stopped waits can.runs word_is told at counts stops (λ n e. same_states m.game.memory v.memory m.undo (fixed n e)),
@@ -108,7 +78,7 @@ save_answered m w k word led v place steps stopped is waits saving value told bo
 
 -- ---- a saved game that is restored
 
-restores : (s : State) (w : Waiting) (file : Option (List ℕ)) → w.wait ≡ wait.Restore → answered s w (File file) ≡ restored_from s w.instruction file
+restores : (s : State) (w : Waiting) (file : Option (List ℕ)) → w.wait ≡ event.Restore → answered s w (File file) ≡ restored_from s w.instruction file
 unfolding answered
 restores s w file e = rw e refl
 
@@ -132,39 +102,35 @@ renewed_memory : (w : GameState) → (windows_closed w).memory ≡ w.memory
 unfolding windows_closed
 renewed_memory w = refl
 
--- where a restored machine goes on, the story's parts stay
-restored_stays : (w : GameState) (i : Instr) (q : Result (MemoryMap × FrameList × ℕ) RestoreError) (led : Result Next Refusal) (v : GameState) → ((n : MemoryMap) (g : FrameList) (p : ℕ) → q ≡ Ok (n, g, p) → fixed_parts n ≡ fixed_parts w.memory)
-    → Told led (restored_by w i q) v → (n : Next) → led ≡ Ok n → fixed_parts v.memory ≡ fixed_parts w.memory
+-- where a machine goes on that restores nothing, the story's parts stay
+none_stays : (w : GameState) (i : Instr) (l : Option Limit) (led : Result ℕ Refusal) (v : GameState) → Told led (unrestored_by w i l) v → (n : ℕ) → led ≡ Ok n → fixed_parts v.memory ≡ fixed_parts w.memory
+none_stays w i None led v told = told_on led (result_answered w i 0 false) v told (λ n e. answers_leave_stories.result w i 0 false (v, n) e)
+none_stays w i (Some l) (Ok x) v told = absurd cc
+none_stays w i (Some l) (Err e) v told = λ n h. absurd cc
+
+-- and where a restored one does
+restored_stays : (w : GameState) (i : Instr) (q : Result (MemoryMap × FrameList × ℕ) RestoreError) (led : Result ℕ Refusal) (v : GameState) → ((n : MemoryMap) (g : FrameList) (p : ℕ) → q ≡ Ok (n, g, p) → fixed_parts n ≡ fixed_parts w.memory)
+    → Told led (restored_by w i q) v → (n : ℕ) → led ≡ Ok n → fixed_parts v.memory ≡ fixed_parts w.memory
 restored_stays w i (Ok (m, f, p)) led v same told =
     told_on led (resumed (windows_closed (record w { memory = m; frames = f })) p) v told (λ n e. answers_leave_stories.back (windows_closed (record w { memory = m; frames = f })) p (v, n) e ∙ ap fixed_parts (renewed_memory (record w { memory = m; frames = f })) ∙ same m f p refl)
-restored_stays w i (Err (restore_error.Limit l)) (Ok x) v same told = absurd cc
-restored_stays w i (Err (restore_error.Limit l)) (Err e) v same told = λ n h. absurd cc
-restored_stays w i (Err restore_error.NotQuetzal) led v same told = told_on led (result_answered w i 0 false) v told (λ n e. answers_leave_stories.result w i 0 false (v, n) e)
-restored_stays w i (Err restore_error.Truncated) led v same told = told_on led (result_answered w i 0 false) v told (λ n e. answers_leave_stories.result w i 0 false (v, n) e)
-restored_stays w i (Err restore_error.OtherStory) led v same told = told_on led (result_answered w i 0 false) v told (λ n e. answers_leave_stories.result w i 0 false (v, n) e)
-restored_stays w i (Err restore_error.BadMemory) led v same told = told_on led (result_answered w i 0 false) v told (λ n e. answers_leave_stories.result w i 0 false (v, n) e)
-restored_stays w i (Err restore_error.BadStack) led v same told = told_on led (result_answered w i 0 false) v told (λ n e. answers_leave_stories.result w i 0 false (v, n) e)
+restored_stays w i (Err e) led v same told = none_stays w i (limit_of e) led v told
 
-restored_left : (m : Inside) (w : Waiting) (a : Answer) (q : Result (MemoryMap × FrameList × ℕ) RestoreError) (led : Result Next Refusal) (v : GameState) (place steps : ℕ) (stopped : Option Stop) → m.waiting ≡ Some w → m.stopped ≡ None
+none_left : (m : Inside) (w : Waiting) (a : Answer) (l : Option Limit) (led : Result ℕ Refusal) (v : GameState) (place steps : ℕ) (stopped : Option Stop) → m.waiting ≡ Some w → m.stopped ≡ None
+    → answered (state_seen m) w a ≡ none_restored (state_seen m) w.instruction l → Told led (unrestored_by m.game w.instruction l) v → place ≡ place_by m.place led → steps ≡ steps_by m.steps led → stopped ≡ stopped_by m.stopped (verdict_by m.place led)
+    → IsLeftAs (seen (behind (record m { waiting = None }) v place steps stopped m.undo)) (given (seen m) a) (given (seen m) a).stopped
+none_left m w a None led v place steps stopped waits runs is told at counts stops =
+    file_answered (seen m) w a (states_in v.memory.file m.undo) (result_answered m.game w.instruction 0 false) led v place steps stopped waits runs is told at counts stops (λ x e. same_states m.game.memory v.memory m.undo (answers_leave_stories.result m.game w.instruction 0 false (v, x) e))
+none_left m w a (Some l) led v place steps stopped waits runs is told at counts stops = limit_answered (seen m) w a l (states_in v.memory.file m.undo) led v place steps stopped waits runs is told at counts stops
+
+restored_left : (m : Inside) (w : Waiting) (a : Answer) (q : Result (MemoryMap × FrameList × ℕ) RestoreError) (led : Result ℕ Refusal) (v : GameState) (place steps : ℕ) (stopped : Option Stop) → m.waiting ≡ Some w → m.stopped ≡ None
     → answered (state_seen m) w a ≡ restored_to (state_seen m) w.instruction q → Told led (restored_by m.game w.instruction q) v → place ≡ place_by m.place led → steps ≡ steps_by m.steps led → stopped ≡ stopped_by m.stopped (verdict_by m.place led)
     → ((n : MemoryMap) (g : FrameList) (p : ℕ) → q ≡ Ok (n, g, p) → fixed_parts n ≡ fixed_parts m.game.memory)
     → IsLeftAs (seen (behind (record m { waiting = None }) v place steps stopped m.undo)) (given (seen m) a) (given (seen m) a).stopped
 restored_left m w a (Ok (n, f, p)) led v place steps stopped waits runs is told at counts stops fixed =
     file_answered (seen m) w a (states_in v.memory.file m.undo) (resumed (windows_closed (record m.game { memory = n; frames = f })) p) led v place steps stopped waits runs is told at counts stops (λ x e. same_states m.game.memory v.memory m.undo (answers_leave_stories.back (windows_closed (record m.game { memory = n; frames = f })) p (v, x) e ∙ ap fixed_parts (renewed_memory (record m.game { memory = n; frames = f })) ∙ fixed n f p refl))
-restored_left m w a (Err (restore_error.Limit l)) led v place steps stopped waits runs is told at counts stops fixed =
-    limit_answered (seen m) w a l (states_in v.memory.file m.undo) led v place steps stopped waits runs is told at counts stops
-restored_left m w a (Err restore_error.NotQuetzal) led v place steps stopped waits runs is told at counts stops fixed =
-    file_answered (seen m) w a (states_in v.memory.file m.undo) (result_answered m.game w.instruction 0 false) led v place steps stopped waits runs is told at counts stops (λ x e. same_states m.game.memory v.memory m.undo (answers_leave_stories.result m.game w.instruction 0 false (v, x) e))
-restored_left m w a (Err restore_error.Truncated) led v place steps stopped waits runs is told at counts stops fixed =
-    file_answered (seen m) w a (states_in v.memory.file m.undo) (result_answered m.game w.instruction 0 false) led v place steps stopped waits runs is told at counts stops (λ x e. same_states m.game.memory v.memory m.undo (answers_leave_stories.result m.game w.instruction 0 false (v, x) e))
-restored_left m w a (Err restore_error.OtherStory) led v place steps stopped waits runs is told at counts stops fixed =
-    file_answered (seen m) w a (states_in v.memory.file m.undo) (result_answered m.game w.instruction 0 false) led v place steps stopped waits runs is told at counts stops (λ x e. same_states m.game.memory v.memory m.undo (answers_leave_stories.result m.game w.instruction 0 false (v, x) e))
-restored_left m w a (Err restore_error.BadMemory) led v place steps stopped waits runs is told at counts stops fixed =
-    file_answered (seen m) w a (states_in v.memory.file m.undo) (result_answered m.game w.instruction 0 false) led v place steps stopped waits runs is told at counts stops (λ x e. same_states m.game.memory v.memory m.undo (answers_leave_stories.result m.game w.instruction 0 false (v, x) e))
-restored_left m w a (Err restore_error.BadStack) led v place steps stopped waits runs is told at counts stops fixed =
-    file_answered (seen m) w a (states_in v.memory.file m.undo) (result_answered m.game w.instruction 0 false) led v place steps stopped waits runs is told at counts stops (λ x e. same_states m.game.memory v.memory m.undo (answers_leave_stories.result m.game w.instruction 0 false (v, x) e))
+restored_left m w a (Err e) led v place steps stopped waits runs is told at counts stops fixed = none_left m w a (limit_of e) led v place steps stopped waits runs is told at counts stops
 
-pub file_restored : (m : Inside) (w : Waiting) (file : List ℕ) (led : Result Next Refusal) (v : GameState) (place steps : ℕ) (stopped : Option Stop) → IsSound m → m.waiting ≡ Some w → event_waited m.waiting ≡ Some event.Restore
+pub file_restored : (m : Inside) (w : Waiting) (file : List ℕ) (led : Result ℕ Refusal) (v : GameState) (place steps : ℕ) (stopped : Option Stop) → IsSound m → m.waiting ≡ Some w → event_waited m.waiting ≡ Some event.Restore
     → Told led (restored_on m.game w.instruction file) v → bounds_of v.frames ≡ bounds_of m.game.frames
     → place ≡ place_by m.place led → steps ≡ steps_by m.steps led → stopped ≡ stopped_by m.stopped (verdict_by m.place led)
     → IsSound (behind (record m { waiting = None }) v place steps stopped m.undo)
@@ -175,35 +141,33 @@ file_restored m w file led v place steps stopped is waits restoring told bounds 
     let same : (n : MemoryMap) (g : FrameList) (p : ℕ) → restored file m.game.memory m.game.frames ≡ Ok (n, g, p) → fixed_parts n ≡ fixed_parts m.game.memory
     = (λ n g p e. restored_fixed file m.game.memory n m.game.frames g p e) in
     let fixed = restored_stays m.game w.instruction (restored file m.game.memory m.game.frames) led v same told in
-    let here = restores (state_seen m) w (Some file) (asks_restore m.waiting w waits restoring) in (
+    let here = restores (state_seen m) w (Some file) (awaits m.waiting w event.Restore waits restoring) in (
       answered_sound m v place steps stopped led is can.runs can.steps has bounds counts stops fixed,
       restored_left m w (File (Some file)) (restored file m.game.memory m.game.frames) led v place steps stopped waits can.runs here told at counts stops same,
     )
 
-pub none_restored : (m : Inside) (w : Waiting) (led : Result Next Refusal) (v : GameState) (place steps : ℕ) (stopped : Option Stop) → IsSound m → m.waiting ≡ Some w → event_waited m.waiting ≡ Some event.Restore
-    → Told led (limited_next (result_answered m.game w.instruction 0 false)) v → bounds_of v.frames ≡ bounds_of m.game.frames
+pub no_file_restored : (m : Inside) (w : Waiting) (led : Result ℕ Refusal) (v : GameState) (place steps : ℕ) (stopped : Option Stop) → IsSound m → m.waiting ≡ Some w → event_waited m.waiting ≡ Some event.Restore
+    → Told led (limited_place (result_answered m.game w.instruction 0 false)) v → bounds_of v.frames ≡ bounds_of m.game.frames
     → place ≡ place_by m.place led → steps ≡ steps_by m.steps led → stopped ≡ stopped_by m.stopped (verdict_by m.place led)
     → IsSound (behind (record m { waiting = None }) v place steps stopped m.undo)
     × IsLeftAs (seen (behind (record m { waiting = None }) v place steps stopped m.undo)) (given (seen m) (File None)) (given (seen m) (File None)).stopped
-none_restored m w led v place steps stopped is waits restoring told bounds at counts stops =
+no_file_restored m w led v place steps stopped is waits restoring told bounds at counts stops =
     let can = answerable m w is waits in
     let has = running m.stopped (IsOfStory m) can.runs is.story in
-    let fixed : (n : Next) → result_answered m.game w.instruction 0 false ≡ Ok (v, n) → fixed_parts v.memory ≡ fixed_parts m.game.memory
-    = (λ n e. answers_leave_stories.result m.game w.instruction 0 false (v, n) e) in
-    let here = restores (state_seen m) w None (asks_restore m.waiting w waits restoring) in (
-      answered_sound m v place steps stopped led is can.runs can.steps has bounds counts stops (told_on led (result_answered m.game w.instruction 0 false) v told fixed),
-      file_answered (seen m) w (File None) (states_in v.memory.file m.undo) (result_answered m.game w.instruction 0 false) led v place steps stopped waits can.runs here told at counts stops (λ n e. same_states m.game.memory v.memory m.undo (fixed n e)),
+    let here = restores (state_seen m) w None (awaits m.waiting w event.Restore waits restoring) in (
+      answered_sound m v place steps stopped led is can.runs can.steps has bounds counts stops (none_stays m.game w.instruction None led v told),
+      none_left m w (File None) None led v place steps stopped waits can.runs here told at counts stops,
     )
 
 -- ---- reads
 
-few_reads : (n : ℕ) (x : Wait) → is_read x ≡ true → is_past_reads n x ≡ false → n + 1 ≤ 16777216
+few_reads : (n : ℕ) (x : Event) → is_read x ≡ true → is_past_reads n x ≡ false → n + 1 ≤ 16777216
 few_reads n x read past =
     let here : nat_le most_reads n ≡ false = rw read at past in
     grind (arith, nat_tests, here)
 
-pub read_sound : (m n : Inside) (w : Waiting) (led : Result Next Refusal) → IsSound m → m.waiting ≡ Some w → is_read w.wait ≡ true → n.limits ≡ m.limits → n.waiting ≡ None → n.steps ≡ 0 → n.reads ≡ m.reads + 1 → n.undo ≡ m.undo → n.cache ≡ m.cache
-    → bounds_of n.game.frames ≡ bounds_of m.game.frames → n.stopped ≡ stopped_by m.stopped (verdict_by m.place led) → ((x : Next) → led ≡ Ok x → fixed_parts n.game.memory ≡ fixed_parts m.game.memory) → IsSound n
+pub read_sound : (m n : Inside) (w : Waiting) (led : Result ℕ Refusal) → IsSound m → m.waiting ≡ Some w → is_read w.wait ≡ true → n.limits ≡ m.limits → n.waiting ≡ None → n.steps ≡ 0 → n.reads ≡ m.reads + 1 → n.undo ≡ m.undo → n.cache ≡ m.cache
+    → bounds_of n.game.frames ≡ bounds_of m.game.frames → n.stopped ≡ stopped_by m.stopped (verdict_by m.place led) → ((x : ℕ) → led ≡ Ok x → fixed_parts n.game.memory ≡ fixed_parts m.game.memory) → IsSound n
 read_sound m n w led is waits read limits free steps reads undo same bounds stops fixed =
     let can = answerable m w is waits in
     let has = running m.stopped (IsOfStory m) can.runs is.story in
@@ -213,35 +177,35 @@ read_sound m n w led is waits read limits free steps reads undo same bounds stop
     sound_now m n is limits free (omega (arith, steps)) (omega (arith, reads, few)) (ap (λ (u : UndoStates). u.most) undo) bounds
     (going_led n.stopped m.stopped m.place led (IsOfStory n) stops (λ x e. story_stays n m.game are (has.memory ∙ ap (λ (l : Limits). l.undo) (sym limits)) cache (fixed x e) bounds))
 
-reads_char : (s : State) (w : Waiting) (code : ℕ) → w.wait ≡ wait.Char → answered s w (Typed (code ∷ [])) ≡ answer_settled s [] (character_answered s.game w.instruction code)
+reads_char : (s : State) (w : Waiting) (code : ℕ) → w.wait ≡ event.Char → answered s w (Typed (code ∷ [])) ≡ answer_settled s [] (character_answered s.game w.instruction code)
 unfolding answered
 reads_char s w code e = rw e refl
 
-reads_line : (s : State) (w : Waiting) (text parse : ℕ) (codes : List ℕ) → w.wait ≡ wait.Line text parse
-    → answered s w (Typed codes) ≡ answer_settled s (transcribed s.game (wait.Line text parse) codes) (line_answered s.game w.instruction text parse codes)
+reads_line : (s : State) (w : Waiting) (text parse : ℕ) (codes : List ℕ) → w.wait ≡ event.Line text parse
+    → answered s w (Typed codes) ≡ answer_settled s (transcribed s.game (event.Line text parse) codes) (line_answered s.game w.instruction text parse codes)
 unfolding answered
 reads_line s w text parse codes e = rw e refl
 
-pub char_fixed : (m : Inside) (w : Waiting) (code : ℕ) (led : Result Next Refusal) (v : GameState) → Told led (limited_next (character_answered m.game w.instruction code)) v → (n : Next) → led ≡ Ok n → fixed_parts v.memory ≡ fixed_parts m.game.memory
+pub char_fixed : (m : Inside) (w : Waiting) (code : ℕ) (led : Result ℕ Refusal) (v : GameState) → Told led (limited_place (character_answered m.game w.instruction code)) v → (n : ℕ) → led ≡ Ok n → fixed_parts v.memory ≡ fixed_parts m.game.memory
 char_fixed m w code led v told = told_on led (character_answered m.game w.instruction code) v told (λ n e. answers_leave_stories.character m.game w.instruction code (v, n) e)
 
-pub line_fixed : (m : Inside) (w : Waiting) (text parse : ℕ) (codes : List ℕ) (led : Result Next Refusal) (v : GameState) → Told led (limited_next (line_answered m.game w.instruction text parse codes)) v
-    → (n : Next) → led ≡ Ok n → fixed_parts v.memory ≡ fixed_parts m.game.memory
+pub line_fixed : (m : Inside) (w : Waiting) (text parse : ℕ) (codes : List ℕ) (led : Result ℕ Refusal) (v : GameState) → Told led (limited_place (line_answered m.game w.instruction text parse codes)) v
+    → (n : ℕ) → led ≡ Ok n → fixed_parts v.memory ≡ fixed_parts m.game.memory
 line_fixed m w text parse codes led v told = told_on led (line_answered m.game w.instruction text parse codes) v told (λ n e. answers_leave_stories.line m.game w.instruction text parse codes (v, n) e)
 
-pub char_answered : (m : Inside) (w : Waiting) (code : ℕ) (due : List ℕ) (led : Result Next Refusal) (v : GameState) (place : ℕ) (stopped : Option Stop) → IsSound m → m.waiting ≡ Some w → event_waited m.waiting ≡ Some event.Char → due ≡ []
-    → Told led (limited_next (character_answered m.game w.instruction code)) v → place ≡ place_by m.place led → stopped ≡ stopped_by m.stopped (verdict_by m.place led)
+pub char_answered : (m : Inside) (w : Waiting) (code : ℕ) (due : List ℕ) (led : Result ℕ Refusal) (v : GameState) (place : ℕ) (stopped : Option Stop) → IsSound m → m.waiting ≡ Some w → event_waited m.waiting ≡ Some event.Char → due ≡ []
+    → Told led (limited_place (character_answered m.game w.instruction code)) v → place ≡ place_by m.place led → stopped ≡ stopped_by m.stopped (verdict_by m.place led)
     → IsLeftAs (reading (seen m) v place due (states_in v.memory.file m.undo) stopped) (given (seen m) (Typed (code ∷ []))) (given (seen m) (Typed (code ∷ []))).stopped
 char_answered m w code due led v place stopped is waits reading_char none told at stops =
     let can = answerable m w is waits in
-    let here = reads_char (state_seen m) w code (asks_char m.waiting w waits reading_char) in
+    let here = reads_char (state_seen m) w code (awaits m.waiting w event.Char waits reading_char) in
     let done : answered (state_seen m) w (Typed (code ∷ [])) ≡ answer_settled (state_seen m) due (character_answered m.game w.instruction code) = rw none here in
     read_answered (seen m) w (Typed (code ∷ [])) due (states_in v.memory.file m.undo) (character_answered m.game w.instruction code) led v place stopped waits can.runs done told at stops
     (λ n e. same_states m.game.memory v.memory m.undo (answers_leave_stories.character m.game w.instruction code (v, n) e))
 
-pub line_typed : (m : Inside) (w : Waiting) (text parse : ℕ) (codes due : List ℕ) (led : Result Next Refusal) (v : GameState) (place : ℕ) (stopped : Option Stop) → IsSound m → m.waiting ≡ Some w → w.wait ≡ wait.Line text parse
-    → due ≡ transcribed m.game (wait.Line text parse) codes
-    → Told led (limited_next (line_answered m.game w.instruction text parse codes)) v → place ≡ place_by m.place led → stopped ≡ stopped_by m.stopped (verdict_by m.place led)
+pub line_typed : (m : Inside) (w : Waiting) (text parse : ℕ) (codes due : List ℕ) (led : Result ℕ Refusal) (v : GameState) (place : ℕ) (stopped : Option Stop) → IsSound m → m.waiting ≡ Some w → w.wait ≡ event.Line text parse
+    → due ≡ transcribed m.game (event.Line text parse) codes
+    → Told led (limited_place (line_answered m.game w.instruction text parse codes)) v → place ≡ place_by m.place led → stopped ≡ stopped_by m.stopped (verdict_by m.place led)
     → IsLeftAs (reading (seen m) v place due (states_in v.memory.file m.undo) stopped) (given (seen m) (Typed codes)) (given (seen m) (Typed codes)).stopped
 line_typed m w text parse codes due led v place stopped is waits line transcript told at stops =
     let can = answerable m w is waits in
@@ -251,31 +215,15 @@ line_typed m w text parse codes due led v place stopped is waits line transcript
     (λ n e. same_states m.game.memory v.memory m.undo (answers_leave_stories.line m.game w.instruction text parse codes (v, n) e))
 
 -- a file that is refused, but for a limit, is none
-pub refused_on : (w : GameState) (i : Instr) (file : List ℕ) (e : RestoreError) → restored file w.memory w.frames ≡ Err e → limit_of e ≡ None → restored_on w i file ≡ limited_next (result_answered w i 0 false)
-refused_on w i file e h none = ap (restored_by w i) h ∙ go e none
-  where
-    go : (e : RestoreError) → limit_of e ≡ None → restored_by w i (Err e) ≡ limited_next (result_answered w i 0 false)
-    go (restore_error.Limit l) none = absurd cc
-    go restore_error.NotQuetzal none = refl
-    go restore_error.Truncated none = refl
-    go restore_error.OtherStory none = refl
-    go restore_error.BadMemory none = refl
-    go restore_error.BadStack none = refl
+pub refused_on : (w : GameState) (i : Instr) (file : List ℕ) (e : RestoreError) → restored file w.memory w.frames ≡ Err e → limit_of e ≡ None → restored_on w i file ≡ limited_place (result_answered w i 0 false)
+refused_on w i file e h none = ap (restored_by w i) h ∙ ap (unrestored_by w i) none
 
 pub limit_on : (w : GameState) (i : Instr) (file : List ℕ) (e : RestoreError) (l : Limit) → restored file w.memory w.frames ≡ Err e → limit_of e ≡ Some l → restored_on w i file ≡ Err (refusal.Limit l)
-limit_on w i file e l h some = ap (restored_by w i) h ∙ go e some
-  where
-    go : (e : RestoreError) → limit_of e ≡ Some l → restored_by w i (Err e) ≡ Err (refusal.Limit l)
-    go (restore_error.Limit k) some = cc
-    go restore_error.NotQuetzal some = absurd cc
-    go restore_error.Truncated some = absurd cc
-    go restore_error.OtherStory some = absurd cc
-    go restore_error.BadMemory some = absurd cc
-    go restore_error.BadStack some = absurd cc
+limit_on w i file e l h some = ap (restored_by w i) h ∙ ap (unrestored_by w i) some
 
-pub refused_told : (w : GameState) (i : Instr) (file : List ℕ) (e : RestoreError) (n : MemoryMap) (g : FrameList) (led : Result Next Refusal) (v : GameState) → restored file w.memory w.frames ≡ Err e → n ≡ w.memory → g ≡ w.frames → limit_of e ≡ None
-    → Told led (limited_next (result_answered (record w { memory = n; frames = g }) i 0 false)) v → Told led (restored_on w i file) v
+pub refused_told : (w : GameState) (i : Instr) (file : List ℕ) (e : RestoreError) (n : MemoryMap) (g : FrameList) (led : Result ℕ Refusal) (v : GameState) → restored file w.memory w.frames ≡ Err e → n ≡ w.memory → g ≡ w.frames → limit_of e ≡ None
+    → Told led (limited_place (result_answered (record w { memory = n; frames = g }) i 0 false)) v → Told led (restored_on w i file) v
 refused_told w i file e n g led v h memory frames none told =
     let both : ◌≡◌ {A = MemoryMap × FrameList} (n, g) (w.memory, w.frames) = cc in
-    let here : Told led (limited_next (result_answered w i 0 false)) v = subst (λ (p : MemoryMap × FrameList). Told led (limited_next (result_answered (record w { memory = p.0; frames = p.1 }) i 0 false)) v) both told in
-    subst (λ (r : Result (GameState × Next) Refusal). Told led r v) (sym (refused_on w i file e h none)) here
+    let here : Told led (limited_place (result_answered w i 0 false)) v = subst (λ (p : MemoryMap × FrameList). Told led (limited_place (result_answered (record w { memory = p.0; frames = p.1 }) i 0 false)) v) both told in
+    subst (λ (r : Result (GameState × ℕ) Refusal). Told led r v) (sym (refused_on w i file e h none)) here

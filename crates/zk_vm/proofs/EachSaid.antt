@@ -5,6 +5,7 @@ use Rattle.zk_mem.specs.declared.fault.Fault.{Fault}
 use Rattle.zk_mem.specs.Map.{MemoryMap}
 use Rattle.zk_state.specs.declared.refusal.Refusal.{Refusal}
 use Rattle.zk_state.specs.declared.refusal.Refusal.TheVariants as refusal
+use Rattle.zk_state.specs.declared.refusal.Limit.{Limit}
 use Rattle.zk_state.specs.declared.refusal.Limit.TheVariants.{Frames, Reads, Words}
 use Rattle.zk_state.specs.Frames.{FrameList, frames_of, total_of, within_bounds}
 use Rattle.zk_code.specs.declared.instr.Instr.{Instr}
@@ -12,26 +13,27 @@ use Rattle.zk_save.specs.declared.restore.RestoreError.{RestoreError}
 use Rattle.zk_save.specs.declared.restore.RestoreError.TheVariants as restore_error
 use Rattle.zk_save.specs.Loading.{restored}
 use Rattle.zk_save.specs.States.{WholeState}
-use Rattle.zk_step.specs.declared.ending.Next.{Next}
-use Rattle.zk_step.specs.declared.ending.Next.TheVariants as next
-use Rattle.zk_step.specs.declared.ending.Wait.{Wait}
-use Rattle.zk_step.specs.declared.ending.Wait.TheVariants as wait
+use Rattle.zk_step.specs.declared.ending.Event.{Event}
+use Rattle.zk_step.specs.declared.ending.Event.TheVariants as event
 use Rattle.zk_step.specs.declared.game_state.GameState.{GameState}
 use Rattle.zk_step.specs.declared.game_state.View.{View}
 use Rattle.zk_step.specs.Inputs.{character_answered, line_answered, result_answered}
 use Rattle.zk_step.specs.Laws.{is_of_reading}
+use Rattle.zk_step.specs.Restarts.{windows_closed}
+use Rattle.zk_step.specs.Resuming.{resumed as back}
 use Rattle.zk_step.specs.Routing.{Texts, no_text, text_joined}
 use Rattle.zk_vm.specs.declared.limits.Limits.{Limits}
 use Rattle.zk_vm.specs.declared.stop.Stop.{Stop}
 use Rattle.zk_vm.specs.declared.stop.Stop.TheVariants as stop
 use Rattle.zk_vm.specs.declared.stop.Stop.TheVariants.{Fault as FaultAt, Limit as LimitAt}
 use Rattle.zk_vm.specs.declared.waiting.Waiting.{Waiting}
-use Rattle.zk_vm.specs.Answers.{Answer, answer_settled, answered, answered_by, codes_of, file_of, first_code, is_kept, restored_from, restored_to, transcribed, truth_word}
+use Rattle.zk_vm.specs.Answers.{Answer, answered, answered_by, codes_of, file_of, first_code, is_kept, limit_of, none_restored, restored_from, restored_to, truth_word}
 use Rattle.zk_vm.specs.Inside.{CleanStopsRead, EachIsSaid, EachOfRun, EachStep, IsNoFault, IsRead, NoneEnds, NoneLast, Onward, StaysClean, StopsRead, never, never_ends}
 use Rattle.zk_vm.specs.Outcome.{Leads, Outcome, Segment, Session, begun, continued, followed, given, given_all, given_to, outcome, ran, resumed, segment, segment_by, segment_of}
-use Rattle.zk_vm.specs.Step.{State, Step, Verdict, goes_by, goes_to, is_past_reads, state_after, step, text_of, verdict_of}
+use Rattle.zk_vm.specs.Step.{State, Step, Verdict, goes_by, is_past_reads, step_by, state_after, step, text_of, verdict_of}
 use Rattle.zk_vm.specs.Step.Step.{Goes, Waits, Quits, Faults, Exceeds}
 use Rattle.zk_vm.specs.Step.Verdict.{GoesOn, WaitsFor, StopsBy}
+use Rattle.zk_vm.proofs.OneStep.{step_all}
 use Rattle.zk_vm.proofs.Outcomes.{ran_waiting}
 use Rattle.zk_vm.proofs.Within.{all_limits, given_stopped, given_waiting, ran_limits}
 
@@ -41,40 +43,26 @@ abbrev NoWait : Step → Type 0
 NoWait (Waits s w text) = ⊥
 NoWait _ = Unit {0}
 
-goes_free : (s : State) (us : List WholeState) (r : Result (GameState × Next) Fault) → NoWait (goes_to s us r)
-goes_free s us (Ok (w, next.At place)) = tt
-goes_free s us (Ok (w, next.Waits x)) = tt
-goes_free s us (Ok (w, next.Keeps)) = tt
-goes_free s us (Ok (w, next.Resumes)) = tt
-goes_free s us (Ok (w, next.End)) = tt
-goes_free s us (Err f) = tt
+free_by : {A : Type 0} (next : A → Step) (r : Result A Fault) → ((x : A) → NoWait (next x)) → NoWait (step_by next r)
+free_by {A} next r free = step_all NoWait next r (λ x e. free x) (λ f e. tt)
 
-answer_free : (s : State) (due : List ℕ) (r : Result (GameState × Next) Fault) → NoWait (answer_settled s due r)
-answer_free s due (Ok (w, next.At place)) = tt
-answer_free s due (Ok (w, next.Waits x)) = tt
-answer_free s due (Ok (w, next.Keeps)) = tt
-answer_free s due (Ok (w, next.Resumes)) = tt
-answer_free s due (Ok (w, next.End)) = tt
-answer_free s due (Err f) = tt
+none_free : (s : State) (i : Instr) (l : Option Limit) → NoWait (none_restored s i l)
+none_free s i None = free_by _ (result_answered s.game i 0 false) (λ x. tt)
+none_free s i (Some l) = tt
 
 restored_free : (s : State) (i : Instr) (r : Result (MemoryMap × FrameList × ℕ) RestoreError) → NoWait (restored_to s i r)
-restored_free s i (Ok (m, f, place)) = goes_free s s.undo _
-restored_free s i (Err (restore_error.Limit l)) = tt
-restored_free s i (Err restore_error.NotQuetzal) = goes_free s s.undo (result_answered s.game i 0 false)
-restored_free s i (Err restore_error.Truncated) = goes_free s s.undo (result_answered s.game i 0 false)
-restored_free s i (Err restore_error.OtherStory) = goes_free s s.undo (result_answered s.game i 0 false)
-restored_free s i (Err restore_error.BadMemory) = goes_free s s.undo (result_answered s.game i 0 false)
-restored_free s i (Err restore_error.BadStack) = goes_free s s.undo (result_answered s.game i 0 false)
+restored_free s i (Ok (m, f, place)) = free_by _ (back (windows_closed (record s.game { memory = m; frames = f })) place) (λ x. tt)
+restored_free s i (Err e) = none_free s i (limit_of e)
 
 file_free : (s : State) (i : Instr) (o : Option (List ℕ)) → NoWait (restored_from s i o)
-file_free s i None = goes_free s s.undo (result_answered s.game i 0 false)
+file_free s i None = none_free s i None
 file_free s i (Some file) = restored_free s i (restored file s.game.memory s.game.frames)
 
-by_free : (s : State) (i : Instr) (x : Wait) (a : Answer) → NoWait (answered_by s i x a)
-by_free s i (wait.Line text parse) a = answer_free s (transcribed s.game (wait.Line text parse) (codes_of a)) (line_answered s.game i text parse (codes_of a))
-by_free s i wait.Char a = answer_free s [] (character_answered s.game i (first_code (codes_of a)))
-by_free s i wait.Save a = goes_free s s.undo (result_answered s.game i (truth_word (is_kept a)) (is_kept a))
-by_free s i wait.Restore a = file_free s i (file_of a)
+by_free : (s : State) (i : Instr) (x : Event) (a : Answer) → NoWait (answered_by s i x a)
+by_free s i (event.Line text parse) a = free_by _ (line_answered s.game i text parse (codes_of a)) (λ y. tt)
+by_free s i event.Char a = free_by _ (character_answered s.game i (first_code (codes_of a))) (λ y. tt)
+by_free s i event.Save a = free_by _ (result_answered s.game i (truth_word (is_kept a)) (is_kept a)) (λ y. tt)
+by_free s i event.Restore a = file_free s i (file_of a)
 
 answered_free : (s : State) (w : Waiting) (a : Answer) → NoWait (answered s w a)
 unfolding answered
@@ -145,7 +133,7 @@ module _ (At : State → Type 0) (is_last : State → Bool) (ends : State → Wa
       → EachOfRun At is_last ends l answers (resumed s (verdict_of s.state x) (state_after s.state x)).state
   resumed_said l answers s (Goes t text) free on k = goes_said l answers s s.state.place t (within_bounds t.game.frames) on k
   resumed_said l answers s (Waits t v text) free on k = absurd free
-  resumed_said l answers s (Quits text) free on k = absurd cc
+  resumed_said l answers s Quits free on k = absurd cc
   resumed_said l answers s (Faults f) free on k = absurd cc
   resumed_said l answers s (Exceeds m) free on k = absurd cc
 
@@ -224,7 +212,7 @@ module _ (P : ℕ → Type 0) where
   step_read : (s : State) (x : Step) → (P s.place → (f : Fault) → x ≡ Faults f → is_of_reading f ≡ false) → IsReadOn (verdict_of s x)
   step_read s (Goes t text) h = goes_read s.place (within_bounds t.game.frames) (within_no_fault t.game.frames)
   step_read s (Waits t w text) h = waits_read (is_past_reads s.reads w.wait) s.place w
-  step_read s (Quits text) h = tt
+  step_read s Quits h = tt
   step_read s (Faults f) h = λ inside. h inside f refl
   step_read s (Exceeds l) h = tt
 

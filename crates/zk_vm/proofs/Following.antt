@@ -68,9 +68,9 @@ pub follows_step : {S : Type 0} (shows : S → S → List ℕ → List ℕ → T
     → s.state.steps < s.limits.steps → new.state.steps ≡ s.state.steps + 1 → new.state.due ≡ s.state.due → IsStep s new (Ok tt) (λ t. shows now next t.screen t.script) → Follows shows first next old new
 follows_step {S} shows twice first now next old s new on runs room counted due stepped =
     let made = goes_step s new (λ (t : Texts). shows now next t.screen t.script) stepped in
-    let verdict = goes_by_halt (verdict_of s.state (step s.state)) made.0 in
-    let goes = run_goes s.limits.steps s.state.steps s.state room made.0 in
-    let left = left_goes s new (verdict_of s.state (step s.state)) (state_after s.state (step s.state)) made.0 made.1 in
+    let verdict = goes_by_halt (verdict_of s.state (step s.state)) made.tells in
+    let goes = run_goes s.limits.steps s.state.steps s.state room made.tells in
+    let left = left_goes s new (verdict_of s.state (step s.state)) (state_after s.state (step s.state)) made.tells made.left in
     let here : new.state ≡ state_after s.state (step s.state) = ap (λ (m : Session). m.state) left in
     let limits : new.limits.steps ≡ s.limits.steps = ap (λ (m : Session). m.limits.steps) left in
     let fewer : s.limits.steps - (s.state.steps + 1) ≡ new.limits.steps - new.state.steps = omega (arith, limits, counted) in
@@ -83,11 +83,11 @@ follows_step {S} shows twice first now next old s new on runs room counted due s
     record {
       end = sym (ap (λ (g : Segment). g.end) e) ∙ on.end;
       state = sym (ap (λ (g : Segment). g.state) e) ∙ on.state;
-      text = rest_shown shows twice first now next _ _ _ _ (ap (λ (g : Segment). g.text) e) made.2 on.text;
+      text = rest_shown shows twice first now next _ _ _ _ (ap (λ (g : Segment). g.text) e) made.shown on.text;
       comes = λ text taken k.
           let before = comes_before s new (text_of s.state (step s.state)) text taken runs on.silent still whole here counted verdict refl k in
           let all = on.comes (text_joined (text_of s.state (step s.state)) text) taken before in
-          (all.0, (all.1.0, rest_shown shows twice first now next _ _ _ _ refl made.2 all.1.1));
+          (all.0, (all.1.0, rest_shown shows twice first now next _ _ _ _ refl made.shown all.1.1));
       left = left_on old s new (state_after s.state (step s.state)) on.left left;
       silent = still;
       led = record {
@@ -95,7 +95,7 @@ follows_step {S} shows twice first now next old s new on runs room counted due s
         text = text_joined on.led.text (text_of s.state (step s.state));
         leads = leads_both on.led.steps 1 old.state s.state new.state on.led.text (text_of s.state (step s.state)) on.led.leads (subst (λ (t : State). Leads 1 s.state t (text_of s.state (step s.state))) (sym here) (leads_one s.state verdict));
         count = omega (arith, counted, on.led.count);
-        shown = twice _ _ _ _ _ _ _ on.led.shown made.2;
+        shown = twice _ _ _ _ _ _ _ on.led.shown made.shown;
       };
     }
 
@@ -135,7 +135,7 @@ pub follows_cut : {S : Type 0} (shows : S → S → List ℕ → List ℕ → Ty
     → failed now ≡ false → failed next ≡ true → IsStep s new (Ok tt) (λ t. shows now next t.screen t.script) → IsCutOff LeadsOn shows failed first next old new (Err stops.Write)
 follows_cut {S} shows failed first now next old s new on runs silent free room works broken stepped =
     let made = goes_step s new (λ (t : Texts). shows now next t.screen t.script) stepped in
-    let left = left_goes s new (verdict_of s.state (step s.state)) (state_after s.state (step s.state)) made.0 made.1 in
+    let left = left_goes s new (verdict_of s.state (step s.state)) (state_after s.state (step s.state)) made.tells made.left in
     let alone = led_alone shows first now old s on silent in (
       refl,
       ap (λ (m : Session). m.waiting) left ∙ free,
@@ -151,12 +151,12 @@ follows_cut {S} shows failed first now next old s new on runs silent free room w
               end = s.state;
               behind = on.led.text;
               leads = alone.0;
-              goes = goes_by_halt (verdict_of s.state (step s.state)) made.0;
+              goes = goes_by_halt (verdict_of s.state (step s.state)) made.tells;
               there = ap (λ (m : Session). m.state) left;
               shown_before = alone.1;
               shown_last = refl;
             },
-            (now, (on.led.shown, λ e. works, made.2, broken)),
+            (now, (on.led.shown, λ e. works, made.shown, broken)),
           ),
         ),
       ),
@@ -179,9 +179,9 @@ follows_end_at_once {S} shows failed first now last old s new h on silent room w
             behind = on.led.text;
             leads = alone.0;
             shown_before = alone.1;
-            ends = inl (stepped.0, refl);
+            ends = inl (stepped.tells, refl);
           },
-          (now, (on.led.shown, λ e. works, stepped.2, broken)),
+          (now, (on.led.shown, λ e. works, stepped.shown, broken)),
         ),
       ),
     )

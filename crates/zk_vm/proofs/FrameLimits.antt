@@ -14,9 +14,10 @@ use Rattle.zk_state.proofs.Calls.{within_bounds_ok}
 use Rattle.zk_code.specs.declared.instr.Instr.{Instr}
 use Rattle.zk_code.specs.Reading.{instr_at}
 use Rattle.zk_step.specs.declared.ending.Next.{Next}
-use Rattle.zk_step.specs.declared.ending.Next.TheVariants.{At, Waits as Awaits, Keeps, Resumes, End}
-use Rattle.zk_step.specs.declared.ending.Wait.{Wait}
-use Rattle.zk_step.specs.declared.ending.Wait.TheVariants as wait
+use Rattle.zk_step.specs.declared.ending.Event.{Event}
+use Rattle.zk_step.specs.declared.ending.Next.TheVariants.{Asks, At}
+use Rattle.zk_step.specs.declared.ending.Request.{Request}
+use Rattle.zk_step.specs.declared.ending.Request.TheVariants.{Answer, Quit, RestoreUndo, SaveUndo}
 use Rattle.zk_step.specs.declared.game_state.View.{View}
 use Rattle.zk_step.specs.declared.game_state.View.TheVariants as view
 use Rattle.zk_step.specs.declared.game_state.GameState.{GameState}
@@ -24,7 +25,7 @@ use Rattle.zk_step.specs.Instructions.{carried_out}
 use Rattle.zk_mem.specs.Map.{MemoryMap}
 use Rattle.zk_save.specs.States.{WholeState, gone_back, memory_back}
 use Rattle.zk_step.specs.Inputs.{result_answered}
-use Rattle.zk_step.specs.Laws.{fixed_parts, rebounded, led_in, moved_in}
+use Rattle.zk_step.specs.Laws.{fixed_parts, rebounded, moved_in}
 use Rattle.zk_step.specs.Resuming.{resumed}
 use Rattle.zk_step.specs.Routing.{Texts, no_text}
 use Rattle.zk_step.proofs.Sweep.{bounds_are_not_seen, answers_see_no_bounds}
@@ -32,11 +33,12 @@ use Rattle.zk_step.proofs.Sweep.{stories_stay, answers_leave_stories}
 use Rattle.zk_vm.specs.declared.limits.Limits.{Limits}
 use Rattle.zk_vm.specs.declared.waiting.Waiting.{Waiting}
 use Rattle.zk_vm.specs.declared.stop.Stop.TheVariants.{Limit as LimitAt}
-use Rattle.zk_vm.specs.Step.{State, Step, Verdict, step, fetched, settled, led_to, waits_by, verdict_of, text_of, state_after, back_to, goes_by, goes_to, is_past_reads, kept_answer, text_within, most_reads, view_before, with_kept}
+use Rattle.zk_vm.specs.Step.{State, Step, Verdict, asked, is_read, step, step_by, fetched, settled, led_to, waits_by, verdict_of, text_of, state_after, back_to, goes_by, goes_to, is_past_reads, kept_answer, text_within, most_reads, view_before, with_kept}
 use Rattle.zk_vm.specs.Step.Step.{Goes, Waits, Quits, Faults, Exceeds}
 use Rattle.zk_vm.specs.Step.Verdict.{GoesOn, WaitsFor, StopsBy}
 use Rattle.zk_vm.specs.Outcome.{Segment, segment, continued}
 use Rattle.zk_step.specs.View.{viewed, viewed_by, lines_shown, rows_shown, status_shown}
+use Rattle.zk_vm.proofs.OneStep.{goes_same, step_all}
 use Rattle.zk_vm.proofs.Sounds.{back_fixed}
 use Rattle.zk_vm.specs.Laws.{IsWithin, state_in, segment_in, IsNoFrameLimit, FrameLimitsOnlyCut, LimitsCutThere, Passes}
 
@@ -44,53 +46,50 @@ use Rattle.zk_vm.specs.Laws.{IsWithin, state_in, segment_in, IsNoFrameLimit, Fra
 unfoldable pub step_in : ℕ → ℕ → Step → Step
 step_in f w (Goes s text) = Goes (state_in f w s) text
 step_in f w (Waits s waiting text) = Waits (state_in f w s) waiting text
-step_in f w (Quits text) = Quits text
+step_in f w Quits = Quits
 step_in f w (Faults e) = Faults e
 step_in f w (Exceeds l) = Exceeds l
 
--- the view looks at no bounds
-abbrev viewed_in : ℕ → ℕ → Result (GameState × Texts) Fault → Result (GameState × Texts) Fault
-viewed_in f m (Ok v) = Ok (rebounded f m v.0, v.1)
-viewed_in f m (Err e) = Err e
+-- so is one by a value that is moved
+pub step_by_same : {A : Type 0} (f m : ℕ) (a b : GameState × A → Step) (r : Result (GameState × A) Fault) → ((x : GameState × A) → b (rebounded f m x.0, x.1) ≡ step_in f m (a x)) → step_by b (moved_in f m r) ≡ step_in f m (step_by a r)
+unfolding step_in
+step_by_same {A} f m a b (Ok x) same = same x
+step_by_same {A} f m a b (Err e) same = refl
 
-lines_same : (f m : ℕ) (w : GameState) (cs : List ℕ) → ◌≡◌ {A = Result (GameState × Texts) Fault} (Ok (lines_shown (rebounded f m w) cs)) (viewed_in f m (Ok (lines_shown w cs)))
+-- the view looks at no bounds
+lines_same : (f m : ℕ) (w : GameState) (cs : List ℕ) → ◌≡◌ {A = Result (GameState × Texts) Fault} (Ok (lines_shown (rebounded f m w) cs)) (moved_in f m (Ok (lines_shown w cs)))
 unfolding lines_shown
 lines_same f m w [] = refl
 lines_same f m w (c ∷ cs) = refl
 
-viewed_by_same : (f m : ℕ) (v : View) (w : GameState) → viewed_by v (rebounded f m w) ≡ viewed_in f m (viewed_by v w)
+viewed_by_same : (f m : ℕ) (v : View) (w : GameState) → viewed_by v (rebounded f m w) ≡ moved_in f m (viewed_by v w)
 viewed_by_same f m view.Plain w = refl
 viewed_by_same f m view.Upper w = go (status_shown w.memory)
   where
     go : (r : Result (List ℕ) Fault) → (r >>= λ status. Ok (lines_shown (rebounded f m w) (status ++ rows_shown w.windows 1 w.windows.height)))
-        ≡ viewed_in f m (r >>= λ status. Ok (lines_shown w (status ++ rows_shown w.windows 1 w.windows.height)))
+        ≡ moved_in f m (r >>= λ status. Ok (lines_shown w (status ++ rows_shown w.windows 1 w.windows.height)))
     go (Ok status) = lines_same f m w (status ++ rows_shown w.windows 1 w.windows.height)
     go (Err e) = refl
 
-viewed_same : (f m : ℕ) (w : GameState) → viewed (rebounded f m w) ≡ viewed_in f m (viewed w)
+viewed_same : (f m : ℕ) (w : GameState) → viewed (rebounded f m w) ≡ moved_in f m (viewed w)
 unfolding viewed
 viewed_same f m w = viewed_by_same f m w.view w
 
-waits_by_same : (f m : ℕ) (s : State) (i : Instr) (wait : Wait) (r : Result (GameState × Texts) Fault) → waits_by (state_in f m s) i wait (viewed_in f m r) ≡ step_in f m (waits_by s i wait r)
+waits_by_same : (f m : ℕ) (s : State) (i : Instr) (event : Event) (r : Result (GameState × Texts) Fault) → waits_by (state_in f m s) i event (moved_in f m r) ≡ step_in f m (waits_by s i event r)
 unfolding step_in
-waits_by_same f m s i wait (Ok v) = refl
-waits_by_same f m s i wait (Err e) = refl
+waits_by_same f m s i event r = step_by_same f m _ _ r (λ x. refl)
 
-view_before_same : (f m : ℕ) (x : Wait) (w : GameState) → view_before x (rebounded f m w) ≡ viewed_in f m (view_before x w)
-view_before_same f m (wait.Line text parse) w = viewed_same f m w
-view_before_same f m wait.Char w = viewed_same f m w
-view_before_same f m wait.Save w = refl
-view_before_same f m wait.Restore w = refl
+view_before_same : (f m : ℕ) (event : Event) (w : GameState) → view_before event (rebounded f m w) ≡ moved_in f m (view_before event w)
+view_before_same f m event w = go (is_read event)
+  where
+    go : (b : Bool) → (if b then viewed (rebounded f m w) else Ok (rebounded f m w, no_text)) ≡ moved_in f m (if b then viewed w else Ok (w, no_text))
+    go true = viewed_same f m w
+    go false = refl
 
 -- what was finished in silence leads to the same
-pub goes_to_same : (f m : ℕ) (s : State) (undo : List WholeState) (r : Result (GameState × Next) Fault) → goes_to (state_in f m s) undo (led_in f m r) ≡ step_in f m (goes_to s undo r)
+pub goes_to_same : (f m : ℕ) (s : State) (undo : List WholeState) (r : Result (GameState × ℕ) Fault) → goes_to (state_in f m s) undo (moved_in f m r) ≡ step_in f m (goes_to s undo r)
 unfolding step_in
-goes_to_same f m s undo (Ok (w, At place)) = refl
-goes_to_same f m s undo (Ok (w, Awaits x)) = refl
-goes_to_same f m s undo (Ok (w, Keeps)) = refl
-goes_to_same f m s undo (Ok (w, Resumes)) = refl
-goes_to_same f m s undo (Ok (w, End)) = refl
-goes_to_same f m s undo (Err e) = refl
+goes_to_same f m s undo r = step_by_same f m _ _ r (λ x. refl)
 
 -- so does a state that is back
 pub frames_same : (f m : ℕ) (s : FrameList) (fs : List Frame) → with_frames (with_bounds f m s) fs ≡ with_bounds f m (with_frames s fs)
@@ -105,19 +104,21 @@ back_same f m s i w (x ∷ ws) =
     ap (λ (g : FrameList). goes_to (state_in f m s) ws (resumed (record w { memory = memory_back x w.memory; frames = g }) x.place)) (frames_same f m w.frames x.frames)
     ∙ ap (goes_to (state_in f m s) ws) (answers_see_no_bounds.back f m v x.place) ∙ goes_to_same f m s ws (resumed v x.place)
 
+asked_same : (f m : ℕ) (s : State) (i : Instr) (w : GameState) (x : Request) → asked (state_in f m s) i (rebounded f m w) x ≡ step_in f m (asked s i w x)
+unfolding step_in
+asked_same f m s i w (Answer event) = ap (waits_by (state_in f m s) i event) (view_before_same f m event w) ∙ waits_by_same f m s i event (view_before event w)
+asked_same f m s i w SaveUndo =
+    ap (goes_to (state_in f m s) (with_kept s i w)) (answers_see_no_bounds.result f m w i (kept_answer w.memory.undo_states) true) ∙ goes_to_same f m s (with_kept s i w) (result_answered w i (kept_answer w.memory.undo_states) true)
+asked_same f m s i w RestoreUndo = back_same f m s i w s.undo
+asked_same f m s i w Quit = refl
+
 led_same : (f m : ℕ) (s : State) (i : Instr) (w : GameState) (text : Texts) (n : Next) → led_to (state_in f m s) i (rebounded f m w) text n ≡ step_in f m (led_to s i w text n)
 unfolding step_in
 led_same f m s i w text (At place) = refl
-led_same f m s i w text (Awaits x) = ap (waits_by (state_in f m s) i x) (view_before_same f m x w) ∙ waits_by_same f m s i x (view_before x w)
-led_same f m s i w text Keeps =
-    ap (goes_to (state_in f m s) (with_kept s i w)) (answers_see_no_bounds.result f m w i (kept_answer w.memory.undo_states) true) ∙ goes_to_same f m s (with_kept s i w) (result_answered w i (kept_answer w.memory.undo_states) true)
-led_same f m s i w text Resumes = back_same f m s i w s.undo
-led_same f m s i w text End = refl
+led_same f m s i w text (Asks x) = asked_same f m s i w x
 
 settled_same : (f m : ℕ) (s : State) (i : Instr) (r : Result (GameState × (Next × Texts)) Fault) → settled (state_in f m s) i (moved_in f m r) ≡ step_in f m (settled s i r)
-unfolding step_in
-settled_same f m s i (Ok r) = led_same f m s i r.0 r.1.1 r.1.0
-settled_same f m s i (Err e) = refl
+settled_same f m s i r = step_by_same f m _ _ r (λ x. led_same f m s i x.0 x.1.1 x.1.0)
 
 fetched_same : (f m : ℕ) (s : State) (r : Result Instr Fault) → fetched (state_in f m s) r ≡ step_in f m (fetched s r)
 unfolding step_in
@@ -155,9 +156,6 @@ over_is s e h = go (nat_lt s.most_frames (length (frames_of s))) (nat_lt s.most_
     go false false k = absurd cc
 
 -- a step keeps the bounds
-pub goes_same : (s t : State) (text more : Texts) → Goes s text ≡ Goes t more → s ≡ t
-goes_same s t text more h = cc
-
 keeps : (s t : State) (text : Texts) → step s ≡ Goes t text → bounds_of t.game.frames ≡ bounds_of s.game.frames
 unfolding bounds_of step_in
 keeps s t text h =
@@ -211,7 +209,7 @@ verdict_same f m s (Goes t text) bounds rest own = go (within_bounds t.game.fram
     go (Err (refusal.Fault g)) e k = absurd (no_fault t.game.frames g e)
     go (Err (refusal.Limit l)) e k = absurd (by_limit s.place l (over_is t.game.frames (refusal.Limit l) e) k)
 verdict_same f m s (Waits t waiting text) bounds rest own = (refl, refl, refl)
-verdict_same f m s (Quits text) bounds rest own = (refl, refl, refl)
+verdict_same f m s Quits bounds rest own = (refl, refl, refl)
 verdict_same f m s (Faults e) bounds rest own = (refl, refl, refl)
 verdict_same f m s (Exceeds l) bounds rest own = (refl, refl, refl)
 
@@ -230,7 +228,7 @@ past_or_waits false place waiting h = absurd cc
 pub goes_on_to : (s : State) (x : Step) → verdict_of s x ≡ GoesOn → (t : State) × ((text : Texts) × (x ≡ Goes t text))
 goes_on_to s (Goes t text) h = (t, (text, refl))
 goes_on_to s (Waits t waiting text) h = absurd (past_or_waits (is_past_reads s.reads waiting.wait) s.place waiting h)
-goes_on_to s (Quits text) h = absurd cc
+goes_on_to s Quits h = absurd cc
 goes_on_to s (Faults e) h = absurd cc
 goes_on_to s (Exceeds l) h = absurd cc
 
@@ -255,7 +253,7 @@ frame_limits_only_cut (suc n) f m s few short own =
 pub passes_stops : (l : Limit) (s : State) (x : Step) → Passes l s x → (verdict_of s x ≡ StopsBy (LimitAt s.place l)) × (text_of s x ≡ no_text)
 passes_stops l s (Goes t text) h = rw h (refl, refl)
 passes_stops l s (Waits t waiting text) h = rw (h.1, h.0) (refl, refl)
-passes_stops l s (Quits text) h = absurd h
+passes_stops l s Quits h = absurd h
 passes_stops l s (Faults f) h = absurd h
 passes_stops l s (Exceeds m) h = rw h (refl, refl)
 
@@ -270,11 +268,6 @@ limits_cut_there (suc n) k s end text l lead h =
     let rest = limits_cut_there n k (state_after s (step s)) end lead.0 l lead.2 h in
     rw (e, lead.1, rest.0, rest.1, lead.3) (refl, refl)
 
--- a step that waits does not go on
-waits_no_goes : (s t : State) (i : Instr) (wait : Wait) (more : Texts) (r : Result (GameState × Texts) Fault) → waits_by s i wait r ≡ Goes t more → ⊥
-waits_no_goes s t i wait more (Ok v) h = absurd cc
-waits_no_goes s t i wait more (Err e) h = absurd cc
-
 -- a step counts, and keeps no more states than memory says
 pub record Counts (s t : State) : Type 0 where
   pub steps : t.steps ≡ s.steps + 1
@@ -286,32 +279,39 @@ pub same_most : (m n : MemoryMap) → fixed_parts n ≡ fixed_parts m → n.undo
 unfolding fixed_parts
 same_most m n e = ap (λ (p : (ℕ × ℕ) × (List ℕ × ℕ)). p.1.1) e
 
-goes_counts : (s t : State) (undo : List WholeState) (r : Result (GameState × Next) Fault) (more : Texts) → ((w : GameState) (n : Next) → r ≡ Ok (w, n) → w.memory.undo_states ≡ s.game.memory.undo_states)
-    → (length s.undo ≤ s.game.memory.undo_states → length undo ≤ s.game.memory.undo_states) → goes_to s undo r ≡ Goes t more → Counts s t
-goes_counts s t undo (Ok (w, At place)) more most few h =
-    let same = sym (goes_same _ t no_text more h) in
-    record {
+-- where a step goes on, it counts
+abbrev CountsOn : State → Step → Type 0
+CountsOn s x = (t : State) (text : Texts) → x ≡ Goes t text → Counts s t
+
+goes_counts : (s : State) (undo : List WholeState) (r : Result (GameState × ℕ) Fault) → ((x : GameState × ℕ) → r ≡ Ok x → x.0.memory.undo_states ≡ s.game.memory.undo_states)
+    → (length s.undo ≤ s.game.memory.undo_states → length undo ≤ s.game.memory.undo_states) → CountsOn s (goes_to s undo r)
+goes_counts s undo r most few = step_all (CountsOn s) _ r (λ x e t more h. counted x e t more (sym (goes_same _ t no_text more h))) (λ f e t more h. absurd cc)
+  where
+    counted : (x : GameState × ℕ) → r ≡ Ok x → (t : State) (more : Texts) → t ≡ record s { game = x.0; place = x.1; steps = s.steps + 1; undo = undo } → Counts s t
+    counted x e t more same = record {
       steps = ap (λ (u : State). u.steps) same;
       reads = ap (λ (u : State). u.reads) same;
-      most = ap (λ (u : State). u.game.memory.undo_states) same ∙ most w (At place) refl;
+      most = ap (λ (u : State). u.game.memory.undo_states) same ∙ most x e;
       undo = λ k. let here = few k in let length_is = ap (λ (u : State). length u.undo) same in omega (arith, here, length_is);
     }
-goes_counts s t undo (Ok (w, Awaits x)) more most few h = absurd cc
-goes_counts s t undo (Ok (w, Keeps)) more most few h = absurd cc
-goes_counts s t undo (Ok (w, Resumes)) more most few h = absurd cc
-goes_counts s t undo (Ok (w, End)) more most few h = absurd cc
-goes_counts s t undo (Err e) more most few h = absurd cc
 
-back_counts : (s t : State) (i : Instr) (w : GameState) (ws : List WholeState) (more : Texts) → w.memory.undo_states ≡ s.game.memory.undo_states → length ws ≤ length s.undo → back_to s i w (gone_back ws w.memory w.frames) ≡ Goes t more → Counts s t
+back_counts : (s : State) (i : Instr) (w : GameState) (ws : List WholeState) → w.memory.undo_states ≡ s.game.memory.undo_states → length ws ≤ length s.undo → CountsOn s (back_to s i w (gone_back ws w.memory w.frames))
 unfolding gone_back
-back_counts s t i w [] more most few h =
-    goes_counts s t s.undo (result_answered w i 0 false) more (λ v n e. same_most w.memory v.memory (answers_leave_stories.result w i 0 false (v, n) e) ∙ most) (λ k. k) h
-back_counts s t i w (x ∷ ws) more most few h =
-    let u : GameState = record w { memory = memory_back x w.memory; frames = with_frames w.frames x.frames } in
-    goes_counts s t ws (resumed u x.place) more (λ v n e. same_most u.memory v.memory (answers_leave_stories.back u x.place (v, n) e) ∙ same_most w.memory u.memory (back_fixed x w.memory) ∙ most) (λ k. omega (arith, k, few)) h
+back_counts s i w [] most few = goes_counts s s.undo (result_answered w i 0 false) (λ x e. same_most w.memory x.0.memory (answers_leave_stories.result w i 0 false x e) ∙ most) (λ k. k)
+back_counts s i w (v ∷ ws) most few =
+    let u : GameState = record w { memory = memory_back v w.memory; frames = with_frames w.frames v.frames } in
+    goes_counts s ws (resumed u v.place) (λ x e. same_most u.memory x.0.memory (answers_leave_stories.back u v.place x e) ∙ same_most w.memory u.memory (back_fixed v w.memory) ∙ most) (λ k. omega (arith, k, few))
 
-led_counts : (s t : State) (i : Instr) (w : GameState) (text more : Texts) (n : Next) → w.memory.undo_states ≡ s.game.memory.undo_states → led_to s i w text n ≡ Goes t more → Counts s t
-led_counts s t i w text more (At place) most h =
+asked_counts : (s : State) (i : Instr) (w : GameState) (x : Request) → w.memory.undo_states ≡ s.game.memory.undo_states → CountsOn s (asked s i w x)
+asked_counts s i w (Answer event) most = step_all (CountsOn s) _ (view_before event w) (λ v e t more h. absurd cc) (λ f e t more h. absurd cc)
+asked_counts s i w SaveUndo most =
+    let short : length (with_kept s i w) ≤ s.game.memory.undo_states = rw (← most, length-take) (omega arith) in
+    goes_counts s (with_kept s i w) (result_answered w i (kept_answer w.memory.undo_states) true) (λ x e. same_most w.memory x.0.memory (answers_leave_stories.result w i (kept_answer w.memory.undo_states) true x e) ∙ most) (λ k. short)
+asked_counts s i w RestoreUndo most = back_counts s i w s.undo most (omega arith)
+asked_counts s i w Quit most = λ t more h. absurd cc
+
+led_counts : (s : State) (i : Instr) (w : GameState) (text : Texts) (n : Next) → w.memory.undo_states ≡ s.game.memory.undo_states → CountsOn s (led_to s i w text n)
+led_counts s i w text (At place) most = λ t more h.
     let same = sym (goes_same _ t text more h) in
     record {
       steps = ap (λ (u : State). u.steps) same;
@@ -319,24 +319,14 @@ led_counts s t i w text more (At place) most h =
       most = ap (λ (u : State). u.game.memory.undo_states) same ∙ most;
       undo = λ k. let length_is = ap (λ (u : State). length u.undo) same in omega (arith, k, length_is);
     }
-led_counts s t i w text more (Awaits x) most h = absurd (waits_no_goes s t i x more (view_before x w) h)
-led_counts s t i w text more Keeps most h =
-    let short : length (with_kept s i w) ≤ s.game.memory.undo_states = rw (← most, length-take) (omega arith) in
-    goes_counts s t (with_kept s i w) (result_answered w i (kept_answer w.memory.undo_states) true) more (λ v n e. same_most w.memory v.memory (answers_leave_stories.result w i (kept_answer w.memory.undo_states) true (v, n) e) ∙ most) (λ k. short) h
-led_counts s t i w text more Resumes most h = back_counts s t i w s.undo more most (omega arith) h
-led_counts s t i w text more End most h = absurd cc
+led_counts s i w text (Asks x) most = asked_counts s i w x most
 
-fetched_counts : (s t : State) (more : Texts) (r : Result Instr Fault) → fetched s r ≡ Goes t more → Counts s t
-fetched_counts s t more (Ok i) h = go (carried_out s.game i) refl h
-  where
-    go : (r : Result (GameState × (Next × Texts)) Fault) → carried_out s.game i ≡ r → settled s i r ≡ Goes t more → Counts s t
-    go (Ok r) e k = led_counts s t i r.0 r.1.1 more r.1.0 (same_most s.game.memory r.0.memory (stories_stay s.game i r e)) k
-    go (Err f) e k = absurd cc
-fetched_counts s t more (Err e) h = absurd cc
+settled_counts : (s : State) (i : Instr) → CountsOn s (settled s i (carried_out s.game i))
+settled_counts s i = step_all (CountsOn s) _ (carried_out s.game i) (λ r e. led_counts s i r.0 r.1.1 r.1.0 (same_most s.game.memory r.0.memory (stories_stay s.game i r e))) (λ f e t more h. absurd cc)
 
 pub counts : (s t : State) (text : Texts) → step s ≡ Goes t text → Counts s t
 unfolding step
-counts s t text h = fetched_counts s t text (instr_at s.game.memory s.place) h
+counts s t text = step_all (CountsOn s) _ (instr_at s.game.memory s.place) (λ i e. settled_counts s i) (λ f e t more h. absurd cc) t text
 
 -- a step that goes on leads to a state within the bounds
 goes_within : (place : ℕ) (r : Result FrameList Refusal) → goes_by place r ≡ GoesOn → (u : FrameList) × (r ≡ Ok u)

@@ -5,10 +5,8 @@ use Rattle.zk_mem.specs.declared.fault.Fault.{Fault}
 use Rattle.zk_state.specs.declared.refusal.Refusal.{Refusal}
 use Rattle.zk_state.specs.declared.refusal.Refusal.TheVariants as refusal
 use Rattle.zk_state.specs.Frames.{FrameList, within_bounds}
-use Rattle.zk_step.specs.declared.ending.Next.{Next}
-use Rattle.zk_step.specs.declared.ending.Next.TheVariants as next
-use Rattle.zk_step.specs.declared.ending.Wait.{Wait}
-use Rattle.zk_step.specs.declared.ending.Wait.TheVariants as wait
+use Rattle.zk_step.specs.declared.ending.Event.{Event}
+use Rattle.zk_step.specs.declared.ending.Event.TheVariants as event
 use Rattle.zk_step.specs.declared.game_state.GameState.{GameState}
 use Rattle.zk_step.specs.Inputs.{character_answered, line_answered, result_answered}
 use Rattle.zk_step.specs.Restarts.{windows_closed}
@@ -16,16 +14,16 @@ use Rattle.zk_step.specs.Resuming.{resumed as back}
 use Rattle.zk_code.specs.declared.instr.Instr.{Instr}
 use Rattle.zk_mem.specs.Map.{MemoryMap}
 use Rattle.zk_save.specs.declared.restore.RestoreError.{RestoreError}
-use Rattle.zk_save.specs.declared.restore.RestoreError.TheVariants as restore_error
 use Rattle.zk_save.specs.Loading.{restored}
+use Rattle.zk_state.specs.declared.refusal.Limit.{Limit}
 use Rattle.zk_state.specs.declared.refusal.Limit.TheVariants.{Reads}
-use Rattle.zk_vm.specs.declared.stop.Stop.TheVariants.{Limit}
+use Rattle.zk_vm.specs.declared.stop.Stop.TheVariants.{Limit as LimitAt}
 use Rattle.zk_step.specs.Laws.{fixed_parts}
 use Rattle.zk_step.specs.Routing.{Texts, no_text, text_joined}
 use Rattle.zk_step.proofs.Sweep.{answers_leave_stories}
 use Rattle.zk_vm.specs.declared.stop.Stop.{Stop}
 use Rattle.zk_vm.specs.declared.waiting.Waiting.{Waiting}
-use Rattle.zk_vm.specs.Answers.{Answer, answered, answered_by, answer_settled, codes_of, file_of, first_code, is_kept, restored_from, restored_to, transcribed, truth_word}
+use Rattle.zk_vm.specs.Answers.{Answer, answered, answered_by, answer_settled, codes_of, file_of, first_code, is_kept, limit_of, none_restored, restored_from, restored_to, transcribed, truth_word}
 use Rattle.zk_vm.specs.Laws.{IsNoStepLimit, IsNoStepStop, with_more_steps, StepLimitOnlyCutsRuns}
 use Rattle.zk_vm.specs.Outcome.{Outcome, Segment, Session, segment_by, segment_of, behind_due, followed, outcome, ended, ran, given, given_to, resumed}
 use Rattle.zk_vm.specs.Step.{State, Step, Verdict, verdict_of, state_after, goes_by, goes_to, is_past_reads, is_read}
@@ -33,6 +31,7 @@ use Rattle.zk_vm.specs.Step.Step.{Goes, Waits, Quits, Faults, Exceeds}
 use Rattle.zk_vm.specs.Step.Verdict.{GoesOn, WaitsFor, StopsBy}
 use Rattle.zk_vm.proofs.Answering.{restored_fixed}
 use Rattle.zk_vm.proofs.FrameLimits.{same_most}
+use Rattle.zk_vm.proofs.OneStep.{goes_same, step_all}
 use Rattle.zk_vm.proofs.Outcomes.{ran_few, ran_waiting}
 use Rattle.zk_vm.proofs.Runs.{step_limit_only_cuts}
 
@@ -76,90 +75,69 @@ given_more : (k : ℕ) (s : Session) (a : Answer) → given (with_more_steps k s
 unfolding given
 given_more k s a = given_more_by s.waiting k s a
 
--- an answer makes no step, or one, and at most one read; the states to go back to stay, and as many may be kept
-pub record AnswersSo (s t : State) : Type 0 where
+-- an answer makes no step, or one, and at most one read, where it is one; the states to go back to stay, and as many may be
+-- kept
+pub record AnswersSo (read : Bool) (s t : State) : Type 0 where
   pub steps : t.steps ≤ s.steps + 1
   pub reads : t.reads ≤ s.reads + 1
   pub undo : t.undo ≡ s.undo
   pub most : t.game.memory.undo_states ≡ s.game.memory.undo_states
+  pub same : read ≡ false → t.reads ≡ s.reads
 
--- the same, for an answer that is no read
-pub record AnswersNoRead (s t : State) : Type 0 where
-  pub so : AnswersSo s t
-  pub same : t.reads ≡ s.reads
+-- so it does where it goes on
+abbrev AnswersOn : Bool → State → Step → Type 0
+AnswersOn read s x = (t : State) (text : Texts) → x ≡ Goes t text → AnswersSo read s t
 
 -- what an instruction leads to has memory that keeps as many states
-abbrev KeepsAsMany : State → Result (GameState × Next) Fault → Type 0
-KeepsAsMany s r = (v : GameState) (n : Next) → r ≡ Ok (v, n) → v.memory.undo_states ≡ s.game.memory.undo_states
+abbrev KeepsAsMany : State → Result (GameState × ℕ) Fault → Type 0
+KeepsAsMany s r = (x : GameState × ℕ) → r ≡ Ok x → x.0.memory.undo_states ≡ s.game.memory.undo_states
 
-settled_goes : (s t : State) (due : List ℕ) (text : Texts) (r : Result (GameState × Next) Fault) → KeepsAsMany s r → answer_settled s due r ≡ Goes t text → AnswersSo s t
-settled_goes s t due text (Ok (w, next.At p)) most h =
-    let same : record s { game = w; place = p; steps = 0; reads = s.reads + 1; due = due } ≡ t = cc in
-    let none : 0 ≡ t.steps = ap (λ (u : State). u.steps) same in
-    let one : s.reads + 1 ≡ t.reads = ap (λ (u : State). u.reads) same in
-    record { steps = omega (arith, none); reads = omega (arith, one); undo = sym (ap (λ (u : State). u.undo) same); most = sym (ap (λ (u : State). u.game.memory.undo_states) same) ∙ most w (next.At p) refl }
-settled_goes s t due text (Ok (w, next.Waits x)) most h = absurd cc
-settled_goes s t due text (Ok (w, next.Keeps)) most h = absurd cc
-settled_goes s t due text (Ok (w, next.Resumes)) most h = absurd cc
-settled_goes s t due text (Ok (w, next.End)) most h = absurd cc
-settled_goes s t due text (Err f) most h = absurd cc
+settled_on : (s : State) (due : List ℕ) (r : Result (GameState × ℕ) Fault) → KeepsAsMany s r → AnswersOn true s (answer_settled s due r)
+settled_on s due r most = step_all (AnswersOn true s) _ r (λ x e t text h. so x e t (goes_same _ t no_text text h)) (λ f e t text h. absurd cc)
+  where
+    so : (x : GameState × ℕ) → r ≡ Ok x → (t : State) → record s { game = x.0; place = x.1; steps = 0; reads = s.reads + 1; due = due } ≡ t → AnswersSo true s t
+    so x e t same =
+        let none : 0 ≡ t.steps = ap (λ (u : State). u.steps) same in
+        let one : s.reads + 1 ≡ t.reads = ap (λ (u : State). u.reads) same in
+        record { steps = omega (arith, none); reads = omega (arith, one); undo = sym (ap (λ (u : State). u.undo) same); most = sym (ap (λ (u : State). u.game.memory.undo_states) same) ∙ most x e; same = λ k. absurd cc }
 
-goes_goes : (s t : State) (text : Texts) (r : Result (GameState × Next) Fault) → KeepsAsMany s r → goes_to s s.undo r ≡ Goes t text → AnswersNoRead s t
-goes_goes s t text (Ok (w, next.At p)) most h =
-    let same : record s { game = w; place = p; steps = s.steps + 1; undo = s.undo } ≡ t = cc in
-    let one : s.steps + 1 ≡ t.steps = ap (λ (u : State). u.steps) same in
-    let none : s.reads ≡ t.reads = ap (λ (u : State). u.reads) same in
-    record {
-      so = record { steps = omega (arith, one); reads = omega (arith, none); undo = sym (ap (λ (u : State). u.undo) same); most = sym (ap (λ (u : State). u.game.memory.undo_states) same) ∙ most w (next.At p) refl };
-      same = sym none;
-    }
-goes_goes s t text (Ok (w, next.Waits x)) most h = absurd cc
-goes_goes s t text (Ok (w, next.Keeps)) most h = absurd cc
-goes_goes s t text (Ok (w, next.Resumes)) most h = absurd cc
-goes_goes s t text (Ok (w, next.End)) most h = absurd cc
-goes_goes s t text (Err f) most h = absurd cc
+goes_on : (s : State) (r : Result (GameState × ℕ) Fault) → KeepsAsMany s r → AnswersOn false s (goes_to s s.undo r)
+goes_on s r most = step_all (AnswersOn false s) _ r (λ x e t text h. so x e t (goes_same _ t no_text text h)) (λ f e t text h. absurd cc)
+  where
+    so : (x : GameState × ℕ) → r ≡ Ok x → (t : State) → record s { game = x.0; place = x.1; steps = s.steps + 1; undo = s.undo } ≡ t → AnswersSo false s t
+    so x e t same =
+        let one : s.steps + 1 ≡ t.steps = ap (λ (u : State). u.steps) same in
+        let none : s.reads ≡ t.reads = ap (λ (u : State). u.reads) same in
+        record { steps = omega (arith, one); reads = omega (arith, none); undo = sym (ap (λ (u : State). u.undo) same); most = sym (ap (λ (u : State). u.game.memory.undo_states) same) ∙ most x e; same = λ k. sym none }
 
-result_most : (s : State) (i : Instr) (x : ℕ) (truth : Bool) → KeepsAsMany s (result_answered s.game i x truth)
-result_most s i x truth v n e = same_most s.game.memory v.memory (answers_leave_stories.result s.game i x truth (v, n) e)
+result_most : (s : State) (i : Instr) (y : ℕ) (truth : Bool) → KeepsAsMany s (result_answered s.game i y truth)
+result_most s i y truth x e = same_most s.game.memory x.0.memory (answers_leave_stories.result s.game i y truth x e)
 
-restored_goes : (s t : State) (i : Instr) (text : Texts) (q : Result (MemoryMap × FrameList × ℕ) RestoreError) → ((m : MemoryMap) (f : FrameList) (p : ℕ) → q ≡ Ok (m, f, p) → fixed_parts m ≡ fixed_parts s.game.memory) → restored_to s i q ≡ Goes t text → AnswersNoRead s t
+none_on : (s : State) (i : Instr) (l : Option Limit) → AnswersOn false s (none_restored s i l)
+none_on s i None = goes_on s (result_answered s.game i 0 false) (result_most s i 0 false)
+none_on s i (Some l) = λ t text h. absurd cc
+
+restored_to_on : (s : State) (i : Instr) (q : Result (MemoryMap × FrameList × ℕ) RestoreError) → ((m : MemoryMap) (f : FrameList) (p : ℕ) → q ≡ Ok (m, f, p) → fixed_parts m ≡ fixed_parts s.game.memory) → AnswersOn false s (restored_to s i q)
 unfolding windows_closed
-restored_goes s t i text (Ok (m, f, p)) fixed h =
+restored_to_on s i (Ok (m, f, p)) fixed =
     let u : GameState = windows_closed (record s.game { memory = m; frames = f }) in
-    goes_goes s t text (back u p) (λ v n e. same_most s.game.memory v.memory (answers_leave_stories.back u p (v, n) e ∙ fixed m f p refl)) h
-restored_goes s t i text (Err (restore_error.Limit l)) fixed h = absurd cc
-restored_goes s t i text (Err restore_error.NotQuetzal) fixed h = goes_goes s t text (result_answered s.game i 0 false) (result_most s i 0 false) h
-restored_goes s t i text (Err restore_error.Truncated) fixed h = goes_goes s t text (result_answered s.game i 0 false) (result_most s i 0 false) h
-restored_goes s t i text (Err restore_error.OtherStory) fixed h = goes_goes s t text (result_answered s.game i 0 false) (result_most s i 0 false) h
-restored_goes s t i text (Err restore_error.BadMemory) fixed h = goes_goes s t text (result_answered s.game i 0 false) (result_most s i 0 false) h
-restored_goes s t i text (Err restore_error.BadStack) fixed h = goes_goes s t text (result_answered s.game i 0 false) (result_most s i 0 false) h
+    goes_on s (back u p) (λ x e. same_most s.game.memory x.0.memory (answers_leave_stories.back u p x e ∙ fixed m f p refl))
+restored_to_on s i (Err e) fixed = none_on s i (limit_of e)
 
-from_goes : (s t : State) (i : Instr) (text : Texts) (file : Option (List ℕ)) → restored_from s i file ≡ Goes t text → AnswersNoRead s t
-from_goes s t i text None h = goes_goes s t text (result_answered s.game i 0 false) (result_most s i 0 false) h
-from_goes s t i text (Some file) h =
-    restored_goes s t i text (restored file s.game.memory s.game.frames) (λ m f p e. restored_fixed file s.game.memory m s.game.frames f p e) h
+from_on : (s : State) (i : Instr) (file : Option (List ℕ)) → AnswersOn false s (restored_from s i file)
+from_on s i None = none_on s i None
+from_on s i (Some file) = restored_to_on s i (restored file s.game.memory s.game.frames) (λ m f p e. restored_fixed file s.game.memory m s.game.frames f p e)
 
--- a read may be one more only where it is one
-abbrev ReadsSo : Wait → State → State → Type 0
-ReadsSo x s t = AnswersSo s t × (is_read x ≡ false → t.reads ≡ s.reads)
+by_on : (s : State) (i : Instr) (x : Event) (a : Answer) → AnswersOn (is_read x) s (answered_by s i x a)
+by_on s i (event.Line buffer parse) a =
+    settled_on s (transcribed s.game (event.Line buffer parse) (codes_of a)) (line_answered s.game i buffer parse (codes_of a)) (λ x e. same_most s.game.memory x.0.memory (answers_leave_stories.line s.game i buffer parse (codes_of a) x e))
+by_on s i event.Char a = settled_on s [] (character_answered s.game i (first_code (codes_of a))) (λ x e. same_most s.game.memory x.0.memory (answers_leave_stories.character s.game i (first_code (codes_of a)) x e))
+by_on s i event.Save a = goes_on s (result_answered s.game i (truth_word (is_kept a)) (is_kept a)) (result_most s i (truth_word (is_kept a)) (is_kept a))
+by_on s i event.Restore a = from_on s i (file_of a)
 
-no_read : (x : Wait) (s t : State) → AnswersNoRead s t → ReadsSo x s t
-no_read x s t a = (a.so, λ e. a.same)
-
-by_goes : (s t : State) (i : Instr) (x : Wait) (a : Answer) (text : Texts) → answered_by s i x a ≡ Goes t text → ReadsSo x s t
-by_goes s t i (wait.Line buffer parse) a text h = (
-  settled_goes s t (transcribed s.game (wait.Line buffer parse) (codes_of a)) text (line_answered s.game i buffer parse (codes_of a))
-      (λ v n e. same_most s.game.memory v.memory (answers_leave_stories.line s.game i buffer parse (codes_of a) (v, n) e)) h,
-  λ e. absurd cc,
-)
-by_goes s t i wait.Char a text h =
-    (settled_goes s t [] text (character_answered s.game i (first_code (codes_of a))) (λ v n e. same_most s.game.memory v.memory (answers_leave_stories.character s.game i (first_code (codes_of a)) (v, n) e)) h, λ e. absurd cc)
-by_goes s t i wait.Save a text h = no_read wait.Save s t (goes_goes s t text (result_answered s.game i (truth_word (is_kept a)) (is_kept a)) (result_most s i (truth_word (is_kept a)) (is_kept a)) h)
-by_goes s t i wait.Restore a text h = no_read wait.Restore s t (from_goes s t i text (file_of a) h)
-
-pub answered_so : (s t : State) (w : Waiting) (a : Answer) (text : Texts) → answered s w a ≡ Goes t text → ReadsSo w.wait s t
+pub answered_so : (s t : State) (w : Waiting) (a : Answer) (text : Texts) → answered s w a ≡ Goes t text → AnswersSo (is_read w.wait) s t
 unfolding answered
-answered_so s t w a text h = by_goes s t w.instruction w.wait a text h
+answered_so s t w a text h = by_on s w.instruction w.wait a t text h
 
 few_goes : (s : Session) (place : ℕ) (r : Result FrameList Refusal) (t : State) → t.steps ≤ s.limits.steps → (resumed s (goes_by place r) t).stopped ≡ None → (resumed s (goes_by place r) t).state.steps ≤ (resumed s (goes_by place r) t).limits.steps
 few_goes s place (Ok u) t e h = e
@@ -171,15 +149,15 @@ few_step : (s : Session) (x : Step) → s.state.steps ≤ s.limits.steps → ((t
 few_step s (Goes t text) few goes h = few_goes s s.state.place (within_bounds t.game.frames) t (goes t text refl) h
 few_step s (Waits t w text) few goes h = go (is_past_reads s.state.reads w.wait) h
   where
-    go : (b : Bool) → (resumed s (if b then StopsBy (Limit s.state.place Reads) else WaitsFor w) t).stopped ≡ None → (resumed s (if b then StopsBy (Limit s.state.place Reads) else WaitsFor w) t).state.steps ≤ (resumed s (if b then StopsBy (Limit s.state.place Reads) else WaitsFor w) t).limits.steps
+    go : (b : Bool) → (resumed s (if b then StopsBy (LimitAt s.state.place Reads) else WaitsFor w) t).stopped ≡ None → (resumed s (if b then StopsBy (LimitAt s.state.place Reads) else WaitsFor w) t).state.steps ≤ (resumed s (if b then StopsBy (LimitAt s.state.place Reads) else WaitsFor w) t).limits.steps
     go true k = absurd cc
     go false k = few
-few_step s (Quits text) few goes h = absurd cc
+few_step s Quits few goes h = absurd cc
 few_step s (Faults f) few goes h = absurd cc
 few_step s (Exceeds l) few goes h = absurd cc
 
 few_given : (s : Session) (w : Waiting) (a : Answer) → s.state.steps < s.limits.steps → (given_to (Some w) s a).stopped ≡ None → (given_to (Some w) s a).state.steps ≤ (given_to (Some w) s a).limits.steps
-few_given s w a less h = few_step s (answered s.state w a) (omega (arith, less)) (λ t text e. let one = (answered_so s.state t w a text e).0.steps in omega (arith, one, less)) h
+few_given s w a less h = few_step s (answered s.state w a) (omega (arith, less)) (λ t text e. let one = (answered_so s.state t w a text e).steps in omega (arith, one, less)) h
 
 few_by : (s : Session) (x : Option Waiting) (w : Waiting) (a : Answer) → x ≡ Some w → s.state.steps < s.limits.steps → (given_to x s a).stopped ≡ None → (given_to x s a).state.steps ≤ (given_to x s a).limits.steps
 few_by s None w a e less = absurd cc

@@ -2,12 +2,10 @@
 use Rattle.std.specs.Prelude.{if◌then◌else◌}
 use Rattle.std.proofs.Common.{Bool, true, false, length, nat_lt, ◌≡◌, ◌∙◌, ◌≤◌, ℕ, zero, suc, ◌-◌, List, [], ◌∷◌, Option, Some, None, Result, Ok, Err, refl, ap, sym, subst, arith}
 use Rattle.zk_mem.specs.declared.fault.Fault.{Fault}
-use Rattle.zk_step.specs.declared.ending.Next.{Next}
-use Rattle.zk_step.specs.declared.ending.Next.TheVariants as next
-use Rattle.zk_step.specs.declared.ending.Wait.{Wait}
-use Rattle.zk_step.specs.declared.ending.Wait.TheVariants.{Line, Char, Save, Restore}
+use Rattle.zk_step.specs.declared.ending.Event.{Event}
+use Rattle.zk_step.specs.declared.ending.Event.TheVariants.{Line, Char, Save, Restore}
 use Rattle.zk_step.specs.declared.game_state.GameState.{GameState}
-use Rattle.zk_step.specs.Laws.{rebounded, led_in}
+use Rattle.zk_step.specs.Laws.{moved_in, rebounded}
 use Rattle.zk_step.specs.Routing.{Texts, no_text}
 use Rattle.zk_step.proofs.Sweep.{answers_see_no_bounds}
 use Rattle.zk_code.specs.declared.instr.Instr.{Instr}
@@ -27,13 +25,14 @@ use Rattle.zk_step.specs.Inputs.{character_answered, line_answered, result_answe
 use Rattle.zk_step.specs.Restarts.{windows_closed}
 use Rattle.zk_step.specs.Resuming.{resumed as back}
 use Rattle.zk_vm.specs.declared.stop.Stop.TheVariants.{Limit as LimitAt}
-use Rattle.zk_vm.specs.Answers.{Answer, answered, answered_by, answer_settled, codes_of, file_of, first_code, is_kept, restored_from, restored_to, transcribed, truth_word}
+use Rattle.zk_vm.specs.Answers.{Answer, answered, answered_by, answer_settled, codes_of, file_of, first_code, is_kept, limit_of, none_restored, restored_from, restored_to, transcribed, truth_word}
 use Rattle.zk_vm.specs.Laws.{IsNoFrameLimit, IsNoFrameStop, state_in, segment_in, session_in, FrameLimitsOnlyCutRuns}
 use Rattle.zk_vm.specs.Outcome.{Outcome, Segment, Session, segment, segment_by, segment_of, behind_due, continued, followed, outcome, ended, ran, given, given_to, resumed}
 use Rattle.zk_vm.specs.Step.{State, Step, Verdict, goes_to, step, verdict_of, state_after, text_of}
 use Rattle.zk_vm.specs.Step.Step.{Goes, Waits, Quits, Faults, Exceeds}
 use Rattle.zk_vm.specs.Step.Verdict.{GoesOn, WaitsFor, StopsBy}
-use Rattle.zk_vm.proofs.FrameLimits.{by_limit, frame_limits_only_cut, frames_same, goes_same, goes_to_same, no_fault, over_is, step_in, step_same, verdict_same, within_more}
+use Rattle.zk_vm.proofs.FrameLimits.{by_limit, frame_limits_only_cut, frames_same, goes_to_same, no_fault, over_is, step_by_same, step_in, step_same, verdict_same, within_more}
+use Rattle.zk_vm.proofs.OneStep.{goes_same, waits_same}
 use Rattle.zk_vm.proofs.Outcomes.{outcome_stopped, ran_waiting}
 
 -- ---- bounds stay
@@ -45,9 +44,6 @@ abbrev most_w : State → ℕ
 most_w s = s.game.frames.most_words
 
 -- a step that is the same in its own bounds keeps them
-waits_same : (s t : State) (v w : Waiting) (text more : Texts) → Waits s v text ≡ Waits t w more → s ≡ t
-waits_same s t v w text more h = cc
-
 after_bounds : (s : State) (x : Step) → x ≡ step_in (most_f s) (most_w s) x → (most_f (state_after s x) ≡ most_f s) × (most_w (state_after s x) ≡ most_w s)
 unfolding step_in
 after_bounds s (Goes t text) h =
@@ -56,7 +52,7 @@ after_bounds s (Goes t text) h =
 after_bounds s (Waits t waiting text) h =
     let same = waits_same t (state_in (most_f s) (most_w s) t) waiting waiting text text h in
     (ap most_f same, ap most_w same)
-after_bounds s (Quits text) h = (refl, refl)
+after_bounds s Quits h = (refl, refl)
 after_bounds s (Faults f) h = (refl, refl)
 after_bounds s (Exceeds l) h = (refl, refl)
 
@@ -93,14 +89,9 @@ ran_bounds s =
 
 -- ---- an answer, with other bounds
 
-settled_same : (f m : ℕ) (s : State) (due : List ℕ) (r : Result (GameState × Next) Fault) → answer_settled (state_in f m s) due (led_in f m r) ≡ step_in f m (answer_settled s due r)
+settled_same : (f m : ℕ) (s : State) (due : List ℕ) (r : Result (GameState × ℕ) Fault) → answer_settled (state_in f m s) due (moved_in f m r) ≡ step_in f m (answer_settled s due r)
 unfolding step_in
-settled_same f m s due (Ok (w, next.At p)) = refl
-settled_same f m s due (Ok (w, next.Waits x)) = refl
-settled_same f m s due (Ok (w, next.Keeps)) = refl
-settled_same f m s due (Ok (w, next.Resumes)) = refl
-settled_same f m s due (Ok (w, next.End)) = refl
-settled_same f m s due (Err e) = refl
+settled_same f m s due r = step_by_same f m _ _ r (λ x. refl)
 
 -- a saved game that is restored within the bounds is restored within greater ones
 abbrev restored_in : ℕ → ℕ → Result (MemoryMap × FrameList × ℕ) RestoreError → Result (MemoryMap × FrameList × ℕ) RestoreError
@@ -149,31 +140,27 @@ renewed_same : (f m : ℕ) (w : GameState) → windows_closed (rebounded f m w) 
 unfolding windows_closed
 renewed_same f m w = refl
 
-zero_same : (f m : ℕ) (s : State) (i : Instr) → goes_to (state_in f m s) s.undo (result_answered (rebounded f m s.game) i 0 false) ≡ step_in f m (goes_to s s.undo (result_answered s.game i 0 false))
-zero_same f m s i = ap (goes_to (state_in f m s) s.undo) (answers_see_no_bounds.result f m s.game i 0 false) ∙ goes_to_same f m s s.undo (result_answered s.game i 0 false)
+none_same : (f m : ℕ) (s : State) (i : Instr) (l : Option Limit) → none_restored (state_in f m s) i l ≡ step_in f m (none_restored s i l)
+unfolding step_in
+none_same f m s i None = ap (goes_to (state_in f m s) s.undo) (answers_see_no_bounds.result f m s.game i 0 false) ∙ goes_to_same f m s s.undo (result_answered s.game i 0 false)
+none_same f m s i (Some l) = refl
 
 restored_to_same : (f m : ℕ) (s : State) (i : Instr) (q : Result (MemoryMap × FrameList × ℕ) RestoreError) → restored_to (state_in f m s) i (restored_in f m q) ≡ step_in f m (restored_to s i q)
-unfolding step_in
 restored_to_same f m s i (Ok (n, g, p)) =
     let v : GameState = record s.game { memory = n; frames = g } in
     ap (λ (w : GameState). goes_to (state_in f m s) s.undo (back w p)) (renewed_same f m v) ∙ ap (goes_to (state_in f m s) s.undo) (answers_see_no_bounds.back f m (windows_closed v) p) ∙ goes_to_same f m s s.undo (back (windows_closed v) p)
-restored_to_same f m s i (Err (restore_error.Limit l)) = refl
-restored_to_same f m s i (Err restore_error.NotQuetzal) = zero_same f m s i
-restored_to_same f m s i (Err restore_error.Truncated) = zero_same f m s i
-restored_to_same f m s i (Err restore_error.OtherStory) = zero_same f m s i
-restored_to_same f m s i (Err restore_error.BadMemory) = zero_same f m s i
-restored_to_same f m s i (Err restore_error.BadStack) = zero_same f m s i
+restored_to_same f m s i (Err e) = none_same f m s i (limit_of e)
 
 exceeds_by : (s : State) (i : Instr) (q : Result (MemoryMap × FrameList × ℕ) RestoreError) (l : Limit) → q ≡ Err (restore_error.Limit l) → restored_to s i q ≡ Exceeds l
 exceeds_by s i q l h = ap (restored_to s i) h
 
 from_same : (f m : ℕ) (s : State) (i : Instr) (file : Option (List ℕ)) → most_f s ≤ f → most_w s ≤ m → ((l : Limit) → restored_from s i file ≡ Exceeds l → IsNoFrameStop (LimitAt 0 l)) → restored_from (state_in f m s) i file ≡ step_in f m (restored_from s i file)
-from_same f m s i None few short own = zero_same f m s i
+from_same f m s i None few short own = none_same f m s i None
 from_same f m s i (Some file) few short own =
     ap (restored_to (state_in f m s) i) (restored_same f m file s.game.memory s.game.frames few short (λ l e. own l (exceeds_by s i (restored file s.game.memory s.game.frames) l e)))
     ∙ restored_to_same f m s i (restored file s.game.memory s.game.frames)
 
-answered_by_same : (f m : ℕ) (s : State) (i : Instr) (x : Wait) (a : Answer) → most_f s ≤ f → most_w s ≤ m → ((l : Limit) → answered_by s i x a ≡ Exceeds l → IsNoFrameStop (LimitAt 0 l)) → answered_by (state_in f m s) i x a ≡ step_in f m (answered_by s i x a)
+answered_by_same : (f m : ℕ) (s : State) (i : Instr) (x : Event) (a : Answer) → most_f s ≤ f → most_w s ≤ m → ((l : Limit) → answered_by s i x a ≡ Exceeds l → IsNoFrameStop (LimitAt 0 l)) → answered_by (state_in f m s) i x a ≡ step_in f m (answered_by s i x a)
 answered_by_same f m s i (Line text parse) a few short own =
     ap (answer_settled (state_in f m s) (transcribed s.game (Line text parse) (codes_of a))) (answers_see_no_bounds.line f m s.game i text parse (codes_of a))
     ∙ settled_same f m s (transcribed s.game (Line text parse) (codes_of a)) (line_answered s.game i text parse (codes_of a))
@@ -197,7 +184,7 @@ bounds_by : (s : State) (w : Waiting) (a : Answer) (x : Step) → answered s w a
 bounds_by s w a (Exceeds l) e = (refl, refl)
 bounds_by s w a (Goes t text) e = own_bounds s w a (Goes t text) e (λ l h. absurd cc)
 bounds_by s w a (Waits t v text) e = own_bounds s w a (Waits t v text) e (λ l h. absurd cc)
-bounds_by s w a (Quits text) e = own_bounds s w a (Quits text) e (λ l h. absurd cc)
+bounds_by s w a Quits e = own_bounds s w a Quits e (λ l h. absurd cc)
 bounds_by s w a (Faults f) e = own_bounds s w a (Faults f) e (λ l h. absurd cc)
 
 pub answered_bounds : (s : State) (w : Waiting) (a : Answer) → (most_f (state_after s (answered s w a)) ≡ most_f s) × (most_w (state_after s (answered s w a)) ≡ most_w s)

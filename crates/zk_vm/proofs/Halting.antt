@@ -2,12 +2,12 @@
 use Rattle.std.proofs.Common.{◌≡◌, ◌∙◌, ◌≤◌, ◌<◌, ◌⊎◌, inl, inr, Bool, true, false, ℕ, suc, ◌+◌, ◌-◌, List, [], ◌++◌, Option, Some, None, Result, Ok, Err, refl, ap, sym, subst, arith}
 use Rattle.zk_state.specs.declared.refusal.Limit.TheVariants.{Steps}
 use Rattle.zk_step.specs.Routing.{Texts, no_text, on_script, text_joined}
-use Rattle.zk_vm.specs.declared.stop.Event.{Event}
+use Rattle.zk_step.specs.declared.ending.Event.{Event}
 use Rattle.zk_vm.specs.declared.stop.Stop.{Stop}
 use Rattle.zk_vm.specs.declared.stop.Stop.TheVariants as stops
 use Rattle.zk_vm.specs.declared.waiting.Waiting.{Waiting}
 use Rattle.zk_vm.specs.Going.{IsHalted, steps_left}
-use Rattle.zk_vm.specs.Halts.{ComesToKeepAt, EndsAtStep, FailsAt, Halt, IsCutOff, LeadsOn, ShowsLast, StopsAtOnce, IsKeeping, IsLeftAs, IsLeftAt, IsLeftBy, IsRun, IsStep, event_of, halt_by}
+use Rattle.zk_vm.specs.Halts.{ComesToKeepAt, EndsAtStep, FailsAt, Halt, IsCutOff, LeadsOn, ShowsLast, StopsAtOnce, IsKeeping, IsLeftAs, IsLeftAt, IsLeftBy, IsRun, IsStep, StepsTo, event_of, halt_by}
 use Rattle.zk_vm.specs.Outcome.{Leads, Segment, Session, behind_due, ended, ran, segment, segment_by, segment_of}
 use Rattle.zk_vm.specs.Step.{State, step, state_after, text_of, verdict_of}
 use Rattle.zk_vm.specs.Step.Verdict.{GoesOn}
@@ -55,8 +55,7 @@ comes_here s taken runs silent room keeping = record {
 }
 
 -- a step that goes on
-pub goes_step : (old new : Session) (Shown : Texts → Type 0) → IsStep old new (Ok tt) Shown
-    → (Ok tt ≡ halt_by (verdict_of old.state (step old.state))) × IsLeftAt old new (verdict_of old.state (step old.state)) (state_after old.state (step old.state)) × Shown (text_of old.state (step old.state))
+pub goes_step : (old new : Session) (Shown : Texts → Type 0) → IsStep old new (Ok tt) Shown → StepsTo (step old.state) old new (Ok tt) Shown
 goes_step old new Shown (inl h) = h
 goes_step old new Shown (inr h) = let never = h.0 in absurd cc
 
@@ -65,9 +64,9 @@ pub run_halts : {S : Type 0} (shows : S → S → List ℕ → List ℕ → Type
     → (segment (n - i) mid.state).end ≡ (steps_left old).end → (segment (n - i) mid.state).state ≡ (steps_left old).state → ShowsRest shows first now (segment (n - i) mid.state).text (steps_left old).text → ComesOn shows first now old mid
     → IsStep mid new (Err h) (λ t. shows now last t.screen t.script) → IsHalted old new h (λ t. shows first last t.screen t.script)
 run_halts {S} shows first now last n i old mid new h lt same runs silent room end state text comes (inl stepped) =
-    let parts = run_ends n i old mid new h lt same stepped.0 stepped.1 in
+    let parts = run_ends n i old mid new h lt same stepped.tells stepped.left in
     let left : IsLeftBy old new (steps_left old).end (segment (n - i) mid.state).state = subst (λ (r : Result Waiting Stop). IsLeftBy old new r (segment (n - i) mid.state).state) end parts.1 in
-    inl (parts.0 ∙ ap event_of end, subst (λ (s : State). IsLeftBy old new (steps_left old).end s) state left, last_shown shows first now last _ _ _ parts.2 stepped.2 text)
+    inl (parts.0 ∙ ap event_of end, subst (λ (s : State). IsLeftBy old new (steps_left old).end s) state left, last_shown shows first now last _ _ _ parts.2 stepped.shown text)
 run_halts {S} shows first now last n i old mid new h lt same runs silent room end state text comes (inr keeps) =
     let tells = keeps.0 in
     let is : h ≡ Err stops.Memory = cc in

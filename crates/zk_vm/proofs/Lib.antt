@@ -6,7 +6,8 @@ pub mod FrameLimits
 pub mod Going
 pub mod Halting
 pub mod Keeping
-pub mod Pauses
+pub mod Asking
+pub mod OneStep
 pub mod Sounds
 pub mod GreaterLimits
 pub mod GreaterRoom

@@ -10,9 +10,11 @@ use Rattle.zk_state.specs.Frames.{FrameList, within_bounds}
 use Rattle.zk_code.specs.declared.instr.Instr.{Instr}
 use Rattle.zk_code.specs.Reading.{instr_at}
 use Rattle.zk_save.specs.States.{WholeState, gone_back}
+use Rattle.zk_step.specs.declared.ending.Event.{Event}
 use Rattle.zk_step.specs.declared.ending.Next.{Next}
-use Rattle.zk_step.specs.declared.ending.Next.TheVariants as next
-use Rattle.zk_step.specs.declared.ending.Wait.{Wait}
+use Rattle.zk_step.specs.declared.ending.Next.TheVariants.{Asks, At}
+use Rattle.zk_step.specs.declared.ending.Request.{Request}
+use Rattle.zk_step.specs.declared.ending.Request.TheVariants as request
 use Rattle.zk_step.specs.declared.game_state.GameState.{GameState}
 use Rattle.zk_step.specs.Inputs.{result_answered}
 use Rattle.zk_step.specs.Instructions.{carried_out}
@@ -23,11 +25,12 @@ use Rattle.zk_vm.specs.declared.stop.Stop.TheVariants.{Limit}
 use Rattle.zk_vm.specs.declared.waiting.Waiting.{Waiting}
 use Rattle.zk_vm.specs.Answers.{Answer}
 use Rattle.zk_vm.specs.Outcome.{Outcome, Segment, Session, continued, ended, outcome, ran, segment, segment_by, segment_of}
-use Rattle.zk_vm.specs.Step.{State, Step, back_to, fetched, goes_by, goes_to, is_past_reads, kept_answer, led_to, settled, state_after, step, text_of, text_within, verdict_of, view_before, waits_by, with_kept}
+use Rattle.zk_vm.specs.Step.{State, Step, asked, back_to, goes_by, is_past_reads, kept_answer, led_to, settled, state_after, step, step_by, text_of, text_within, verdict_of, view_before, waits_by}
 use Rattle.zk_vm.specs.Step.Step.{Goes, Waits, Quits, Faults, Exceeds}
 use Rattle.zk_vm.specs.Step.Verdict.{WaitsFor, StopsBy}
 use Rattle.zk_vm.proofs.FrameLimits.{counts}
-use Rattle.zk_vm.proofs.Pauses.{pauses}
+use Rattle.zk_vm.proofs.OneStep.{step_all, waits_same}
+use Rattle.zk_vm.proofs.Asking.{asks}
 use Rattle.zk_vm.proofs.Popping.{Pops, pops_twice, shown_pops, taken_pops}
 
 pub ran_waiting : (s : Session) (w : Waiting) → (segment_of s).end ≡ Ok w → (ran s).waiting ≡ Some w
@@ -50,50 +53,47 @@ outcome_stopped answers end s stop e =
 
 -- ---- a segment that ends with what waits has made fewer steps than it might
 
-goes_no_wait : (s t : State) (undo : List WholeState) (w : Waiting) (text : Texts) (r : Result (GameState × Next) Fault) → goes_to s undo r ≡ Waits t w text → ⊥
-goes_no_wait s t undo w text (Ok (v, next.At p)) h = absurd cc
-goes_no_wait s t undo w text (Ok (v, next.Waits x)) h = absurd cc
-goes_no_wait s t undo w text (Ok (v, next.Keeps)) h = absurd cc
-goes_no_wait s t undo w text (Ok (v, next.Resumes)) h = absurd cc
-goes_no_wait s t undo w text (Ok (v, next.End)) h = absurd cc
-goes_no_wait s t undo w text (Err e) h = absurd cc
-
-back_no_wait : (s t : State) (i : Instr) (v : GameState) (w : Waiting) (text : Texts) (q : Option (MemoryMap × FrameList × ℕ × List WholeState)) → back_to s i v q ≡ Waits t w text → ⊥
-back_no_wait s t i v w text None h = goes_no_wait s t s.undo w text (result_answered v i 0 false) h
-back_no_wait s t i v w text (Some (m, f, p, others)) h = goes_no_wait s t others w text (resumed (record v { memory = m; frames = f }) p) h
-
 -- a step that waits has taken operands, and shown what is shown before a read
 pub record WaitsSo (s t : State) : Type 0 where
   pub game : GameState
   pub pops : Pops s.game game
   pub same : t ≡ record s { game = game }
 
-waits_so : (s t : State) (i : Instr) (x : Wait) (v : GameState) (w : Waiting) (text : Texts) (r : Result (GameState × Texts) Fault) → view_before x v ≡ r → Pops s.game v → waits_by s i x r ≡ Waits t w text → WaitsSo s t
-waits_so s t i x v w text (Ok r) e pops h =
-    let same : record s { game = r.0 } ≡ t = cc in
-    record { game = r.0; pops = pops_twice s.game v r.0 pops (shown_pops x v r.0 r.1 e); same = sym same }
-waits_so s t i x v w text (Err f) e pops h = absurd cc
+-- so does each that waits
+abbrev WaitsOn : State → Step → Type 0
+WaitsOn s x = (t : State) (w : Waiting) (text : Texts) → x ≡ Waits t w text → WaitsSo s t
 
-led_so : (s t : State) (i : Instr) (v : GameState) (w : Waiting) (shown text : Texts) (n : Next) → carried_out s.game i ≡ Ok (v, (n, shown)) → led_to s i v shown n ≡ Waits t w text → WaitsSo s t
-led_so s t i v w shown text (next.At p) c h = absurd cc
-led_so s t i v w shown text (next.Waits x) c h =
-    let paused = pauses s.game i v (next.Waits x) shown c tt in
-    waits_so s t i x v w text (view_before x v) refl (taken_pops s.game v i.operands paused.values paused.operands) h
-led_so s t i v w shown text next.Keeps c h = absurd (goes_no_wait s t (with_kept s i v) w text (result_answered v i (kept_answer v.memory.undo_states) true) h)
-led_so s t i v w shown text next.Resumes c h = absurd (back_no_wait s t i v w text (gone_back s.undo v.memory v.frames) h)
-led_so s t i v w shown text next.End c h = absurd cc
+goes_no_wait : (s : State) {A : Type 0} (next : A → State) (r : Result A Fault) → WaitsOn s (step_by (λ x. Goes (next x) no_text) r)
+goes_no_wait s {A} next r = step_all (WaitsOn s) _ r (λ x e t w text h. absurd cc) (λ f e t w text h. absurd cc)
 
-settled_so : (s t : State) (i : Instr) (w : Waiting) (text : Texts) (r : Result (GameState × (Next × Texts)) Fault) → carried_out s.game i ≡ r → settled s i r ≡ Waits t w text → WaitsSo s t
-settled_so s t i w text (Ok r) c h = led_so s t i r.0 w r.1.1 text r.1.0 c h
-settled_so s t i w text (Err f) c h = absurd cc
+back_no_wait : (s : State) (i : Instr) (v : GameState) (q : Option (MemoryMap × FrameList × ℕ × List WholeState)) → WaitsOn s (back_to s i v q)
+back_no_wait s i v None = goes_no_wait s _ (result_answered v i 0 false)
+back_no_wait s i v (Some (m, f, p, others)) = goes_no_wait s _ (resumed (record v { memory = m; frames = f }) p)
 
-fetched_so : (s t : State) (w : Waiting) (text : Texts) (r : Result Instr Fault) → fetched s r ≡ Waits t w text → WaitsSo s t
-fetched_so s t w text (Ok i) h = settled_so s t i w text (carried_out s.game i) refl h
-fetched_so s t w text (Err f) h = absurd cc
+waits_so : (s : State) (i : Instr) (x : Event) (v : GameState) → Pops s.game v → WaitsOn s (waits_by s i x (view_before x v))
+waits_so s i x v pops = step_all (WaitsOn s) _ (view_before x v) (λ r e t w text h. so r e t (waits_same _ t _ w r.1 text h)) (λ f e t w text h. absurd cc)
+  where
+    so : (r : GameState × Texts) → view_before x v ≡ Ok r → (t : State) → record s { game = r.0 } ≡ t → WaitsSo s t
+    so r e t same = record { game = r.0; pops = pops_twice s.game v r.0 pops (shown_pops x v r.0 r.1 e); same = sym same }
+
+asked_so : (s : State) (i : Instr) (v : GameState) (shown : Texts) (x : Request) → carried_out s.game i ≡ Ok (v, (Asks x, shown)) → WaitsOn s (asked s i v x)
+asked_so s i v shown (request.Answer event) c =
+    let so = asks s.game i v (request.Answer event) shown c in
+    waits_so s i event v (taken_pops s.game v i.operands so.values so.operands)
+asked_so s i v shown request.SaveUndo c = goes_no_wait s _ (result_answered v i (kept_answer v.memory.undo_states) true)
+asked_so s i v shown request.RestoreUndo c = back_no_wait s i v (gone_back s.undo v.memory v.frames)
+asked_so s i v shown request.Quit c = λ t w text h. absurd cc
+
+led_so : (s : State) (i : Instr) (v : GameState) (shown : Texts) (n : Next) → carried_out s.game i ≡ Ok (v, (n, shown)) → WaitsOn s (led_to s i v shown n)
+led_so s i v shown (At p) c = λ t w text h. absurd cc
+led_so s i v shown (Asks x) c = asked_so s i v shown x c
+
+settled_so : (s : State) (i : Instr) → WaitsOn s (settled s i (carried_out s.game i))
+settled_so s i = step_all (WaitsOn s) _ (carried_out s.game i) (λ r e. led_so s i r.0 r.1.1 r.1.0 e) (λ f e t w text h. absurd cc)
 
 pub step_waits : (s t : State) (w : Waiting) (text : Texts) → step s ≡ Waits t w text → WaitsSo s t
 unfolding step
-step_waits s t w text h = fetched_so s t w text (instr_at s.game.memory s.place) h
+step_waits s t w text = step_all (WaitsOn s) _ (instr_at s.game.memory s.place) (λ i e. settled_so s i) (λ f e t w text h. absurd cc) t w text
 
 continued_few : (s : State) (x : Step) (n : ℕ) (rest : Segment) (w : Waiting) → ((t : State) (text : Texts) → x ≡ Goes t text → t.steps ≡ s.steps + 1) → ((t : State) (v : Waiting) (text : Texts) → x ≡ Waits t v text → t.steps ≡ s.steps)
     → (rest.end ≡ Ok w → rest.state.steps < (state_after s x).steps + n) → (continued (verdict_of s x) (state_after s x) (text_of s x) rest).end ≡ Ok w → (continued (verdict_of s x) (state_after s x) (text_of s x) rest).state.steps < s.steps + suc n
@@ -109,7 +109,7 @@ continued_few s (Waits t v text) n rest w counted waited few h = go (is_past_rea
         → (continued (if b then StopsBy (Limit s.place Reads) else WaitsFor v) t (if b then no_text else text) rest).state.steps < s.steps + suc n
     go true k = absurd cc
     go false k = let same = waited t v text refl in omega (arith, same)
-continued_few s (Quits text) n rest w counted waited few h = absurd cc
+continued_few s Quits n rest w counted waited few h = absurd cc
 continued_few s (Faults f) n rest w counted waited few h = absurd cc
 continued_few s (Exceeds l) n rest w counted waited few h = absurd cc
 

@@ -10,19 +10,17 @@ use Rattle.zk_term.specs.declared.lines.Input.TheVariants as input
 use Rattle.zk_term.specs.Lines.{Heard, heard, ended_lines, behind, is_short, nothing_more, over_input, BreaksOff, IsNextLine, IsPlain, IsTooLong, MeetsBound, Reading}
 use Rattle.zk_term.proofs.Hearing.{are_lines}
 use Rattle.zk_term.proofs.Shown.{shows_twice, shows_past, shows_nothing}
-use Rattle.zk_step.specs.declared.ending.Wait.{Wait}
-use Rattle.zk_step.specs.declared.ending.Wait.TheVariants as wait
+use Rattle.zk_step.specs.declared.ending.Event.{Event}
+use Rattle.zk_step.specs.declared.ending.Event.TheVariants as event
 use Rattle.zk_step.specs.Routing.{Texts, no_text, on_script, text_joined}
-use Rattle.zk_vm.specs.declared.stop.Event.{Event}
-use Rattle.zk_vm.specs.declared.stop.Event.TheVariants as event
 use Rattle.zk_vm.specs.declared.stop.Stop.{Stop}
 use Rattle.zk_vm.specs.declared.stop.Stop.TheVariants.{Write, Memory}
 use Rattle.zk_vm.specs.declared.waiting.Waiting.{Waiting}
 use Rattle.zk_vm.specs.Answers.{Answer, first_code, answered}
 use Rattle.zk_vm.specs.Answers.Answer.{Typed, GameKept, File}
 use Rattle.zk_vm.specs.Going.{steps_left as steps_of}
-use Rattle.zk_vm.specs.Halts.{event_by, event_of, event_waited, is_read_event, ComesToKeep, IsLeftAs, ShowsUpTo}
-use Rattle.zk_vm.specs.Step.{State, step, state_after, text_of, verdict_of}
+use Rattle.zk_vm.specs.Halts.{event_of, event_waited, ComesToKeep, IsLeftAs, ShowsUpTo}
+use Rattle.zk_vm.specs.Step.{State, is_read, step, state_after, text_of, verdict_of}
 use Rattle.zk_vm.specs.Step.Verdict.{GoesOn}
 use Rattle.zk_vm.specs.Outcome.{Outcome, Session, Segment, segment, ended, followed, outcome, segment_of, segment_by, ran, given, given_to, given_all, shown_up_to, with_stop}
 use Rattle.zk_vm.proofs.Halting.{segment_is, told_due}
@@ -30,19 +28,13 @@ use Rattle.zk_vm.proofs.Runs.{no_text_behind, same_text, segment_leads}
 use Rattle.zk_vm.specs.Plays.{codes_read, AsksForLine, AsksForFile, IsSlotAnswer, IsLastSlot, AreSlotAnswers, IsServed, ShowsOfRun, IsRunOn, AsksForNoFile, EndsTurn, IsLeftByTurn, EndsTurnOrFails, TookTexts, IsTurn, stop_behind, stop_waiting, IsOutcomeOn, IsOutcomeBy, AreAnswers, SlotTells, SourceTells, ReadsCodes, ReadsLine, FoundNoLine, IsLeftAlone, IsLastRead, IsAnswered, IsLastAnswered, IsHeard, IsPlayed, IsPlay}
 
 -- a character is a line's first code
-char_to : (x : Wait) (w : Waiting) (s : Session) (codes : List ℕ) → w.wait ≡ x → event_by x ≡ event.Char → given_to (Some w) s (Typed (first_code codes ∷ [])) ≡ given_to (Some w) s (Typed codes)
+char_to : (w : Waiting) (s : Session) (codes : List ℕ) → w.wait ≡ event.Char → given_to (Some w) s (Typed (first_code codes ∷ [])) ≡ given_to (Some w) s (Typed codes)
 unfolding answered
-char_to (wait.Line text parse) w s codes e h = absurd cc
-char_to wait.Char w s codes e h = rw e refl
-char_to wait.Save w s codes e h = absurd cc
-char_to wait.Restore w s codes e h = absurd cc
-
-some_event : (x : Wait) → ◌≡◌ {A = Option Event} (Some (event_by x)) (Some event.Char) → event_by x ≡ event.Char
-some_event x h = cc
+char_to w s codes e = rw e refl
 
 char_by : (w : Option Waiting) (s : Session) (codes : List ℕ) → event_waited w ≡ Some event.Char → given_to w s (Typed (first_code codes ∷ [])) ≡ given_to w s (Typed codes)
 char_by None s codes h = absurd cc
-char_by (Some w) s codes h = char_to w.wait w s codes refl (some_event w.wait h)
+char_by (Some w) s codes h = let char : w.wait ≡ event.Char = cc in char_to w s codes char
 
 pub char_given : (s : Session) (codes : List ℕ) → event_waited s.waiting ≡ Some event.Char → given s (Typed (first_code codes ∷ [])) ≡ given s (Typed codes)
 unfolding given
@@ -89,12 +81,10 @@ unfolding ran
 asks_for s e h = ended_waits s (segment_of s) (segment_of s).end e h
 
 file_asked : (s : Session) → AsksForFile (ran s) → (w : Waiting) × ((segment_of s).end ≡ Ok w)
-file_asked s (inl h) = asks_for s event.Save h
-file_asked s (inr h) = asks_for s event.Restore h
+file_asked s h = asks_for s h.0 h.1.0
 
 line_asked : (s : Session) → AsksForLine (ran s) → (w : Waiting) × ((segment_of s).end ≡ Ok w)
-line_asked s (inl h) = asks_for s event.Line h
-line_asked s (inr h) = asks_for s event.Char h
+line_asked s h = asks_for s h.0 h.1.0
 
 not_both : (x : Option Stop) (stop : Stop) → x ≡ None → x ≡ Some stop → ⊥
 not_both x stop h k = absurd cc
@@ -141,9 +131,9 @@ stopped_as m s (Some y) stop e left = left.0 ∙ e
 
 slot_asks : {K : Type 0} (tells : SlotTells K) (before after : K) (s : Session) (a : Answer) → IsSlotAnswer tells before after s a → AsksForFile s
 slot_asks tells before after s (Typed codes) h = absurd h
-slot_asks tells before after s (GameKept true) h = inl h.0
-slot_asks tells before after s (GameKept false) h = inl h.0
-slot_asks tells before after s (File file) h = inr h.0
+slot_asks tells before after s (GameKept true) h = (event.Save, (h.0, refl))
+slot_asks tells before after s (GameKept false) h = (event.Save, (h.0, refl))
+slot_asks tells before after s (File file) h = (event.Restore, (h.0, refl))
 
 -- ---- a turn that goes on
 
@@ -289,12 +279,6 @@ run_asks false now mid e Shown (inl h) =
     (refl, h.0, left_none mid (ran now) (ran now).stopped (ran_waits now w.0 w.1) h.1, runs_on now w.0 w.1, h.2)
 run_asks false now mid e Shown (inr h) = absurd (ok_or_err e Memory h.0)
 
-read_event : (e : Event) → is_read_event e ≡ true → AsksForNoFile (Ok e)
-read_event event.Line h = tt
-read_event event.Char h = tt
-read_event event.Save h = absurd cc
-read_event event.Restore h = absurd cc
-
 -- how a run in a turn ends it
 pub record RunEnds (unwritten : Bool) (now new : Session) (answer : Result Event Stop) (Shown : Texts → Type 0) : Type 0 where
   pub text : Texts
@@ -306,10 +290,10 @@ ends_with : (unwritten : Bool) (now : Session) (answer : Result Event Stop) (tex
 ends_with unwritten now answer text e h = rw e h
 
 -- at a read
-pub run_reads : (unwritten : Bool) (now mid : Session) (e : Event) (Shown : Texts → Type 0) → is_read_event e ≡ true → IsRunOn now mid (Ok e) unwritten Shown → RunEnds unwritten now mid (Ok e) Shown
+pub run_reads : (unwritten : Bool) (now mid : Session) (e : Event) (Shown : Texts → Type 0) → is_read e ≡ true → IsRunOn now mid (Ok e) unwritten Shown → RunEnds unwritten now mid (Ok e) Shown
 run_reads unwritten now mid e Shown k h =
     let r = run_asks unwritten now mid e Shown h in
-    record { text = (segment_of now).text; ends = ends_with unwritten now (Ok e) (segment_of now).text r.0 (inl (r.1, read_event e k, refl)); left = r.2; shown = r.4 }
+    record { text = (segment_of now).text; ends = ends_with unwritten now (Ok e) (segment_of now).text r.0 (inl (r.1, k, refl)); left = r.2; shown = r.4 }
 
 -- for want of memory for a saved game
 pub run_lacks : (unwritten : Bool) (now mid new : Session) (e : Event) (stop : Stop) (Shown : Texts → Type 0) → AsksForFile mid → stop ≡ Memory → new ≡ with_stop mid Memory → IsRunOn now mid (Ok e) unwritten Shown → RunEnds unwritten now new (Err stop) Shown
@@ -593,25 +577,22 @@ by_left tells Reads unwritten before after x y over Last Lacking still m s (Some
 
 -- ---- a turn that asks
 
-line_event : (x : Option Event) (e : Event) → x ≡ Some e → is_read_event e ≡ true → (x ≡ Some event.Line) ⊎ (x ≡ Some event.Char)
-line_event x event.Line h k = inl h
-line_event x event.Char h k = inr h
-line_event x event.Save h k = absurd cc
-line_event x event.Restore h k = absurd cc
+not_file : (x : Option Event) → (e : Event) × ((x ≡ Some e) × (is_read e ≡ true)) → (e : Event) × ((x ≡ Some e) × (is_read e ≡ false)) → ⊥
+not_file x h k =
+    let same : h.0 ≡ k.0 = some_same h.0 k.0 (sym h.1.0 ∙ k.1.0) in
+    true_no_false (is_read k.0) (sym (ap is_read same) ∙ h.1.1) k.1.1
+  where
+    some_same : (e f : Event) → Some e ≡ Some f → e ≡ f
+    some_same e f h = cc
 
-not_file : (x : Option Event) → (x ≡ Some event.Line) ⊎ (x ≡ Some event.Char) → (x ≡ Some event.Save) ⊎ (x ≡ Some event.Restore) → ⊥
-not_file x (inl h) (inl k) = absurd cc
-not_file x (inl h) (inr k) = absurd cc
-not_file x (inr h) (inl k) = absurd cc
-not_file x (inr h) (inr k) = absurd cc
+    true_no_false : (b : Bool) → b ≡ true → b ≡ false → ⊥
+    true_no_false b h k = absurd cc
 
-line_stop : (x : Option Event) (over : Over) → (x ≡ Some event.Line) ⊎ (x ≡ Some event.Char) → stop_waiting x over ≡ stop_behind over
-line_stop x over (inl h) = rw h refl
-line_stop x over (inr h) = rw h refl
+line_stop : (x : Option Event) (over : Over) → (e : Event) × ((x ≡ Some e) × (is_read e ≡ true)) → stop_waiting x over ≡ stop_behind over
+line_stop x over h = rw (h.1.0, h.1.1) refl
 
-file_stop : (x : Option Event) (over : Over) → (x ≡ Some event.Save) ⊎ (x ≡ Some event.Restore) → stop_waiting x over ≡ Memory
-file_stop x over (inl h) = rw h refl
-file_stop x over (inr h) = rw h refl
+file_stop : (x : Option Event) (over : Over) → (e : Event) × ((x ≡ Some e) × (is_read e ≡ false)) → stop_waiting x over ≡ Memory
+file_stop x over h = rw (h.1.0, h.1.1) refl
 
 -- a turn that asks has written all of its text, and its machine waits for a line
 pub record Asked {K : Type 0} (tells : SlotTells K) (before after : K) (now mid : Session) (screen_failed script_failed : Bool) (screen0 screen1 script0 script1 : Option (List ℕ)) : Type 0 where
@@ -629,12 +610,12 @@ runs_now answers s None e asks = e
 runs_now answers s (Some stop) e asks = absurd (no_line (given_all answers s) stop (stopped_all answers s stop e) asks)
 
 pub turn_asked : {K : Type 0} (tells : SlotTells K) (before after : K) (now mid : Session) (a b : Bool) (screen0 screen1 script0 script1 : Option (List ℕ)) (e : Event)
-    → event_waited mid.waiting ≡ Some e → is_read_event e ≡ true → IsTurn (AreSlotAnswers tells (a || b) before after now) now mid (Ok e) (a || b) (TookTexts screen0 screen1 script0 script1 (a || b))
+    → event_waited mid.waiting ≡ Some e → is_read e ≡ true → IsTurn (AreSlotAnswers tells (a || b) before after now) now mid (Ok e) (a || b) (TookTexts screen0 screen1 script0 script1 (a || b))
     → Asked tells before after now mid a b screen0 screen1 script0 script1
 turn_asked tells before after now mid a b screen0 screen1 script0 script1 e waits k t =
     let asked = turn_asks (a || b) (given_all t.answers now) e t.text t.ends in
     let works = either_false a b asked.0 in
-    let asks : AsksForLine (ran (given_all t.answers now)) = line_event _ e (ap (λ (m : Session). event_waited m.waiting) (sym t.left) ∙ waits) k in
+    let asks : AsksForLine (ran (given_all t.answers now)) = (e, (ap (λ (m : Session). event_waited m.waiting) (sym t.left) ∙ waits, k)) in
     record {
       screen_works = works.0;
       script_works = works.1;

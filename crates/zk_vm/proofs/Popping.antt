@@ -1,20 +1,20 @@
 -- Taking operands takes words from the current routine's stack, and changes nothing else; nor does what is shown before a
 -- read change frames and memory.
-use Rattle.std.proofs.Common.{◌≡◌, ◌∙◌, ℕ, ◌-◌, ◌≤◌, List, [], ◌∷◌, ◌++◌, length, Ok, refl, arith, nat_lt}
+use Rattle.std.specs.Prelude.{if◌then◌else◌}
+use Rattle.std.proofs.Common.{◌≡◌, ◌∙◌, ℕ, ◌-◌, ◌≤◌, List, [], ◌∷◌, ◌++◌, length, Ok, refl, arith, nat_lt, Bool, true, false}
 use Rattle.std.specs.Prelude.{◌==◌}
 use Rattle.std.proofs.lemmas.List.{length-take}
 use Rattle.zk_state.specs.Frames.{FrameList, bounds_of, frames_of, popped, sizes_of, total_of}
 use Rattle.zk_code.specs.declared.operands.Operand.{Operand}
 use Rattle.zk_code.specs.declared.operands.Operand.TheVariants.{Large, Small, Variable}
-use Rattle.zk_step.specs.declared.ending.Wait.{Wait}
-use Rattle.zk_step.specs.declared.ending.Wait.TheVariants as wait
+use Rattle.zk_step.specs.declared.ending.Event.{Event}
 use Rattle.zk_step.specs.declared.game_state.View.{View}
 use Rattle.zk_step.specs.declared.game_state.View.TheVariants as view
 use Rattle.zk_step.specs.declared.game_state.GameState.{GameState}
-use Rattle.zk_step.specs.Routing.{Texts}
+use Rattle.zk_step.specs.Routing.{Texts, no_text}
 use Rattle.zk_step.specs.Variables.{named_read, operand_read, operands_read, variable_read, with_frames}
 use Rattle.zk_step.proofs.FixedParts.{Leaves, gives, fails, leaves_then, leaves_after, leaves_if, value_left}
-use Rattle.zk_vm.specs.Step.{view_before}
+use Rattle.zk_vm.specs.Step.{is_read, view_before}
 use Rattle.zk_step.specs.View.{lines_shown, rows_shown, status_shown, viewed, viewed_by}
 
 -- the memory and the frames are the same, but for words that were taken
@@ -74,11 +74,12 @@ viewed_pops : (w : GameState) → Leaves (PopsTo w) (viewed w)
 unfolding viewed
 viewed_pops w = viewed_pops_by w.view w
 
-before_pops : (x : Wait) (w : GameState) → Leaves (PopsTo w) (view_before x w)
-before_pops (wait.Line text parse) w = viewed_pops w
-before_pops wait.Char w = viewed_pops w
-before_pops wait.Save w = gives (pops_none w)
-before_pops wait.Restore w = gives (pops_none w)
+before_pops : (event : Event) (w : GameState) → Leaves (PopsTo w) (view_before event w)
+before_pops event w = go (is_read event)
+  where
+    go : (b : Bool) → Leaves (PopsTo w) (if b then viewed w else Ok (w, no_text))
+    go true = viewed_pops w
+    go false = gives (pops_none w)
 
-pub shown_pops : (x : Wait) (w v : GameState) (t : Texts) → view_before x w ≡ Ok (v, t) → Pops w v
+pub shown_pops : (x : Event) (w v : GameState) (t : Texts) → view_before x w ≡ Ok (v, t) → Pops w v
 shown_pops x w v t h = value_left (view_before x w) (v, t) (before_pops x w) h

@@ -3,7 +3,7 @@ use Rattle.std.proofs.Common.{◌≡◌, ◌∙◌, inl, inr, Bool, true, false,
 use Rattle.zk_term.specs.Devices.{Sends, Shows}
 use Rattle.zk_term.proofs.Sending.{sends_shows}
 use Rattle.zk_step.specs.Routing.{Texts, text_joined}
-use Rattle.zk_vm.specs.declared.stop.Event.{Event}
+use Rattle.zk_step.specs.declared.ending.Event.{Event}
 use Rattle.zk_vm.specs.declared.stop.Stop.{Stop}
 use Rattle.zk_vm.specs.declared.stop.Stop.TheVariants as stop
 use Rattle.zk_vm.specs.Consoles.{Targets, Written, written_twice, screen_sender, script_sender}

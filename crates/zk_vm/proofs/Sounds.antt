@@ -8,8 +8,6 @@ use Rattle.zk_state.specs.declared.refusal.Refusal.{Refusal}
 use Rattle.zk_state.specs.Frames.{FrameList, IsBounded, bounds_of, first_frames}
 use Rattle.zk_save.specs.States.{WholeState, KeptState, UndoStates, whole_state, AreOf, memory_back, states_in}
 use Rattle.zk_save.proofs.Wholes.{same_of}
-use Rattle.zk_step.specs.declared.ending.Next.{Next}
-use Rattle.zk_step.specs.declared.ending.Next.TheVariants.{At, Waits, Keeps, Resumes, End}
 use Rattle.zk_step.specs.declared.game_state.GameState.{GameState}
 use Rattle.zk_step.specs.Laws.{fixed_parts}
 use Rattle.zk_step.proofs.SameStory.{same_base}
@@ -68,21 +66,17 @@ sound_now m n is limits free steps reads most bounds story = record {
   waits = can_answer_none n n.waiting free;
 }
 
-few_by : (steps most : ℕ) (led : Result Next Refusal) → steps < most → steps_by steps led ≤ most
-few_by steps most (Ok (At p)) lt = omega arith
-few_by steps most (Ok (Waits x)) lt = omega arith
-few_by steps most (Ok Keeps) lt = omega arith
-few_by steps most (Ok Resumes) lt = omega arith
-few_by steps most (Ok End) lt = omega arith
+few_by : (steps most : ℕ) (led : Result ℕ Refusal) → steps < most → steps_by steps led ≤ most
+few_by steps most (Ok p) lt = omega arith
 few_by steps most (Err e) lt = omega arith
 
 -- where a run goes on, an instruction was finished
-pub going_led : (x before : Option Stop) (place : ℕ) (led : Result Next Refusal) (P : Type 0) → x ≡ stopped_by before (verdict_by place led) → ((n : Next) → led ≡ Ok n → P) → x ≡ None → P
+pub going_led : (x before : Option Stop) (place : ℕ) (led : Result ℕ Refusal) (P : Type 0) → x ≡ stopped_by before (verdict_by place led) → ((n : ℕ) → led ≡ Ok n → P) → x ≡ None → P
 going_led x before place (Ok n) P e h none = h n refl
 going_led x before place (Err r) P e h none = absurd cc
 
-pub sound_after : (m n : Inside) (place : ℕ) (led : Result Next Refusal) → IsSound m → m.steps < m.limits.steps → n.limits ≡ m.limits → n.waiting ≡ None → n.steps ≡ steps_by m.steps led → n.reads ≡ m.reads
-    → n.undo.most ≡ m.undo.most → bounds_of n.game.frames ≡ bounds_of m.game.frames → n.stopped ≡ stopped_by m.stopped (verdict_by place led) → ((x : Next) → led ≡ Ok x → IsOfStory n) → IsSound n
+pub sound_after : (m n : Inside) (place : ℕ) (led : Result ℕ Refusal) → IsSound m → m.steps < m.limits.steps → n.limits ≡ m.limits → n.waiting ≡ None → n.steps ≡ steps_by m.steps led → n.reads ≡ m.reads
+    → n.undo.most ≡ m.undo.most → bounds_of n.game.frames ≡ bounds_of m.game.frames → n.stopped ≡ stopped_by m.stopped (verdict_by place led) → ((x : ℕ) → led ≡ Ok x → IsOfStory n) → IsSound n
 sound_after m n place led is room limits free steps reads most bounds stopped undo =
     sound_now m n is limits free (rw steps (few_by m.steps m.limits.steps led room)) (rw reads is.reads) most bounds (going_led n.stopped m.stopped place led (IsOfStory n) stopped undo)
 

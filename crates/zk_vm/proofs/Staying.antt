@@ -16,37 +16,40 @@ use Rattle.zk_code.specs.declared.opcode.Saving.TheVariants.{SaveUndo, RestoreUn
 use Rattle.zk_code.specs.Reach.{goes_on}
 use Rattle.zk_code.specs.Reading.{instr_at}
 use Rattle.zk_save.specs.declared.restore.RestoreError.{RestoreError}
-use Rattle.zk_save.specs.declared.restore.RestoreError.TheVariants as restore_error
+use Rattle.zk_state.specs.declared.refusal.Limit.{Limit}
 use Rattle.zk_save.specs.Loading.{restored}
 use Rattle.zk_save.specs.States.{WholeState, gone_back, memory_back, state_of}
 use Rattle.zk_step.specs.declared.ending.Ending.{Ending}
 use Rattle.zk_step.specs.declared.ending.Next.{Next}
+use Rattle.zk_step.specs.declared.ending.Event.{Event}
+use Rattle.zk_step.specs.declared.ending.Event.TheVariants as event
 use Rattle.zk_step.specs.declared.ending.Next.TheVariants as next
-use Rattle.zk_step.specs.declared.ending.Wait.{Wait}
-use Rattle.zk_step.specs.declared.ending.Wait.TheVariants as wait
+use Rattle.zk_step.specs.declared.ending.Request.{Request}
+use Rattle.zk_step.specs.declared.ending.Request.TheVariants as request
 use Rattle.zk_step.specs.declared.game_state.View.{View}
 use Rattle.zk_step.specs.declared.game_state.View.TheVariants as view
 use Rattle.zk_step.specs.declared.game_state.GameState.{GameState}
 use Rattle.zk_step.specs.Inputs.{line_answered, character_answered, result_answered}
 use Rattle.zk_step.specs.Instructions.{carried_out}
-use Rattle.zk_step.specs.Laws.{EndsBy, GoesInto, IsOneStory, KeepsStory, ReturnInto, fixed_parts}
+use Rattle.zk_step.specs.Laws.{AsksBy, EndsBy, GoesInto, IsOneStory, KeepsStory, ReturnInto, fixed_parts}
 use Rattle.zk_step.specs.Restarts.{windows_closed}
 use Rattle.zk_step.specs.Resuming.{resumed}
-use Rattle.zk_step.specs.Routing.{Texts}
+use Rattle.zk_step.specs.Routing.{Texts, no_text}
 use Rattle.zk_step.specs.Variables.{operands_read}
-use Rattle.zk_step.proofs.FixedParts.{Leaves, gives, leaves_after, back_keeps}
+use Rattle.zk_step.proofs.FixedParts.{Leaves, gives, leaves_after, back_keeps, value_left}
 use Rattle.zk_step.proofs.SameStory.{same_base, same_file, same_version}
 use Rattle.zk_step.proofs.Sweep.{EndsInto, GoesOnInto, ResumesInto, StaysInside, back_inside, carried_inside, character_inside, line_inside, result_inside}
 use Rattle.zk_step.proofs.Sweep as sweep
 use Rattle.zk_vm.specs.declared.limits.Limits.{Limits}
 use Rattle.zk_vm.specs.declared.waiting.Waiting.{Waiting}
-use Rattle.zk_vm.specs.Answers.{Answer, answer_settled, answered, answered_by, codes_of, file_of, first_code, is_kept, restored_from, restored_to, transcribed, truth_word}
+use Rattle.zk_vm.specs.Answers.{Answer, answer_settled, answered, answered_by, codes_of, file_of, first_code, is_kept, limit_of, none_restored, restored_from, restored_to, transcribed, truth_word}
 use Rattle.zk_vm.specs.Inside.{EachOfRun, EachStep, FramesReturn, Onward, is_restore}
-use Rattle.zk_vm.specs.Step.{State, Step, back_to, fetched, goes_by, goes_to, is_past_reads, kept_answer, led_to, saved_place, settled as step_settled, state_after, step, verdict_of, view_before, waits_by, with_kept}
+use Rattle.zk_vm.specs.Step.{State, Step, asked, back_to, goes_by, goes_to, is_past_reads, is_read, kept_answer, led_to, saved_place, settled as step_settled, state_after, step, verdict_of, view_before, waits_by, with_kept}
 use Rattle.zk_vm.specs.Step.Step.{Goes, Waits, Quits, Faults, Exceeds}
 use Rattle.zk_vm.specs.Step.Verdict.{WaitsFor, StopsBy}
 use Rattle.zk_step.specs.View.{lines_shown, rows_shown, status_shown, viewed, viewed_by}
-use Rattle.zk_vm.proofs.Pauses.{PausesBy, pauses}
+use Rattle.zk_vm.proofs.OneStep.{step_all}
+use Rattle.zk_vm.proofs.Asking.{asks}
 
 -- ---- what the view leaves
 
@@ -70,12 +73,13 @@ shown_view : (v : View) (w : GameState) → Leaves (ShownBeside w) (viewed_by v 
 shown_view view.Plain w = gives (shown_none w)
 shown_view view.Upper w = leaves_after (status_shown w.memory) _ (λ status. gives (shown_lines w (status ++ rows_shown w.windows 1 w.windows.height)))
 
-shown_before : (x : Wait) (w : GameState) → Leaves (ShownBeside w) (view_before x w)
+shown_before : (event : Event) (w : GameState) → Leaves (ShownBeside w) (view_before event w)
 unfolding viewed
-shown_before (wait.Line text parse) w = shown_view w.view w
-shown_before wait.Char w = shown_view w.view w
-shown_before wait.Save w = gives (shown_none w)
-shown_before wait.Restore w = gives (shown_none w)
+shown_before event w = go (is_read event)
+  where
+    go : (b : Bool) → Leaves (ShownBeside w) (if b then viewed_by w.view w else Ok (w, no_text))
+    go true = shown_view w.view w
+    go false = gives (shown_none w)
 
 -- ---- memory that is put back
 
@@ -111,9 +115,7 @@ module _ (m : MemoryMap) (P : ℕ → Type 0) where
   abbrev StepsInto : Step → Type 0
   StepsInto (Goes t text) = Inside t
   StepsInto (Waits t w text) = Inside t × GoesOnInto P w.instruction
-  StepsInto (Quits text) = Unit {0}
-  StepsInto (Faults f) = Unit {0}
-  StepsInto (Exceeds l) = Unit {0}
+  StepsInto _ = Unit {0}
 
   -- what is known of the instruction at a state's place: where it may lead, and where a state that it keeps goes on
   pub record Knows (s : State) (i : Instr) : Type 0 where
@@ -128,33 +130,30 @@ module _ (m : MemoryMap) (P : ℕ → Type 0) where
   made : (v : GameState) (t : State) → IsOneStory m v.memory → StaysInside P v t.game → P t.place → All KeptIn t.undo → Inside t
   made v t story k place undo = record { memory = k.inside.memory; story = story_after v.memory t.game.memory story k.parts; place = place; returns = k.inside.returns; undo = undo }
 
-  abbrev NextInto : GameState → GameState × Next → Type 0
-  NextInto v x = StaysInside P v x.0 × GoesInto P x.1
+  abbrev PlaceInto : GameState → GameState × ℕ → Type 0
+  PlaceInto v x = StaysInside P v x.0 × P x.1
 
-  goes_to_inside : (s : State) (us : List WholeState) (v : GameState) (r : Result (GameState × Next) Fault) → IsOneStory m v.memory → All KeptIn us → ((x : GameState × Next) → r ≡ Ok x → NextInto v x) → StepsInto (goes_to s us r)
-  goes_to_inside s us v (Ok (w, next.At place)) story all f = let k = f (w, next.At place) refl in made v (record s { game = w; place = place; steps = s.steps + 1; undo = us }) story k.0 k.1 all
-  goes_to_inside s us v (Ok (w, next.Waits x)) story all f = tt
-  goes_to_inside s us v (Ok (w, next.Keeps)) story all f = tt
-  goes_to_inside s us v (Ok (w, next.Resumes)) story all f = tt
-  goes_to_inside s us v (Ok (w, next.End)) story all f = tt
-  goes_to_inside s us v (Err e) story all f = tt
+  goes_to_inside : (s : State) (us : List WholeState) (v : GameState) (r : Result (GameState × ℕ) Fault) → IsOneStory m v.memory → All KeptIn us → ((x : GameState × ℕ) → r ≡ Ok x → PlaceInto v x) → StepsInto (goes_to s us r)
+  goes_to_inside s us v r story all f = step_all StepsInto _ r (λ x e. let k = f x e in made v (record s { game = x.0; place = x.1; steps = s.steps + 1; undo = us }) story k.0 k.1 all) (λ g e. tt)
 
   in_game : (s : State) → Inside s → sweep.IsInside P s.game
   in_game s h = record { memory = h.memory; returns = h.returns }
 
   -- ---- what an instruction leads to
 
-  waits_inside : (s : State) (i : Instr) (x : Wait) (w : GameState) (r : Result (GameState × Texts) Fault) → Inside s → StaysInside P s.game w → GoesOnInto P i → Leaves (ShownBeside w) r → StepsInto (waits_by s i x r)
-  waits_inside s i x w _ h k on (Leaves.gives {x = v} same) =
-      let stays : StaysInside P s.game v.0 = record {
-        inside = record {
-          memory = subst KeepsStory (sym same.memory) k.inside.memory;
-          returns = subst (λ (f : FrameList). ReturnInto P f.current.place f.callers) (sym same.frames) k.inside.returns;
-        };
-        parts = ap fixed_parts same.memory ∙ k.parts;
-      } in
-      (made s.game (record s { game = v.0 }) h.story stays h.place h.undo, on)
-  waits_inside s i x w _ h k on Leaves.fails = tt
+  waits_inside : (s : State) (i : Instr) (x : Event) (w : GameState) → Inside s → StaysInside P s.game w → GoesOnInto P i → StepsInto (waits_by s i x (view_before x w))
+  waits_inside s i x w h k on = step_all StepsInto _ (view_before x w) (λ v e. (shown v (value_left (view_before x w) v (shown_before x w) e), on)) (λ f e. tt)
+    where
+      shown : (v : GameState × Texts) → ShownBeside w v → Inside (record s { game = v.0 })
+      shown v same =
+          let stays : StaysInside P s.game v.0 = record {
+            inside = record {
+              memory = subst KeepsStory (sym same.memory) k.inside.memory;
+              returns = subst (λ (f : FrameList). ReturnInto P f.current.place f.callers) (sym same.frames) k.inside.returns;
+            };
+            parts = ap fixed_parts same.memory ∙ k.parts;
+          } in
+          made s.game (record s { game = v.0 }) h.story stays h.place h.undo
 
   kept_inside : (s : State) (i : Instr) (w : GameState) → Inside s → Knows s i → StaysInside P s.game w → i.opcode ≡ opcode.Saving SaveUndo → All KeptIn (with_kept s i w)
   kept_inside s i w h knows k by =
@@ -203,36 +202,27 @@ module _ (m : MemoryMap) (P : ℕ → Type 0) where
   by_opcode : (o q : Opcode) → goes_on q ≡ true → o ≡ q → goes_on o ≡ true
   by_opcode o q on e = ap goes_on e ∙ on
 
-  led_inside : (s : State) (i : Instr) (w : GameState) (n : Next) (text : Texts) → Inside s → Knows s i → StaysInside P s.game w → GoesInto P n → PausesBy i.opcode n → StepsInto (led_to s i w text n)
+  asked_inside : (s : State) (i : Instr) (w : GameState) (x : Request) → Inside s → Knows s i → StaysInside P s.game w → AsksBy i.opcode x → StepsInto (asked s i w x)
   unfolding goes_on
-  led_inside s i w (next.At place) text h knows k into by = made s.game (record s { game = w; place = place; steps = s.steps + 1 }) h.story k into h.undo
-  led_inside s i w (next.Waits x) text h knows k into by = waits_inside s i x w (view_before x w) h k (knows.on by) (shown_before x w)
-  led_inside s i w next.Keeps text h knows k into by =
+  asked_inside s i w (request.Answer event) h knows k by = waits_inside s i event w h k (knows.on by)
+  asked_inside s i w request.SaveUndo h knows k by =
       goes_to_inside s (with_kept s i w) w (result_answered w i (kept_answer w.memory.undo_states) true) (story_after s.game.memory w.memory h.story k.parts) (kept_inside s i w h knows k by)
       (λ x e. result_inside P w k.inside i (kept_answer w.memory.undo_states) true x (knows.on (by_opcode i.opcode (opcode.Saving SaveUndo) refl by)) e)
-  led_inside s i w next.Resumes text h knows k into by = back_to_inside s i w s.undo h k (knows.on (by_opcode i.opcode (opcode.Saving RestoreUndo) refl by)) h.undo
-  led_inside s i w next.End text h knows k into by = tt
+  asked_inside s i w request.RestoreUndo h knows k by = back_to_inside s i w s.undo h k (knows.on (by_opcode i.opcode (opcode.Saving RestoreUndo) refl by)) h.undo
+  asked_inside s i w request.Quit h knows k by = tt
 
-  paused : (s : State) (i : Instr) (w : GameState) (n : Next) (text : Texts) → carried_out s.game i ≡ Ok (w, (n, text)) → PausesBy i.opcode n
-  paused s i w (next.At place) text e = tt
-  paused s i w (next.Waits x) text e = (pauses s.game i w (next.Waits x) text e tt).by
-  paused s i w next.Keeps text e = (pauses s.game i w next.Keeps text e tt).by
-  paused s i w next.Resumes text e = (pauses s.game i w next.Resumes text e tt).by
-  paused s i w next.End text e = tt
+  led_inside : (s : State) (i : Instr) (w : GameState) (n : Next) (text : Texts) → Inside s → Knows s i → carried_out s.game i ≡ Ok (w, (n, text)) → StaysInside P s.game w → GoesInto P n → StepsInto (led_to s i w text n)
+  led_inside s i w (next.At place) text h knows e k into = made s.game (record s { game = w; place = place; steps = s.steps + 1 }) h.story k into h.undo
+  led_inside s i w (next.Asks x) text h knows e k into = asked_inside s i w x h knows k (asks s.game i w x text e).by
 
-  settled_inside : (s : State) (i : Instr) (r : Result (GameState × (Next × Texts)) Fault) → Inside s → Knows s i → carried_out s.game i ≡ r → StepsInto (step_settled s i r)
-  settled_inside s i (Ok (w, (n, text))) h knows e =
-      let k = carried_inside P s.game (in_game s h) i (w, (n, text)) (λ u v vs x taken by l. knows.ends u v vs x taken by l.inside.memory (story_after s.game.memory v.memory h.story l.parts)) e in
-      led_inside s i w n text h knows k.0 k.1 (paused s i w n text e)
-  settled_inside s i (Err f) h knows e = tt
-
-  fetched_inside : (s : State) (r : Result Instr Fault) → Inside s → ((i : Instr) → r ≡ Ok i → Knows s i) → StepsInto (fetched s r)
-  fetched_inside s (Ok i) h knows = settled_inside s i (carried_out s.game i) h (knows i refl) refl
-  fetched_inside s (Err f) h knows = tt
+  settled_inside : (s : State) (i : Instr) → Inside s → Knows s i → StepsInto (step_settled s i (carried_out s.game i))
+  settled_inside s i h knows = step_all StepsInto _ (carried_out s.game i) (λ r e.
+      let k = carried_inside P s.game (in_game s h) i r (λ u v vs x taken by l. knows.ends u v vs x taken by l.inside.memory (story_after s.game.memory v.memory h.story l.parts)) e in
+      led_inside s i r.0 r.1.0 r.1.1 h knows e k.0 k.1) (λ f e. tt)
 
   step_inside : (s : State) → Inside s → ((i : Instr) → instr_at s.game.memory s.place ≡ Ok i → Knows s i) → StepsInto (step s)
   unfolding step
-  step_inside s h knows = fetched_inside s (instr_at s.game.memory s.place) h knows
+  step_inside s h knows = step_all StepsInto _ (instr_at s.game.memory s.place) (λ i e. settled_inside s i h (knows i e)) (λ f e. tt)
 
   -- ---- what an answer leads to
 
@@ -247,39 +237,33 @@ module _ (m : MemoryMap) (P : ℕ → Type 0) where
   abbrev pub FilesInto : State → Waiting → Answer → Type 0
   FilesInto s w a = (file : List ℕ) (n : MemoryMap) (f : FrameList) (place : ℕ) → is_restore w.wait ≡ true → file_of a ≡ Some file → restored file s.game.memory s.game.frames ≡ Ok (n, f, place) → BackIn n f place
 
-  answer_inside : (s : State) (due : List ℕ) (r : Result (GameState × Next) Fault) → Inside s → ((x : GameState × Next) → r ≡ Ok x → NextInto s.game x) → StepsInto (answer_settled s due r)
-  answer_inside s due (Ok (w, next.At place)) h f = let k = f (w, next.At place) refl in made s.game (record s { game = w; place = place; steps = 0; reads = s.reads + 1; due = due }) h.story k.0 k.1 h.undo
-  answer_inside s due (Ok (w, next.Waits x)) h f = tt
-  answer_inside s due (Ok (w, next.Keeps)) h f = tt
-  answer_inside s due (Ok (w, next.Resumes)) h f = tt
-  answer_inside s due (Ok (w, next.End)) h f = tt
-  answer_inside s due (Err e) h f = tt
+  answer_inside : (s : State) (due : List ℕ) (r : Result (GameState × ℕ) Fault) → Inside s → ((x : GameState × ℕ) → r ≡ Ok x → PlaceInto s.game x) → StepsInto (answer_settled s due r)
+  answer_inside s due r h f = step_all StepsInto _ r (λ x e. let k = f x e in made s.game (record s { game = x.0; place = x.1; steps = 0; reads = s.reads + 1; due = due }) h.story k.0 k.1 h.undo) (λ g e. tt)
 
   result_to : (s : State) (i : Instr) (x : ℕ) (truth : Bool) → Inside s → GoesOnInto P i → StepsInto (goes_to s s.undo (result_answered s.game i x truth))
   result_to s i x truth h on = goes_to_inside s s.undo s.game (result_answered s.game i x truth) h.story h.undo (λ r e. result_inside P s.game (in_game s h) i x truth r on e)
+
+  none_inside : (s : State) (i : Instr) (l : Option Limit) → Inside s → GoesOnInto P i → StepsInto (none_restored s i l)
+  none_inside s i None h on = result_to s i 0 false h on
+  none_inside s i (Some l) h on = tt
 
   restored_inside : (s : State) (i : Instr) (r : Result (MemoryMap × FrameList × ℕ) RestoreError) → Inside s → GoesOnInto P i → ((n : MemoryMap) (f : FrameList) (place : ℕ) → r ≡ Ok (n, f, place) → BackIn n f place) → StepsInto (restored_to s i r)
   unfolding windows_closed
   restored_inside s i (Ok (n, f, place)) h on back =
       let b = back n f place refl in
       put_back s s.undo n f (windows_closed (record s.game { memory = n; frames = f })) place b.memory b.story b.returns b.resumes refl refl h.undo
-  restored_inside s i (Err (restore_error.Limit l)) h on back = tt
-  restored_inside s i (Err restore_error.NotQuetzal) h on back = result_to s i 0 false h on
-  restored_inside s i (Err restore_error.Truncated) h on back = result_to s i 0 false h on
-  restored_inside s i (Err restore_error.OtherStory) h on back = result_to s i 0 false h on
-  restored_inside s i (Err restore_error.BadMemory) h on back = result_to s i 0 false h on
-  restored_inside s i (Err restore_error.BadStack) h on back = result_to s i 0 false h on
+  restored_inside s i (Err e) h on back = none_inside s i (limit_of e) h on
 
   from_inside : (s : State) (i : Instr) (o : Option (List ℕ)) → Inside s → GoesOnInto P i → ((file : List ℕ) (n : MemoryMap) (f : FrameList) (place : ℕ) → o ≡ Some file → restored file s.game.memory s.game.frames ≡ Ok (n, f, place) → BackIn n f place) → StepsInto (restored_from s i o)
-  from_inside s i None h on back = result_to s i 0 false h on
+  from_inside s i None h on back = none_inside s i None h on
   from_inside s i (Some file) h on back = restored_inside s i (restored file s.game.memory s.game.frames) h on (λ n f place e. back file n f place refl e)
 
-  by_inside : (s : State) (i : Instr) (x : Wait) (a : Answer) → Inside s → GoesOnInto P i → FilesInto s (record { wait = x; instruction = i }) a → StepsInto (answered_by s i x a)
-  by_inside s i (wait.Line text parse) a h on files =
-      answer_inside s (transcribed s.game (wait.Line text parse) (codes_of a)) (line_answered s.game i text parse (codes_of a)) h (λ r e. line_inside P s.game (in_game s h) i text parse (codes_of a) r on e)
-  by_inside s i wait.Char a h on files = answer_inside s [] (character_answered s.game i (first_code (codes_of a))) h (λ r e. character_inside P s.game (in_game s h) i (first_code (codes_of a)) r on e)
-  by_inside s i wait.Save a h on files = result_to s i (truth_word (is_kept a)) (is_kept a) h on
-  by_inside s i wait.Restore a h on files = from_inside s i (file_of a) h on (λ file n f place there e. files file n f place refl there e)
+  by_inside : (s : State) (i : Instr) (x : Event) (a : Answer) → Inside s → GoesOnInto P i → FilesInto s (record { wait = x; instruction = i }) a → StepsInto (answered_by s i x a)
+  by_inside s i (event.Line text parse) a h on files =
+      answer_inside s (transcribed s.game (event.Line text parse) (codes_of a)) (line_answered s.game i text parse (codes_of a)) h (λ r e. line_inside P s.game (in_game s h) i text parse (codes_of a) r on e)
+  by_inside s i event.Char a h on files = answer_inside s [] (character_answered s.game i (first_code (codes_of a))) h (λ r e. character_inside P s.game (in_game s h) i (first_code (codes_of a)) r on e)
+  by_inside s i event.Save a h on files = result_to s i (truth_word (is_kept a)) (is_kept a) h on
+  by_inside s i event.Restore a h on files = from_inside s i (file_of a) h on (λ file n f place there e. files file n f place refl there e)
 
   answered_inside : (s : State) (w : Waiting) (a : Answer) → Inside s → GoesOnInto P w.instruction → FilesInto s w a → StepsInto (answered s w a)
   unfolding answered
@@ -299,7 +283,7 @@ module _ (m : MemoryMap) (P : ℕ → Type 0) where
   onward : (s : State) (x : Step) (A : State → Type 0) (B : State → Waiting → Type 0) → StepsInto x → ((t : State) → Inside t → A t) → ((t : State) (w : Waiting) → Inside t → GoesOnInto P w.instruction → B t w) → Onward (verdict_of s x) (A (state_after s x)) (B (state_after s x))
   onward s (Goes t text) A B h a b = goes_onward s.place (within_bounds t.game.frames) (A t) (B t) (a t h)
   onward s (Waits t w text) A B h a b = waits_onward (is_past_reads s.reads w.wait) _ w (A t) (B t) (b t w h.0 h.1)
-  onward s (Quits text) A B h a b = tt
+  onward s Quits A B h a b = tt
   onward s (Faults f) A B h a b = tt
   onward s (Exceeds l) A B h a b = tt
 

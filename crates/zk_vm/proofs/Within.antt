@@ -62,7 +62,7 @@ waits_on s (Waits t v text) w h = go (is_past_reads s.reads v.wait) refl h
     go : (b : Bool) → is_past_reads s.reads v.wait ≡ b → (if b then StopsBy (Limit s.place Reads) else WaitsFor v) ≡ WaitsFor w → (u : State) × ((more : Texts) × ((Waits t v text ≡ Waits u w more) × (is_past_reads s.reads w.wait ≡ false)))
     go true e k = absurd cc
     go false e k = let same : v ≡ w = cc in (t, (text, (ap (λ (x : Waiting). Waits t x text) same, ap (λ (x : Waiting). is_past_reads s.reads x.wait) (sym same) ∙ e)))
-waits_on s (Quits text) w h = absurd cc
+waits_on s Quits w h = absurd cc
 waits_on s (Faults f) w h = absurd cc
 waits_on s (Exceeds m) w h = absurd cc
 
@@ -156,15 +156,15 @@ goes_holds l s t w a text h room e u inside =
     let own_frames : s.game.frames.most_frames ≡ l.frames = ap (λ (p : ℕ × ℕ). p.0) h.holds.bounds in
     let own_words : s.game.frames.most_words ≡ l.words = ap (λ (p : ℕ × ℕ). p.1) h.holds.bounds in
     let both = within_is t.game.frames u inside in
-    let kept : length t.undo ≡ length s.undo = ap (λ (v : List _). length v) so.0.undo in
+    let kept : length t.undo ≡ length s.undo = ap (λ (v : List _). length v) so.undo in
     record {
       bounds = pair (frames ∙ own_frames) (words ∙ own_words);
-      most = so.0.most ∙ h.holds.most;
+      most = so.most ∙ h.holds.most;
       within = record {
         frames = omega (arith, both.0, frames, own_frames);
         words = omega (arith, both.1, words, own_words);
-        steps = omega (arith, so.0.steps, room);
-        reads = reads_by s.reads t.reads (is_read w.wait) h.may h.holds.within.reads so.0.reads so.1;
+        steps = omega (arith, so.steps, room);
+        reads = reads_by s.reads t.reads (is_read w.wait) h.may h.holds.within.reads so.reads so.same;
         undo = omega (arith, kept, h.holds.within.undo);
       };
     }
@@ -185,7 +185,7 @@ resumed_holds l s w a (Waits t v text) e h room runs = go (is_past_reads s.state
     go : (b : Bool) → (resumed s (if b then StopsBy (Limit s.state.place Reads) else WaitsFor v) t).stopped ≡ None → Holds l (resumed s (if b then StopsBy (Limit s.state.place Reads) else WaitsFor v) t).state
     go true k = absurd cc
     go false k = h.holds
-resumed_holds l s w a (Quits text) e h room runs = absurd cc
+resumed_holds l s w a Quits e h room runs = absurd cc
 resumed_holds l s w a (Faults f) e h room runs = absurd cc
 resumed_holds l s w a (Exceeds m) e h room runs = absurd cc
 

@@ -5,10 +5,8 @@ use Rattle.zk_mem.specs.Map.{MemoryMap}
 use Rattle.zk_text.specs.Extra.{own_characters}
 use Rattle.zk_text.specs.Shown.{shown_all}
 use Rattle.zk_code.specs.declared.instr.Instr.{Instr}
-use Rattle.zk_step.specs.declared.ending.Next.{Next}
-use Rattle.zk_step.specs.declared.ending.Next.TheVariants.{At}
-use Rattle.zk_step.specs.declared.ending.Wait.{Wait}
-use Rattle.zk_step.specs.declared.ending.Wait.TheVariants.{Line, Char, Save, Restore}
+use Rattle.zk_step.specs.declared.ending.Event.{Event}
+use Rattle.zk_step.specs.declared.ending.Event.TheVariants.{Line, Char, Save, Restore}
 use Rattle.zk_step.specs.declared.game_state.GameState.{GameState}
 use Rattle.zk_state.specs.Frames.{FrameList}
 use Rattle.zk_save.specs.declared.restore.RestoreError.{RestoreError}
@@ -22,8 +20,9 @@ use Rattle.zk_step.specs.Status.{code_units}
 use Rattle.zk_step.specs.Streams.{newest_of}
 use Rattle.zk_step.specs.TextBuffers.{kept_of}
 use Rattle.zk_vm.specs.declared.waiting.Waiting.{Waiting}
-use Rattle.zk_vm.specs.Step.{State, Step, goes_to}
-use Rattle.zk_vm.specs.Step.Step.{Goes, Quits, Faults, Exceeds}
+use Rattle.zk_state.specs.declared.refusal.Limit.{Limit}
+use Rattle.zk_vm.specs.Step.{State, Step, goes_to, step_by}
+use Rattle.zk_vm.specs.Step.Step.{Goes, Exceeds}
 
 -- an answer: the codes of a line that was typed, whether a saved game was kept, or a saved game, where there is one
 pub data Answer : Type 0 where
@@ -67,18 +66,13 @@ abbrev pub is_transcribed : GameState → Bool
 is_transcribed w = script_is_on w.memory && is_none (newest_of w.streams.tables)
 
 -- what the transcript gets of what was typed: a line, but no character (section 7.1.1.1)
-abbrev pub transcribed : GameState → Wait → List ℕ → List ℕ
+abbrev pub transcribed : GameState → Event → List ℕ → List ℕ
 transcribed w (Line text parse) codes = if is_transcribed w then line_shown w.memory text codes else []
 transcribed w _ codes = []
 
 -- the read is answered: no steps were made since, and the transcript is to get what was typed
-abbrev pub answer_led : State → List ℕ → GameState → Next → Step
-answer_led s due w (At place) = Goes (record s { game = w; place = place; steps = 0; reads = s.reads + 1; due = due }) no_text
-answer_led s due w _ = Quits no_text
-
-abbrev pub answer_settled : State → List ℕ → Result (GameState × Next) Fault → Step
-answer_settled s due (Ok r) = answer_led s due r.0 r.1
-answer_settled s due (Err f) = Faults f
+abbrev pub answer_settled : State → List ℕ → Result (GameState × ℕ) Fault → Step
+answer_settled s due = step_by (λ found. Goes (record s { game = found.0; place = found.1; steps = 0; reads = s.reads + 1; due = due }) no_text)
 
 -- ---- saved games
 
@@ -87,21 +81,28 @@ abbrev pub truth_word : Bool → ℕ
 truth_word true = 1
 truth_word false = 0
 
--- a saved game is back, and goes on where it was saved; where it is refused nothing changes and the answer is 0 or a
--- falsehood, but for one with too many frames or words
+-- the limit that a saved game passes, where it is refused for that
+abbrev pub limit_of : RestoreError → Option Limit
+limit_of (restore_error.Limit l) = Some l
+limit_of _ = None
+
+-- no saved game is back: nothing changes, and the answer is 0 or a falsehood, unless it would pass a limit
+abbrev pub none_restored : State → Instr → Option Limit → Step
+none_restored s i None = goes_to s s.undo (result_answered s.game i 0 false)
+none_restored s i (Some l) = Exceeds l
+
+-- a saved game is back, and goes on where it was saved
 abbrev pub restored_to : State → Instr → Result (MemoryMap × FrameList × ℕ) RestoreError → Step
 restored_to s i (Ok (m, f, place)) = goes_to s s.undo (resumed (windows_closed (record s.game { memory = m; frames = f })) place)
-restored_to s i (Err (restore_error.Limit l)) = Exceeds l
-restored_to s i (Err _) = goes_to s s.undo (result_answered s.game i 0 false)
+restored_to s i (Err e) = none_restored s i (limit_of e)
 
--- without a saved game the answer is 0 or a falsehood
 abbrev pub restored_from : State → Instr → Option (List ℕ) → Step
-restored_from s i None = goes_to s s.undo (result_answered s.game i 0 false)
+restored_from s i None = none_restored s i None
 restored_from s i (Some file) = restored_to s i (restored file s.game.memory s.game.frames)
 
 -- ---- all answers
 
-abbrev pub answered_by : State → Instr → Wait → Answer → Step
+abbrev pub answered_by : State → Instr → Event → Answer → Step
 answered_by s i (Line text parse) a = answer_settled s (transcribed s.game (Line text parse) (codes_of a)) (line_answered s.game i text parse (codes_of a))
 answered_by s i Char a = answer_settled s [] (character_answered s.game i (first_code (codes_of a)))
 answered_by s i Save a = goes_to s s.undo (result_answered s.game i (truth_word (is_kept a)) (is_kept a))

@@ -6,7 +6,7 @@ use Rattle.zk_state.specs.declared.refusal.Limit.TheVariants.{Frames, Words, Ste
 use Rattle.zk_state.specs.Frames.{first_frames}
 use Rattle.zk_step.specs.declared.game_state.View.TheVariants.{Plain, Upper}
 use Rattle.zk_vm.specs.declared.limits.Limits.{Limits}
-use Rattle.zk_vm.specs.declared.stop.Event.TheVariants as event
+use Rattle.zk_step.specs.declared.ending.Event.TheVariants as event
 use Rattle.zk_vm.specs.declared.stop.Stop.{Stop}
 use Rattle.zk_vm.specs.declared.stop.Stop.TheVariants.{Quit, Fault, Limit, EndOfInput, Read}
 use Rattle.zk_vm.specs.Answers.Answer.{Typed}
@@ -143,7 +143,7 @@ AnswersFault =
 abbrev pub MachinesWait : Type 0
 MachinesWait =
     (event_waited (ran (starts echoes (limits_of 1 1 10))).waiting ≡ Some event.Char)
-    × (event_waited (ran (starts (story_of (0xe4 ∷ 0x7f ∷ 64 ∷ 0 ∷ [])) (limits_of 1 1 10))).waiting ≡ Some event.Line)
+    × (event_waited (ran (starts (story_of (0xe4 ∷ 0x7f ∷ 64 ∷ 0 ∷ [])) (limits_of 1 1 10))).waiting ≡ Some (event.Line 64 0))
     × ((given (ran (starts echoes (limits_of 1 1 10))) (Typed (codes "a"))).state.place ≡ 68)
     × ((given (ran (starts echoes (limits_of 1 1 10))) (Typed (codes "a"))).state.reads ≡ 1)
     × ((given (ran (starts echoes (limits_of 1 1 10))) (Typed (codes "a"))).waiting ≡ None)

@@ -7,19 +7,17 @@ use Rattle.zk_state.specs.Frames.{FrameList}
 use Rattle.zk_mem.specs.Map.{MemoryMap}
 use Rattle.zk_code.specs.declared.instr.Instr.{Instr}
 use Rattle.zk_save.specs.declared.restore.RestoreError.{RestoreError}
-use Rattle.zk_save.specs.declared.restore.RestoreError.TheVariants as restore_error
 use Rattle.zk_save.specs.Loading.{restored}
-use Rattle.zk_step.specs.declared.ending.Next.{Next}
-use Rattle.zk_step.specs.declared.ending.Next.TheVariants.{At}
 use Rattle.zk_step.specs.declared.game_state.GameState.{GameState}
 use Rattle.zk_step.specs.Inputs.{result_answered}
-use Rattle.zk_step.specs.Limited.{limited_next}
+use Rattle.zk_step.specs.Limited.{limited_place}
 use Rattle.zk_step.specs.Restarts.{windows_closed}
 use Rattle.zk_step.specs.Resuming.{resumed}
 use Rattle.zk_step.specs.Routing.{Texts}
 use Rattle.zk_fast.specs.QuietSteps.{IsRefusedAfter, QuietSteps}
 use Rattle.zk_vm.specs.declared.stop.Stop.{Stop}
 use Rattle.zk_vm.specs.declared.stop.Stop.TheVariants as stop
+use Rattle.zk_vm.specs.Answers.{limit_of}
 use Rattle.zk_vm.specs.Halts.{ComesToKeepAt, Halt, IsLeftBy, event_of, halt_by}
 use Rattle.zk_vm.specs.Outcome.{Segment, Session, segment}
 use Rattle.zk_vm.specs.Step.{State, Step, Verdict, verdict_of, state_after}
@@ -31,20 +29,19 @@ stop_by place (refusal.Fault f) = stop.Fault place f
 stop_by place (refusal.Limit l) = stop.Limit place l
 
 -- what becomes of a run where an instruction leads that was finished
-abbrev pub verdict_by : ℕ → Result Next Refusal → Verdict
-verdict_by place (Ok (At next)) = GoesOn
-verdict_by place (Ok _) = StopsBy stop.Quit
+abbrev pub verdict_by : ℕ → Result ℕ Refusal → Verdict
+verdict_by place (Ok next) = GoesOn
 verdict_by place (Err r) = StopsBy (stop_by place r)
 
 -- the place where it leads, the old one where the run does not go on
-abbrev pub place_by : ℕ → Result Next Refusal → ℕ
-place_by place (Ok (At next)) = next
-place_by place _ = place
+abbrev pub place_by : ℕ → Result ℕ Refusal → ℕ
+place_by place (Ok next) = next
+place_by place (Err r) = place
 
 -- the steps that were made then
-abbrev pub steps_by : ℕ → Result Next Refusal → ℕ
-steps_by steps (Ok (At next)) = steps + 1
-steps_by steps _ = steps
+abbrev pub steps_by : ℕ → Result ℕ Refusal → ℕ
+steps_by steps (Ok next) = steps + 1
+steps_by steps (Err r) = steps
 
 -- why a machine has stopped then
 abbrev pub stopped_by : Option Stop → Verdict → Option Stop
@@ -69,19 +66,18 @@ pub record LacksMemory (old new : Session) (answer : Result (Unit {0}) Halt) : T
   pub waiting : new.waiting ≡ None
   pub some : 0 < old.state.game.memory.undo_states
 
--- the limit that a saved game passes, where it is refused for that
-abbrev pub limit_of : RestoreError → Option Limit
-limit_of (restore_error.Limit l) = Some l
-limit_of _ = None
+-- where an instruction leads that restores nothing
+abbrev pub unrestored_by : GameState → Instr → Option Limit → Result (GameState × ℕ) Refusal
+unrestored_by w i None = limited_place (result_answered w i 0 false)
+unrestored_by w i (Some l) = Err (refusal.Limit l)
 
 -- where an instruction leads that restores, by what was loaded
-abbrev pub restored_by : GameState → Instr → Result (MemoryMap × FrameList × ℕ) RestoreError → Result (GameState × Next) Refusal
-restored_by w i (Ok (m, f, place)) = limited_next (resumed (windows_closed (record w { memory = m; frames = f })) place)
-restored_by w i (Err (restore_error.Limit l)) = Err (refusal.Limit l)
-restored_by w i (Err _) = limited_next (result_answered w i 0 false)
+abbrev pub restored_by : GameState → Instr → Result (MemoryMap × FrameList × ℕ) RestoreError → Result (GameState × ℕ) Refusal
+restored_by w i (Ok (m, f, place)) = limited_place (resumed (windows_closed (record w { memory = m; frames = f })) place)
+restored_by w i (Err e) = unrestored_by w i (limit_of e)
 
 -- where an instruction leads that restores a file
-abbrev pub restored_on : GameState → Instr → List ℕ → Result (GameState × Next) Refusal
+abbrev pub restored_on : GameState → Instr → List ℕ → Result (GameState × ℕ) Refusal
 restored_on w i file = restored_by w i (restored file w.memory w.frames)
 
 -- the segment of the steps that a machine has left

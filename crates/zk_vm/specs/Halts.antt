@@ -4,27 +4,18 @@ use Rattle.zk_code.specs.declared.instr.Instr.{Instr}
 use Rattle.zk_code.specs.declared.opcode.Opcode.TheVariants.{Saving}
 use Rattle.zk_code.specs.declared.opcode.Saving.TheVariants.{SaveUndo}
 use Rattle.zk_code.specs.Reading.{instr_at}
-use Rattle.zk_step.specs.declared.ending.Wait.{Wait}
-use Rattle.zk_step.specs.declared.ending.Wait.TheVariants as wait
+use Rattle.zk_step.specs.declared.ending.Event.{Event}
+use Rattle.zk_step.specs.declared.ending.Event.TheVariants as event
 use Rattle.zk_step.specs.declared.game_state.GameState.{GameState}
 use Rattle.zk_step.specs.Routing.{Texts, no_text, on_script, text_joined}
 use Rattle.zk_step.specs.Variables.{operands_read}
 use Rattle.zk_vm.specs.declared.limits.Limits.{Limits}
-use Rattle.zk_vm.specs.declared.stop.Event.{Event}
-use Rattle.zk_vm.specs.declared.stop.Event.TheVariants as event
 use Rattle.zk_vm.specs.declared.stop.Stop.{Stop}
 use Rattle.zk_vm.specs.declared.stop.Stop.TheVariants as stop
 use Rattle.zk_vm.specs.declared.waiting.Waiting.{Waiting}
-use Rattle.zk_vm.specs.Step.{State, Verdict, step, verdict_of, state_after, text_of, is_past_reads}
+use Rattle.zk_vm.specs.Step.{State, Step, Verdict, step, verdict_of, state_after, text_of, is_past_reads}
 use Rattle.zk_vm.specs.Step.Verdict.{GoesOn, WaitsFor, StopsBy}
 use Rattle.zk_vm.specs.Outcome.{Session, Leads, segment_of, ran}
-
--- what is asked for
-abbrev pub event_by : Wait → Event
-event_by (wait.Line text parse) = event.Line
-event_by wait.Char = event.Char
-event_by wait.Save = event.Save
-event_by wait.Restore = event.Restore
 
 -- what ends the steps of a machine: what is asked for, or why it stops
 abbrev pub Halt : Type 0
@@ -33,25 +24,23 @@ Halt = Result Event Stop
 -- a verdict, as the code tells it
 abbrev pub halt_by : Verdict → Result (Unit {0}) Halt
 halt_by GoesOn = Ok tt
-halt_by (WaitsFor w) = Err (Ok (event_by w.wait))
+halt_by (WaitsFor w) = Err (Ok w.wait)
 halt_by (StopsBy stop) = Err (Err stop)
 
 -- how a segment ends, as callers are told
 abbrev pub event_of : Result Waiting Stop → Halt
-event_of (Ok w) = Ok (event_by w.wait)
+event_of (Ok w) = Ok w.wait
 event_of (Err stop) = Err stop
-
--- a line or a character is asked for
-abbrev pub is_read_event : Event → Bool
-is_read_event event.Line = true
-is_read_event event.Char = true
-is_read_event event.Save = false
-is_read_event event.Restore = false
 
 -- what a machine waits for
 abbrev pub event_waited : Option Waiting → Option Event
 event_waited None = None
-event_waited (Some w) = Some (event_by w.wait)
+event_waited (Some w) = Some w.wait
+
+-- a line is waited for
+abbrev pub IsLine : Option Event → Type 0
+IsLine (Some (event.Line text parse)) = Unit {0}
+IsLine _ = ⊥
 
 -- a machine after a step: in the next state, where it waits with what it waits for
 abbrev pub IsLeftAt : Session → Session → Verdict → State → Type 0
@@ -97,13 +86,16 @@ pub record IsKeeping (s taken : State) : Type 0 where
   pub operands : operands_read s.game instruction.operands ≡ Ok (game, values)
   pub beside : taken ≡ record s { game = game }
 
--- a step was made as the Standard's machine makes it, and its text was shown; or it came to keep a state, for which there
--- was no memory
+-- a step was made, and its text was shown
+pub record StepsTo (x : Step) (old new : Session) (answer : Result (Unit {0}) Halt) (Shown : Texts → Type 0) : Type 0 where
+  pub tells : answer ≡ halt_by (verdict_of old.state x)
+  pub left : IsLeftAt old new (verdict_of old.state x) (state_after old.state x)
+  pub shown : Shown (text_of old.state x)
+
+-- a step was made as the Standard's machine makes it; or it came to keep a state, for which there was no memory
 abbrev pub IsStep : Session → Session → Result (Unit {0}) Halt → (Texts → Type 0) → Type 0
 IsStep old new answer Shown =
-    ((answer ≡ halt_by (verdict_of old.state (step old.state)))
-    × IsLeftAt old new (verdict_of old.state (step old.state)) (state_after old.state (step old.state))
-    × Shown (text_of old.state (step old.state)))
+    StepsTo (step old.state) old new answer Shown
     ⊎ ((answer ≡ Err (Err stop.Memory)) × (new.waiting ≡ None) × (IsKeeping old.state new.state × Shown no_text))
 
 -- some steps of a machine lead to an instruction that keeps a state; this is what they show, and the state in which it is

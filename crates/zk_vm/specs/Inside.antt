@@ -10,8 +10,8 @@ use Rattle.zk_code.specs.Clean.{IsClean, leads_by_variable}
 use Rattle.zk_code.specs.Reading.{instr_at}
 use Rattle.zk_save.specs.Loading.{restored}
 use Rattle.zk_save.specs.States.{WholeState}
-use Rattle.zk_step.specs.declared.ending.Wait.{Wait}
-use Rattle.zk_step.specs.declared.ending.Wait.TheVariants.{Restore}
+use Rattle.zk_step.specs.declared.ending.Event.{Event}
+use Rattle.zk_step.specs.declared.ending.Event.TheVariants.{Restore}
 use Rattle.zk_step.specs.declared.game_state.View.{View}
 use Rattle.zk_step.specs.Laws.{KeepsStory, ReturnInto, is_of_reading}
 use Rattle.zk_step.specs.Routing.{Texts}
@@ -53,7 +53,7 @@ found_by_variable (Err f) = false
 unfoldable pub goes_by_variable : State → Bool
 goes_by_variable s = found_by_variable (instr_at s.game.memory s.place)
 
-abbrev pub is_restore : Wait → Bool
+abbrev pub is_restore : Event → Bool
 is_restore Restore = true
 is_restore _ = false
 

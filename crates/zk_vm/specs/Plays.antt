@@ -12,17 +12,17 @@ use Rattle.zk_term.specs.Characters.{line_codes}
 use Rattle.zk_term.specs.Devices.{HasJust, Shows}
 use Rattle.zk_term.specs.Lines.{Heard, heard, ended_lines, MeetsBound, Reading}
 use Rattle.zk_step.specs.Routing.{Texts, text_joined}
-use Rattle.zk_vm.specs.declared.stop.Event.{Event}
-use Rattle.zk_vm.specs.declared.stop.Event.TheVariants as event
+use Rattle.zk_step.specs.declared.ending.Event.{Event}
+use Rattle.zk_step.specs.declared.ending.Event.TheVariants as event
 use Rattle.zk_vm.specs.declared.stop.Stop.{Stop}
 use Rattle.zk_vm.specs.declared.stop.Stop.TheVariants.{EndOfInput, Read, Write, Memory}
 use Rattle.zk_vm.specs.declared.waiting.Waiting.{Waiting}
 use Rattle.zk_vm.specs.Answers.{Answer}
 use Rattle.zk_vm.specs.Answers.Answer.{Typed, GameKept, File}
-use Rattle.zk_vm.specs.Going.{limit_of}
+use Rattle.zk_vm.specs.Answers.{limit_of}
 use Rattle.zk_vm.specs.Halts.{event_of, event_waited, ComesToKeep, IsLeftAs, IsRun, ShowsUpTo}
 use Rattle.zk_vm.specs.Outcome.{Outcome, Session, outcome, segment_of, ran, given, given_all, shown_up_to}
-use Rattle.zk_vm.specs.Step.{saved_place}
+use Rattle.zk_vm.specs.Step.{is_read, saved_place}
 
 -- ---- answers
 
@@ -41,11 +41,11 @@ image_of s = image_by s s.waiting
 
 -- a machine waits for a line or a character
 abbrev pub AsksForLine : Session → Type 0
-AsksForLine s = (event_waited s.waiting ≡ Some event.Line) ⊎ (event_waited s.waiting ≡ Some event.Char)
+AsksForLine s = (event : Event) × ((event_waited s.waiting ≡ Some event) × (is_read event ≡ true))
 
 -- a machine waits for a saved game, to keep it or to restore it
 abbrev pub AsksForFile : Session → Type 0
-AsksForFile s = (event_waited s.waiting ≡ Some event.Save) ⊎ (event_waited s.waiting ≡ Some event.Restore)
+AsksForFile s = (event : Event) × ((event_waited s.waiting ≡ Some event) × (is_read event ≡ false))
 
 -- what a slot tells of itself: the file that it holds, and whether it will keep one, where it tells these; and what led from
 -- one state of it to another: that it was asked to keep a file, that it was asked for the one that it has, and that it was
@@ -125,9 +125,8 @@ IsRunOn old new answer false Shown = IsRun old new answer Shown
 
 -- an answer that asks for no saved game
 abbrev pub AsksForNoFile : Result Event Stop → Type 0
-AsksForNoFile (Ok event.Save) = ⊥
-AsksForNoFile (Ok event.Restore) = ⊥
-AsksForNoFile _ = Unit {0}
+AsksForNoFile (Ok event) = is_read event ≡ true
+AsksForNoFile (Err stop) = Unit {0}
 
 -- how a machine ends its turn, and what it shows last: at a read or at its stop, or for want of memory for a state or a
 -- saved game
@@ -174,9 +173,8 @@ stop_behind Failed = Read
 
 -- why a machine ends that waits, by what it waits for: there is no line, or no memory for a saved game
 abbrev pub stop_waiting : Option Event → Over → Stop
-stop_waiting (Some event.Save) over = Memory
-stop_waiting (Some event.Restore) over = Memory
-stop_waiting _ over = stop_behind over
+stop_waiting None over = stop_behind over
+stop_waiting (Some event) over = if is_read event then stop_behind over else Memory
 
 -- An outcome of a machine's run on answers, after which it finds none; or on its way from the last answer there was no
 -- memory for a state that is to be kept.

@@ -5,9 +5,11 @@ use Rattle.zk_mem.specs.Map.{MemoryMap}
 use Rattle.zk_code.specs.declared.instr.Instr.{Instr}
 use Rattle.zk_code.specs.Reading.{instr_at}
 use Rattle.zk_step.specs.declared.ending.Next.{Next}
-use Rattle.zk_step.specs.declared.ending.Wait.{Wait}
-use Rattle.zk_step.specs.declared.ending.Wait.TheVariants as wait
+use Rattle.zk_step.specs.declared.ending.Event.{Event}
+use Rattle.zk_step.specs.declared.ending.Event.TheVariants as event
 use Rattle.zk_step.specs.declared.ending.Next.TheVariants as next
+use Rattle.zk_step.specs.declared.ending.Request.{Request}
+use Rattle.zk_step.specs.declared.ending.Request.TheVariants as request
 use Rattle.zk_state.specs.declared.refusal.Limit.{Limit}
 use Rattle.zk_state.specs.declared.refusal.Limit.TheVariants.{Reads}
 use Rattle.zk_state.specs.declared.refusal.Refusal.{Refusal}
@@ -35,40 +37,42 @@ pub record State : Type 0 where
   pub due : List ℕ
   pub undo : List WholeState
 
--- A step goes on in a state, waits in one for an answer, or ends the story, and shows some text; or it is a fault, or
--- what it restores has too many frames or words, and it shows none.
+-- A step goes on in a state, or waits in one for an answer, and shows some text; or it ends the story, is a fault, or what
+-- it restores has too many frames or words, and it shows none.
 pub data Step : Type 0 where
   Goes : (state : State) (text : Texts) → Step
   Waits : (state : State) (waiting : Waiting) (text : Texts) → Step
-  Quits : (text : Texts) → Step
+  Quits : Step
   Faults : (fault : Fault) → Step
   Exceeds : (limit : Limit) → Step
+
+-- the step by what was done; a fault is one that ends the run
+abbrev pub step_by : {A : Type 0} → (A → Step) → Result A Fault → Step
+step_by next (Ok done) = next done
+step_by next (Err f) = Faults f
 
 -- ---- reads
 
 -- a read of a line or a character; a saved game is none
-abbrev pub is_read : Wait → Bool
-is_read (wait.Line text parse) = true
-is_read wait.Char = true
-is_read wait.Save = false
-is_read wait.Restore = false
+abbrev pub is_read : Event → Bool
+is_read (event.Line text parse) = true
+is_read event.Char = true
+is_read event.Save = false
+is_read event.Restore = false
 
 -- an instruction that waits has shown what the view shows before a read
-abbrev pub waits_by : State → Instr → Wait → Result (GameState × Texts) Fault → Step
-waits_by s i wait (Ok v) = Waits (record s { game = v.0 }) (record { wait = wait; instruction = i }) v.1
-waits_by s i wait (Err f) = Faults f
+abbrev pub waits_by : State → Instr → Event → Result (GameState × Texts) Fault → Step
+waits_by s i event = step_by (λ shown. Waits (record s { game = shown.0 }) (record { wait = event; instruction = i }) shown.1)
 
 -- the view is shown before a read alone
-abbrev pub view_before : Wait → GameState → Result (GameState × Texts) Fault
-view_before wait w = if is_read wait then viewed w else Ok (w, no_text)
+abbrev pub view_before : Event → GameState → Result (GameState × Texts) Fault
+view_before event w = if is_read event then viewed w else Ok (w, no_text)
 
 -- ---- states to go back to (section 15, `save_undo` and `restore_undo`)
 
 -- where an instruction leads that is finished in silence, with these states to go back to
-abbrev pub goes_to : State → List WholeState → Result (GameState × Next) Fault → Step
-goes_to s undo (Ok (w, next.At place)) = Goes (record s { game = w; place = place; steps = s.steps + 1; undo = undo }) no_text
-goes_to s undo (Ok (w, _)) = Quits no_text
-goes_to s undo (Err f) = Faults f
+abbrev pub goes_to : State → List WholeState → Result (GameState × ℕ) Fault → Step
+goes_to s undo = step_by (λ found. Goes (record s { game = found.0; place = found.1; steps = s.steps + 1; undo = undo }) no_text)
 
 -- where the run goes on from a state that an instruction saves: its branch in version 3, its store byte from version 4
 -- on (Quetzal 1.4, section 5)
@@ -88,23 +92,25 @@ abbrev pub back_to : State → Instr → GameState → Option (MemoryMap × Fram
 back_to s i w None = goes_to s s.undo (result_answered w i 0 false)
 back_to s i w (Some (m, f, place, others)) = goes_to s others (resumed (record w { memory = m; frames = f }) place)
 
--- what an instruction that was carried out leads to; one that waits, or keeps or goes back, has printed nothing
+-- what becomes of an instruction that asks something of the machine; it has printed nothing
+abbrev pub asked : State → Instr → GameState → Request → Step
+asked s i w (request.Answer event) = waits_by s i event (view_before event w)
+asked s i w request.SaveUndo = goes_to s (with_kept s i w) (result_answered w i (kept_answer w.memory.undo_states) true)
+asked s i w request.RestoreUndo = back_to s i w (gone_back s.undo w.memory w.frames)
+asked s i w request.Quit = Quits
+
+-- what an instruction that was carried out leads to
 abbrev pub led_to : State → Instr → GameState → Texts → Next → Step
 led_to s i w text (next.At place) = Goes (record s { game = w; place = place; steps = s.steps + 1 }) text
-led_to s i w text (next.Waits wait) = waits_by s i wait (view_before wait w)
-led_to s i w text next.Keeps = goes_to s (with_kept s i w) (result_answered w i (kept_answer w.memory.undo_states) true)
-led_to s i w text next.Resumes = back_to s i w (gone_back s.undo w.memory w.frames)
-led_to s i w text next.End = Quits text
+led_to s i w text (next.Asks request) = asked s i w request
 
 -- the step that an instruction makes
 abbrev pub settled : State → Instr → Result (GameState × (Next × Texts)) Fault → Step
-settled s i (Ok r) = led_to s i r.0 r.1.1 r.1.0
-settled s i (Err f) = Faults f
+settled s i = step_by (λ done. led_to s i done.0 done.1.1 done.1.0)
 
 -- the step from a state, by the instruction that was fetched
 abbrev pub fetched : State → Result Instr Fault → Step
-fetched s (Ok i) = settled s i (carried_out s.game i)
-fetched s (Err f) = Faults f
+fetched s = step_by (λ i. settled s i (carried_out s.game i))
 
 -- the step from a state: the instruction at its place is carried out
 unfoldable pub step : State → Step
@@ -114,7 +120,7 @@ step s = fetched s (instr_at s.game.memory s.place)
 abbrev pub state_after : State → Step → State
 state_after old (Goes s text) = s
 state_after old (Waits s waiting text) = s
-state_after old (Quits text) = old
+state_after old Quits = old
 state_after old (Faults f) = old
 state_after old (Exceeds l) = old
 
@@ -135,26 +141,32 @@ abbrev pub most_reads : ℕ
 most_reads = 16777216
 
 -- one more read would be too many
-abbrev pub is_past_reads : ℕ → Wait → Bool
-is_past_reads reads wait = is_read wait && nat_le most_reads reads
+abbrev pub is_past_reads : ℕ → Event → Bool
+is_past_reads reads event = is_read event && nat_le most_reads reads
 
--- what becomes of a run at a step from a state
+-- what becomes of a run at a step from a place, after so many reads
+abbrev pub verdict_at : ℕ → ℕ → Step → Verdict
+verdict_at place reads (Goes s text) = goes_by place (within_bounds s.game.frames)
+verdict_at place reads (Waits s waiting text) = if is_past_reads reads waiting.wait then StopsBy (stop.Limit place Reads) else WaitsFor waiting
+verdict_at place reads Quits = StopsBy stop.Quit
+verdict_at place reads (Faults f) = StopsBy (stop.Fault place f)
+verdict_at place reads (Exceeds l) = StopsBy (stop.Limit place l)
+
 abbrev pub verdict_of : State → Step → Verdict
-verdict_of old (Goes s text) = goes_by old.place (within_bounds s.game.frames)
-verdict_of old (Waits s waiting text) = if is_past_reads old.reads waiting.wait then StopsBy (stop.Limit old.place Reads) else WaitsFor waiting
-verdict_of old (Quits text) = StopsBy stop.Quit
-verdict_of old (Faults f) = StopsBy (stop.Fault old.place f)
-verdict_of old (Exceeds l) = StopsBy (stop.Limit old.place l)
+verdict_of old x = verdict_at old.place old.reads x
 
 -- a text, unless frames or words are too many
 abbrev pub text_within : Result FrameList Refusal → Texts → Texts
 text_within (Ok s) text = text
 text_within (Err e) text = no_text
 
--- what a run shows of a step: nothing where it would pass a limit
+-- what a run shows of a step, after so many reads: nothing where it would pass a limit
+abbrev pub text_at : ℕ → Step → Texts
+text_at reads (Goes s text) = text_within (within_bounds s.game.frames) text
+text_at reads (Waits s waiting text) = if is_past_reads reads waiting.wait then no_text else text
+text_at reads Quits = no_text
+text_at reads (Faults f) = no_text
+text_at reads (Exceeds l) = no_text
+
 abbrev pub text_of : State → Step → Texts
-text_of old (Goes s text) = text_within (within_bounds s.game.frames) text
-text_of old (Waits s waiting text) = if is_past_reads old.reads waiting.wait then no_text else text
-text_of old (Quits text) = text
-text_of old (Faults f) = no_text
-text_of old (Exceeds l) = no_text
+text_of old x = text_at old.reads x

@@ -6,20 +6,19 @@ ghost use Rattle.zk_text.specs.Extra.{is_input_code};
 ghost use Rattle.zk_state.specs.Frames.{IsBounded, bounds_of};
 ghost use Rattle.zk_code.specs.Reading.{instr_at};
 ghost use Rattle.zk_vm.specs.Bounds.{AreInRange};
-ghost use Rattle.zk_vm.specs.Answers.{truth_word};
+ghost use Rattle.zk_vm.specs.Answers.{limit_of, truth_word};
 ghost use Rattle.zk_vm.specs.Answers.Answer.{Typed, GameKept, File};
-ghost use Rattle.zk_vm.specs.Going.{IsAhead, limit_of, stop_by, verdict_by, place_by, steps_by, stopped_by, restored_on, Settles, LacksMemory, IsHalted};
-ghost use Rattle.zk_vm.specs.Halts.{ComesToKeep, IsLeftAs, IsLeftBy, IsRun, IsStep, IsCutOff, LeadsOn, ShowsLast, StopsAtOnce, event_by, event_waited, halt_by, is_read_event};
+ghost use Rattle.zk_vm.specs.Going.{IsAhead, stop_by, verdict_by, place_by, steps_by, stopped_by, restored_on, Settles, LacksMemory, IsHalted};
+ghost use Rattle.zk_vm.specs.Halts.{ComesToKeep, IsLeftAs, IsLeftBy, IsRun, IsStep, IsCutOff, LeadsOn, IsLine, ShowsLast, StopsAtOnce, event_waited, halt_by};
 ghost use Rattle.zk_vm.specs.Laws.{IsWithin};
 ghost use Rattle.zk_vm.specs.Outcome.{begun, first_game, given, segment, with_stop};
 ghost use Rattle.zk_save.specs.Loading.{restored};
 ghost use Rattle.zk_vm.specs.Plays.{image_of, refused_in};
-ghost use Rattle.zk_vm.specs.Step.{is_read, led_to, text_of};
-ghost use Rattle.zk_step.specs.Routing.{no_text};
+ghost use Rattle.zk_vm.specs.Step.{asked, is_read, text_of};
 
 use crate::limits::Limits;
 use crate::screen::Screen;
-use crate::stop::{Event, Stop};
+use crate::stop::Stop;
 use crate::transcript::{script_all, transcribe};
 use crate::waiting::{Halt, Waiting};
 use arrayvec::ArrayVec;
@@ -37,7 +36,7 @@ use zk_save::undo::Undo;
 use zk_state::frames::Frames;
 use zk_state::refusal::{Limit, Refusal};
 use zk_step::codes::Codes;
-use zk_step::ending::{Next, Wait};
+use zk_step::ending::{Event, Next, Request};
 use zk_step::game_state::{GameState, View};
 use zk_step::inputs::{answer_character, answer_line, answer_result};
 use zk_step::instruction::carry_out;
@@ -190,11 +189,41 @@ impl Machine {
                 self.steps += 1;
                 Ok(())
             }
-            Ok(Next::Waits(wait)) => self.wait_for(wait, i, screen),
-            Ok(Next::Keeps) => self.keep(&i),
-            Ok(Next::Resumes) => self.go_back(&i),
-            Ok(Next::End) => halt(&mut self.stopped, Stop::Quit),
+            Ok(Next::Asks(request)) => self.meet(request, i, screen),
             Err(refusal) => halt(&mut self.stopped, stop_at(self.place, refusal)),
+        }
+    }
+
+    /// Does what an instruction asks for.
+    fn meet<S: Screen>(
+        &mut self,
+        request: Request,
+        i: Instr,
+        screen: &mut S,
+    ) -> Result<(), Halt>
+        requires room { self.old.state.steps < self.old.limits.steps }
+        requires free { self.old.waiting ≡ None }
+        requires runs { self.old.stopped ≡ None }
+        requires silent { self.old.state.due ≡ [] }
+        requires near { i.next ≤ 2 ^ 20 }
+        requires inside { self.old.state.place < i.next }
+        ensures step { Settles self.old self.new result
+            (asked self.old.state i self.old.state.game request)
+            ⊎ ((request ≡ Request.SaveUndo) × LacksMemory self.old self.new result) }
+        ensures text { S.shows screen.old screen.new
+            (text_of self.old.state (asked self.old.state i self.old.state.game request)).screen
+            (text_of self.old.state (asked self.old.state i self.old.state.game request)).script }
+        ensures counted { OnOk result (self.new.state.steps ≡ self.old.state.steps + 1) }
+        ensures silent { OnOk result (self.new.state.due ≡ self.old.state.due) }
+        ensures reads { self.new.state.reads ≡ self.old.state.reads }
+        ensures more { self.old.state.steps ≤ self.new.state.steps }
+        ensures limits { self.new.limits ≡ self.old.limits }
+    {
+        match request {
+            Request::Answer(event) => self.wait_for(event, i, screen),
+            Request::SaveUndo => self.keep(&i),
+            Request::RestoreUndo => self.go_back(&i),
+            Request::Quit => halt(&mut self.stopped, Stop::Quit),
         }
     }
 
@@ -207,7 +236,7 @@ impl Machine {
         requires near { i.now.next ≤ 2 ^ 20 }
         requires inside { self.old.state.place < i.now.next }
         ensures step { Settles self.old self.new result
-            (led_to self.old.state i.now self.old.state.game no_text Next.Keeps)
+            (asked self.old.state i.now self.old.state.game Request.SaveUndo)
             ⊎ LacksMemory self.old self.new result }
         ensures counted { OnOk result (self.new.state.steps ≡ self.old.state.steps + 1) }
         ensures silent { OnOk result (self.new.state.due ≡ self.old.state.due) }
@@ -235,9 +264,8 @@ impl Machine {
         requires room { self.old.state.steps < self.old.limits.steps }
         requires free { self.old.waiting ≡ None }
         requires runs { self.old.stopped ≡ None }
-        requires near { i.now.next ≤ 2 ^ 20 }
         ensures step { Settles self.old self.new result
-            (led_to self.old.state i.now self.old.state.game no_text Next.Resumes) }
+            (asked self.old.state i.now self.old.state.game Request.RestoreUndo) }
         ensures counted { OnOk result (self.new.state.steps ≡ self.old.state.steps + 1) }
         ensures silent { OnOk result (self.new.state.due ≡ self.old.state.due) }
         ensures reads { self.new.state.reads ≡ self.old.state.reads }
@@ -259,7 +287,7 @@ impl Machine {
     /// Waits for an answer: for a read after the view.
     fn wait_for<S: Screen>(
         &mut self,
-        wait: Wait,
+        event: Event,
         instruction: Instr,
         screen: &mut S,
     ) -> Result<(), Halt>
@@ -270,28 +298,31 @@ impl Machine {
         requires near { instruction.next ≤ 2 ^ 20 }
         requires inside { self.old.state.place < instruction.next }
         ensures step { Settles self.old self.new result
-            (led_to self.old.state instruction self.old.state.game no_text (Next.Waits wait)) }
+            (asked self.old.state instruction self.old.state.game (Request.Answer event)) }
         ensures text { S.shows screen.old screen.new (text_of self.old.state
-            (led_to self.old.state instruction self.old.state.game no_text
-            (Next.Waits wait))).screen (text_of self.old.state
-            (led_to self.old.state instruction self.old.state.game no_text
-            (Next.Waits wait))).script }
+            (asked self.old.state instruction self.old.state.game
+            (Request.Answer event))).screen (text_of self.old.state
+            (asked self.old.state instruction self.old.state.game
+            (Request.Answer event))).script }
         ensures waits { OnOk result ⊥ }
         ensures reads { self.new.state.reads ≡ self.old.state.reads }
         ensures more { self.old.state.steps ≤ self.new.state.steps }
         ensures limits { self.new.limits ≡ self.old.limits }
     {
-        if is_read(wait) {
-            return self.wait_after_view(wait, instruction, screen);
+        if is_read(event) {
+            return self.wait_after_view(event, instruction, screen);
         }
-        self.waiting = Some(Waiting { wait, instruction });
-        Err(Ok(asked_by(wait)))
+        self.waiting = Some(Waiting {
+            wait: event,
+            instruction,
+        });
+        Err(Ok(event))
     }
 
     /// Shows the view and waits for a line or a character, where there may be one more read.
     fn wait_after_view<S: Screen>(
         &mut self,
-        wait: Wait,
+        event: Event,
         instruction: Instr,
         screen: &mut S,
     ) -> Result<(), Halt>
@@ -301,14 +332,14 @@ impl Machine {
         requires silent { self.old.state.due ≡ [] }
         requires near { instruction.next ≤ 2 ^ 20 }
         requires inside { self.old.state.place < instruction.next }
-        requires read { is_read wait ≡ true }
+        requires read { is_read event ≡ true }
         ensures step { Settles self.old self.new result
-            (led_to self.old.state instruction self.old.state.game no_text (Next.Waits wait)) }
+            (asked self.old.state instruction self.old.state.game (Request.Answer event)) }
         ensures text { S.shows screen.old screen.new (text_of self.old.state
-            (led_to self.old.state instruction self.old.state.game no_text
-            (Next.Waits wait))).screen (text_of self.old.state
-            (led_to self.old.state instruction self.old.state.game no_text
-            (Next.Waits wait))).script }
+            (asked self.old.state instruction self.old.state.game
+            (Request.Answer event))).screen (text_of self.old.state
+            (asked self.old.state instruction self.old.state.game
+            (Request.Answer event))).script }
         ensures waits { OnOk result ⊥ }
         ensures reads { self.new.state.reads ≡ self.old.state.reads }
         ensures more { self.old.state.steps ≤ self.new.state.steps }
@@ -322,8 +353,11 @@ impl Machine {
             return halt(&mut self.stopped, Stop::Limit(self.place, Limit::Reads));
         }
         show_view(&mut self.game, screen);
-        self.waiting = Some(Waiting { wait, instruction });
-        Err(Ok(asked_by(wait)))
+        self.waiting = Some(Waiting {
+            wait: event,
+            instruction,
+        });
+        Err(Ok(event))
     }
 
     /// One step.
@@ -413,7 +447,7 @@ impl Machine {
         ensures free { OnErr result (self.new.waiting ≡ None) }
         ensures asks { IfOk result (λ event. event_waited self.new.waiting ≡ Some event) }
         ensures reads { IfOk result
-            (λ event. is_read_event event ≡ true → self.new.state.reads < 16777216) }
+            (λ event. is_read event ≡ true → self.new.state.reads < 16777216) }
         ensures same_reads { OnOk result (self.new.state.reads ≡ self.old.state.reads) }
         ensures steps { OnOk result ((self.old.state.steps ≤ self.new.state.steps)
             × (self.new.state.steps < self.new.limits.steps)) }
@@ -451,7 +485,7 @@ impl Machine {
         ensures { result ≡ event_waited self.now.waiting }
     {
         match &self.waiting {
-            Some(waiting) => Some(asked_by(waiting.wait)),
+            Some(waiting) => Some(waiting.wait),
             None => None,
         }
     }
@@ -460,7 +494,7 @@ impl Machine {
     /// parse buffer (Z-Machine Standards Document 1.1, section 15, `read`). A fault or a limit comes from the
     /// next `run`. The machine waits for a line.
     pub fn answer_line(&mut self, codes: &[u8])
-        requires waits { event_waited self.old.waiting ≡ Some Event.Line }
+        requires waits { IsLine (event_waited self.old.waiting) }
         requires few { length codes.now ≤ 255 }
         requires typed { AllByRecursion (λ c. is_input_code c ≡ true) codes.now }
         ensures left { IsLeftAs self.new (given self.old (Typed codes.now))
@@ -474,7 +508,7 @@ impl Machine {
         let Some(waiting) = self.waiting.take() else {
             return;
         };
-        if let Wait::Line(text, parse) = waiting.wait {
+        if let Event::Line(text, parse) = waiting.wait {
             self.due = transcribe(&self.game, text, codes);
             let words = self.cache.words();
             let i = &waiting.instruction;
@@ -622,25 +656,13 @@ impl Machine {
     }
 }
 
-/// What is asked for by a read.
-fn asked_by(wait: Wait) -> Event
-    ensures { result ≡ event_by wait }
-{
-    match wait {
-        Wait::Line(_, _) => Event::Line,
-        Wait::Char => Event::Char,
-        Wait::Save => Event::Save,
-        Wait::Restore => Event::Restore,
-    }
-}
-
 /// Whether a line or a character is waited for.
-fn is_read(wait: Wait) -> bool
-    ensures { result ≡ is_read wait }
+pub(crate) fn is_read(event: Event) -> bool
+    ensures { result ≡ is_read event }
 {
-    match wait {
-        Wait::Line(_, _) | Wait::Char => true,
-        Wait::Save | Wait::Restore => false,
+    match event {
+        Event::Line(_, _) | Event::Char => true,
+        Event::Save | Event::Restore => false,
     }
 }
 
@@ -692,7 +714,7 @@ fn go_on(
     place: &mut u32,
     steps: &mut u32,
     stopped: &mut Option<Stop>,
-    led: Result<Next, Refusal>,
+    led: Result<u32, Refusal>,
 ) -> Result<(), Halt>
     requires { steps.old + 1 < 2 ^ 32 }
     ensures value { result ≡ halt_by (verdict_by place.old led) }
@@ -702,12 +724,11 @@ fn go_on(
     ensures stopped { stopped.new ≡ stopped_by stopped.old (verdict_by place.old led) }
 {
     match led {
-        Ok(Next::At(next)) => {
+        Ok(next) => {
             *place = next;
             *steps += 1;
             Ok(())
         }
-        Ok(_) => halt(stopped, Stop::Quit),
         Err(refusal) => halt(stopped, stop_at(*place, refusal)),
     }
 }
@@ -723,13 +744,12 @@ fn count_read(reads: &mut u32, steps: &mut u32)
 }
 
 /// Goes on where the answer to a read leads, or stops.
-fn follow(place: &mut u32, stopped: &mut Option<Stop>, answered: Result<Next, Refusal>)
+fn follow(place: &mut u32, stopped: &mut Option<Stop>, answered: Result<u32, Refusal>)
     ensures place { place.new ≡ place_by place.old answered }
     ensures stopped { stopped.new ≡ stopped_by stopped.old (verdict_by place.old answered) }
 {
     match answered {
-        Ok(Next::At(next)) => *place = next,
-        Ok(_) => *stopped = Some(Stop::Quit),
+        Ok(next) => *place = next,
         Err(refusal) => *stopped = Some(stop_at(*place, refusal)),
     }
 }
@@ -750,10 +770,9 @@ fn limit_in(error: RestoreError) -> Option<Limit>
 
 /// Restores a saved game and goes on where it was saved; where it is refused the answer is 0, or a falsehood.
 #[tactic(auto, unfolding(zk_step::specs::Restarts::windows_closed))]
-fn restore_from(game: &mut GameState, i: &Instr, file: &[u8]) -> Result<Next, Refusal>
-    requires { i.now.next ≤ 2 ^ 20 }
+fn restore_from(game: &mut GameState, i: &Instr, file: &[u8]) -> Result<u32, Refusal>
     ensures value { MatchResult result
-        (λ n. restored_on game.old i.now file.now ≡ Ok (game.new, n))
+        (λ at. restored_on game.old i.now file.now ≡ Ok (game.new, at))
         (λ e. restored_on game.old i.now file.now ≡ Err e) }
     ensures bounds { bounds_of game.new.frames ≡ bounds_of game.old.frames }
 {

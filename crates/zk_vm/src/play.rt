@@ -8,18 +8,20 @@ ghost use Rattle.zk_term.specs.declared.lines.Over.{Over};
 ghost use Rattle.zk_term.specs.Lines.{Hears, FailsAlone, HasInputCodes, IsOverAfter, MeetsBound, ReadFailed, over_input};
 ghost use Rattle.zk_vm.specs.Answers.{first_code};
 ghost use Rattle.zk_vm.specs.Answers.Answer.{Typed};
-ghost use Rattle.zk_vm.specs.Halts.{IsLeftAs, event_waited, is_read_event};
+ghost use Rattle.zk_vm.specs.Halts.{IsLeftAs, event_waited};
+ghost use Rattle.zk_vm.specs.Step.{is_read};
 ghost use Rattle.zk_vm.specs.Laws.{IsWithin};
 ghost use Rattle.zk_vm.specs.Outcome.{given, with_stop};
 ghost use Rattle.zk_vm.specs.Plays.{AsksForFile, AreSlotAnswers, IsRunOn, IsServed, IsTold, IsTurn, TookTexts, IsPlay, IsPlayed, IsAnswered, refused_in, slot_tells, source_tells};
 ghost use Rattle.zk_save.specs.Loading.{restored};
 
 use crate::console::Console;
-use crate::machine::Machine;
+use crate::machine::{Machine, is_read};
 use crate::screen::Screen;
 use crate::slot::SaveSlot;
-use crate::stop::{Event, Stop};
+use crate::stop::Stop;
 use std::alloc::{AllocError, Global};
+use zk_step::ending::Event;
 use zk_term::lines::{Input, Lines};
 use zk_term::source::Source;
 use zk_term::target::Target;
@@ -34,7 +36,7 @@ fn serve<K: SaveSlot>(
     event: Event,
 ) -> Result<(), Stop>
     requires waits { event_waited machine.old.waiting ≡ Some event }
-    requires file { is_read_event event ≡ false }
+    requires file { is_read event ≡ false }
     ensures served { OnOk result
         (IsServed (slot_tells K.held K.keeps K.puts K.gets K.hears) slot.old slot.new machine.old machine.new) }
     ensures free { machine.new.waiting ≡ None }
@@ -50,7 +52,7 @@ fn serve<K: SaveSlot>(
     let served = match event {
         Event::Save => keep(alloc, slot, machine),
         Event::Restore => bring(alloc, slot, machine),
-        Event::Line | Event::Char => return Ok(()),
+        Event::Line(_, _) | Event::Char => return Ok(()),
     };
     match served {
         Ok(()) => Ok(()),
@@ -144,7 +146,7 @@ pub fn run_on<S: Target, T: Target>(
     ensures free_again { OnErr result (machine.new.waiting ≡ None) }
     ensures asks { IfOk result (λ event. event_waited machine.new.waiting ≡ Some event) }
     ensures reads { IfOk result
-        (λ event. is_read_event event ≡ true → machine.new.state.reads < 16777216) }
+        (λ event. is_read event ≡ true → machine.new.state.reads < 16777216) }
     ensures same_reads { OnOk result (machine.new.state.reads ≡ machine.old.state.reads) }
     ensures steps { OnOk result ((machine.old.state.steps ≤ machine.new.state.steps)
         × (machine.new.state.steps < machine.new.limits.steps)) }
@@ -186,7 +188,7 @@ pub fn turn<S: Target, T: Target, K: SaveSlot>(
         (T.taken script.new) (S.failed screen.new || T.failed script.new)) }
     ensures free_again { OnErr result (machine.new.waiting ≡ None) }
     ensures asks { IfOk result
-        (λ event. (event_waited machine.new.waiting ≡ Some event) × (is_read_event event ≡ true)) }
+        (λ event. (event_waited machine.new.waiting ≡ Some event) × (is_read event ≡ true)) }
     ensures reads { OnOk result (machine.new.state.reads < 16777216) }
     ensures same_reads { OnOk result (machine.new.state.reads ≡ machine.old.state.reads) }
     ensures runs { OnOk result (machine.new.stopped ≡ None) }
@@ -196,13 +198,15 @@ pub fn turn<S: Target, T: Target, K: SaveSlot>(
     ensures within { IsWithin machine.new.limits machine.new.state }
 {
     loop {
-        match run_on(screen, script, machine) {
-            Ok(Event::Line) => return Ok(Event::Line),
-            Ok(Event::Char) => return Ok(Event::Char),
-            Ok(event) => match serve(alloc, slot, machine, event) {
-                Ok(()) => {}
-                Err(stop) => return Err(stop),
-            },
+        let event = match run_on(screen, script, machine) {
+            Ok(event) => event,
+            Err(stop) => return Err(stop),
+        };
+        if is_read(event) {
+            return Ok(event);
+        }
+        match serve(alloc, slot, machine, event) {
+            Ok(()) => {}
             Err(stop) => return Err(stop),
         }
     }
@@ -245,7 +249,7 @@ fn first_of(codes: &[u8]) -> u8
 /// Answers a read by the codes of a line.
 fn answer(machine: &mut Machine, event: Event, codes: &[u8])
     requires waits { event_waited machine.old.waiting ≡ Some event }
-    requires reads { is_read_event event ≡ true }
+    requires reads { is_read event ≡ true }
     requires few { length codes.now ≤ 255 }
     requires typed { AllByRecursion (λ c. is_input_code c ≡ true) codes.now }
     ensures left { IsLeftAs machine.new (given machine.old (Typed codes.now))
@@ -256,7 +260,7 @@ fn answer(machine: &mut Machine, event: Event, codes: &[u8])
     ensures limits { machine.new.limits ≡ machine.old.limits }
 {
     match event {
-        Event::Line => machine.answer_line(codes),
+        Event::Line(_, _) => machine.answer_line(codes),
         Event::Char => machine.answer_char(first_of(codes)),
         Event::Save | Event::Restore => {}
     }

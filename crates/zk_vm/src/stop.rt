@@ -1,4 +1,4 @@
-// Why a machine stops, or waits.
+// Why a machine stops.
 
 use zk_mem::fault::Fault;
 use zk_state::refusal::Limit;
@@ -20,17 +20,4 @@ pub enum Stop {
     Write,
     /// There is no memory for a state that is kept or for a saved game.
     Memory,
-}
-
-/// What a machine waits for.
-#[derive(Clone, Copy, PartialEq, Eq, Drop)]
-pub enum Event {
-    /// A line of input.
-    Line,
-    /// A character of input.
-    Char,
-    /// Whether a save is kept.
-    Save,
-    /// A file to restore, or none.
-    Restore,
 }

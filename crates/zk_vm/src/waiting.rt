@@ -1,14 +1,14 @@
 // What a machine waits for.
 
-use crate::stop::{Event, Stop};
+use crate::stop::Stop;
 use zk_code::instr::Instr;
-use zk_step::ending::Wait;
+use zk_step::ending::Event;
 
 /// A read that waits for its answer.
 #[derive(Drop)]
 pub(crate) struct Waiting {
     /// What it waits for.
-    pub(crate) wait: Wait,
+    pub(crate) wait: Event,
     /// The instruction that waits, which the answer completes.
     pub(crate) instruction: Instr,
 }

@@ -1,4 +1,4 @@
-use Rattle.std.proofs.Common.{◌∙◌, inl, inr, ap, refl}
+use Rattle.std.proofs.Common.{◌∙◌, inl, inr, ap, refl, sym}
 use Rattle.zk_vm.proofs.Playing.{turn_begins, turn_served, turn_ends, run_asks, run_reads, run_lacks, run_stops, either_false, fewer_steps, ran_asks}
 use Rattle.zk_vm.proofs.play.turn.Goals as goal
 
@@ -12,31 +12,18 @@ loop-event-init g c = record {
   so_far = turn_begins _ _ _ _ _;
 }
 
-pub returns-in-Ok-Line-clause-turn : goal.returns-in-Ok-Line-clause-turn
-returns-in-Ok-Line-clause-turn g c =
-    let r = run_reads _ c.loop-event.machine c.run_on.new.machine _ _ refl (rw c.in-Ok-Line.field-0-is at c.in-Ok-Line.ensures.run) in
+pub returns-then-is_read-clause-turn : goal.returns-then-is_read-clause-turn
+returns-then-is_read-clause-turn g c =
+    let r = run_reads _ c.loop-event.machine c.run_on.new.machine _ _ (sym c.is_read.ensures ∙ c.if-is_read.true) c.in-Ok.ensures.run in
     turn_ends _ _ c.loop-event.machine c.run_on.new.machine _ _ _ _ _ _ _ _ _ _ _ r.text c.loop-event.invariant.so_far (inl refl) r.ends r.left r.shown.0 r.shown.1
 
-pub returns-in-Ok-Line-clause-same_reads : goal.returns-in-Ok-Line-clause-same_reads
-returns-in-Ok-Line-clause-same_reads g c =
-    let r = run_asks _ c.loop-event.machine c.run_on.new.machine _ _ c.in-Ok-Line.ensures.run in
-    c.in-Ok-Line.ensures.same_reads ∙ c.loop-event.invariant.reads r.3
+pub returns-then-is_read-clause-same_reads : goal.returns-then-is_read-clause-same_reads
+returns-then-is_read-clause-same_reads g c =
+    let r = run_asks _ c.loop-event.machine c.run_on.new.machine _ _ c.in-Ok.ensures.run in
+    c.in-Ok.ensures.same_reads ∙ c.loop-event.invariant.reads r.3
 
-pub returns-in-Ok-Line-clause-limits : goal.returns-in-Ok-Line-clause-limits
-returns-in-Ok-Line-clause-limits g c = c.in-Ok-Line.ensures.limits ∙ c.loop-event.invariant.limits
-
-pub returns-in-Ok-Char-clause-turn : goal.returns-in-Ok-Char-clause-turn
-returns-in-Ok-Char-clause-turn g c =
-    let r = run_reads _ c.loop-event.machine c.run_on.new.machine _ _ refl (rw c.in-Ok-Char.field-0-is at c.in-Ok-Char.ensures.run) in
-    turn_ends _ _ c.loop-event.machine c.run_on.new.machine _ _ _ _ _ _ _ _ _ _ _ r.text c.loop-event.invariant.so_far (inl refl) r.ends r.left r.shown.0 r.shown.1
-
-pub returns-in-Ok-Char-clause-same_reads : goal.returns-in-Ok-Char-clause-same_reads
-returns-in-Ok-Char-clause-same_reads g c =
-    let r = run_asks _ c.loop-event.machine c.run_on.new.machine _ _ c.in-Ok-Char.ensures.run in
-    c.in-Ok-Char.ensures.same_reads ∙ c.loop-event.invariant.reads r.3
-
-pub returns-in-Ok-Char-clause-limits : goal.returns-in-Ok-Char-clause-limits
-returns-in-Ok-Char-clause-limits g c = c.in-Ok-Char.ensures.limits ∙ c.loop-event.invariant.limits
+pub returns-then-is_read-clause-limits : goal.returns-then-is_read-clause-limits
+returns-then-is_read-clause-limits g c = c.in-Ok.ensures.limits ∙ c.loop-event.invariant.limits
 
 pub loop-event-smaller : goal.loop-event-smaller
 loop-event-smaller g c =

@@ -1,5 +1,5 @@
 use Rattle.std.proofs.Common.{sym}
-use Rattle.zk_vm.proofs.Answering.{file_restored, none_restored}
+use Rattle.zk_vm.proofs.Answering.{file_restored, no_file_restored}
 use Rattle.zk_vm.proofs.machine.Machine.answer_restore.Goals as goal
 
 pub invariant_of-self-in-Some-file : goal.invariant_of-self-in-Some-file
@@ -22,7 +22,7 @@ pub invariant_of-self-in-None : goal.invariant_of-self-in-None
 invariant_of-self-in-None c =
     let waits = sym c.in-Some.ensures.value in
     let asked = rw (← c.self.view_is) at c.requires.waits in
-    let both = none_restored c.self.inside c.in-Some.waiting c.answer_result-answered.result c.answer_result-answered.new.game c.go_on-in-None.new.place c.go_on-in-None.new.steps c.go_on-in-None.new.stopped c.self.invariant waits asked
+    let both = no_file_restored c.self.inside c.in-Some.waiting c.answer_result-answered.result c.answer_result-answered.new.game c.go_on-in-None.new.place c.go_on-in-None.new.steps c.go_on-in-None.new.stopped c.self.invariant waits asked
     c.answer_result-answered.ensures.value c.answer_result-answered.ensures.bounds c.go_on-in-None.ensures.place c.go_on-in-None.ensures.steps c.go_on-in-None.ensures.stopped in
     rw c.in-Some.ensures.after both.0
 
@@ -30,6 +30,6 @@ pub returns-in-None-clause-left : goal.returns-in-None-clause-left
 returns-in-None-clause-left c =
     let waits = sym c.in-Some.ensures.value in
     let asked = rw (← c.self.view_is) at c.requires.waits in
-    let both = none_restored c.self.inside c.in-Some.waiting c.answer_result-answered.result c.answer_result-answered.new.game c.go_on-in-None.new.place c.go_on-in-None.new.steps c.go_on-in-None.new.stopped c.self.invariant waits asked
+    let both = no_file_restored c.self.inside c.in-Some.waiting c.answer_result-answered.result c.answer_result-answered.new.game c.go_on-in-None.new.place c.go_on-in-None.new.steps c.go_on-in-None.new.stopped c.self.invariant waits asked
     c.answer_result-answered.ensures.value c.answer_result-answered.ensures.bounds c.go_on-in-None.ensures.place c.go_on-in-None.ensures.steps c.go_on-in-None.ensures.stopped in
     rw (c.in-Some.ensures.after, ← c.self.view_is, c.in-None.is) both.1
