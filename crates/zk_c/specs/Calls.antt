@@ -5,8 +5,8 @@ use Rattle.zk_text.specs.Extra.{own_characters}
 use Rattle.zk_term.specs.Devices.{Device, Shows}
 use Rattle.zk_step.specs.declared.game_state.View.{View}
 use Rattle.zk_vm.specs.declared.limits.Limits.{Limits}
-use Rattle.zk_vm.specs.declared.stop.Event.{Event}
-use Rattle.zk_vm.specs.declared.stop.Event.TheVariants.{Line, Char, Save, Restore}
+use Rattle.zk_step.specs.declared.ending.Event.{Event}
+use Rattle.zk_step.specs.declared.ending.Event.TheVariants.{Line, Char, Save, Restore}
 use Rattle.zk_vm.specs.declared.stop.Stop.{Stop}
 use Rattle.zk_vm.specs.declared.stop.Stop.TheVariants.{Write}
 use Rattle.zk_vm.specs.Answers.{Answer}
@@ -72,7 +72,7 @@ IsGivenUnless (Some r) old new result a = (result ≡ Err r) × (new ≡ old)
 
 -- why a line is refused, by what is waited for
 abbrev pub line_refused : Option Event → List ℕ → Option Refusal
-line_refused (Some Line) line = if is_line line then None else Some refused.NotALine
+line_refused (Some (Line text parse)) line = if is_line line then None else Some refused.NotALine
 line_refused (Some Char) line = Some refused.NotAwaited
 line_refused (Some Save) line = Some refused.NotAwaited
 line_refused (Some Restore) line = Some refused.NotAwaited
@@ -81,21 +81,21 @@ line_refused None line = Some refused.NotAwaited
 -- why the answers to other events are
 abbrev pub character_refused : Option Event → Option Refusal
 character_refused (Some Char) = None
-character_refused (Some Line) = Some refused.NotAwaited
+character_refused (Some (Line text parse)) = Some refused.NotAwaited
 character_refused (Some Save) = Some refused.NotAwaited
 character_refused (Some Restore) = Some refused.NotAwaited
 character_refused None = Some refused.NotAwaited
 
 abbrev pub save_refused : Option Event → Option Refusal
 save_refused (Some Save) = None
-save_refused (Some Line) = Some refused.NotAwaited
+save_refused (Some (Line text parse)) = Some refused.NotAwaited
 save_refused (Some Char) = Some refused.NotAwaited
 save_refused (Some Restore) = Some refused.NotAwaited
 save_refused None = Some refused.NotAwaited
 
 abbrev pub restore_refused : Option Event → Option Refusal
 restore_refused (Some Restore) = None
-restore_refused (Some Line) = Some refused.NotAwaited
+restore_refused (Some (Line text parse)) = Some refused.NotAwaited
 restore_refused (Some Char) = Some refused.NotAwaited
 restore_refused (Some Save) = Some refused.NotAwaited
 restore_refused None = Some refused.NotAwaited

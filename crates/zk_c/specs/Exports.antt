@@ -5,7 +5,7 @@ use Rattle.zk_mem.specs.Story.{refusal, refusal_number}
 use Rattle.zk_step.specs.declared.game_state.View.{View}
 use Rattle.zk_step.specs.declared.game_state.View.TheVariants.{Plain, Upper}
 use Rattle.zk_vm.specs.declared.limits.Limits.{Limits}
-use Rattle.zk_vm.specs.declared.stop.Event.{Event}
+use Rattle.zk_step.specs.declared.ending.Event.{Event}
 use Rattle.zk_vm.specs.declared.stop.Stop.{Stop}
 use Rattle.zk_vm.specs.declared.stop.Stop.TheVariants.{Write}
 use Rattle.zk_vm.specs.Answers.{Answer}

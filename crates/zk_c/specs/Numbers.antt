@@ -2,8 +2,8 @@
 use Rattle.std.specs.Prelude.{ℕ, Option, Some, None, Result, Ok, Err}
 use Rattle.zk_mem.specs.Faults.{fault_number}
 use Rattle.zk_state.specs.Limits.{limit_number}
-use Rattle.zk_vm.specs.declared.stop.Event.{Event}
-use Rattle.zk_vm.specs.declared.stop.Event.TheVariants.{Line, Char, Save, Restore}
+use Rattle.zk_step.specs.declared.ending.Event.{Event}
+use Rattle.zk_step.specs.declared.ending.Event.TheVariants.{Line, Char, Save, Restore}
 use Rattle.zk_vm.specs.declared.stop.Stop.{Stop}
 use Rattle.zk_vm.specs.declared.stop.Stop.TheVariants.{Quit, Fault, Limit, EndOfInput, Read, Write, Memory}
 use Rattle.zk_c.specs.declared.play.Refusal.{Refusal}
@@ -11,7 +11,7 @@ use Rattle.zk_c.specs.declared.play.Refusal.TheVariants as refused
 
 -- what a turn asks for; 0 where the story has stopped
 abbrev pub event_number : Event → ℕ
-event_number Line = 1
+event_number (Line text parse) = 1
 event_number Char = 2
 event_number Save = 3
 event_number Restore = 4

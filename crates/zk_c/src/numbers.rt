@@ -4,14 +4,15 @@ ghost use Rattle.std.specs.Prelude.{◌≡◌};
 ghost use Rattle.zk_c.specs.Numbers.{address_number, event_number, reason_number, refused_number, status_number, answer_number, turn_number};
 
 use crate::play::Refusal;
-use zk_vm::stop::{Event, Stop};
+use zk_step::ending::Event;
+use zk_vm::stop::Stop;
 
 /// What is asked for.
 fn event_number(event: Event) -> u32
     ensures { result ≡ event_number event }
 {
     match event {
-        Event::Line => 1,
+        Event::Line(_, _) => 1,
         Event::Char => 2,
         Event::Save => 3,
         Event::Restore => 4,

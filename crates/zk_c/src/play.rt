@@ -11,11 +11,12 @@ use crate::text::Text;
 use crate::typed::{code_of, codes_of, is_line};
 use std::alloc::{AllocError, Global};
 use zk_mem::story::{OpenError, Story};
+use zk_step::ending::Event;
 use zk_step::game_state::View;
 use zk_vm::limits::Limits;
 use zk_vm::machine::Machine;
 use zk_vm::play::run_on;
-use zk_vm::stop::{Event, Stop};
+use zk_vm::stop::Stop;
 
 /// Why an answer is refused.
 #[derive(Clone, Copy, PartialEq, Eq, Drop)]
@@ -125,7 +126,7 @@ impl Play {
         ensures { IsGivenUnless (line_refused (awaited self.old) line.now) self.old self.new result
             (Typed (codes_read self.old.machine line.now)) }
     {
-        let Some(Event::Line) = self.machine.waiting() else {
+        let Some(Event::Line(_, _)) = self.machine.waiting() else {
             return Err(Refusal::NotAwaited);
         };
         if !is_line(line) {

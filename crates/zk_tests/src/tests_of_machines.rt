@@ -9,6 +9,7 @@ use std::process::Abort;
 use std::test::Fail;
 use zk_mem::story::Story;
 use zk_state::refusal::Limit;
+use zk_step::ending::Event;
 use zk_step::game_state::View;
 use zk_term::nothing::Nothing;
 use zk_term::over::Over;
@@ -16,7 +17,7 @@ use zk_vm::limits::Limits;
 use zk_vm::machine::Machine;
 use zk_vm::play::turn;
 use zk_vm::slot::{NoSlot, SaveSlot};
-use zk_vm::stop::{Event, Stop};
+use zk_vm::stop::Stop;
 
 pub(crate) const AMPLE: Limits = Limits {
     frames: 1,

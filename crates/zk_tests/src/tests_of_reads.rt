@@ -5,12 +5,13 @@ use crate::tests_same::{demand, same};
 use std::cell::Cell;
 use std::io::{self, Read, Write};
 use std::test::Fail;
+use zk_step::ending::Event;
 use zk_term::nothing::Nothing;
 use zk_term::over::Over;
 use zk_vm::limits::Limits;
 use zk_vm::play::{play, turn};
 use zk_vm::slot::NoSlot;
-use zk_vm::stop::{Event, Stop};
+use zk_vm::stop::Stop;
 
 pub(crate) const AMPLE: Limits = Limits {
     frames: 9,

@@ -35,7 +35,7 @@ use Rattle.zk_vm.specs.Going.{stop_by, IsPut, Settles, LacksMemory}
 use Rattle.zk_vm.specs.Halts.{Halt, IsKeeping, IsLeftAt, IsStep, StepsTo, halt_by}
 use Rattle.zk_vm.specs.Outcome.{Session}
 use Rattle.zk_vm.specs.Sound.{state_seen, IsOfStory, IsSound}
-use Rattle.zk_vm.specs.Step.{State, Step, Verdict, asked, back_to, fetched, settled, goes_by, goes_to, is_past_reads, is_read, kept_answer, led_to, most_reads, state_after, step, text_of, text_within, verdict_of, view_before, waits_by, with_kept}
+use Rattle.zk_vm.specs.Step.{State, Step, Verdict, asked, back_to, fetched, settled, goes_by, goes_to, is_past_reads, is_read, kept_answer, led_to, most_reads, state_after, step, text_of, text_within, verdict_of, waits_by, with_kept}
 use Rattle.zk_vm.specs.Step.Step.{Goes, Waits as Awaits, Quits, Faults, Exceeds}
 use Rattle.zk_vm.specs.Step.Verdict.{GoesOn, WaitsFor, StopsBy}
 use Rattle.zk_step.specs.declared.game_state.View.{View}

@@ -18,7 +18,7 @@ use Rattle.zk_vm.specs.Going.{stop_by, verdict_by, place_by, steps_by, stopped_b
 use Rattle.zk_vm.specs.Halts.{Halt, IsLeftAs, halt_by}
 use Rattle.zk_vm.specs.Outcome.{Session, given, given_to, resumed}
 use Rattle.zk_vm.specs.Step.{State, Step, Verdict, goes_by, goes_to, step_by, verdict_of, state_after}
-use Rattle.zk_vm.specs.Step.Step.{Goes, Quits, Faults, Exceeds}
+use Rattle.zk_vm.specs.Step.Step.{Goes, Exceeds}
 use Rattle.zk_vm.specs.Step.Verdict.{GoesOn, WaitsFor, StopsBy}
 use Rattle.zk_step.proofs.WithinBounds.{place_is}
 

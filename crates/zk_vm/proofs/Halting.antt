@@ -7,7 +7,7 @@ use Rattle.zk_vm.specs.declared.stop.Stop.{Stop}
 use Rattle.zk_vm.specs.declared.stop.Stop.TheVariants as stops
 use Rattle.zk_vm.specs.declared.waiting.Waiting.{Waiting}
 use Rattle.zk_vm.specs.Going.{IsHalted, steps_left}
-use Rattle.zk_vm.specs.Halts.{ComesToKeepAt, EndsAtStep, FailsAt, Halt, IsCutOff, LeadsOn, ShowsLast, StopsAtOnce, IsKeeping, IsLeftAs, IsLeftAt, IsLeftBy, IsRun, IsStep, StepsTo, event_of, halt_by}
+use Rattle.zk_vm.specs.Halts.{ComesToKeepAt, EndsAtStep, FailsAt, Halt, IsCutOff, LeadsOn, ShowsLast, StopsAtOnce, IsKeeping, IsLeftAs, IsLeftBy, IsRun, IsStep, StepsTo, event_of}
 use Rattle.zk_vm.specs.Outcome.{Leads, Segment, Session, behind_due, ended, ran, segment, segment_by, segment_of}
 use Rattle.zk_vm.specs.Step.{State, step, state_after, text_of, verdict_of}
 use Rattle.zk_vm.specs.Step.Verdict.{GoesOn}

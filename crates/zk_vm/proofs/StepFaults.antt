@@ -19,7 +19,6 @@ use Rattle.zk_step.specs.declared.game_state.View.{View}
 use Rattle.zk_step.specs.declared.game_state.View.TheVariants as view
 use Rattle.zk_step.specs.declared.game_state.GameState.{GameState}
 use Rattle.zk_step.specs.Instructions.{carried_out}
-use Rattle.zk_step.specs.Inputs.{result_answered}
 use Rattle.zk_step.specs.Laws.{is_of_reading}
 use Rattle.zk_step.specs.Restarts.{windows_closed}
 use Rattle.zk_step.specs.Routing.{Texts}

@@ -195,12 +195,7 @@ impl Machine {
     }
 
     /// Does what an instruction asks for.
-    fn meet<S: Screen>(
-        &mut self,
-        request: Request,
-        i: Instr,
-        screen: &mut S,
-    ) -> Result<(), Halt>
+    fn meet<S: Screen>(&mut self, request: Request, i: Instr, screen: &mut S) -> Result<(), Halt>
         requires room { self.old.state.steps < self.old.limits.steps }
         requires free { self.old.waiting ≡ None }
         requires runs { self.old.stopped ≡ None }
