@@ -1,9 +1,10 @@
 -- The objects of which a question is answered with yes.
-use Rattle.std.proofs.Common.{◌≡◌, ◌≢◌, ◌∙◌, ℕ, ◌+◌, ◌<◌, ◌⊎◌, inl, inr, Bool, true, false, ◌||◌, List, [], ◌∷◌, ◌++◌, Result, Ok, Err, refl, sym, ap, arith}
-use Rattle.std.specs.Prelude.{IsOk}
+use Rattle.std.proofs.Common.{◌≡◌, ◌≢◌, ◌∙◌, ℕ, ◌+◌, ◌<◌, ◌⊎◌, inl, inr, true, false, List, [], ◌∷◌, ◌++◌, Result, Ok, Err, refl, sym, ap, arith}
+use Rattle.std.specs.Prelude.{◌↔◌, IsOk}
 use Rattle.std.proofs.lemmas.Bool.{cases_lt, cases_eq}
+use Rattle.std.proofs.lemmas.Bool.Decides.{Decides-like, Decides-ltb}
 use Rattle.zk_mem.specs.declared.fault.Fault.{Fault}
-use Rattle.zk_mem.specs.declared.fault.Fault.TheVariants.{CodePastEnd, BadOpcode, MissingOperand, StackEmpty, NoSuchLocal, BadAddress, ReadOnly, DivisionByZero, BadObject, BadProperty, BadTree, TextPastEnd, NestedAbbreviation, StreamDepth, BadFrame, ReturnFromMain, BadTarget, BadDictionary}
+use Rattle.zk_mem.specs.declared.fault.Fault.TheVariants.{BadProperty, BadTree}
 use Rattle.zk_mem.specs.Results.{◌>>=◌}
 use Rattle.zk_mem.specs.Map.{MemoryMap, HasBytes}
 use Rattle.zk_tables.specs.declared.lists.Property.{Property}
@@ -21,6 +22,7 @@ use Rattle.zk_inspect.specs.Findings.{Finds}
 use Rattle.zk_inspect.specs.Lists.{IsListOf}
 use Rattle.zk_inspect.specs.Objects.{IsListed, LeadsPast, LacksList}
 use Rattle.zk_inspect.specs.ObjectTests.{IsAnswered, IsCounted, answer, is_bad_property, is_bad_tree, is_past, leads_past}
+use Rattle.zk_inspect.proofs.Deciding.{three_decide}
 use Rattle.zk_inspect.proofs.Entries.{rising, same_ok, zero_none}
 use Rattle.zk_inspect.proofs.Listed.{list_more, list_same, list_none}
 
@@ -56,27 +58,9 @@ answered_gone m n q before f xs h none = list_same (IsAnswered m n q before) (Is
 
 -- ---- what the answers say
 
-past_is : (n : ℕ) (r : Result ℕ Fault) → is_past n r ≡ true → (o : ℕ) × (r ≡ Ok o) × (n < o)
-past_is n (Ok o) h = (o, refl, grind arith)
-past_is n (Err f) h = absurd cc
-
-is_past_of : (n o : ℕ) (r : Result ℕ Fault) → r ≡ Ok o → n < o → is_past n r ≡ true
-is_past_of n o (Ok p) e lt = let same : p ≡ o = cc in grind arith
-is_past_of n o (Err f) e lt = absurd cc
-
-either : (a b c : Bool) → (a || b || c) ≡ true → (a ≡ true) ⊎ ((b ≡ true) ⊎ (c ≡ true))
-either true b c h = inl refl
-either false true c h = inr (inl refl)
-either false false true h = inr (inr refl)
-either false false false h = absurd cc
-
-any : (a b c : Bool) → (a ≡ true) ⊎ ((b ≡ true) ⊎ (c ≡ true)) → (a || b || c) ≡ true
-any true b c h = refl
-any false true c h = refl
-any false false true h = refl
-any false false false (inl h) = absurd cc
-any false false false (inr (inl h)) = absurd cc
-any false false false (inr (inr h)) = absurd cc
+past_decides : (n : ℕ) (r : Result ℕ Fault) → is_past n r ≡ true ↔ ((o : ℕ) × (r ≡ Ok o) × (n < o))
+past_decides n (Ok o) = (λ e. (o, refl, (Decides-ltb n o).0 e), λ h. ap (is_past n) h.1 ∙ (Decides-ltb n h.0).1 h.2)
+past_decides n (Err f) = (λ e. absurd cc, λ h. absurd (let q = h.1 in cc))
 
 pub ok_is : (r : Result ℕ Fault) → IsOk r → (e : ℕ) × (r ≡ Ok e)
 ok_is (Ok e) h = (e, refl)
@@ -92,49 +76,40 @@ last_past m n o c some none = elim (cases_lt n o) [
   | inr le ↦ absurd (let at = ok_is (entry_of m o) (c.whole o (omega arith) le) in none at.0 ((c.listed o at.0).1 (le, at.1)))
 ]
 
-named_past : (m : MemoryMap) (n o p : ℕ) → IsCounted m n → n < p → (link_at m (parent_of o) ≡ Ok p) ⊎ ((link_at m (sibling_of o) ≡ Ok p) ⊎ (link_at m (child_of o) ≡ Ok p)) → LeadsPast m o
-named_past m n o p c lt names = record { named = p; some = omega arith; past = past_last m n p c lt; names = names }
+abbrev Named : MemoryMap → ℕ → ℕ → Type 0
+Named m o p = (link_at m (parent_of o) ≡ Ok p) ⊎ ((link_at m (sibling_of o) ≡ Ok p) ⊎ (link_at m (child_of o) ≡ Ok p))
 
-test_past : (m : MemoryMap) (n o : ℕ) → IsCounted m n → leads_past m n o ≡ true → LeadsPast m o
-test_past m n o c h = elim (either (is_past n (link_at m (parent_of o))) (is_past n (link_at m (sibling_of o))) (is_past n (link_at m (child_of o))) h) [
-  | inl a ↦ let p = past_is n (link_at m (parent_of o)) a in named_past m n o p.0 c p.2 (inl p.1)
-  | inr (inl a) ↦ let p = past_is n (link_at m (sibling_of o)) a in named_past m n o p.0 c p.2 (inr (inl p.1))
-  | inr (inr a) ↦ let p = past_is n (link_at m (child_of o)) a in named_past m n o p.0 c p.2 (inr (inr p.1))
-]
+-- a link past the last
+abbrev PastBy : ℕ → Result ℕ Fault → Type 0
+PastBy n r = (p : ℕ) × (r ≡ Ok p) × (n < p)
 
-past_names : (m : MemoryMap) (n o p : ℕ) → n < p → (link_at m (parent_of o) ≡ Ok p) ⊎ ((link_at m (sibling_of o) ≡ Ok p) ⊎ (link_at m (child_of o) ≡ Ok p)) → leads_past m n o ≡ true
-past_names m n o p lt (inl e) = any (is_past n (link_at m (parent_of o))) (is_past n (link_at m (sibling_of o))) (is_past n (link_at m (child_of o))) (inl (is_past_of n p (link_at m (parent_of o)) e lt))
-past_names m n o p lt (inr (inl e)) = any (is_past n (link_at m (parent_of o))) (is_past n (link_at m (sibling_of o))) (is_past n (link_at m (child_of o))) (inr (inl (is_past_of n p (link_at m (sibling_of o)) e lt)))
-past_names m n o p lt (inr (inr e)) = any (is_past n (link_at m (parent_of o))) (is_past n (link_at m (sibling_of o))) (is_past n (link_at m (child_of o))) (inr (inr (is_past_of n p (link_at m (child_of o)) e lt)))
+module _ (m : MemoryMap) (n o : ℕ) (c : IsCounted m n) where
+  named : (p : ℕ) → n < p → Named m o p → LeadsPast m o
+  named p lt names = record { named = p; some = omega arith; past = past_last m n p c lt; names = names }
 
-past_test : (m : MemoryMap) (n o : ℕ) → IsCounted m n → LeadsPast m o → leads_past m n o ≡ true
-past_test m n o c h = past_names m n o h.named (last_past m n h.named c h.some h.past) h.names
+  to_past : PastBy n (link_at m (parent_of o)) ⊎ (PastBy n (link_at m (sibling_of o)) ⊎ PastBy n (link_at m (child_of o))) → LeadsPast m o
+  to_past (inl h) = named h.0 h.2 (inl h.1)
+  to_past (inr (inl h)) = named h.0 h.2 (inr (inl h.1))
+  to_past (inr (inr h)) = named h.0 h.2 (inr (inr h.1))
+
+  by_name : (p : ℕ) → n < p → Named m o p → PastBy n (link_at m (parent_of o)) ⊎ (PastBy n (link_at m (sibling_of o)) ⊎ PastBy n (link_at m (child_of o)))
+  by_name p lt (inl e) = inl (p, e, lt)
+  by_name p lt (inr (inl e)) = inr (inl (p, e, lt))
+  by_name p lt (inr (inr e)) = inr (inr (p, e, lt))
+
+  leads_decides : leads_past m n o ≡ true ↔ LeadsPast m o
+  leads_decides = Decides-like _ to_past (λ h. by_name h.named (last_past m n h.named c h.some h.past) h.names)
+      (three_decide _ _ _ (past_decides n (link_at m (parent_of o))) (past_decides n (link_at m (sibling_of o))) (past_decides n (link_at m (child_of o))))
 
 pub object_links : (m : MemoryMap) (n : ℕ) (xs : List ℕ) → IsCounted m n → IsListOf (IsAnswered m n Links n) xs → IsListOf (Finds m ObjectLinks) xs
 unfolding Finds
 object_links m n xs c h = list_same (IsAnswered m n Links n) (Finds m ObjectLinks) xs h
-    (λ a p. (p.object, (c.listed p.object a).1 (p.few, p.stands), test_past m n p.object c p.yes))
-    (λ a p. let l = (c.listed p.0 a).0 p.1 in record { object = p.0; few = l.0; stands = l.1; yes = past_test m n p.0 c p.2 })
+    (λ a p. (p.object, (c.listed p.object a).1 (p.few, p.stands), (leads_decides m n p.object c).0 p.yes))
+    (λ a p. let l = (c.listed p.0 a).0 p.1 in record { object = p.0; few = l.0; stands = l.1; yes = (leads_decides m n p.0 c).1 p.2 })
 
 tree_fault : (f : Fault) → is_bad_tree {A = List ℕ} (Err f) ≡ true → f ≡ BadTree
-tree_fault CodePastEnd h = absurd cc
-tree_fault BadOpcode h = absurd cc
-tree_fault MissingOperand h = absurd cc
-tree_fault StackEmpty h = absurd cc
-tree_fault NoSuchLocal h = absurd cc
-tree_fault BadAddress h = absurd cc
-tree_fault ReadOnly h = absurd cc
-tree_fault DivisionByZero h = absurd cc
-tree_fault BadObject h = absurd cc
-tree_fault BadProperty h = absurd cc
 tree_fault BadTree h = refl
-tree_fault TextPastEnd h = absurd cc
-tree_fault NestedAbbreviation h = absurd cc
-tree_fault StreamDepth h = absurd cc
-tree_fault BadFrame h = absurd cc
-tree_fault ReturnFromMain h = absurd cc
-tree_fault BadTarget h = absurd cc
-tree_fault BadDictionary h = absurd cc
+tree_fault f h = absurd cc
 
 pub bad_tree : (r : Result (List ℕ) Fault) → is_bad_tree r ≡ true → r ≡ Err BadTree
 bad_tree (Ok xs) h = absurd cc
@@ -147,24 +122,8 @@ chains_repeat m n xs c h = list_same (IsAnswered m n Chain n) (Finds m ChainWith
     (λ a p. let l = (c.listed p.0 a).0 p.1 in record { object = p.0; few = l.0; stands = l.1; yes = ap is_bad_tree ((children_are_chains m p.0).repeats.1 p.2) })
 
 property_fault : (f : Fault) → is_bad_property {A = List Property} (Err f) ≡ true → f ≡ BadProperty
-property_fault CodePastEnd h = absurd cc
-property_fault BadOpcode h = absurd cc
-property_fault MissingOperand h = absurd cc
-property_fault StackEmpty h = absurd cc
-property_fault NoSuchLocal h = absurd cc
-property_fault BadAddress h = absurd cc
-property_fault ReadOnly h = absurd cc
-property_fault DivisionByZero h = absurd cc
-property_fault BadObject h = absurd cc
 property_fault BadProperty h = refl
-property_fault BadTree h = absurd cc
-property_fault TextPastEnd h = absurd cc
-property_fault NestedAbbreviation h = absurd cc
-property_fault StreamDepth h = absurd cc
-property_fault BadFrame h = absurd cc
-property_fault ReturnFromMain h = absurd cc
-property_fault BadTarget h = absurd cc
-property_fault BadDictionary h = absurd cc
+property_fault f h = absurd cc
 
 same_err : (f g : Fault) (r s : Result (List Property) Fault) → r ≡ Err f → s ≡ Err g → r ≡ s → f ≡ g
 same_err f g r s d e h = cc

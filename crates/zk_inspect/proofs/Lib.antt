@@ -6,6 +6,7 @@ pub mod Quotes
 pub mod OneList
 pub mod Listed
 pub mod Checks
+pub mod Deciding
 pub mod Entries
 pub mod Answered
 pub mod TextMarks

@@ -111,8 +111,36 @@ fn walk_piece<A: Abbreviations, S: Sink>(
     }
 }
 
-/// One Z-character: what is held back then.
+/// One Z-character, with those that are held back: what is held back then.
 #[tactic(auto, using(crate::proofs::Joins::held_on, crate::proofs::Joins::piece_ok, crate::proofs::Joins::piece_err))]
+#[inline(always)]
+fn walk_held<A: Abbreviations, S: Sink>(
+    memory: &Memory,
+    alphabet: Alphabet,
+    held: Pending,
+    character: u8,
+    sink: &mut S,
+) -> Result<Pending, Trouble>
+    requires { alphabet.table ≡ alphabet_table memory.now }
+    ensures ok { IfOk result (λ next. (zs : List ℕ) → Passes S.gave S.refused sink.old sink.new
+        (meaning memory.now (A.stands memory.now) (held_back held ++ character ∷ zs))
+        (meaning memory.now (A.stands memory.now) (held_back next ++ zs))) }
+    ensures err { IfErr result (λ t. (zs : List ℕ) →
+        Walked (Some t) (S.gave sink.old sink.new) (S.refused sink.old sink.new)
+        (meaning memory.now (A.stands memory.now) (held_back held ++ character ∷ zs))) }
+{
+    let (next, piece) = advance(held, character);
+    let Some(piece) = piece else {
+        return Ok(next);
+    };
+    match walk_piece::<A, S>(memory, alphabet, piece, sink) {
+        Ok(()) => Ok(next),
+        Err(trouble) => Err(trouble),
+    }
+}
+
+/// One Z-character: what is held back then.
+#[tactic(auto, using(crate::proofs::Joins::piece_ok, crate::proofs::Joins::piece_err))]
 #[inline(always)]
 fn walk_character<A: Abbreviations, S: Sink>(
     memory: &Memory,
@@ -129,15 +157,14 @@ fn walk_character<A: Abbreviations, S: Sink>(
         Walked (Some t) (S.gave sink.old sink.new) (S.refused sink.old sink.new)
         (meaning memory.now (A.stands memory.now) (held_back held ++ character ∷ zs))) }
 {
-    if let Some(piece) = alone(held, character) {
-        walk_piece::<A, S>(memory, alphabet, piece, sink)?;
-        return Ok(Pending::Nothing);
+    // most are a letter or a space by themselves
+    let Some(piece) = alone(held, character) else {
+        return walk_held::<A, S>(memory, alphabet, held, character, sink);
+    };
+    match walk_piece::<A, S>(memory, alphabet, piece, sink) {
+        Ok(()) => Ok(Pending::Nothing),
+        Err(trouble) => Err(trouble),
     }
-    let (next, piece) = advance(held, character);
-    if let Some(piece) = piece {
-        walk_piece::<A, S>(memory, alphabet, piece, sink)?;
-    }
-    Ok(next)
 }
 
 /// The three Z-characters of a word.
