@@ -1,16 +1,17 @@
--- Chunks one after the other: more fuel changes nothing.
+-- Chunks one after the other.
 use Rattle.std.specs.Prelude.{nat_lt, option_map, if◌then◌else◌, ◌||◌, codes, option_copied}
 use Rattle.std.specs.Option.{option_or}
 use Rattle.std.specs.Str.{bytes_eq}
-use Rattle.std.proofs.Common.{◌≡◌, ◌∙◌, ℕ, zero, suc, ◌+◌, ◌%◌, ◌<◌, ◌≤◌, Bool, true, false, List, [], ◌∷◌, length, take, drop, Option, Some, None, Result, Ok, Err, refl, ap, sym, arith, length-drop, Bor}
+use Rattle.std.proofs.Common.{◌≡◌, ◌∙◌, ℕ, ◌+◌, ◌%◌, ◌<◌, ◌≤◌, Bool, true, false, List, [], ◌∷◌, length, take, drop, Option, Some, None, Result, Ok, Err, refl, ap, sym, arith, length-drop, Bor}
 use Rattle.std.proofs.lemmas.Bool.Decides.{nat_tests}
 use Rattle.std.proofs.lemmas.Slice.Eq.{bytes_eq-Decides}
 use Rattle.zk_save.specs.Quetzal.{Chunk}
-use Rattle.zk_save.specs.Reading.{number_of, bytes_behind, found_then, then_rest, chunk_of, first_chunk, chunks_up_to, chunks_in, content_of}
+use Rattle.zk_save.specs.Reading.{number_of, bytes_behind, then_rest, chunk_of, first_chunk, each_up_to, chunks_in, content_of}
 use Rattle.zk_save.specs.Loading.{Parts, or_refuse, loaded_by, story_part, memory_chunk, parts_of}
 use Rattle.zk_save.specs.declared.restore.RestoreError.{RestoreError}
 use Rattle.zk_save.specs.declared.restore.RestoreError.TheVariants.{Truncated}
 use Rattle.zk_save.proofs.Cuts.{is_below, not_below}
+use Rattle.zk_save.proofs.Walks.{each_step, each_stop}
 use Rattle.zk_save.specs.Counted.{Noted, first_of, noted, none_noted, chunk_seen, chunk_cut}
 use Rattle.zk_save.specs.declared.reading.ChunkView.{ChunkView}
 
@@ -39,40 +40,21 @@ first_shorter bs p h =
     let n : ℕ = number_of (bytes_behind 4 4 bs) in
     omega (arith, ap (λ (q : Chunk × List ℕ). length q.1) is.parts, length-drop (8 + n + n % 2) bs, is.head)
 
-then_by : (o : Option (Chunk × List ℕ)) (n m : ℕ) → ((p : Chunk × List ℕ) → o ≡ Some p → chunks_up_to n p.1 ≡ chunks_up_to m p.1)
-    → found_then o (λ c. then_rest c.0 (chunks_up_to n c.1)) ≡ found_then o (λ c. then_rest c.0 (chunks_up_to m c.1))
-then_by None n m h = refl
-then_by (Some p) n m h = ap (then_rest p.0) (h p refl)
-
-pub same_fuel : (n m : ℕ) (bs : List ℕ) → length bs ≤ n → length bs ≤ m → chunks_up_to n bs ≡ chunks_up_to m bs
-unfolding chunks_up_to
-same_fuel zero zero bs h k = refl
-same_fuel zero (suc m) [] h k = refl
-same_fuel (suc n) zero [] h k = refl
-same_fuel (suc n) (suc m) [] h k = refl
-same_fuel zero (suc m) (b ∷ bs) h k = absurd (omega arith)
-same_fuel (suc n) zero (b ∷ bs) h k = absurd (omega arith)
-same_fuel (suc n) (suc m) (b ∷ bs) h k = then_by (first_chunk (b ∷ bs)) n m (λ p e. same_fuel n m p.1 (omega (arith, first_shorter (b ∷ bs) p e)) (omega (arith, first_shorter (b ∷ bs) p e)))
-
 first_none : first_chunk [] ≡ None
 unfolding first_chunk
 first_none = refl
 
 pub chunks_none : chunks_in [] ≡ Some []
-unfolding chunks_in chunks_up_to
+unfolding chunks_in each_up_to
 chunks_none = refl
 
 pub chunks_step : (bs : List ℕ) (p : Chunk × List ℕ) → first_chunk bs ≡ Some p → chunks_in bs ≡ then_rest p.0 (chunks_in p.1)
-unfolding chunks_in chunks_up_to
-chunks_step [] p h = let e : None ≡ Some p = sym first_none ∙ h in absurd cc
-chunks_step (b ∷ bs) p h =
-    let short : length p.1 < length (b ∷ bs) = first_shorter (b ∷ bs) p h in
-    rw h (ap (then_rest p.0) (same_fuel (length bs) (length p.1) p.1 (omega (arith, short)) (omega arith)))
+unfolding chunks_in
+chunks_step bs p h = each_step first_chunk first_none first_shorter bs p h
 
 pub chunks_stop : (bs : List ℕ) → 0 < length bs → first_chunk bs ≡ None → chunks_in bs ≡ None
-unfolding chunks_in chunks_up_to
-chunks_stop [] lt h = absurd (omega arith)
-chunks_stop (b ∷ bs) lt h = rw h refl
+unfolding chunks_in
+chunks_stop bs lt h = each_stop first_chunk first_none first_shorter bs lt h
 
 -- ---- what is found on the way
 

@@ -1,12 +1,13 @@
 -- Frames one after the other, and how many there are.
 use Rattle.std.specs.Prelude.{nat_lt, option_map, slice_index, if◌then◌else◌, ◌||◌}
 use Rattle.std.specs.Str.{bytes_eq}
-use Rattle.std.proofs.Common.{◌≡◌, ◌∙◌, ℕ, zero, suc, ◌+◌, ◌*◌, ◌/◌, ◌%◌, ◌<◌, ◌≤◌, Bool, true, false, List, [], ◌∷◌, length, take, drop, Option, Some, None, refl, ap, sym, arith, length-drop}
+use Rattle.std.proofs.Common.{◌≡◌, ◌∙◌, ℕ, ◌+◌, ◌*◌, ◌/◌, ◌%◌, ◌<◌, ◌≤◌, Bool, true, false, List, [], ◌∷◌, length, take, drop, Option, Some, None, refl, ap, sym, arith, length-drop}
 use Rattle.std.proofs.lemmas.Bool.Decides.{nat_tests}
 use Rattle.zk_state.specs.Frames.{Frame, first_frame, sizes_of}
-use Rattle.zk_save.specs.Reading.{words_of, found_then, then_rest, frame_of, word_count, first_of_frames, frames_up_to, frames_read, with_first}
+use Rattle.zk_save.specs.Reading.{words_of, then_rest, frame_of, word_count, each_up_to, first_of_frames, frames_read, with_first}
 use Rattle.zk_save.specs.Counted.{first_written, frames_rest, sizes_in}
 use Rattle.zk_save.proofs.Cuts.{frame_short}
+use Rattle.zk_save.proofs.Walks.{each_step, each_stop}
 
 cut_by : (b : Bool) (l w : ℕ) (bs : List ℕ) (f : Frame) (p : Frame × List ℕ) → 8 ≤ length bs → (if b then None else Some (f, drop (8 + 2 * l + 2 * w) bs)) ≡ Some p → length p.1 < length bs
 cut_by true l w bs f p le h = absurd cc
@@ -26,40 +27,19 @@ pub frame_shorter : (bs : List ℕ) (p : Frame × List ℕ) → first_of_frames 
 unfolding first_of_frames
 frame_shorter bs p h = head_by (nat_lt (length bs) 8) (nat_lt 31 (slice_index bs 3)) (nat_lt 127 (slice_index bs 5)) bs p refl h
 
-then_by : (o : Option (Frame × List ℕ)) (n m : ℕ) → ((p : Frame × List ℕ) → o ≡ Some p → frames_up_to n p.1 ≡ frames_up_to m p.1)
-    → found_then o (λ c. then_rest c.0 (frames_up_to n c.1)) ≡ found_then o (λ c. then_rest c.0 (frames_up_to m c.1))
-then_by None n m h = refl
-then_by (Some p) n m h = ap (then_rest p.0) (h p refl)
-
-pub same_fuel : (n m : ℕ) (bs : List ℕ) → length bs ≤ n → length bs ≤ m → frames_up_to n bs ≡ frames_up_to m bs
-unfolding frames_up_to
-same_fuel zero zero bs h k = refl
-same_fuel zero (suc m) [] h k = refl
-same_fuel (suc n) zero [] h k = refl
-same_fuel (suc n) (suc m) [] h k = refl
-same_fuel zero (suc m) (b ∷ bs) h k = absurd (omega arith)
-same_fuel (suc n) zero (b ∷ bs) h k = absurd (omega arith)
-same_fuel (suc n) (suc m) (b ∷ bs) h k = then_by (first_of_frames (b ∷ bs)) n m (λ p e. same_fuel n m p.1 (omega (arith, frame_shorter (b ∷ bs) p e)) (omega (arith, frame_shorter (b ∷ bs) p e)))
-
 first_none : first_of_frames [] ≡ None
 unfolding first_of_frames
 first_none = refl
 
 pub frames_none : frames_rest [] ≡ Some []
-unfolding frames_up_to
+unfolding each_up_to
 frames_none = refl
 
 pub frames_step : (bs : List ℕ) (p : Frame × List ℕ) → first_of_frames bs ≡ Some p → frames_rest bs ≡ then_rest p.0 (frames_rest p.1)
-unfolding frames_up_to
-frames_step [] p h = let e : None ≡ Some p = sym first_none ∙ h in absurd cc
-frames_step (b ∷ bs) p h =
-    let short : length p.1 < length (b ∷ bs) = frame_shorter (b ∷ bs) p h in
-    rw h (ap (then_rest p.0) (same_fuel (length bs) (length p.1) p.1 (omega (arith, short)) (omega arith)))
+frames_step bs p h = each_step first_of_frames first_none frame_shorter bs p h
 
 pub frames_stop : (bs : List ℕ) → 0 < length bs → first_of_frames bs ≡ None → frames_rest bs ≡ None
-unfolding frames_up_to
-frames_stop [] lt h = absurd (omega arith)
-frames_stop (b ∷ bs) lt h = rw h refl
+frames_stop bs lt h = each_stop first_of_frames first_none frame_shorter bs lt h
 
 -- ---- how many there are
 

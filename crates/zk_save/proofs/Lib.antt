@@ -16,3 +16,4 @@ pub mod Filling
 pub mod Loads
 pub mod SavedLoads
 pub mod Spellings
+pub mod Walks

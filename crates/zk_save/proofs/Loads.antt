@@ -8,7 +8,7 @@ use Rattle.zk_state.specs.declared.refusal.Limit.TheVariants.{Frames, Words}
 use Rattle.zk_save.specs.declared.restore.RestoreError.{RestoreError}
 use Rattle.zk_save.specs.declared.restore.RestoreError.TheVariants.{Truncated, OtherStory, BadMemory, BadStack, Limit}
 use Rattle.zk_save.specs.Quetzal.{Chunk}
-use Rattle.zk_save.specs.Reading.{number_of, bytes_behind, with_first, frames_up_to, chunks_in, frames_read}
+use Rattle.zk_save.specs.Reading.{number_of, bytes_behind, with_first, each_of, first_of_frames, chunks_in, frames_read}
 use Rattle.zk_save.specs.Loading.{Parts, or_refuse, loaded_by, form_in, parts_of, is_of_story, dynamic_in, loaded, put_in_place, restored}
 use Rattle.zk_save.specs.States.{WholeState}
 use Rattle.zk_save.specs.Counted.{first_written, sizes_in, CanRestore}
@@ -105,7 +105,7 @@ module _ (file : List ℕ) (m : MemoryMap) (s : FrameList) where
             some_frames : (bs : List ℕ) (o : Option (Frame × List ℕ)) (fs : List Frame) → with_first o ≡ Some fs → 0 < length fs
             some_frames bs None fs h = absurd cc
             some_frames bs (Some q) fs h =
-                let r = rest_of (frames_up_to (length q.1) q.1) (record first_frame { words = q.0.words }) fs h in
+                let r = rest_of (each_of first_of_frames q.1) (record first_frame { words = q.0.words }) fs h in
                 omega (arith, ap length r.2)
 
             turned : (fs : List Frame) → 0 < length fs → frames_of (with_frames s fs) ≡ fs

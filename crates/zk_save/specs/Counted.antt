@@ -7,7 +7,7 @@ use Rattle.zk_state.specs.Frames.{Frame, FrameList, frames_of, sizes_of, total_o
 use Rattle.zk_mem.specs.Map.{MemoryMap}
 use Rattle.zk_mem.specs.Again.{again}
 use Rattle.zk_save.specs.Quetzal.{Chunk}
-use Rattle.zk_save.specs.Reading.{number_of, bytes_behind, words_of, content_of, first_of_frames, frames_up_to, frames_read}
+use Rattle.zk_save.specs.Reading.{number_of, bytes_behind, words_of, content_of, each_of, first_of_frames, frames_read}
 use Rattle.zk_save.specs.Loading.{Parts, memory_chunk, dynamic_in, restored}
 use Rattle.zk_save.specs.declared.reading.ChunkView.{ChunkView}
 use Rattle.zk_save.specs.declared.reading.FrameBytes.{FrameBytes}
@@ -82,7 +82,7 @@ parts_cut p = record { story = p.story.now; memory = chunk_cut p.memory; stack =
 
 -- the frames after the first one
 abbrev pub frames_rest : List ℕ → Option (List Frame)
-frames_rest bs = frames_up_to (length bs) bs
+frames_rest bs = each_of first_of_frames bs
 
 -- how many frames there are, and words in them together
 abbrev pub sizes_in : List Frame → ℕ × ℕ

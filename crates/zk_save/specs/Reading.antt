@@ -48,15 +48,19 @@ chunk_of n bs =
 unfoldable pub first_chunk : List ℕ → Option (Chunk × List ℕ)
 first_chunk bs = if nat_lt (length bs) 8 then None else chunk_of (number_of (bytes_behind 4 4 bs)) bs
 
--- the chunks that bytes spell one after the other, at most so many
-unfoldable pub chunks_up_to : ℕ → List ℕ → Option (List Chunk)
-chunks_up_to n [] = Some []
-chunks_up_to zero (b ∷ bs) = None
-chunks_up_to (suc n) (b ∷ bs) = found_then (first_chunk (b ∷ bs)) (λ c. then_rest c.0 (chunks_up_to n c.1))
+-- what bytes spell one after the other, at most so many, where each is cut off their front
+unfoldable pub each_up_to : {A : Type 0} → (List ℕ → Option (A × List ℕ)) → ℕ → List ℕ → Option (List A)
+each_up_to first n [] = Some []
+each_up_to first zero (b ∷ bs) = None
+each_up_to first (suc n) (b ∷ bs) = found_then (first (b ∷ bs)) (λ c. then_rest c.0 (each_up_to first n c.1))
 
--- the chunks that bytes spell one after the other, none where one passes the end; there are fewer than bytes
+-- all of them, none where one passes the end; there are fewer than bytes
+abbrev pub each_of : {A : Type 0} → (List ℕ → Option (A × List ℕ)) → List ℕ → Option (List A)
+each_of first bs = each_up_to first (length bs) bs
+
+-- the chunks that bytes spell one after the other
 unfoldable pub chunks_in : List ℕ → Option (List Chunk)
-chunks_in bs = chunks_up_to (length bs) bs
+chunks_in bs = each_of first_chunk bs
 
 -- the content of the first chunk of a name
 unfoldable pub content_of : List ℕ → List Chunk → Option (List ℕ)
@@ -100,16 +104,10 @@ first_of_frames bs =
     if nat_lt (length bs) 8 || nat_lt 31 (slice_index bs 3) || nat_lt 127 (slice_index bs 5) then None
     else frame_of (slice_index bs 3 % 16) (word_count bs) bs
 
--- the routines' frames that bytes spell one after the other, at most so many
-unfoldable pub frames_up_to : ℕ → List ℕ → Option (List Frame)
-frames_up_to n [] = Some []
-frames_up_to zero (b ∷ bs) = None
-frames_up_to (suc n) (b ∷ bs) = found_then (first_of_frames (b ∷ bs)) (λ f. then_rest f.0 (frames_up_to n f.1))
-
 -- the frame outside of all routines, of which only the words count
 abbrev pub with_first : Option (Frame × List ℕ) → Option (List Frame)
 with_first None = None
-with_first (Some f) = then_rest (record first_frame { words = f.0.words }) (frames_up_to (length f.1) f.1)
+with_first (Some f) = then_rest (record first_frame { words = f.0.words }) (each_of first_of_frames f.1)
 
 -- the frames that bytes spell, the oldest first: the first six bytes are zeros, since the first frame stands outside of
 -- all routines

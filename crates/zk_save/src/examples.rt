@@ -31,7 +31,7 @@ pub fn saves_by_example()
 {}
 
 /// What the bytes of a saved game spell (Quetzal 1.4, sections 1, 4, 5 and 8).
-#[tactic(auto, unfolding(crate::specs::Reading::number_behind, crate::specs::Reading::words_of, crate::specs::Reading::first_chunk, crate::specs::Reading::chunks_up_to, crate::specs::Reading::chunks_in, crate::specs::Reading::content_of, crate::specs::Reading::arguments_in, crate::specs::Reading::first_of_frames, crate::specs::Reading::frames_up_to, crate::specs::Reading::frames_read, crate::specs::Loading::memory_chunk, crate::specs::Loading::parts_of))]
+#[tactic(auto, unfolding(crate::specs::Reading::number_behind, crate::specs::Reading::words_of, crate::specs::Reading::first_chunk, crate::specs::Reading::each_up_to, crate::specs::Reading::chunks_in, crate::specs::Reading::content_of, crate::specs::Reading::arguments_in, crate::specs::Reading::first_of_frames, crate::specs::Reading::frames_read, crate::specs::Loading::memory_chunk, crate::specs::Loading::parts_of))]
 pub fn reading_by_example()
     ensures numbers_are_read { NumbersAreRead }
     ensures chunks_are_read { ChunksAreRead }
@@ -41,7 +41,7 @@ pub fn reading_by_example()
 {}
 
 /// What a saved game loads (Quetzal 1.4).
-#[tactic(auto, unfolding(crate::specs::Reading::number_behind, crate::specs::Reading::words_of, crate::specs::Reading::first_chunk, crate::specs::Reading::chunks_up_to, crate::specs::Reading::chunks_in, crate::specs::Reading::content_of, crate::specs::Reading::arguments_in, crate::specs::Reading::first_of_frames, crate::specs::Reading::frames_up_to, crate::specs::Reading::frames_read, crate::specs::Loading::memory_chunk, crate::specs::Loading::parts_of, crate::specs::Unpacking::given, crate::specs::Unpacking::unpacked, crate::specs::Unpacking::xored, crate::specs::Quetzal::story_checksum, crate::specs::Loading::form_in, crate::specs::Loading::is_of_story, crate::specs::Loading::dynamic_in, crate::specs::Loading::loaded, crate::specs::Loading::put_in_place, zk_state::specs::Frames::sizes_of, zk_state::specs::Frames::within_bounds, zk_mem::specs::Header::header_of, zk_mem::specs::Header::unit_length, zk_mem::specs::Checksum::file_sum))]
+#[tactic(auto, unfolding(crate::specs::Reading::number_behind, crate::specs::Reading::words_of, crate::specs::Reading::first_chunk, crate::specs::Reading::each_up_to, crate::specs::Reading::chunks_in, crate::specs::Reading::content_of, crate::specs::Reading::arguments_in, crate::specs::Reading::first_of_frames, crate::specs::Reading::frames_read, crate::specs::Loading::memory_chunk, crate::specs::Loading::parts_of, crate::specs::Unpacking::given, crate::specs::Unpacking::unpacked, crate::specs::Unpacking::xored, crate::specs::Quetzal::story_checksum, crate::specs::Loading::form_in, crate::specs::Loading::is_of_story, crate::specs::Loading::dynamic_in, crate::specs::Loading::loaded, crate::specs::Loading::put_in_place, zk_state::specs::Frames::sizes_of, zk_state::specs::Frames::within_bounds, zk_mem::specs::Header::header_of, zk_mem::specs::Header::unit_length, zk_mem::specs::Checksum::file_sum))]
 pub fn loading_by_example()
     ensures stories_are_matched { StoriesAreMatched }
     ensures memory_is_read { MemoryIsRead }
