@@ -25,7 +25,7 @@ use Rattle.zk_vm.specs.Step.Verdict.{GoesOn}
 use Rattle.zk_vm.specs.Outcome.{Outcome, Session, Segment, segment, ended, followed, outcome, segment_of, segment_by, ran, given, given_to, given_all, shown_up_to, with_stop}
 use Rattle.zk_vm.proofs.Halting.{segment_is, told_due}
 use Rattle.zk_vm.proofs.Runs.{no_text_behind, same_text, segment_leads}
-use Rattle.zk_vm.specs.Plays.{codes_read, AsksForLine, AsksForFile, IsSlotAnswer, IsLastSlot, AreSlotAnswers, IsServed, ShowsOfRun, IsRunOn, AsksForNoFile, EndsTurn, IsLeftByTurn, EndsTurnOrFails, TookTexts, IsTurn, stop_behind, stop_waiting, IsOutcomeOn, IsOutcomeBy, AreAnswers, SlotTells, SourceTells, ReadsCodes, ReadsLine, FoundNoLine, IsLeftAlone, IsLastRead, IsAnswered, IsLastAnswered, IsHeard, IsPlayed, IsPlay}
+use Rattle.zk_vm.specs.Plays.{codes_read, AsksForLine, AsksForFile, IsSlotAnswer, IsLastSlot, AreSlotAnswers, IsServed, ShowsOfRun, IsRunOn, AsksForNoFile, EndsTurn, IsLeftByTurn, EndsTurnOrFails, Taken, Took, TookTexts, IsTurn, stop_behind, stop_waiting, IsOutcomeOn, IsOutcomeBy, AreAnswers, SlotTells, SourceTells, ReadsCodes, ReadsLine, FoundNoLine, IsLeftAlone, IsLastRead, IsAnswered, IsLastAnswered, IsHeard, IsPlayed, IsPlay}
 
 -- a character is a line's first code
 char_to : (w : Waiting) (s : Session) (codes : List ℕ) → w.wait ≡ event.Char → given_to (Some w) s (Typed (first_code codes ∷ [])) ≡ given_to (Some w) s (Typed codes)
@@ -213,30 +213,35 @@ pub turn_alone : {K : Type 0} (tells : SlotTells K) (before after : K) (s new : 
 unfolding AreSlotAnswers given_all shown_up_to
 turn_alone tells before after s new answer unwritten text last ends left = record { answers = []; gives = last; text = text; ends = ends; left = left; shown = (refl, refl) }
 
+-- ---- what two targets took
+
+took_nothing : (a : Taken) → Took a a false no_text
+took_nothing a = record { screen = shows_nothing _; script = shows_nothing _ }
+
+pub took_twice : {a b c : Taken} {failed : Bool} {t u : Texts} → Took a b false t → Took b c failed u → Took a c failed (text_joined t u)
+took_twice h k = record { screen = shows_twice _ _ _ _ _ h.screen k.screen; script = shows_twice _ _ _ _ _ h.script k.script }
+
 -- a text was shown, and a turn from here on is, after it, the whole turn
-pub record TurnSoFar {K : Type 0} (tells : SlotTells K) (start now : Session) (slot0 slot1 : K) (screen0 screen1 script0 script1 : Option (List ℕ)) : Type 0 where
+pub record TurnSoFar {K : Type 0} (tells : SlotTells K) (start now : Session) (slot0 slot1 : K) (taken0 taken1 : Taken) : Type 0 where
   pub text : Texts
-  pub screen : Shows (record { taken = screen0; failed = false }) (record { taken = screen1; failed = false }) text.screen
-  pub script : Shows (record { taken = script0; failed = false }) (record { taken = script1; failed = false }) text.script
+  pub shown : Took taken0 taken1 false text
   pub rest : (after : K) (new : Session) (answer : Result Event Stop) (unwritten : Bool) (first second : Texts) → IsTurn (AreSlotAnswers tells unwritten slot1 after now) now new answer unwritten (AreTexts first second)
       → IsTurn (AreSlotAnswers tells unwritten slot0 after start) start new answer unwritten (AreTexts (text_joined text first) second)
 
-pub turn_begins : {K : Type 0} (tells : SlotTells K) (start : Session) (slot : K) (screen script : Option (List ℕ)) → TurnSoFar tells start start slot slot screen screen script script
-turn_begins tells start slot screen script = record {
+pub turn_begins : {K : Type 0} (tells : SlotTells K) (start : Session) (slot : K) (taken : Taken) → TurnSoFar tells start start slot slot taken taken
+turn_begins tells start slot taken = record {
   text = no_text;
-  screen = shows_nothing _;
-  script = shows_nothing _;
+  shown = took_nothing _;
   rest = λ after new answer unwritten first second t. t;
 }
 
-pub turn_served : {K : Type 0} (tells : SlotTells K) (start now mid next : Session) (slot0 slot1 slot2 : K) (screen0 screen1 screen2 script0 script1 script2 : Option (List ℕ))
-    → TurnSoFar tells start now slot0 slot1 screen0 screen1 script0 script1 → mid ≡ ran now → IsServed tells slot1 slot2 mid next
-    → Shows (record { taken = screen1; failed = false }) (record { taken = screen2; failed = false }) (segment_of now).text.screen → Shows (record { taken = script1; failed = false }) (record { taken = script2; failed = false }) (segment_of now).text.script
-    → TurnSoFar tells start next slot0 slot2 screen0 screen2 script0 script2
-turn_served tells start now mid next slot0 slot1 slot2 screen0 screen1 screen2 script0 script1 script2 s same served screen script = record {
+pub turn_served : {K : Type 0} (tells : SlotTells K) (start now mid next : Session) (slot0 slot1 slot2 : K) (taken0 taken1 taken2 : Taken)
+    → TurnSoFar tells start now slot0 slot1 taken0 taken1 → mid ≡ ran now → IsServed tells slot1 slot2 mid next
+    → Took taken1 taken2 false (segment_of now).text
+    → TurnSoFar tells start next slot0 slot2 taken0 taken2
+turn_served tells start now mid next slot0 slot1 slot2 taken0 taken1 taken2 s same served shown = record {
   text = text_joined s.text (segment_of now).text;
-  screen = shows_twice _ _ _ _ _ s.screen screen;
-  script = shows_twice _ _ _ _ _ s.script script;
+  shown = took_twice s.shown shown;
   rest = λ after new answer unwritten first second t.
       let is = subst (λ (m : Session). IsSlotAnswer tells slot1 slot2 m served.answer) same served.is in
       let left = subst (λ (m : Session). IsLeftAs next (given m served.answer) (given m served.answer).stopped) same served.left in
@@ -246,11 +251,11 @@ turn_served tells start now mid next slot0 slot1 slot2 screen0 screen1 screen2 s
       (s.rest after new answer unwritten (text_joined (segment_of now).text first) second one);
 }
 
-pub turn_ends : {K : Type 0} (tells : SlotTells K) (start now new : Session) (slot0 slot1 slot2 : K) (screen0 screen1 screen2 script0 script1 script2 : Option (List ℕ)) (answer : Result Event Stop) (unwritten : Bool) (text : Texts)
-    → TurnSoFar tells start now slot0 slot1 screen0 screen1 script0 script1 → IsLastSlot tells unwritten slot1 slot2 now → EndsTurnOrFails unwritten now answer text → IsLeftByTurn new now answer
-    → Shows (record { taken = screen1; failed = false }) (record { taken = screen2; failed = unwritten }) text.screen → Shows (record { taken = script1; failed = false }) (record { taken = script2; failed = unwritten }) text.script
-    → IsTurn (AreSlotAnswers tells unwritten slot0 slot2 start) start new answer unwritten (TookTexts screen0 screen2 script0 script2 unwritten)
-turn_ends tells start now new slot0 slot1 slot2 screen0 screen1 screen2 script0 script1 script2 answer unwritten text s last ends left screen script =
+pub turn_ends : {K : Type 0} (tells : SlotTells K) (start now new : Session) (slot0 slot1 slot2 : K) (taken0 taken1 taken2 : Taken) (answer : Result Event Stop) (unwritten : Bool) (text : Texts)
+    → TurnSoFar tells start now slot0 slot1 taken0 taken1 → IsLastSlot tells unwritten slot1 slot2 now → EndsTurnOrFails unwritten now answer text → IsLeftByTurn new now answer
+    → Took taken1 taken2 unwritten text
+    → IsTurn (AreSlotAnswers tells unwritten slot0 slot2 start) start new answer unwritten (TookTexts taken0 taken2 unwritten)
+turn_ends tells start now new slot0 slot1 slot2 taken0 taken1 taken2 answer unwritten text s last ends left shown =
     let t = s.rest slot2 new answer unwritten no_text text (turn_alone tells slot1 slot2 now new answer unwritten text last ends left) in
     let first = t.shown.0 ∙ no_text_behind s.text in
     record {
@@ -260,12 +265,9 @@ turn_ends tells start now new slot0 slot1 slot2 screen0 screen1 screen2 script0 
       ends = t.ends;
       left = t.left;
       shown = record {
-        screen = screen1;
-        script = script1;
-        screen_first = subst (λ (u : Texts). Shows (record { taken = screen0; failed = false }) (record { taken = screen1; failed = false }) u.screen) (sym first) s.screen;
-        script_first = subst (λ (u : Texts). Shows (record { taken = script0; failed = false }) (record { taken = script1; failed = false }) u.script) (sym first) s.script;
-        screen_second = subst (λ (u : Texts). Shows (record { taken = screen1; failed = false }) (record { taken = screen2; failed = unwritten }) u.screen) (sym t.shown.1) screen;
-        script_second = subst (λ (u : Texts). Shows (record { taken = script1; failed = false }) (record { taken = script2; failed = unwritten }) u.script) (sym t.shown.1) script;
+        between = taken1;
+        takes_first = subst (λ (u : Texts). Took taken0 taken1 false u) (sym first) s.shown;
+        takes_second = subst (λ (u : Texts). Took taken1 taken2 unwritten u) (sym t.shown.1) shown;
       };
     }
 
@@ -595,7 +597,7 @@ file_stop : (x : Option Event) (over : Over) → (e : Event) × ((x ≡ Some e) 
 file_stop x over h = rw (h.1.0, h.1.1) refl
 
 -- a turn that asks has written all of its text, and its machine waits for a line
-pub record Asked {K : Type 0} (tells : SlotTells K) (before after : K) (now mid : Session) (screen_failed script_failed : Bool) (screen0 screen1 script0 script1 : Option (List ℕ)) : Type 0 where
+pub record Asked {K : Type 0} (tells : SlotTells K) (before after : K) (now mid : Session) (screen_failed script_failed : Bool) (taken0 taken1 : Taken) : Type 0 where
   pub screen_works : screen_failed ≡ false
   pub script_works : script_failed ≡ false
   pub answers : List Answer
@@ -603,16 +605,16 @@ pub record Asked {K : Type 0} (tells : SlotTells K) (before after : K) (now mid 
   pub same : mid ≡ ran (given_all answers now)
   pub asks : AsksForLine (ran (given_all answers now))
   pub runs : now.stopped ≡ None
-  pub took : TookTexts screen0 screen1 script0 script1 false (shown_up_to answers now) (segment_of (given_all answers now)).text
+  pub took : TookTexts taken0 taken1 false (shown_up_to answers now) (segment_of (given_all answers now)).text
 
 runs_now : (answers : List Answer) (s : Session) (x : Option Stop) → s.stopped ≡ x → AsksForLine (ran (given_all answers s)) → s.stopped ≡ None
 runs_now answers s None e asks = e
 runs_now answers s (Some stop) e asks = absurd (no_line (given_all answers s) stop (stopped_all answers s stop e) asks)
 
-pub turn_asked : {K : Type 0} (tells : SlotTells K) (before after : K) (now mid : Session) (a b : Bool) (screen0 screen1 script0 script1 : Option (List ℕ)) (e : Event)
-    → event_waited mid.waiting ≡ Some e → is_read e ≡ true → IsTurn (AreSlotAnswers tells (a || b) before after now) now mid (Ok e) (a || b) (TookTexts screen0 screen1 script0 script1 (a || b))
-    → Asked tells before after now mid a b screen0 screen1 script0 script1
-turn_asked tells before after now mid a b screen0 screen1 script0 script1 e waits k t =
+pub turn_asked : {K : Type 0} (tells : SlotTells K) (before after : K) (now mid : Session) (a b : Bool) (taken0 taken1 : Taken) (e : Event)
+    → event_waited mid.waiting ≡ Some e → is_read e ≡ true → IsTurn (AreSlotAnswers tells (a || b) before after now) now mid (Ok e) (a || b) (TookTexts taken0 taken1 (a || b))
+    → Asked tells before after now mid a b taken0 taken1
+turn_asked tells before after now mid a b taken0 taken1 e waits k t =
     let asked = turn_asks (a || b) (given_all t.answers now) e t.text t.ends in
     let works = either_false a b asked.0 in
     let asks : AsksForLine (ran (given_all t.answers now)) = (e, (ap (λ (m : Session). event_waited m.waiting) (sym t.left) ∙ waits, k)) in
@@ -624,32 +626,29 @@ turn_asked tells before after now mid a b screen0 screen1 script0 script1 e wait
       same = t.left;
       asks = asks;
       runs = runs_now t.answers now now.stopped refl asks;
-      took = subst (λ (u : Texts). TookTexts screen0 screen1 script0 script1 false (shown_up_to t.answers now) u) asked.3 (subst (λ (f : Bool). TookTexts screen0 screen1 script0 script1 f (shown_up_to t.answers now) t.text) asked.0 t.shown);
+      took = subst (λ (u : Texts). TookTexts taken0 taken1 false (shown_up_to t.answers now) u) asked.3 (subst (λ (f : Bool). TookTexts taken0 taken1 f (shown_up_to t.answers now) t.text) asked.0 t.shown);
     }
 
 -- ---- what was played so far
 
 -- a text was shown, and what a play has from here on makes, after it, what the whole play has
-pub record SoFar (Whole Rest : Outcome → Texts → Type 0) (screen0 screen1 script0 script1 : Option (List ℕ)) : Type 0 where
+pub record SoFar (Whole Rest : Outcome → Texts → Type 0) (taken0 taken1 : Taken) : Type 0 where
   pub text : Texts
-  pub screen : Shows (record { taken = screen0; failed = false }) (record { taken = screen1; failed = false }) text.screen
-  pub script : Shows (record { taken = script0; failed = false }) (record { taken = script1; failed = false }) text.script
+  pub shown : Took taken0 taken1 false text
   pub rest : (o : Outcome) (first : Texts) → Rest o first → Whole (shown_before text o) (text_joined text first)
 
-pub so_far_none : (Whole : Outcome → Texts → Type 0) (screen script : Option (List ℕ)) → SoFar Whole Whole screen screen script script
-so_far_none Whole screen script = record {
+pub so_far_none : (Whole : Outcome → Texts → Type 0) (taken : Taken) → SoFar Whole Whole taken taken
+so_far_none Whole taken = record {
   text = no_text;
-  screen = shows_nothing _;
-  script = shows_nothing _;
+  shown = took_nothing _;
   rest = λ o first p. p;
 }
 
-so_far_on : (Whole Rest Then : Outcome → Texts → Type 0) (screen0 screen1 screen2 script0 script1 script2 : Option (List ℕ)) (a b : Texts) → SoFar Whole Rest screen0 screen1 script0 script1 → TookTexts screen1 screen2 script1 script2 false a b
-    → ((o : Outcome) (first : Texts) → Then o first → Rest (shown_before a (shown_before b o)) (text_joined a (text_joined b first))) → SoFar Whole Then screen0 screen2 script0 script2
-so_far_on Whole Rest Then screen0 screen1 screen2 script0 script1 script2 a b s took on = record {
+so_far_on : (Whole Rest Then : Outcome → Texts → Type 0) (taken0 taken1 taken2 : Taken) (a b : Texts) → SoFar Whole Rest taken0 taken1 → TookTexts taken1 taken2 false a b
+    → ((o : Outcome) (first : Texts) → Then o first → Rest (shown_before a (shown_before b o)) (text_joined a (text_joined b first))) → SoFar Whole Then taken0 taken2
+so_far_on Whole Rest Then taken0 taken1 taken2 a b s took on = record {
   text = text_joined s.text (text_joined a b);
-  screen = shows_twice _ _ _ _ _ s.screen (shows_twice _ _ _ _ _ took.screen_first took.screen_second);
-  script = shows_twice _ _ _ _ _ s.script (shows_twice _ _ _ _ _ took.script_first took.script_second);
+  shown = took_twice s.shown (took_twice took.takes_first took.takes_second);
   rest = λ o first p.
       let whole = s.rest (shown_before a (shown_before b o)) (text_joined a (text_joined b first)) (on o first p) in
       let texts : text_joined s.text (text_joined a (text_joined b first)) ≡ text_joined (text_joined s.text (text_joined a b)) first = ap (text_joined s.text) (same_text a b first) ∙ same_text s.text (text_joined a b) first in
@@ -658,13 +657,13 @@ so_far_on Whole Rest Then screen0 screen1 screen2 script0 script1 script2 a b s 
 }
 
 -- what is answered after a turn and a line
-pub on_answered : {K R : Type 0} (tells : SlotTells K) (reads : SourceTells R) (start mid_reader last : R) (unwritten : Bool) (before mid_slot after : K) (Whole : Outcome → Texts → Type 0) (now mid next : Session) (a b : Bool) (screen0 screen1 screen2 script0 script1 script2 : Option (List ℕ)) (codes : List ℕ)
-    → Asked tells before mid_slot now mid a b screen1 screen2 script1 script2 → AllByRecursion (λ c. is_input_code c ≡ true) codes → IsLeftAs next (given mid (Typed codes)) (given mid (Typed codes)).stopped
-    → SoFar Whole (IsAnswered tells reads before after start last unwritten now) screen0 screen1 script0 script1 → SoFar Whole (IsAnswered tells reads mid_slot after mid_reader last unwritten next) screen0 screen2 script0 script2
-on_answered tells reads start mid_reader last unwritten before mid_slot after Whole now mid next a b screen0 screen1 screen2 script0 script1 script2 codes t typed left s =
+pub on_answered : {K R : Type 0} (tells : SlotTells K) (reads : SourceTells R) (start mid_reader last : R) (unwritten : Bool) (before mid_slot after : K) (Whole : Outcome → Texts → Type 0) (now mid next : Session) (a b : Bool) (taken0 taken1 taken2 : Taken) (codes : List ℕ)
+    → Asked tells before mid_slot now mid a b taken1 taken2 → AllByRecursion (λ c. is_input_code c ≡ true) codes → IsLeftAs next (given mid (Typed codes)) (given mid (Typed codes)).stopped
+    → SoFar Whole (IsAnswered tells reads before after start last unwritten now) taken0 taken1 → SoFar Whole (IsAnswered tells reads mid_slot after mid_reader last unwritten next) taken0 taken2
+on_answered tells reads start mid_reader last unwritten before mid_slot after Whole now mid next a b taken0 taken1 taken2 codes t typed left s =
     let end = given_all t.answers now in
     let left_here = subst (λ (m : Session). IsLeftAs next (given m (Typed codes)) (given m (Typed codes)).stopped) t.same left in
-    so_far_on Whole (IsAnswered tells reads before after start last unwritten now) (IsAnswered tells reads mid_slot after mid_reader last unwritten next) screen0 screen1 screen2 script0 script1 script2 (shown_up_to t.answers now) (segment_of end).text s t.took
+    so_far_on Whole (IsAnswered tells reads before after start last unwritten now) (IsAnswered tells reads mid_slot after mid_reader last unwritten next) taken0 taken1 taken2 (shown_up_to t.answers now) (segment_of end).text s t.took
     (λ o first p.
     let over = p.0 in
     let here = by_left tells ReadsCodes unwritten mid_slot after tt tt over (IsLastRead reads mid_reader last unwritten over) (IsLeftAlone mid_reader last) (read_still reads mid_reader last unwritten over) next (given (ran end) (Typed codes)) _ refl left_here o first p.1 in
@@ -673,13 +672,13 @@ on_answered tells reads start mid_reader last unwritten before mid_slot after Wh
     (over, by_slots tells ReadsCodes unwritten t.answers before mid_slot after tt tt over (IsLastRead reads start last unwritten over) (IsLeftAlone start last) (read_stays reads start last unwritten over) now t.gives (not_file _ t.asks) _ _ line))
 
 -- what is played after a turn and a line
-pub on_played : {K : Type 0} (tells : SlotTells K) (before mid_slot after : K) (Whole : Outcome → Texts → Type 0) (bytes next_bytes later : List ℕ) (how : Option Over) (failed unwritten : Bool) (now mid next : Session) (a b : Bool) (screen0 screen1 screen2 script0 script1 script2 : Option (List ℕ)) (line codes : List ℕ)
-    → Asked tells before mid_slot now mid a b screen1 screen2 script1 script2 → IsNextLine bytes next_bytes line how → (how ≡ Some End → failed ≡ false) → codes ≡ codes_read mid line → IsLeftAs next (given mid (Typed codes)) (given mid (Typed codes)).stopped
-    → SoFar Whole (IsPlayed tells before after bytes later failed unwritten now) screen0 screen1 script0 script1 → SoFar Whole (IsPlayed tells mid_slot after next_bytes later failed unwritten next) screen0 screen2 script0 script2
-on_played tells before mid_slot after Whole bytes next_bytes later how failed unwritten now mid next a b screen0 screen1 screen2 script0 script1 script2 line codes t comes sound read left s =
+pub on_played : {K : Type 0} (tells : SlotTells K) (before mid_slot after : K) (Whole : Outcome → Texts → Type 0) (bytes next_bytes later : List ℕ) (how : Option Over) (failed unwritten : Bool) (now mid next : Session) (a b : Bool) (taken0 taken1 taken2 : Taken) (line codes : List ℕ)
+    → Asked tells before mid_slot now mid a b taken1 taken2 → IsNextLine bytes next_bytes line how → (how ≡ Some End → failed ≡ false) → codes ≡ codes_read mid line → IsLeftAs next (given mid (Typed codes)) (given mid (Typed codes)).stopped
+    → SoFar Whole (IsPlayed tells before after bytes later failed unwritten now) taken0 taken1 → SoFar Whole (IsPlayed tells mid_slot after next_bytes later failed unwritten next) taken0 taken2
+on_played tells before mid_slot after Whole bytes next_bytes later how failed unwritten now mid next a b taken0 taken1 taken2 line codes t comes sound read left s =
     let end = given_all t.answers now in
     let left_here = subst (λ (m : Session). IsLeftAs next (given m (Typed codes)) (given m (Typed codes)).stopped) t.same left in
-    so_far_on Whole (IsPlayed tells before after bytes later failed unwritten now) (IsPlayed tells mid_slot after next_bytes later failed unwritten next) screen0 screen1 screen2 script0 script1 script2 (shown_up_to t.answers now) (segment_of end).text s t.took
+    so_far_on Whole (IsPlayed tells before after bytes later failed unwritten now) (IsPlayed tells mid_slot after next_bytes later failed unwritten next) taken0 taken1 taken2 (shown_up_to t.answers now) (segment_of end).text s t.took
     (λ o first p.
     let here = by_left tells ReadsLine unwritten mid_slot after p.0.lines p.1.0 p.0.over (λ answers e. IsLastAnswered unwritten p.1.0 e) (λ answers. Unit {0}) (line_still unwritten p.1.0) next (given (ran end) (Typed codes)) _ refl left_here o first p.1.1.1 in
     let read_line = played_line tells mid_slot after line bytes next_bytes later how failed unwritten end codes t.asks comes sound (read ∙ ap (λ (m : Session). codes_read m line) t.same) o first (p.0, (p.1.0, (p.1.1.0, here))) in
@@ -692,12 +691,12 @@ abbrev pub EndsSo : Bool → Stop → Texts → Texts → Outcome → Type 0
 EndsSo true stop first second o = (stop ≡ Write) × ((more : Texts) × (o.text ≡ text_joined (text_joined first second) more))
 EndsSo false stop first second o = (stop ≡ o.stop) × (o.text ≡ text_joined first second)
 
-shows_longer : (a b : Option (List ℕ)) (s more : List ℕ) → Shows (record { taken = a; failed = false }) (record { taken = b; failed = true }) s → Shows (record { taken = a; failed = false }) (record { taken = b; failed = true }) (s ++ more)
-shows_longer a b s more h = shows_twice (record { taken = a; failed = false }) (record { taken = b; failed = true }) (record { taken = b; failed = true }) s more h (shows_past _ _ more refl refl refl)
+took_longer : {a b : Taken} {t : Texts} (more : Texts) → Took a b true t → Took a b true (text_joined t more)
+took_longer more h = record { screen = shows_twice _ _ _ _ _ h.screen (shows_past _ _ more.screen refl refl refl); script = shows_twice _ _ _ _ _ h.script (shows_past _ _ more.script refl refl refl) }
 
-pub play_ends : (Whole Rest : Outcome → Texts → Type 0) (screen0 screen1 screen2 script0 script1 script2 : Option (List ℕ)) (unwritten : Bool) (stop : Stop) (o : Outcome) (first second : Texts)
-    → SoFar Whole Rest screen0 screen1 script0 script1 → Rest o first → EndsSo unwritten stop first second o → TookTexts screen1 screen2 script1 script2 unwritten first second → IsPlay Whole stop unwritten screen0 screen2 script0 script2
-play_ends Whole Rest screen0 screen1 screen2 script0 script1 script2 true stop o first second s p e took = record {
+pub play_ends : (Whole Rest : Outcome → Texts → Type 0) (taken0 taken1 taken2 : Taken) (unwritten : Bool) (stop : Stop) (o : Outcome) (first second : Texts)
+    → SoFar Whole Rest taken0 taken1 → Rest o first → EndsSo unwritten stop first second o → TookTexts taken1 taken2 unwritten first second → IsPlay Whole stop unwritten taken0 taken2
+play_ends Whole Rest taken0 taken1 taken2 true stop o first second s p e took = record {
   outcome = shown_before s.text o;
   first = text_joined s.text first;
   second = text_joined second e.1.0;
@@ -705,15 +704,12 @@ play_ends Whole Rest screen0 screen1 screen2 script0 script1 script2 true stop o
   whole = ap (text_joined s.text) (e.1.1 ∙ sym (same_text first second e.1.0)) ∙ same_text s.text first (text_joined second e.1.0);
   stops = e.0;
   took = record {
-    screen = took.screen;
-    script = took.script;
-    screen_first = shows_twice _ _ _ _ _ s.screen took.screen_first;
-    script_first = shows_twice _ _ _ _ _ s.script took.script_first;
-    screen_second = shows_longer took.screen screen2 second.screen e.1.0.screen took.screen_second;
-    script_second = shows_longer took.script script2 second.script e.1.0.script took.script_second;
+    between = took.between;
+    takes_first = took_twice s.shown took.takes_first;
+    takes_second = took_longer e.1.0 took.takes_second;
   };
 }
-play_ends Whole Rest screen0 screen1 screen2 script0 script1 script2 false stop o first second s p e took = record {
+play_ends Whole Rest taken0 taken1 taken2 false stop o first second s p e took = record {
   outcome = shown_before s.text o;
   first = text_joined s.text first;
   second = second;
@@ -721,12 +717,9 @@ play_ends Whole Rest screen0 screen1 screen2 script0 script1 script2 false stop 
   whole = ap (text_joined s.text) e.1 ∙ same_text s.text first second;
   stops = e.0;
   took = record {
-    screen = took.screen;
-    script = took.script;
-    screen_first = shows_twice _ _ _ _ _ s.screen took.screen_first;
-    script_first = shows_twice _ _ _ _ _ s.script took.script_first;
-    screen_second = took.screen_second;
-    script_second = took.script_second;
+    between = took.between;
+    takes_first = took_twice s.shown took.takes_first;
+    takes_second = took.takes_second;
   };
 }
 
@@ -842,38 +835,38 @@ read_ends tells before after answers over Last Lacking now last gives asks =
 pub heard_whole : (bytes later : List ℕ) (failed : Bool) (left : List (List ℕ)) → failed ≡ false → IsHeard bytes later failed (heard bytes) left
 heard_whole bytes later failed left e = rw e refl
 
-pub stops_played : {K : Type 0} (tells : SlotTells K) (before after : K) (Whole : Outcome → Texts → Type 0) (bytes later : List ℕ) (failed unwritten : Bool) (now mid : Session) (screen0 screen1 screen2 script0 script1 script2 : Option (List ℕ)) (stop : Stop) → failed ≡ false
-    → IsTurn (AreSlotAnswers tells unwritten before after now) now mid (Err stop) unwritten (TookTexts screen1 screen2 script1 script2 unwritten) → SoFar Whole (IsPlayed tells before after bytes later failed unwritten now) screen0 screen1 script0 script1
-    → IsPlay Whole stop unwritten screen0 screen2 script0 script2
-stops_played tells before after Whole bytes later failed unwritten now mid screen0 screen1 screen2 script0 script1 script2 stop sound t s =
+pub stops_played : {K : Type 0} (tells : SlotTells K) (before after : K) (Whole : Outcome → Texts → Type 0) (bytes later : List ℕ) (failed unwritten : Bool) (now mid : Session) (taken0 taken1 taken2 : Taken) (stop : Stop) → failed ≡ false
+    → IsTurn (AreSlotAnswers tells unwritten before after now) now mid (Err stop) unwritten (TookTexts taken1 taken2 unwritten) → SoFar Whole (IsPlayed tells before after bytes later failed unwritten now) taken0 taken1
+    → IsPlay Whole stop unwritten taken0 taken2
+stops_played tells before after Whole bytes later failed unwritten now mid taken0 taken1 taken2 stop sound t s =
     let h = heard bytes in
     let e = turn_stops tells before after unwritten t.answers h.over (IsLastAnswered unwritten h.lines (given_all t.answers now)) (Unit {0}) now stop t.text (λ never f asks. absurd (never f asks)) tt t.gives t.ends in
-    play_ends Whole (IsPlayed tells before after bytes later failed unwritten now) screen0 screen1 screen2 script0 script1 script2 unwritten stop e.o (shown_up_to t.answers now) t.text s
+    play_ends Whole (IsPlayed tells before after bytes later failed unwritten now) taken0 taken1 taken2 unwritten stop e.o (shown_up_to t.answers now) t.text s
     (h, (h.lines, (heard_whole bytes later failed h.lines sound, (t.answers, (answers_alone tells ReadsLine unwritten t.answers before after h.lines now t.gives, refl, e.is))))) e.ends t.shown
 
-pub stops_answered : {K R : Type 0} (tells : SlotTells K) (reads : SourceTells R) (reader : R) (before after : K) (Whole : Outcome → Texts → Type 0) (unwritten : Bool) (now mid : Session) (screen0 screen1 screen2 script0 script1 script2 : Option (List ℕ)) (stop : Stop)
-    → IsTurn (AreSlotAnswers tells unwritten before after now) now mid (Err stop) unwritten (TookTexts screen1 screen2 script1 script2 unwritten) → SoFar Whole (IsAnswered tells reads before after reader reader unwritten now) screen0 screen1 script0 script1
-    → IsPlay Whole stop unwritten screen0 screen2 script0 script2
-stops_answered tells reads reader before after Whole unwritten now mid screen0 screen1 screen2 script0 script1 script2 stop t s =
+pub stops_answered : {K R : Type 0} (tells : SlotTells K) (reads : SourceTells R) (reader : R) (before after : K) (Whole : Outcome → Texts → Type 0) (unwritten : Bool) (now mid : Session) (taken0 taken1 taken2 : Taken) (stop : Stop)
+    → IsTurn (AreSlotAnswers tells unwritten before after now) now mid (Err stop) unwritten (TookTexts taken1 taken2 unwritten) → SoFar Whole (IsAnswered tells reads before after reader reader unwritten now) taken0 taken1
+    → IsPlay Whole stop unwritten taken0 taken2
+stops_answered tells reads reader before after Whole unwritten now mid taken0 taken1 taken2 stop t s =
     let alone : IsLeftAlone reader reader t.answers = λ none. refl in
     let e = turn_stops tells before after unwritten t.answers Failed (IsLastRead reads reader reader unwritten Failed t.answers (given_all t.answers now)) (IsLeftAlone reader reader t.answers) now stop t.text (λ never. (λ f asks. absurd (never f asks), λ n. alone)) alone t.gives t.ends in
-    play_ends Whole (IsAnswered tells reads before after reader reader unwritten now) screen0 screen1 screen2 script0 script1 script2 unwritten stop e.o (shown_up_to t.answers now) t.text s
+    play_ends Whole (IsAnswered tells reads before after reader reader unwritten now) taken0 taken1 taken2 unwritten stop e.o (shown_up_to t.answers now) t.text s
     (Failed, (t.answers, (answers_alone tells ReadsCodes unwritten t.answers before after tt now t.gives, refl, e.is))) e.ends t.shown
 
 -- a read that finds no line
-pub reads_end : {K : Type 0} (tells : SlotTells K) (before after : K) (Whole : Outcome → Texts → Type 0) (bytes later : List ℕ) (over : Over) (failed : Bool) (now mid : Session) (a b : Bool) (screen0 screen1 screen2 script0 script1 script2 : Option (List ℕ))
-    → Asked tells before after now mid a b screen1 screen2 script1 script2 → IsHeard bytes later failed (nothing_more over) [] → SoFar Whole (IsPlayed tells before after bytes later failed false now) screen0 screen1 script0 script1
-    → IsPlay Whole (stop_behind over) false screen0 screen2 script0 script2
-reads_end tells before after Whole bytes later over failed now mid a b screen0 screen1 screen2 script0 script1 script2 t hear s =
+pub reads_end : {K : Type 0} (tells : SlotTells K) (before after : K) (Whole : Outcome → Texts → Type 0) (bytes later : List ℕ) (over : Over) (failed : Bool) (now mid : Session) (a b : Bool) (taken0 taken1 taken2 : Taken)
+    → Asked tells before after now mid a b taken1 taken2 → IsHeard bytes later failed (nothing_more over) [] → SoFar Whole (IsPlayed tells before after bytes later failed false now) taken0 taken1
+    → IsPlay Whole (stop_behind over) false taken0 taken2
+reads_end tells before after Whole bytes later over failed now mid a b taken0 taken1 taken2 t hear s =
     let e = read_ends tells before after t.answers over (IsLastAnswered false [] (given_all t.answers now)) (Unit {0}) now (λ f asks. refl) t.gives t.asks in
-    play_ends Whole (IsPlayed tells before after bytes later failed false now) screen0 screen1 screen2 script0 script1 script2 false (stop_behind over) e.o (shown_up_to t.answers now) (segment_of (given_all t.answers now)).text s
+    play_ends Whole (IsPlayed tells before after bytes later failed false now) taken0 taken1 taken2 false (stop_behind over) e.o (shown_up_to t.answers now) (segment_of (given_all t.answers now)).text s
     (nothing_more over, ([], (hear, (t.answers, (answers_alone tells ReadsLine false t.answers before after [] now t.gives, refl, e.is))))) e.ends t.took
 
-pub answers_end : {K R : Type 0} (tells : SlotTells K) (reads : SourceTells R) (start last : R) (before after : K) (Whole : Outcome → Texts → Type 0) (over : Over) (now mid : Session) (a b : Bool) (screen0 screen1 screen2 script0 script1 script2 : Option (List ℕ))
-    → Asked tells before after now mid a b screen1 screen2 script1 script2 → FoundNoLine reads last over → SoFar Whole (IsAnswered tells reads before after start last false now) screen0 screen1 script0 script1 → IsPlay Whole (stop_behind over) false screen0 screen2 script0 script2
-answers_end tells reads start last before after Whole over now mid a b screen0 screen1 screen2 script0 script1 script2 t found s =
+pub answers_end : {K R : Type 0} (tells : SlotTells K) (reads : SourceTells R) (start last : R) (before after : K) (Whole : Outcome → Texts → Type 0) (over : Over) (now mid : Session) (a b : Bool) (taken0 taken1 taken2 : Taken)
+    → Asked tells before after now mid a b taken1 taken2 → FoundNoLine reads last over → SoFar Whole (IsAnswered tells reads before after start last false now) taken0 taken1 → IsPlay Whole (stop_behind over) false taken0 taken2
+answers_end tells reads start last before after Whole over now mid a b taken0 taken1 taken2 t found s =
     let e = read_ends tells before after t.answers over (IsLastRead reads start last false over t.answers (given_all t.answers now)) (IsLeftAlone start last t.answers) now (λ f asks. found, λ never. absurd (never refl t.asks)) t.gives t.asks in
-    play_ends Whole (IsAnswered tells reads before after start last false now) screen0 screen1 screen2 script0 script1 script2 false (stop_behind over) e.o (shown_up_to t.answers now) (segment_of (given_all t.answers now)).text s
+    play_ends Whole (IsAnswered tells reads before after start last false now) taken0 taken1 taken2 false (stop_behind over) e.o (shown_up_to t.answers now) (segment_of (given_all t.answers now)).text s
     (over, (t.answers, (answers_alone tells ReadsCodes false t.answers before after tt now t.gives, refl, e.is))) e.ends t.took
 
 -- ---- a reader of lines, whose input goes on or is over

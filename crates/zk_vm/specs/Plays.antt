@@ -145,14 +145,24 @@ abbrev pub EndsTurnOrFails : Bool → Session → Result Event Stop → Texts �
 EndsTurnOrFails true s answer text = (answer ≡ Err Write) × ShowsOfRun s text
 EndsTurnOrFails false s answer text = EndsTurn s answer text
 
--- Two targets took all of a text, and then all of a second one, or a first part of it where a write has failed.
-pub record TookTexts (screen0 screen1 script0 script1 : Option (List ℕ)) (unwritten : Bool) (first second : Texts) : Type 0 where
+-- what the screen and the transcript's target took, where they tell it
+pub record Taken : Type 0 where
   pub screen : Option (List ℕ)
   pub script : Option (List ℕ)
-  pub screen_first : Shows (record { taken = screen0; failed = false }) (record { taken = screen; failed = false }) first.screen
-  pub script_first : Shows (record { taken = script0; failed = false }) (record { taken = script; failed = false }) first.script
-  pub screen_second : Shows (record { taken = screen; failed = false }) (record { taken = screen1; failed = unwritten }) second.screen
-  pub script_second : Shows (record { taken = script; failed = false }) (record { taken = script1; failed = unwritten }) second.script
+
+abbrev pub taken_by : Option (List ℕ) → Option (List ℕ) → Taken
+taken_by screen script = record { screen = screen; script = script }
+
+-- they took all of a text, or a first part of it where a write has failed
+pub record Took (old new : Taken) (unwritten : Bool) (text : Texts) : Type 0 where
+  pub screen : Shows (record { taken = old.screen; failed = false }) (record { taken = new.screen; failed = unwritten }) text.screen
+  pub script : Shows (record { taken = old.script; failed = false }) (record { taken = new.script; failed = unwritten }) text.script
+
+-- they took all of a text, and then all of a second one, or a first part of it where a write has failed
+pub record TookTexts (old new : Taken) (unwritten : Bool) (first second : Texts) : Type 0 where
+  pub between : Taken
+  pub takes_first : Took old between false first
+  pub takes_second : Took between new unwritten second
 
 -- A machine has run up to a read or its stop, and got the answers of a slot on its way. It has shown one text up to the
 -- last answer, and one after it.
@@ -268,11 +278,11 @@ IsPlayed {K} t before after bytes later failed unwritten s o first =
 
 -- A machine was played: there is an outcome, of a kind, that it has. The text up to the last answer was written, and of what
 -- comes after it all, or a first part where a write has failed: then the stop is that.
-pub record IsPlay (Is : Outcome → Texts → Type 0) (stop : Stop) (unwritten : Bool) (screen0 screen1 script0 script1 : Option (List ℕ)) : Type 0 where
+pub record IsPlay (Is : Outcome → Texts → Type 0) (stop : Stop) (unwritten : Bool) (old new : Taken) : Type 0 where
   pub outcome : Outcome
   pub first : Texts
   pub second : Texts
   pub is : Is outcome first
   pub whole : outcome.text ≡ text_joined first second
   pub stops : stop ≡ (if unwritten then Write else outcome.stop)
-  pub took : TookTexts screen0 screen1 script0 script1 unwritten first second
+  pub took : TookTexts old new unwritten first second

@@ -12,7 +12,7 @@ ghost use Rattle.zk_vm.specs.Halts.{IsLeftAs, event_waited};
 ghost use Rattle.zk_vm.specs.Step.{is_read};
 ghost use Rattle.zk_vm.specs.Laws.{IsWithin};
 ghost use Rattle.zk_vm.specs.Outcome.{given, with_stop};
-ghost use Rattle.zk_vm.specs.Plays.{AsksForFile, AreSlotAnswers, IsRunOn, IsServed, IsTold, IsTurn, TookTexts, IsPlay, IsPlayed, IsAnswered, refused_in, slot_tells, source_tells};
+ghost use Rattle.zk_vm.specs.Plays.{AsksForFile, AreSlotAnswers, IsRunOn, IsServed, IsTold, IsTurn, TookTexts, IsPlay, IsPlayed, IsAnswered, refused_in, slot_tells, source_tells, taken_by};
 ghost use Rattle.zk_save.specs.Loading.{restored};
 
 use crate::console::Console;
@@ -184,8 +184,9 @@ pub fn turn<S: Target, T: Target, K: SaveSlot>(
     ensures turn { IsTurn (AreSlotAnswers (slot_tells K.held K.keeps K.puts K.gets K.hears)
         (S.failed screen.new || T.failed script.new) slot.old slot.new machine.old) machine.old
         machine.new result (S.failed screen.new || T.failed script.new)
-        (TookTexts (S.taken screen.old) (S.taken screen.new) (T.taken script.old)
-        (T.taken script.new) (S.failed screen.new || T.failed script.new)) }
+        (TookTexts (taken_by (S.taken screen.old) (T.taken script.old))
+        (taken_by (S.taken screen.new) (T.taken script.new))
+        (S.failed screen.new || T.failed script.new)) }
     ensures free_again { OnErr result (machine.new.waiting ≡ None) }
     ensures asks { IfOk result
         (λ event. (event_waited machine.new.waiting ≡ Some event) × (is_read event ≡ true)) }
@@ -297,13 +298,15 @@ pub fn play<R: Source, S: Target, T: Target, K: SaveSlot>(
         → (later : List ℕ) × (R.left reader.new ≡ Some later)
         × IsPlay (IsPlayed (slot_tells K.held K.keeps K.puts K.gets K.hears) slot.old slot.new bytes later (R.failed reader.new)
         (S.failed screen.new || T.failed script.new) machine.old) result
-        (S.failed screen.new || T.failed script.new) (S.taken screen.old)
-        (S.taken screen.new) (T.taken script.old) (T.taken script.new) }
+        (S.failed screen.new || T.failed script.new)
+        (taken_by (S.taken screen.old) (T.taken script.old))
+        (taken_by (S.taken screen.new) (T.taken script.new)) }
     ensures answered { IsPlay (IsAnswered (slot_tells K.held K.keeps K.puts K.gets K.hears)
         (source_tells R.ends R.fails R.gives R.failed) slot.old slot.new reader.old reader.new
         (S.failed screen.new || T.failed script.new) machine.old) result
-        (S.failed screen.new || T.failed script.new) (S.taken screen.old) (S.taken screen.new)
-        (T.taken script.old) (T.taken script.new) }
+        (S.failed screen.new || T.failed script.new)
+        (taken_by (S.taken screen.old) (T.taken script.old))
+        (taken_by (S.taken screen.new) (T.taken script.new)) }
     ensures read_failed { R.failed reader.new ≡ true → result ≡ Stop.Read }
     ensures stopped { machine.new.stopped ≡ Some result }
     ensures whole { (S.failed screen.new || T.failed script.new) ≡ false
