@@ -12,7 +12,7 @@ use Rattle.zk_term.specs.Lines.{heard}
 use Rattle.zk_vm.specs.Halts.{event_waited}
 use Rattle.zk_step.specs.Routing.{Texts, no_text}
 use Rattle.zk_vm.specs.Outcome.{Outcome, Session, given_all, outcome, ran, shown_up_to}
-use Rattle.zk_vm.specs.Plays.{AreAnswers, IsAnswered, IsPlay, IsPlayed, SlotTells, SourceTells, stop_waiting}
+use Rattle.zk_vm.specs.Plays.{AreAnswers, IsAnswered, IsPlay, IsPlayed, SlotTells, SourceTells, Taken, stop_waiting, taken_by}
 use Rattle.zk_vm.proofs.Playing.{heard_whole}
 
 -- what a write took of no bytes
@@ -50,9 +50,9 @@ shows_failed old new text h = record {
 }
 
 -- a play after a write of no bytes to the script
-pub after_none : (Is : Outcome → Texts → Type 0) (stop : Stop) (unwritten : Bool) (screen0 screen1 script0 between script1 : Option (List ℕ)) → Appends script0 between []
-    → IsPlay Is stop unwritten screen0 screen1 between script1 → IsPlay Is stop unwritten screen0 screen1 script0 script1
-after_none Is stop unwritten screen0 screen1 script0 between script1 h p = record {
+pub after_none : (Is : Outcome → Texts → Type 0) (stop : Stop) (unwritten : Bool) (screen script0 between : Option (List ℕ)) (new : Taken) → Appends script0 between []
+    → IsPlay Is stop unwritten (taken_by screen between) new → IsPlay Is stop unwritten (taken_by screen script0) new
+after_none Is stop unwritten screen script0 between new h p = record {
   outcome = p.outcome;
   first = p.first;
   second = p.second;
@@ -60,12 +60,9 @@ after_none Is stop unwritten screen0 screen1 script0 between script1 h p = recor
   whole = p.whole;
   stops = p.stops;
   took = record {
-    screen = p.took.screen;
-    script = p.took.script;
-    screen_first = p.took.screen_first;
-    script_first = shows_twice (record { taken = script0; failed = false }) (record { taken = between; failed = false }) (record { taken = p.took.script; failed = false }) [] p.first.script (shows_none script0 between h) p.took.script_first;
-    screen_second = p.took.screen_second;
-    script_second = p.took.script_second;
+    between = p.took.between;
+    takes_first = record { screen = p.took.takes_first.screen; script = shows_twice _ _ _ [] p.first.script (shows_none script0 between h) p.took.takes_first.script };
+    takes_second = p.took.takes_second;
   };
 }
 
@@ -76,7 +73,7 @@ failed_or false b e = e
 
 -- a play whose script failed at that write
 pub unwritten : (Is : Outcome → Texts → Type 0) (o : Outcome) (a b : Bool) (screen script0 script1 : Option (List ℕ)) → Is o no_text → b ≡ true → Appends script0 script1 []
-    → IsPlay Is Write (a || b) screen screen script0 script1
+    → IsPlay Is Write (a || b) (taken_by screen script0) (taken_by screen script1)
 unwritten Is o a b screen script0 script1 is e h = rw (failed_or a b e) (record {
   outcome = o;
   first = no_text;
@@ -85,12 +82,9 @@ unwritten Is o a b screen script0 script1 is e h = rw (failed_or a b e) (record 
   whole = refl;
   stops = refl;
   took = record {
-    screen = screen;
-    script = script0;
-    screen_first = shows_none screen screen (Appends-nil screen);
-    script_first = shows_none script0 script0 (Appends-nil script0);
-    screen_second = shows_failed screen screen o.text.screen (Appends-nil screen);
-    script_second = shows_failed script0 script1 o.text.script h;
+    between = taken_by screen script0;
+    takes_first = record { screen = shows_none screen screen (Appends-nil screen); script = shows_none script0 script0 (Appends-nil script0) };
+    takes_second = record { screen = shows_failed screen screen o.text.screen (Appends-nil screen); script = shows_failed script0 script1 o.text.script h };
   };
 })
 

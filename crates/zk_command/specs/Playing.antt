@@ -6,7 +6,7 @@ use Rattle.zk_vm.specs.declared.stop.Stop.{Stop}
 use Rattle.zk_vm.specs.declared.stop.Stop.TheVariants.{Memory, Read}
 use Rattle.zk_vm.specs.Outcome.{Outcome, Session, begun}
 use Rattle.zk_step.specs.Routing.{Texts}
-use Rattle.zk_vm.specs.Plays.{IsPlay, IsPlayed, IsAnswered, SlotTells, SourceTells}
+use Rattle.zk_vm.specs.Plays.{IsPlay, IsPlayed, IsAnswered, SlotTells, SourceTells, Taken}
 use Rattle.zk_command.specs.LastLine.{TookExplained, last_line}
 use Rattle.zk_command.specs.Status.{exit_status}
 use Rattle.zk_command.specs.declared.exit.Exit.{Exit}
@@ -51,6 +51,14 @@ play_on {I} {S} {T} {K} left input seen screen_failed written script_failed slot
   new = states_of left input.failed seen screen_failed written script_failed new;
 }
 
+-- what the screen and the transcript's target took
+abbrev pub taken_of : DeviceStates → Taken
+taken_of d = record { screen = d.screen.taken; script = d.script.taken }
+
+-- a write to one of them has failed
+abbrev pub write_failed : DeviceStates → Bool
+write_failed d = d.screen.failed || d.script.failed
+
 -- no device has failed
 pub record Work {I S T K : Type 0} (unread : I → Bool) (screen_failed : S → Bool) (script_failed : T → Bool) (d : Devices I S T K) : Type 0 where
   pub input : unread d.input ≡ false
@@ -61,9 +69,9 @@ pub record Work {I S T K : Type 0} (unread : I → Bool) (screen_failed : S → 
 -- games. The screen and the script got their texts of the outcome, or first parts of them where a write to one of them
 -- failed.
 pub record IsPlayedBy (p : Play) (machine : Session) (stop : Stop) : Type 0 where
-  pub answered : IsPlay (p.answered (p.new.screen.failed || p.new.script.failed) machine) stop (p.new.screen.failed || p.new.script.failed) p.old.screen.taken p.new.screen.taken p.old.script.taken p.new.script.taken
+  pub answered : IsPlay (p.answered (write_failed p.new) machine) stop (write_failed p.new) (taken_of p.old) (taken_of p.new)
   pub played : (bytes : List ℕ) → p.old.typed ≡ Some bytes → (later : List ℕ) × (p.new.typed ≡ Some later)
-      × IsPlay (p.played bytes later p.new.unread (p.new.screen.failed || p.new.script.failed) machine) stop (p.new.screen.failed || p.new.script.failed) p.old.screen.taken p.new.screen.taken p.old.script.taken p.new.script.taken
+      × IsPlay (p.played bytes later p.new.unread (write_failed p.new) machine) stop (write_failed p.new) (taken_of p.old) (taken_of p.new)
   pub unread : p.new.unread ≡ true → stop ≡ Read
 
 -- the screen and the script got nothing

@@ -5,7 +5,7 @@ use Rattle.zk_text.specs.Extra.{is_input_code}
 use Rattle.zk_term.specs.declared.lines.Over.{Over}
 use Rattle.zk_term.specs.declared.lines.Over.TheVariants.{End, Failed}
 use Rattle.arrayvec.specs.ArrayVec.{ArrayVec}
-use Rattle.zk_term.specs.Devices.{HasJust, Shows}
+use Rattle.zk_term.specs.Devices.{HasJust}
 use Rattle.zk_term.specs.declared.lines.Input.TheVariants as input
 use Rattle.zk_term.specs.Lines.{Heard, heard, ended_lines, behind, is_short, nothing_more, over_input, BreaksOff, IsNextLine, IsPlain, IsTooLong, MeetsBound, Reading}
 use Rattle.zk_term.proofs.Hearing.{are_lines}
@@ -127,19 +127,7 @@ stopped_as : (m s : Session) (x : Option Stop) (stop : Stop) → x ≡ Some stop
 stopped_as m s None stop e left = absurd cc
 stopped_as m s (Some y) stop e left = left.0 ∙ e
 
--- ---- answers of a slot
-
-slot_asks : {K : Type 0} (tells : SlotTells K) (before after : K) (s : Session) (a : Answer) → IsSlotAnswer tells before after s a → AsksForFile s
-slot_asks tells before after s (Typed codes) h = absurd h
-slot_asks tells before after s (GameKept true) h = (event.Save, (h.0, refl))
-slot_asks tells before after s (GameKept false) h = (event.Save, (h.0, refl))
-slot_asks tells before after s (File file) h = (event.Restore, (h.0, refl))
-
 -- ---- a turn that goes on
-
-last_stopped : {K : Type 0} (tells : SlotTells K) (unwritten : Bool) (before after : K) (m s : Session) (stop : Stop) → m.stopped ≡ Some stop → IsLastSlot tells unwritten before after m → IsLastSlot tells unwritten before after s
-last_stopped tells unwritten before after m s stop e (inl h) = inl h
-last_stopped tells unwritten before after m s stop e (inr h) = absurd (no_wait m stop e (file_asked m h.1))
 
 shows_runs : (s : Session) (text : Texts) → ShowsUpTo s text → s.stopped ≡ None
 shows_runs s text (before, (last, (to, (inl h, e)))) = h.runs
@@ -169,49 +157,9 @@ left_stopped : (unwritten : Bool) (m s new : Session) (stop : Stop) (answer : Re
 left_stopped unwritten m s new stop (Ok e) text k ends h = absurd (no_wait m stop k (waits_for (segment_of m).end e (sym (turn_asks unwritten m e text ends).1)))
 left_stopped unwritten m s new stop (Err x) text k ends h = h
 
-turn_stopped : {K : Type 0} (tells : SlotTells K) (before after : K) (m s new : Session) (stop : Stop) (answer : Result Event Stop) (unwritten : Bool) (Shown : Texts → Texts → Type 0) (answers : List Answer) (text : Texts)
-    → m.stopped ≡ Some stop → s.stopped ≡ Some stop → AreSlotAnswers tells unwritten before after m answers → EndsTurnOrFails unwritten (given_all answers m) answer text → IsLeftByTurn new (given_all answers m) answer → Shown (shown_up_to answers m) text
-    → IsTurn (AreSlotAnswers tells unwritten before after s) s new answer unwritten Shown
-unfolding AreSlotAnswers given_all shown_up_to
-turn_stopped tells before after m s new stop answer unwritten Shown [] text e f gives ends left shown = record {
-  answers = [];
-  gives = last_stopped tells unwritten before after m s stop e gives;
-  text = text;
-  ends = ends_stopped unwritten m s stop answer text e f ends;
-  left = left_stopped unwritten m s new stop answer text e ends left;
-  shown = shown;
-}
-turn_stopped tells before after m s new stop answer unwritten Shown (a ∷ answers) text e f gives ends left shown =
-    absurd (no_wait m stop e (file_asked m (slot_asks tells before gives.0 (ran m) a gives.1.0)))
-
-turn_left_by : {K : Type 0} (tells : SlotTells K) (before after : K) (m s new : Session) (answer : Result Event Stop) (unwritten : Bool) (Shown : Texts → Texts → Type 0) (x : Option Stop)
-    → s.stopped ≡ x → IsLeftAs m s x → IsTurn (AreSlotAnswers tells unwritten before after m) m new answer unwritten Shown → IsTurn (AreSlotAnswers tells unwritten before after s) s new answer unwritten Shown
-turn_left_by tells before after m s new answer unwritten Shown None e left t = subst (λ (n : Session). IsTurn (AreSlotAnswers tells unwritten before after n) n new answer unwritten Shown) left t
-turn_left_by tells before after m s new answer unwritten Shown (Some stop) e left t = turn_stopped tells before after m s new stop answer unwritten Shown t.answers t.text left.0 e t.gives t.ends t.left t.shown
-
 -- texts that are these
 abbrev pub AreTexts : Texts → Texts → Texts → Texts → Type 0
 AreTexts first second a b = (a ≡ first) × (b ≡ second)
-
--- a turn after an answer of a slot
-turn_behind : {K : Type 0} (tells : SlotTells K) (before mid after : K) (s new : Session) (answer : Result Event Stop) (unwritten : Bool) (a : Answer) (first second : Texts)
-    → IsSlotAnswer tells before mid (ran s) a → IsTurn (AreSlotAnswers tells unwritten mid after (given (ran s) a)) (given (ran s) a) new answer unwritten (AreTexts first second)
-    → IsTurn (AreSlotAnswers tells unwritten before after s) s new answer unwritten (AreTexts (text_joined (segment_of s).text first) second)
-unfolding AreSlotAnswers given_all shown_up_to
-turn_behind tells before mid after s new answer unwritten a first second is t = record {
-  answers = a ∷ t.answers;
-  gives = (mid, (is, t.gives));
-  text = t.text;
-  ends = t.ends;
-  left = t.left;
-  shown = (ap (text_joined (segment_of s).text) t.shown.0, t.shown.1);
-}
-
--- a turn with no answer
-pub turn_alone : {K : Type 0} (tells : SlotTells K) (before after : K) (s new : Session) (answer : Result Event Stop) (unwritten : Bool) (text : Texts)
-    → IsLastSlot tells unwritten before after s → EndsTurnOrFails unwritten s answer text → IsLeftByTurn new s answer → IsTurn (AreSlotAnswers tells unwritten before after s) s new answer unwritten (AreTexts no_text text)
-unfolding AreSlotAnswers given_all shown_up_to
-turn_alone tells before after s new answer unwritten text last ends left = record { answers = []; gives = last; text = text; ends = ends; left = left; shown = (refl, refl) }
 
 -- ---- what two targets took
 
@@ -228,48 +176,99 @@ pub record TurnSoFar {K : Type 0} (tells : SlotTells K) (start now : Session) (s
   pub rest : (after : K) (new : Session) (answer : Result Event Stop) (unwritten : Bool) (first second : Texts) → IsTurn (AreSlotAnswers tells unwritten slot1 after now) now new answer unwritten (AreTexts first second)
       → IsTurn (AreSlotAnswers tells unwritten slot0 after start) start new answer unwritten (AreTexts (text_joined text first) second)
 
-pub turn_begins : {K : Type 0} (tells : SlotTells K) (start : Session) (slot : K) (taken : Taken) → TurnSoFar tells start start slot slot taken taken
-turn_begins tells start slot taken = record {
-  text = no_text;
-  shown = took_nothing _;
-  rest = λ after new answer unwritten first second t. t;
-}
+module _ {K : Type 0} (tells : SlotTells K) where
+  slot_asks : (before after : K) (s : Session) (a : Answer) → IsSlotAnswer tells before after s a → AsksForFile s
+  slot_asks before after s (Typed codes) h = absurd h
+  slot_asks before after s (GameKept true) h = (event.Save, (h.0, refl))
+  slot_asks before after s (GameKept false) h = (event.Save, (h.0, refl))
+  slot_asks before after s (File file) h = (event.Restore, (h.0, refl))
 
-pub turn_served : {K : Type 0} (tells : SlotTells K) (start now mid next : Session) (slot0 slot1 slot2 : K) (taken0 taken1 taken2 : Taken)
-    → TurnSoFar tells start now slot0 slot1 taken0 taken1 → mid ≡ ran now → IsServed tells slot1 slot2 mid next
-    → Took taken1 taken2 false (segment_of now).text
-    → TurnSoFar tells start next slot0 slot2 taken0 taken2
-turn_served tells start now mid next slot0 slot1 slot2 taken0 taken1 taken2 s same served shown = record {
-  text = text_joined s.text (segment_of now).text;
-  shown = took_twice s.shown shown;
-  rest = λ after new answer unwritten first second t.
-      let is = subst (λ (m : Session). IsSlotAnswer tells slot1 slot2 m served.answer) same served.is in
-      let left = subst (λ (m : Session). IsLeftAs next (given m served.answer) (given m served.answer).stopped) same served.left in
-      let here = turn_left_by tells slot2 after next (given (ran now) served.answer) new answer unwritten (AreTexts first second) (given (ran now) served.answer).stopped refl left t in
-      let one = turn_behind tells slot1 slot2 after now new answer unwritten served.answer first second is here in
-      subst (λ (u : Texts). IsTurn (AreSlotAnswers tells unwritten slot0 after start) start new answer unwritten (AreTexts u second)) (same_text s.text (segment_of now).text first)
-      (s.rest after new answer unwritten (text_joined (segment_of now).text first) second one);
-}
+  last_stopped : (unwritten : Bool) (before after : K) (m s : Session) (stop : Stop) → m.stopped ≡ Some stop → IsLastSlot tells unwritten before after m → IsLastSlot tells unwritten before after s
+  last_stopped unwritten before after m s stop e (inl h) = inl h
+  last_stopped unwritten before after m s stop e (inr h) = absurd (no_wait m stop e (file_asked m h.1))
 
-pub turn_ends : {K : Type 0} (tells : SlotTells K) (start now new : Session) (slot0 slot1 slot2 : K) (taken0 taken1 taken2 : Taken) (answer : Result Event Stop) (unwritten : Bool) (text : Texts)
-    → TurnSoFar tells start now slot0 slot1 taken0 taken1 → IsLastSlot tells unwritten slot1 slot2 now → EndsTurnOrFails unwritten now answer text → IsLeftByTurn new now answer
-    → Took taken1 taken2 unwritten text
-    → IsTurn (AreSlotAnswers tells unwritten slot0 slot2 start) start new answer unwritten (TookTexts taken0 taken2 unwritten)
-turn_ends tells start now new slot0 slot1 slot2 taken0 taken1 taken2 answer unwritten text s last ends left shown =
-    let t = s.rest slot2 new answer unwritten no_text text (turn_alone tells slot1 slot2 now new answer unwritten text last ends left) in
-    let first = t.shown.0 ∙ no_text_behind s.text in
-    record {
-      answers = t.answers;
-      gives = t.gives;
-      text = t.text;
-      ends = t.ends;
-      left = t.left;
-      shown = record {
-        between = taken1;
-        takes_first = subst (λ (u : Texts). Took taken0 taken1 false u) (sym first) s.shown;
-        takes_second = subst (λ (u : Texts). Took taken1 taken2 unwritten u) (sym t.shown.1) shown;
-      };
-    }
+  turn_stopped : (before after : K) (m s new : Session) (stop : Stop) (answer : Result Event Stop) (unwritten : Bool) (Shown : Texts → Texts → Type 0) (answers : List Answer) (text : Texts)
+      → m.stopped ≡ Some stop → s.stopped ≡ Some stop → AreSlotAnswers tells unwritten before after m answers → EndsTurnOrFails unwritten (given_all answers m) answer text → IsLeftByTurn new (given_all answers m) answer → Shown (shown_up_to answers m) text
+      → IsTurn (AreSlotAnswers tells unwritten before after s) s new answer unwritten Shown
+  unfolding AreSlotAnswers given_all shown_up_to
+  turn_stopped before after m s new stop answer unwritten Shown [] text e f gives ends left shown = record {
+    answers = [];
+    gives = last_stopped unwritten before after m s stop e gives;
+    text = text;
+    ends = ends_stopped unwritten m s stop answer text e f ends;
+    left = left_stopped unwritten m s new stop answer text e ends left;
+    shown = shown;
+  }
+  turn_stopped before after m s new stop answer unwritten Shown (a ∷ answers) text e f gives ends left shown =
+      absurd (no_wait m stop e (file_asked m (slot_asks before gives.0 (ran m) a gives.1.0)))
+
+  turn_left_by : (before after : K) (m s new : Session) (answer : Result Event Stop) (unwritten : Bool) (Shown : Texts → Texts → Type 0) (x : Option Stop)
+      → s.stopped ≡ x → IsLeftAs m s x → IsTurn (AreSlotAnswers tells unwritten before after m) m new answer unwritten Shown → IsTurn (AreSlotAnswers tells unwritten before after s) s new answer unwritten Shown
+  turn_left_by before after m s new answer unwritten Shown None e left t = subst (λ (n : Session). IsTurn (AreSlotAnswers tells unwritten before after n) n new answer unwritten Shown) left t
+  turn_left_by before after m s new answer unwritten Shown (Some stop) e left t = turn_stopped before after m s new stop answer unwritten Shown t.answers t.text left.0 e t.gives t.ends t.left t.shown
+
+  -- a turn after an answer of a slot
+  turn_behind : (before mid after : K) (s new : Session) (answer : Result Event Stop) (unwritten : Bool) (a : Answer) (first second : Texts)
+      → IsSlotAnswer tells before mid (ran s) a → IsTurn (AreSlotAnswers tells unwritten mid after (given (ran s) a)) (given (ran s) a) new answer unwritten (AreTexts first second)
+      → IsTurn (AreSlotAnswers tells unwritten before after s) s new answer unwritten (AreTexts (text_joined (segment_of s).text first) second)
+  unfolding AreSlotAnswers given_all shown_up_to
+  turn_behind before mid after s new answer unwritten a first second is t = record {
+    answers = a ∷ t.answers;
+    gives = (mid, (is, t.gives));
+    text = t.text;
+    ends = t.ends;
+    left = t.left;
+    shown = (ap (text_joined (segment_of s).text) t.shown.0, t.shown.1);
+  }
+
+  -- a turn with no answer
+  pub turn_alone : (before after : K) (s new : Session) (answer : Result Event Stop) (unwritten : Bool) (text : Texts)
+      → IsLastSlot tells unwritten before after s → EndsTurnOrFails unwritten s answer text → IsLeftByTurn new s answer → IsTurn (AreSlotAnswers tells unwritten before after s) s new answer unwritten (AreTexts no_text text)
+  unfolding AreSlotAnswers given_all shown_up_to
+  turn_alone before after s new answer unwritten text last ends left = record { answers = []; gives = last; text = text; ends = ends; left = left; shown = (refl, refl) }
+
+  pub turn_begins : (start : Session) (slot : K) {taken : Taken} → TurnSoFar tells start start slot slot taken taken
+  turn_begins start slot = record {
+    text = no_text;
+    shown = took_nothing _;
+    rest = λ after new answer unwritten first second t. t;
+  }
+
+  pub turn_served : (start now mid next : Session) (slot0 slot1 slot2 : K) {taken0 taken1 taken2 : Taken}
+      → TurnSoFar tells start now slot0 slot1 taken0 taken1 → mid ≡ ran now → IsServed tells slot1 slot2 mid next
+      → Took taken1 taken2 false (segment_of now).text
+      → TurnSoFar tells start next slot0 slot2 taken0 taken2
+  turn_served start now mid next slot0 slot1 slot2 s same served shown = record {
+    text = text_joined s.text (segment_of now).text;
+    shown = took_twice s.shown shown;
+    rest = λ after new answer unwritten first second t.
+        let is = subst (λ (m : Session). IsSlotAnswer tells slot1 slot2 m served.answer) same served.is in
+        let left = subst (λ (m : Session). IsLeftAs next (given m served.answer) (given m served.answer).stopped) same served.left in
+        let here = turn_left_by slot2 after next (given (ran now) served.answer) new answer unwritten (AreTexts first second) (given (ran now) served.answer).stopped refl left t in
+        let one = turn_behind slot1 slot2 after now new answer unwritten served.answer first second is here in
+        subst (λ (u : Texts). IsTurn (AreSlotAnswers tells unwritten slot0 after start) start new answer unwritten (AreTexts u second)) (same_text s.text (segment_of now).text first)
+        (s.rest after new answer unwritten (text_joined (segment_of now).text first) second one);
+  }
+
+  pub turn_ends : (start now new : Session) (slot0 slot1 slot2 : K) {taken0 taken1 taken2 : Taken} (answer : Result Event Stop) (unwritten : Bool) (text : Texts)
+      → TurnSoFar tells start now slot0 slot1 taken0 taken1 → IsLastSlot tells unwritten slot1 slot2 now → EndsTurnOrFails unwritten now answer text → IsLeftByTurn new now answer
+      → Took taken1 taken2 unwritten text
+      → IsTurn (AreSlotAnswers tells unwritten slot0 slot2 start) start new answer unwritten (TookTexts taken0 taken2 unwritten)
+  turn_ends start now new slot0 slot1 slot2 {taken0} {taken1} {taken2} answer unwritten text s last ends left shown =
+      let t = s.rest slot2 new answer unwritten no_text text (turn_alone slot1 slot2 now new answer unwritten text last ends left) in
+      let first = t.shown.0 ∙ no_text_behind s.text in
+      record {
+        answers = t.answers;
+        gives = t.gives;
+        text = t.text;
+        ends = t.ends;
+        left = t.left;
+        shown = record {
+          between = taken1;
+          takes_first = subst (λ (u : Texts). Took taken0 taken1 false u) (sym first) s.shown;
+          takes_second = subst (λ (u : Texts). Took taken1 taken2 unwritten u) (sym t.shown.1) shown;
+        };
+      }
 
 -- ---- a run in a turn
 
@@ -388,14 +387,6 @@ pub outcome_on : (a : Answer) (answers : List Answer) (end : Stop) (s : Session)
 unfolding outcome
 outcome_on a answers end s w e = rw e refl
 
-outcome_all : {K : Type 0} (tells : SlotTells K) (unwritten : Bool) (answers : List Answer) (before after : K) (s : Session) (end : Stop) → AreSlotAnswers tells unwritten before after s answers
-    → outcome answers end s ≡ shown_before (shown_up_to answers s) (outcome [] end (given_all answers s))
-unfolding AreSlotAnswers given_all shown_up_to
-outcome_all tells unwritten [] before after s end h = refl
-outcome_all tells unwritten (a ∷ answers) before after s end h =
-    let w = file_asked s (slot_asks tells before h.0 (ran s) a h.1.0) in
-    outcome_on a answers end s w.0 w.1 ∙ ap (shown_before (segment_of s).text) (outcome_all tells unwritten answers h.0 after (given (ran s) a) end h.1.1) ∙ same_shown (segment_of s).text (shown_up_to answers (given (ran s) a)) _
-
 -- ---- an answer in front
 
 on_outcome : (a : Answer) (answers : List Answer) (over : Over) (Last Last' Lacking Lacking' : Type 0) (s : Session) (w : Waiting) (o : Outcome) → (segment_of s).end ≡ Ok w → (Last → Last') → (Lacking → Lacking')
@@ -413,64 +404,10 @@ last_behind : (a : Answer) (answers : List Answer) (s : Session) (Last : List An
 unfolding given_all
 last_behind a answers s Last h = h
 
-answers_slot : {K X : Type 0} (tells : SlotTells K) (Reads : X → X → Session → List ℕ → Type 0) (unwritten : Bool) (before mid after : K) (x y : X) (s : Session) (a : Answer) (answers : List Answer)
-    → IsSlotAnswer tells before mid (ran s) a → AreAnswers tells Reads unwritten mid after x y (given (ran s) a) answers → AreAnswers tells Reads unwritten before after x y s (a ∷ answers)
-unfolding AreAnswers
-answers_slot tells Reads unwritten before mid after x y s (Typed codes) answers h p = absurd h
-answers_slot tells Reads unwritten before mid after x y s (GameKept kept) answers h p = (mid, (h, p))
-answers_slot tells Reads unwritten before mid after x y s (File file) answers h p = (mid, (h, p))
-
-answers_line : {K X : Type 0} (tells : SlotTells K) (Reads : X → X → Session → List ℕ → Type 0) (unwritten : Bool) (before after : K) (x mid y : X) (s : Session) (codes : List ℕ) (answers : List Answer)
-    → AsksForLine (ran s) → Reads x mid (ran s) codes → AreAnswers tells Reads unwritten before after mid y (given (ran s) (Typed codes)) answers → AreAnswers tells Reads unwritten before after x y s (Typed codes ∷ answers)
-unfolding AreAnswers
-answers_line tells Reads unwritten before after x mid y s codes answers asks read p = (mid, (asks, read, p))
-
-pub answers_alone : {K X : Type 0} (tells : SlotTells K) (Reads : X → X → Session → List ℕ → Type 0) (unwritten : Bool) (answers : List Answer) (before after : K) (x : X) (s : Session) → AreSlotAnswers tells unwritten before after s answers → AreAnswers tells Reads unwritten before after x x s answers
-unfolding AreSlotAnswers AreAnswers
-answers_alone tells Reads unwritten [] before after x s h = (h, refl)
-answers_alone tells Reads unwritten (a ∷ answers) before after x s h = answers_slot tells Reads unwritten before h.0 after x x s a answers h.1.0 (answers_alone tells Reads unwritten answers h.0 after x (given (ran s) a) h.1.1)
-
 -- what holds after the last answer holds with one more in front
 pub record Stays (Last : List Answer → Session → Type 0) (Lacking : List Answer → Type 0) : Type 0 where
   pub last : (a : Answer) (answers : List Answer) (end : Session) → Last answers end → Last (a ∷ answers) end
   pub lacking : (a : Answer) (answers : List Answer) → Lacking answers → Lacking (a ∷ answers)
-
-by_slot : {K X : Type 0} (tells : SlotTells K) (Reads : X → X → Session → List ℕ → Type 0) (unwritten : Bool) (before mid after : K) (x y : X) (over : Over) (Last : List Answer → Session → Type 0) (Lacking : List Answer → Type 0) → Stays Last Lacking → (s : Session) (a : Answer) → IsSlotAnswer tells before mid (ran s) a
-    → (o : Outcome) (first : Texts) → IsOutcomeBy tells Reads unwritten mid after x y over Last Lacking (given (ran s) a) o first → IsOutcomeBy tells Reads unwritten before after x y over Last Lacking s (shown_before (segment_of s).text o) (text_joined (segment_of s).text first)
-by_slot tells Reads unwritten before mid after x y over Last Lacking stays s a is o first (answers, (are, shown, on)) =
-    let w = file_asked s (slot_asks tells before mid (ran s) a is) in (
-      a ∷ answers,
-      (
-        answers_slot tells Reads unwritten before mid after x y s a answers is are,
-        shown_first a answers s first shown,
-        on_outcome a answers over (Last answers (given_all answers (given (ran s) a))) (Last (a ∷ answers) (given_all (a ∷ answers) s)) (Lacking answers) (Lacking (a ∷ answers)) s w.0 o w.1 (λ h. last_behind a answers s Last (stays.last a answers _ h)) (stays.lacking a answers) on,
-      ),
-    )
-
-by_slots : {K X : Type 0} (tells : SlotTells K) (Reads : X → X → Session → List ℕ → Type 0) (unwritten : Bool) (answers : List Answer) (before mid after : K) (x y : X) (over : Over) (Last : List Answer → Session → Type 0) (Lacking : List Answer → Type 0) → Stays Last Lacking → (s : Session) → AreSlotAnswers tells false before mid s answers → (AsksForFile (ran (given_all answers s)) → ⊥)
-    → (o : Outcome) (first : Texts) → IsOutcomeBy tells Reads unwritten mid after x y over Last Lacking (given_all answers s) o first → IsOutcomeBy tells Reads unwritten before after x y over Last Lacking s (shown_before (shown_up_to answers s) o) (text_joined (shown_up_to answers s) first)
-unfolding AreSlotAnswers given_all shown_up_to
-by_slots {K} tells Reads unwritten [] before mid after x y over Last Lacking stays s (inl h) none o first p = subst (λ (k : K). IsOutcomeBy tells Reads unwritten k after x y over Last Lacking s o first) h p
-by_slots tells Reads unwritten [] before mid after x y over Last Lacking stays s (inr h) none o first p = absurd (none h.1)
-by_slots tells Reads unwritten (a ∷ answers) before mid after x y over Last Lacking stays s h none o first p =
-    let rest = shown_up_to answers (given (ran s) a) in
-    let inner = by_slots tells Reads unwritten answers h.0 mid after x y over Last Lacking stays (given (ran s) a) h.1.1 none o first p in
-    let all = by_slot tells Reads unwritten before h.0 after x y over Last Lacking stays s a h.1.0 (shown_before rest o) (text_joined rest first) inner in
-    subst (λ (u : Texts). IsOutcomeBy tells Reads unwritten before after x y over Last Lacking s (shown_before (text_joined (segment_of s).text rest) o) u) (same_text (segment_of s).text rest first)
-    (subst (λ (q : Outcome). IsOutcomeBy tells Reads unwritten before after x y over Last Lacking s q (text_joined (segment_of s).text (text_joined rest first))) (same_shown (segment_of s).text rest o) all)
-
-by_line : {K X : Type 0} (tells : SlotTells K) (Reads : X → X → Session → List ℕ → Type 0) (unwritten : Bool) (before after : K) (x mid y : X) (over : Over) (Last Last' : List Answer → Session → Type 0) (Lacking Lacking' : List Answer → Type 0) (s : Session) (codes : List ℕ) → AsksForLine (ran s) → Reads x mid (ran s) codes
-    → ((answers : List Answer) (end : Session) → Last answers end → Last' (Typed codes ∷ answers) end) → ((answers : List Answer) → Lacking answers → Lacking' (Typed codes ∷ answers))
-    → (o : Outcome) (first : Texts) → IsOutcomeBy tells Reads unwritten before after mid y over Last Lacking (given (ran s) (Typed codes)) o first → IsOutcomeBy tells Reads unwritten before after x y over Last' Lacking' s (shown_before (segment_of s).text o) (text_joined (segment_of s).text first)
-by_line tells Reads unwritten before after x mid y over Last Last' Lacking Lacking' s codes asks read last lacking o first (answers, (are, shown, on)) =
-    let w = line_asked s asks in (
-      Typed codes ∷ answers,
-      (
-        answers_line tells Reads unwritten before after x mid y s codes answers asks read are,
-        shown_first (Typed codes) answers s first shown,
-        on_outcome (Typed codes) answers over (Last answers (given_all answers (given (ran s) (Typed codes)))) (Last' (Typed codes ∷ answers) (given_all (Typed codes ∷ answers) s)) (Lacking answers) (Lacking' (Typed codes ∷ answers)) s w.0 o w.1 (λ h. last_behind (Typed codes) answers s Last' (last answers _ h)) (lacking answers) on,
-      ),
-    )
 
 -- ---- what is told of a source
 
@@ -510,19 +447,6 @@ heard_on bytes next later line true how h left (inl (e, goes)) sound k =
     (gone, (whole, ap (behind line) k.1.1 ∙ ap (λ (ls : List (List ℕ)). let x : Heard = record { lines = ls; over = Failed } in x) lines, k.1.2))
 heard_on bytes next later line true how h left (inr (e, ends)) sound k = absurd (true_is_no_end true refl (sound ends))
 
-played_line : {K : Type 0} (tells : SlotTells K) (before after : K) (line bytes next later : List ℕ) (how : Option Over) (failed unwritten : Bool) (s : Session) (codes : List ℕ) → AsksForLine (ran s) → IsNextLine bytes next line how → (how ≡ Some End → failed ≡ false) → codes ≡ codes_read (ran s) line
-    → (o : Outcome) (first : Texts) → IsPlayed tells before after next later failed unwritten (given (ran s) (Typed codes)) o first → IsPlayed tells before after bytes later failed unwritten s (shown_before (segment_of s).text o) (text_joined (segment_of s).text first)
-played_line tells before after line bytes next later how failed unwritten s codes asks comes sound read o first (h, (left, (is, by))) = (
-  behind line h,
-  (
-    left,
-    (
-      heard_on bytes next later line failed how h left comes sound is,
-      by_line tells ReadsLine unwritten before after (line ∷ h.lines) h.lines left h.over _ (λ answers end. IsLastAnswered unwritten left end) (λ answers. Unit {0}) (λ answers. Unit {0}) s codes asks (line, (refl, read)) (λ answers end k. k) (λ answers k. k) o first by,
-    ),
-  ),
-)
-
 -- ---- a machine that an answer has stopped
 
 no_line : (s : Session) (stop : Stop) → s.stopped ≡ Some stop → AsksForLine (ran s) → ⊥
@@ -557,25 +481,80 @@ given_none : (Last : List Answer → Session → Type 0) (s : Session) → Last 
 unfolding given_all
 given_none Last s h = h
 
-by_stopped : {K X : Type 0} (tells : SlotTells K) (Reads : X → X → Session → List ℕ → Type 0) (unwritten : Bool) (before after : K) (x y : X) (over : Over) (Last : List Answer → Session → Type 0) (Lacking : List Answer → Type 0) → IsStill Last → (m s : Session) (stop : Stop) → m.stopped ≡ Some stop → s.stopped ≡ Some stop
-    → (o : Outcome) (first : Texts) → IsOutcomeBy tells Reads unwritten before after x y over Last Lacking m o first → IsOutcomeBy tells Reads unwritten before after x y over Last Lacking s o first
-unfolding AreAnswers
-by_stopped tells Reads unwritten before after x y over Last Lacking still m s stop e f o first ([], (are, shown, on)) = (
-  [],
-  (
-    (last_stopped tells unwritten before after m s stop e are.0, are.1),
-    stopped_shows m first shown s,
-    outcome_of_stopped [] over (Last [] (given_all [] m)) (Last [] (given_all [] s)) (Lacking []) m s stop o e f (λ h. given_none Last s (still [] m s (no_line m stop e) (no_line s stop f) (none_given Last m h))) on,
-  ),
-)
-by_stopped tells Reads unwritten before after x y over Last Lacking still m s stop e f o first (Typed codes ∷ answers, (are, shown, on)) = absurd (no_line m stop e are.1.0)
-by_stopped tells Reads unwritten before after x y over Last Lacking still m s stop e f o first (GameKept kept ∷ answers, (are, shown, on)) = absurd (no_file m stop e (slot_asks tells before are.0 (ran m) (GameKept kept) are.1.0))
-by_stopped tells Reads unwritten before after x y over Last Lacking still m s stop e f o first (File file ∷ answers, (are, shown, on)) = absurd (no_file m stop e (slot_asks tells before are.0 (ran m) (File file) are.1.0))
+module _ {K X : Type 0} (tells : SlotTells K) (Reads : X → X → Session → List ℕ → Type 0) (unwritten : Bool) where
+  answers_slot : (before mid after : K) (x y : X) (s : Session) (a : Answer) (answers : List Answer)
+      → IsSlotAnswer tells before mid (ran s) a → AreAnswers tells Reads unwritten mid after x y (given (ran s) a) answers → AreAnswers tells Reads unwritten before after x y s (a ∷ answers)
+  unfolding AreAnswers
+  answers_slot before mid after x y s (Typed codes) answers h p = absurd h
+  answers_slot before mid after x y s (GameKept kept) answers h p = (mid, (h, p))
+  answers_slot before mid after x y s (File file) answers h p = (mid, (h, p))
 
-by_left : {K X : Type 0} (tells : SlotTells K) (Reads : X → X → Session → List ℕ → Type 0) (unwritten : Bool) (before after : K) (x y : X) (over : Over) (Last : List Answer → Session → Type 0) (Lacking : List Answer → Type 0) → IsStill Last → (m s : Session) (z : Option Stop) → s.stopped ≡ z → IsLeftAs m s z
-    → (o : Outcome) (first : Texts) → IsOutcomeBy tells Reads unwritten before after x y over Last Lacking m o first → IsOutcomeBy tells Reads unwritten before after x y over Last Lacking s o first
-by_left tells Reads unwritten before after x y over Last Lacking still m s None e left o first p = subst (λ (n : Session). IsOutcomeBy tells Reads unwritten before after x y over Last Lacking n o first) left p
-by_left tells Reads unwritten before after x y over Last Lacking still m s (Some stop) e left o first p = by_stopped tells Reads unwritten before after x y over Last Lacking still m s stop left.0 e o first p
+  answers_line : (before after : K) (x mid y : X) (s : Session) (codes : List ℕ) (answers : List Answer)
+      → AsksForLine (ran s) → Reads x mid (ran s) codes → AreAnswers tells Reads unwritten before after mid y (given (ran s) (Typed codes)) answers → AreAnswers tells Reads unwritten before after x y s (Typed codes ∷ answers)
+  unfolding AreAnswers
+  answers_line before after x mid y s codes answers asks read p = (mid, (asks, read, p))
+
+  pub answers_alone : (answers : List Answer) (before after : K) (x : X) (s : Session) → AreSlotAnswers tells unwritten before after s answers → AreAnswers tells Reads unwritten before after x x s answers
+  unfolding AreSlotAnswers AreAnswers
+  answers_alone [] before after x s h = (h, refl)
+  answers_alone (a ∷ answers) before after x s h = answers_slot before h.0 after x x s a answers h.1.0 (answers_alone answers h.0 after x (given (ran s) a) h.1.1)
+
+  by_slot : (before mid after : K) (x y : X) (over : Over) (Last : List Answer → Session → Type 0) (Lacking : List Answer → Type 0) → Stays Last Lacking → (s : Session) (a : Answer) → IsSlotAnswer tells before mid (ran s) a
+      → (o : Outcome) (first : Texts) → IsOutcomeBy tells Reads unwritten mid after x y over Last Lacking (given (ran s) a) o first → IsOutcomeBy tells Reads unwritten before after x y over Last Lacking s (shown_before (segment_of s).text o) (text_joined (segment_of s).text first)
+  by_slot before mid after x y over Last Lacking stays s a is o first (answers, (are, shown, on)) =
+      let w = file_asked s (slot_asks tells before mid (ran s) a is) in (
+        a ∷ answers,
+        (
+          answers_slot before mid after x y s a answers is are,
+          shown_first a answers s first shown,
+          on_outcome a answers over (Last answers (given_all answers (given (ran s) a))) (Last (a ∷ answers) (given_all (a ∷ answers) s)) (Lacking answers) (Lacking (a ∷ answers)) s w.0 o w.1 (λ h. last_behind a answers s Last (stays.last a answers _ h)) (stays.lacking a answers) on,
+        ),
+      )
+
+  by_slots : (answers : List Answer) (before mid after : K) (x y : X) (over : Over) (Last : List Answer → Session → Type 0) (Lacking : List Answer → Type 0) → Stays Last Lacking → (s : Session) → AreSlotAnswers tells false before mid s answers → (AsksForFile (ran (given_all answers s)) → ⊥)
+      → (o : Outcome) (first : Texts) → IsOutcomeBy tells Reads unwritten mid after x y over Last Lacking (given_all answers s) o first → IsOutcomeBy tells Reads unwritten before after x y over Last Lacking s (shown_before (shown_up_to answers s) o) (text_joined (shown_up_to answers s) first)
+  unfolding AreSlotAnswers given_all shown_up_to
+  by_slots [] before mid after x y over Last Lacking stays s (inl h) none o first p = subst (λ (k : K). IsOutcomeBy tells Reads unwritten k after x y over Last Lacking s o first) h p
+  by_slots [] before mid after x y over Last Lacking stays s (inr h) none o first p = absurd (none h.1)
+  by_slots (a ∷ answers) before mid after x y over Last Lacking stays s h none o first p =
+      let rest = shown_up_to answers (given (ran s) a) in
+      let inner = by_slots answers h.0 mid after x y over Last Lacking stays (given (ran s) a) h.1.1 none o first p in
+      let all = by_slot before h.0 after x y over Last Lacking stays s a h.1.0 (shown_before rest o) (text_joined rest first) inner in
+      subst (λ (u : Texts). IsOutcomeBy tells Reads unwritten before after x y over Last Lacking s (shown_before (text_joined (segment_of s).text rest) o) u) (same_text (segment_of s).text rest first)
+      (subst (λ (q : Outcome). IsOutcomeBy tells Reads unwritten before after x y over Last Lacking s q (text_joined (segment_of s).text (text_joined rest first))) (same_shown (segment_of s).text rest o) all)
+
+  by_line : (before after : K) (x mid y : X) (over : Over) (Last Last' : List Answer → Session → Type 0) (Lacking Lacking' : List Answer → Type 0) (s : Session) (codes : List ℕ) → AsksForLine (ran s) → Reads x mid (ran s) codes
+      → ((answers : List Answer) (end : Session) → Last answers end → Last' (Typed codes ∷ answers) end) → ((answers : List Answer) → Lacking answers → Lacking' (Typed codes ∷ answers))
+      → (o : Outcome) (first : Texts) → IsOutcomeBy tells Reads unwritten before after mid y over Last Lacking (given (ran s) (Typed codes)) o first → IsOutcomeBy tells Reads unwritten before after x y over Last' Lacking' s (shown_before (segment_of s).text o) (text_joined (segment_of s).text first)
+  by_line before after x mid y over Last Last' Lacking Lacking' s codes asks read last lacking o first (answers, (are, shown, on)) =
+      let w = line_asked s asks in (
+        Typed codes ∷ answers,
+        (
+          answers_line before after x mid y s codes answers asks read are,
+          shown_first (Typed codes) answers s first shown,
+          on_outcome (Typed codes) answers over (Last answers (given_all answers (given (ran s) (Typed codes)))) (Last' (Typed codes ∷ answers) (given_all (Typed codes ∷ answers) s)) (Lacking answers) (Lacking' (Typed codes ∷ answers)) s w.0 o w.1 (λ h. last_behind (Typed codes) answers s Last' (last answers _ h)) (lacking answers) on,
+        ),
+      )
+
+  by_stopped : (before after : K) (x y : X) (over : Over) (Last : List Answer → Session → Type 0) (Lacking : List Answer → Type 0) → IsStill Last → (m s : Session) (stop : Stop) → m.stopped ≡ Some stop → s.stopped ≡ Some stop
+      → (o : Outcome) (first : Texts) → IsOutcomeBy tells Reads unwritten before after x y over Last Lacking m o first → IsOutcomeBy tells Reads unwritten before after x y over Last Lacking s o first
+  unfolding AreAnswers
+  by_stopped before after x y over Last Lacking still m s stop e f o first ([], (are, shown, on)) = (
+    [],
+    (
+      (last_stopped tells unwritten before after m s stop e are.0, are.1),
+      stopped_shows m first shown s,
+      outcome_of_stopped [] over (Last [] (given_all [] m)) (Last [] (given_all [] s)) (Lacking []) m s stop o e f (λ h. given_none Last s (still [] m s (no_line m stop e) (no_line s stop f) (none_given Last m h))) on,
+    ),
+  )
+  by_stopped before after x y over Last Lacking still m s stop e f o first (Typed codes ∷ answers, (are, shown, on)) = absurd (no_line m stop e are.1.0)
+  by_stopped before after x y over Last Lacking still m s stop e f o first (GameKept kept ∷ answers, (are, shown, on)) = absurd (no_file m stop e (slot_asks tells before are.0 (ran m) (GameKept kept) are.1.0))
+  by_stopped before after x y over Last Lacking still m s stop e f o first (File file ∷ answers, (are, shown, on)) = absurd (no_file m stop e (slot_asks tells before are.0 (ran m) (File file) are.1.0))
+
+  by_left : (before after : K) (x y : X) (over : Over) (Last : List Answer → Session → Type 0) (Lacking : List Answer → Type 0) → IsStill Last → (m s : Session) (z : Option Stop) → s.stopped ≡ z → IsLeftAs m s z
+      → (o : Outcome) (first : Texts) → IsOutcomeBy tells Reads unwritten before after x y over Last Lacking m o first → IsOutcomeBy tells Reads unwritten before after x y over Last Lacking s o first
+  by_left before after x y over Last Lacking still m s None e left o first p = subst (λ (n : Session). IsOutcomeBy tells Reads unwritten before after x y over Last Lacking n o first) left p
+  by_left before after x y over Last Lacking still m s (Some stop) e left o first p = by_stopped before after x y over Last Lacking still m s stop left.0 e o first p
 
 -- ---- a turn that asks
 
@@ -611,24 +590,6 @@ runs_now : (answers : List Answer) (s : Session) (x : Option Stop) → s.stopped
 runs_now answers s None e asks = e
 runs_now answers s (Some stop) e asks = absurd (no_line (given_all answers s) stop (stopped_all answers s stop e) asks)
 
-pub turn_asked : {K : Type 0} (tells : SlotTells K) (before after : K) (now mid : Session) (a b : Bool) (taken0 taken1 : Taken) (e : Event)
-    → event_waited mid.waiting ≡ Some e → is_read e ≡ true → IsTurn (AreSlotAnswers tells (a || b) before after now) now mid (Ok e) (a || b) (TookTexts taken0 taken1 (a || b))
-    → Asked tells before after now mid a b taken0 taken1
-turn_asked tells before after now mid a b taken0 taken1 e waits k t =
-    let asked = turn_asks (a || b) (given_all t.answers now) e t.text t.ends in
-    let works = either_false a b asked.0 in
-    let asks : AsksForLine (ran (given_all t.answers now)) = (e, (ap (λ (m : Session). event_waited m.waiting) (sym t.left) ∙ waits, k)) in
-    record {
-      screen_works = works.0;
-      script_works = works.1;
-      answers = t.answers;
-      gives = subst (λ (f : Bool). AreSlotAnswers tells f before after now t.answers) asked.0 t.gives;
-      same = t.left;
-      asks = asks;
-      runs = runs_now t.answers now now.stopped refl asks;
-      took = subst (λ (u : Texts). TookTexts taken0 taken1 false (shown_up_to t.answers now) u) asked.3 (subst (λ (f : Bool). TookTexts taken0 taken1 f (shown_up_to t.answers now) t.text) asked.0 t.shown);
-    }
-
 -- ---- what was played so far
 
 -- a text was shown, and what a play has from here on makes, after it, what the whole play has
@@ -637,16 +598,16 @@ pub record SoFar (Whole Rest : Outcome → Texts → Type 0) (taken0 taken1 : Ta
   pub shown : Took taken0 taken1 false text
   pub rest : (o : Outcome) (first : Texts) → Rest o first → Whole (shown_before text o) (text_joined text first)
 
-pub so_far_none : (Whole : Outcome → Texts → Type 0) (taken : Taken) → SoFar Whole Whole taken taken
-so_far_none Whole taken = record {
+pub so_far_none : (Whole : Outcome → Texts → Type 0) {taken : Taken} → SoFar Whole Whole taken taken
+so_far_none Whole = record {
   text = no_text;
   shown = took_nothing _;
   rest = λ o first p. p;
 }
 
-so_far_on : (Whole Rest Then : Outcome → Texts → Type 0) (taken0 taken1 taken2 : Taken) (a b : Texts) → SoFar Whole Rest taken0 taken1 → TookTexts taken1 taken2 false a b
+so_far_on : (Whole Rest Then : Outcome → Texts → Type 0) {taken0 taken1 taken2 : Taken} (a b : Texts) → SoFar Whole Rest taken0 taken1 → TookTexts taken1 taken2 false a b
     → ((o : Outcome) (first : Texts) → Then o first → Rest (shown_before a (shown_before b o)) (text_joined a (text_joined b first))) → SoFar Whole Then taken0 taken2
-so_far_on Whole Rest Then taken0 taken1 taken2 a b s took on = record {
+so_far_on Whole Rest Then a b s took on = record {
   text = text_joined s.text (text_joined a b);
   shown = took_twice s.shown (took_twice took.takes_first took.takes_second);
   rest = λ o first p.
@@ -655,34 +616,6 @@ so_far_on Whole Rest Then taken0 taken1 taken2 a b s took on = record {
       let outcomes = ap (shown_before s.text) (same_shown a b o) ∙ same_shown s.text (text_joined a b) o in
       subst (λ (u : Texts). Whole (shown_before (text_joined s.text (text_joined a b)) o) u) texts (subst (λ (q : Outcome). Whole q (text_joined s.text (text_joined a (text_joined b first)))) outcomes whole);
 }
-
--- what is answered after a turn and a line
-pub on_answered : {K R : Type 0} (tells : SlotTells K) (reads : SourceTells R) (start mid_reader last : R) (unwritten : Bool) (before mid_slot after : K) (Whole : Outcome → Texts → Type 0) (now mid next : Session) (a b : Bool) (taken0 taken1 taken2 : Taken) (codes : List ℕ)
-    → Asked tells before mid_slot now mid a b taken1 taken2 → AllByRecursion (λ c. is_input_code c ≡ true) codes → IsLeftAs next (given mid (Typed codes)) (given mid (Typed codes)).stopped
-    → SoFar Whole (IsAnswered tells reads before after start last unwritten now) taken0 taken1 → SoFar Whole (IsAnswered tells reads mid_slot after mid_reader last unwritten next) taken0 taken2
-on_answered tells reads start mid_reader last unwritten before mid_slot after Whole now mid next a b taken0 taken1 taken2 codes t typed left s =
-    let end = given_all t.answers now in
-    let left_here = subst (λ (m : Session). IsLeftAs next (given m (Typed codes)) (given m (Typed codes)).stopped) t.same left in
-    so_far_on Whole (IsAnswered tells reads before after start last unwritten now) (IsAnswered tells reads mid_slot after mid_reader last unwritten next) taken0 taken1 taken2 (shown_up_to t.answers now) (segment_of end).text s t.took
-    (λ o first p.
-    let over = p.0 in
-    let here = by_left tells ReadsCodes unwritten mid_slot after tt tt over (IsLastRead reads mid_reader last unwritten over) (IsLeftAlone mid_reader last) (read_still reads mid_reader last unwritten over) next (given (ran end) (Typed codes)) _ refl left_here o first p.1 in
-    let line = by_line tells ReadsCodes unwritten mid_slot after tt tt tt over (IsLastRead reads mid_reader last unwritten over) (IsLastRead reads start last unwritten over) (IsLeftAlone mid_reader last) (IsLeftAlone start last) end codes t.asks typed
-    (λ answers e h. (h.0, λ never. not_alone start last codes answers)) (λ answers h. not_alone start last codes answers) o first here in
-    (over, by_slots tells ReadsCodes unwritten t.answers before mid_slot after tt tt over (IsLastRead reads start last unwritten over) (IsLeftAlone start last) (read_stays reads start last unwritten over) now t.gives (not_file _ t.asks) _ _ line))
-
--- what is played after a turn and a line
-pub on_played : {K : Type 0} (tells : SlotTells K) (before mid_slot after : K) (Whole : Outcome → Texts → Type 0) (bytes next_bytes later : List ℕ) (how : Option Over) (failed unwritten : Bool) (now mid next : Session) (a b : Bool) (taken0 taken1 taken2 : Taken) (line codes : List ℕ)
-    → Asked tells before mid_slot now mid a b taken1 taken2 → IsNextLine bytes next_bytes line how → (how ≡ Some End → failed ≡ false) → codes ≡ codes_read mid line → IsLeftAs next (given mid (Typed codes)) (given mid (Typed codes)).stopped
-    → SoFar Whole (IsPlayed tells before after bytes later failed unwritten now) taken0 taken1 → SoFar Whole (IsPlayed tells mid_slot after next_bytes later failed unwritten next) taken0 taken2
-on_played tells before mid_slot after Whole bytes next_bytes later how failed unwritten now mid next a b taken0 taken1 taken2 line codes t comes sound read left s =
-    let end = given_all t.answers now in
-    let left_here = subst (λ (m : Session). IsLeftAs next (given m (Typed codes)) (given m (Typed codes)).stopped) t.same left in
-    so_far_on Whole (IsPlayed tells before after bytes later failed unwritten now) (IsPlayed tells mid_slot after next_bytes later failed unwritten next) taken0 taken1 taken2 (shown_up_to t.answers now) (segment_of end).text s t.took
-    (λ o first p.
-    let here = by_left tells ReadsLine unwritten mid_slot after p.0.lines p.1.0 p.0.over (λ answers e. IsLastAnswered unwritten p.1.0 e) (λ answers. Unit {0}) (line_still unwritten p.1.0) next (given (ran end) (Typed codes)) _ refl left_here o first p.1.1.1 in
-    let read_line = played_line tells mid_slot after line bytes next_bytes later how failed unwritten end codes t.asks comes sound (read ∙ ap (λ (m : Session). codes_read m line) t.same) o first (p.0, (p.1.0, (p.1.1.0, here))) in
-    (read_line.0, (read_line.1.0, (read_line.1.1.0, by_slots tells ReadsLine unwritten t.answers before mid_slot after read_line.0.lines read_line.1.0 read_line.0.over (λ answers e. IsLastAnswered unwritten read_line.1.0 e) (λ answers. Unit {0}) (line_stays unwritten read_line.1.0) now t.gives (not_file _ t.asks) _ _ read_line.1.1.1))))
 
 -- ---- the end of a play
 
@@ -694,9 +627,9 @@ EndsSo false stop first second o = (stop ≡ o.stop) × (o.text ≡ text_joined 
 took_longer : {a b : Taken} {t : Texts} (more : Texts) → Took a b true t → Took a b true (text_joined t more)
 took_longer more h = record { screen = shows_twice _ _ _ _ _ h.screen (shows_past _ _ more.screen refl refl refl); script = shows_twice _ _ _ _ _ h.script (shows_past _ _ more.script refl refl refl) }
 
-pub play_ends : (Whole Rest : Outcome → Texts → Type 0) (taken0 taken1 taken2 : Taken) (unwritten : Bool) (stop : Stop) (o : Outcome) (first second : Texts)
+pub play_ends : (Whole Rest : Outcome → Texts → Type 0) {taken0 taken1 taken2 : Taken} (unwritten : Bool) (stop : Stop) (o : Outcome) (first second : Texts)
     → SoFar Whole Rest taken0 taken1 → Rest o first → EndsSo unwritten stop first second o → TookTexts taken1 taken2 unwritten first second → IsPlay Whole stop unwritten taken0 taken2
-play_ends Whole Rest taken0 taken1 taken2 true stop o first second s p e took = record {
+play_ends Whole Rest true stop o first second s p e took = record {
   outcome = shown_before s.text o;
   first = text_joined s.text first;
   second = text_joined second e.1.0;
@@ -709,7 +642,7 @@ play_ends Whole Rest taken0 taken1 taken2 true stop o first second s p e took = 
     takes_second = took_longer e.1.0 took.takes_second;
   };
 }
-play_ends Whole Rest taken0 taken1 taken2 false stop o first second s p e took = record {
+play_ends Whole Rest false stop o first second s p e took = record {
   outcome = shown_before s.text o;
   first = text_joined s.text first;
   second = second;
@@ -757,117 +690,185 @@ begins_so s text (before, (last, (to, (inl h, e)))) =
 begins_so s text (before, (last, (to, (inr h, e)))) =
     ((steps_of (told_due s)).text, ap (λ (g : Segment). g.text) (segment_is s h.0) ∙ ap (λ (u : Texts). text_joined u (steps_of (told_due s)).text) (sym (e ∙ ap (λ (b : Texts). text_joined b last) h.1 ∙ h.2)))
 
--- a write has failed on the way to what the outcome shows
-failed_end : {K : Type 0} (tells : SlotTells K) (before after : K) (answers : List Answer) (over : Over) (Last Lacking : Type 0) (now : Session) (stop : Stop) (text more : Texts) → ((true ≡ false → AsksForLine (ran (given_all answers now)) → ⊥) → Last)
-    → AreSlotAnswers tells true before after now answers → ◌≡◌ {A = Result Event Stop} (Err stop) (Err Write) → (segment_of (given_all answers now)).text ≡ text_joined text more → EndOf answers over true Last Lacking now stop text
-failed_end tells before after answers over Last Lacking now stop text more vacuous gives e t =
-    let s = given_all answers now in
-    let end = stop_waiting (event_waited (ran s).waiting) over in
-    let rest = alone_begins end s in
-    record {
-      o = outcome answers end now;
-      is = inl (refl, vacuous (λ f. true_or_false _ f));
-      ends = (
-        same_stop stop Write e,
-        (
-          text_joined more rest.0,
-          ap (λ (o : Outcome). o.text) (outcome_all tells true answers before after now end gives)
-              ∙ ap (text_joined (shown_up_to answers now)) (rest.1 ∙ ap (λ (u : Texts). text_joined u rest.0) t ∙ sym (same_text text more rest.0))
-              ∙ same_text (shown_up_to answers now) text (text_joined more rest.0),
-        ),
-      );
-    }
-
-turn_stops : {K : Type 0} (tells : SlotTells K) (before after : K) (unwritten : Bool) (answers : List Answer) (over : Over) (Last Lacking : Type 0) (now : Session) (stop : Stop) (text : Texts) → ((unwritten ≡ false → AsksForLine (ran (given_all answers now)) → ⊥) → Last) → Lacking
-    → AreSlotAnswers tells unwritten before after now answers → EndsTurnOrFails unwritten (given_all answers now) (Err stop) text → EndOf answers over unwritten Last Lacking now stop text
-turn_stops tells before after true answers over Last Lacking now stop text vacuous lacking gives (e, inl t) =
-    failed_end tells before after answers over Last Lacking now stop text no_text vacuous gives e (sym t ∙ sym (no_text_behind text))
-turn_stops tells before after true answers over Last Lacking now stop text vacuous lacking gives (e, inr (inl comes)) = record {
-  o = record { stop = Memory; text = text_joined (shown_up_to answers now) text };
-  is = kept_end answers over Last Lacking now text lacking comes;
-  ends = (same_stop stop Write e, (no_text, sym (no_text_behind (text_joined (shown_up_to answers now) text))));
-}
-turn_stops tells before after true answers over Last Lacking now stop text vacuous lacking gives (e, inr (inr up)) =
-    let b = begins_so (given_all answers now) text up in failed_end tells before after answers over Last Lacking now stop text b.0 vacuous gives e b.1
-turn_stops tells before after false answers over Last Lacking now stop text vacuous lacking gives (inl h) =
-    let s = given_all answers now in
-    let end = stop_waiting (event_waited (ran s).waiting) over in
-    let stops = stops_by (segment_of s).end stop (sym h.0) in
-    let all = outcome_all tells false answers before after now end gives ∙ ap (shown_before (shown_up_to answers now)) (outcome_stops [] end stop s stops) in
-    record {
-      o = outcome answers end now;
-      is = inl (refl, vacuous (λ f asks. let w = line_asked s asks in stops_or_waits (segment_of s).end stop w.0 stops w.1));
-      ends = (sym (ap (λ (o : Outcome). o.stop) all), ap (λ (o : Outcome). o.text) all ∙ ap (text_joined (shown_up_to answers now)) (sym h.2));
-    }
-turn_stops tells before after false answers over Last Lacking now stop text vacuous lacking gives (inr (e, inl comes)) = record {
-  o = record { stop = Memory; text = text_joined (shown_up_to answers now) text };
-  is = kept_end answers over Last Lacking now text lacking comes;
-  ends = (same_stop stop Memory e, refl);
-}
-turn_stops tells before after false answers over Last Lacking now stop text vacuous lacking gives (inr (e, inr h)) =
-    let s = given_all answers now in
-    let end = stop_waiting (event_waited (ran s).waiting) over in
-    let w = file_asked s h.0 in
-    let all = outcome_all tells false answers before after now end gives ∙ ap (shown_before (shown_up_to answers now)) (alone_waits end s w.0 w.1) in
-    record {
-      o = outcome answers end now;
-      is = inl (refl, vacuous (λ f asks. not_file _ asks h.0));
-      ends = (
-        same_stop stop Memory e ∙ sym (ap (λ (o : Outcome). o.stop) all ∙ file_stop _ over h.0),
-        ap (λ (o : Outcome). o.text) all ∙ ap (text_joined (shown_up_to answers now)) (no_text_behind (segment_of s).text ∙ sym h.1),
-      );
-    }
-
-read_ends : {K : Type 0} (tells : SlotTells K) (before after : K) (answers : List Answer) (over : Over) (Last Lacking : Type 0) (now : Session) → Last
-    → AreSlotAnswers tells false before after now answers → AsksForLine (ran (given_all answers now)) → EndOf answers over false Last Lacking now (stop_behind over) (segment_of (given_all answers now)).text
-read_ends tells before after answers over Last Lacking now last gives asks =
-    let s = given_all answers now in
-    let end = stop_waiting (event_waited (ran s).waiting) over in
-    let w = line_asked s asks in
-    let all = outcome_all tells false answers before after now end gives ∙ ap (shown_before (shown_up_to answers now)) (alone_waits end s w.0 w.1) in
-    record {
-      o = outcome answers end now;
-      is = inl (refl, last);
-      ends = (sym (ap (λ (o : Outcome). o.stop) all ∙ line_stop _ over asks), ap (λ (o : Outcome). o.text) all ∙ ap (text_joined (shown_up_to answers now)) (no_text_behind (segment_of s).text));
-    }
-
 -- a turn that stops, or whose write has failed
 pub heard_whole : (bytes later : List ℕ) (failed : Bool) (left : List (List ℕ)) → failed ≡ false → IsHeard bytes later failed (heard bytes) left
 heard_whole bytes later failed left e = rw e refl
 
-pub stops_played : {K : Type 0} (tells : SlotTells K) (before after : K) (Whole : Outcome → Texts → Type 0) (bytes later : List ℕ) (failed unwritten : Bool) (now mid : Session) (taken0 taken1 taken2 : Taken) (stop : Stop) → failed ≡ false
-    → IsTurn (AreSlotAnswers tells unwritten before after now) now mid (Err stop) unwritten (TookTexts taken1 taken2 unwritten) → SoFar Whole (IsPlayed tells before after bytes later failed unwritten now) taken0 taken1
-    → IsPlay Whole stop unwritten taken0 taken2
-stops_played tells before after Whole bytes later failed unwritten now mid taken0 taken1 taken2 stop sound t s =
-    let h = heard bytes in
-    let e = turn_stops tells before after unwritten t.answers h.over (IsLastAnswered unwritten h.lines (given_all t.answers now)) (Unit {0}) now stop t.text (λ never f asks. absurd (never f asks)) tt t.gives t.ends in
-    play_ends Whole (IsPlayed tells before after bytes later failed unwritten now) taken0 taken1 taken2 unwritten stop e.o (shown_up_to t.answers now) t.text s
-    (h, (h.lines, (heard_whole bytes later failed h.lines sound, (t.answers, (answers_alone tells ReadsLine unwritten t.answers before after h.lines now t.gives, refl, e.is))))) e.ends t.shown
+module _ {K : Type 0} (tells : SlotTells K) where
+  outcome_all : (unwritten : Bool) (answers : List Answer) (before after : K) (s : Session) (end : Stop) → AreSlotAnswers tells unwritten before after s answers
+      → outcome answers end s ≡ shown_before (shown_up_to answers s) (outcome [] end (given_all answers s))
+  unfolding AreSlotAnswers given_all shown_up_to
+  outcome_all unwritten [] before after s end h = refl
+  outcome_all unwritten (a ∷ answers) before after s end h =
+      let w = file_asked s (slot_asks tells before h.0 (ran s) a h.1.0) in
+      outcome_on a answers end s w.0 w.1 ∙ ap (shown_before (segment_of s).text) (outcome_all unwritten answers h.0 after (given (ran s) a) end h.1.1) ∙ same_shown (segment_of s).text (shown_up_to answers (given (ran s) a)) _
 
-pub stops_answered : {K R : Type 0} (tells : SlotTells K) (reads : SourceTells R) (reader : R) (before after : K) (Whole : Outcome → Texts → Type 0) (unwritten : Bool) (now mid : Session) (taken0 taken1 taken2 : Taken) (stop : Stop)
-    → IsTurn (AreSlotAnswers tells unwritten before after now) now mid (Err stop) unwritten (TookTexts taken1 taken2 unwritten) → SoFar Whole (IsAnswered tells reads before after reader reader unwritten now) taken0 taken1
-    → IsPlay Whole stop unwritten taken0 taken2
-stops_answered tells reads reader before after Whole unwritten now mid taken0 taken1 taken2 stop t s =
-    let alone : IsLeftAlone reader reader t.answers = λ none. refl in
-    let e = turn_stops tells before after unwritten t.answers Failed (IsLastRead reads reader reader unwritten Failed t.answers (given_all t.answers now)) (IsLeftAlone reader reader t.answers) now stop t.text (λ never. (λ f asks. absurd (never f asks), λ n. alone)) alone t.gives t.ends in
-    play_ends Whole (IsAnswered tells reads before after reader reader unwritten now) taken0 taken1 taken2 unwritten stop e.o (shown_up_to t.answers now) t.text s
-    (Failed, (t.answers, (answers_alone tells ReadsCodes unwritten t.answers before after tt now t.gives, refl, e.is))) e.ends t.shown
+  played_line : (before after : K) (line bytes next later : List ℕ) (how : Option Over) (failed unwritten : Bool) (s : Session) (codes : List ℕ) → AsksForLine (ran s) → IsNextLine bytes next line how → (how ≡ Some End → failed ≡ false) → codes ≡ codes_read (ran s) line
+      → (o : Outcome) (first : Texts) → IsPlayed tells before after next later failed unwritten (given (ran s) (Typed codes)) o first → IsPlayed tells before after bytes later failed unwritten s (shown_before (segment_of s).text o) (text_joined (segment_of s).text first)
+  played_line before after line bytes next later how failed unwritten s codes asks comes sound read o first (h, (left, (is, by))) = (
+    behind line h,
+    (
+      left,
+      (
+        heard_on bytes next later line failed how h left comes sound is,
+        by_line tells ReadsLine unwritten before after (line ∷ h.lines) h.lines left h.over _ (λ answers end. IsLastAnswered unwritten left end) (λ answers. Unit {0}) (λ answers. Unit {0}) s codes asks (line, (refl, read)) (λ answers end k. k) (λ answers k. k) o first by,
+      ),
+    ),
+  )
 
--- a read that finds no line
-pub reads_end : {K : Type 0} (tells : SlotTells K) (before after : K) (Whole : Outcome → Texts → Type 0) (bytes later : List ℕ) (over : Over) (failed : Bool) (now mid : Session) (a b : Bool) (taken0 taken1 taken2 : Taken)
-    → Asked tells before after now mid a b taken1 taken2 → IsHeard bytes later failed (nothing_more over) [] → SoFar Whole (IsPlayed tells before after bytes later failed false now) taken0 taken1
-    → IsPlay Whole (stop_behind over) false taken0 taken2
-reads_end tells before after Whole bytes later over failed now mid a b taken0 taken1 taken2 t hear s =
-    let e = read_ends tells before after t.answers over (IsLastAnswered false [] (given_all t.answers now)) (Unit {0}) now (λ f asks. refl) t.gives t.asks in
-    play_ends Whole (IsPlayed tells before after bytes later failed false now) taken0 taken1 taken2 false (stop_behind over) e.o (shown_up_to t.answers now) (segment_of (given_all t.answers now)).text s
-    (nothing_more over, ([], (hear, (t.answers, (answers_alone tells ReadsLine false t.answers before after [] now t.gives, refl, e.is))))) e.ends t.took
+  pub turn_asked : (before after : K) (now mid : Session) (a b : Bool) {taken0 taken1 : Taken} (e : Event)
+      → event_waited mid.waiting ≡ Some e → is_read e ≡ true → IsTurn (AreSlotAnswers tells (a || b) before after now) now mid (Ok e) (a || b) (TookTexts taken0 taken1 (a || b))
+      → Asked tells before after now mid a b taken0 taken1
+  turn_asked before after now mid a b {taken0} {taken1} e waits k t =
+      let asked = turn_asks (a || b) (given_all t.answers now) e t.text t.ends in
+      let works = either_false a b asked.0 in
+      let asks : AsksForLine (ran (given_all t.answers now)) = (e, (ap (λ (m : Session). event_waited m.waiting) (sym t.left) ∙ waits, k)) in
+      record {
+        screen_works = works.0;
+        script_works = works.1;
+        answers = t.answers;
+        gives = subst (λ (f : Bool). AreSlotAnswers tells f before after now t.answers) asked.0 t.gives;
+        same = t.left;
+        asks = asks;
+        runs = runs_now t.answers now now.stopped refl asks;
+        took = subst (λ (u : Texts). TookTexts taken0 taken1 false (shown_up_to t.answers now) u) asked.3 (subst (λ (f : Bool). TookTexts taken0 taken1 f (shown_up_to t.answers now) t.text) asked.0 t.shown);
+      }
 
-pub answers_end : {K R : Type 0} (tells : SlotTells K) (reads : SourceTells R) (start last : R) (before after : K) (Whole : Outcome → Texts → Type 0) (over : Over) (now mid : Session) (a b : Bool) (taken0 taken1 taken2 : Taken)
-    → Asked tells before after now mid a b taken1 taken2 → FoundNoLine reads last over → SoFar Whole (IsAnswered tells reads before after start last false now) taken0 taken1 → IsPlay Whole (stop_behind over) false taken0 taken2
-answers_end tells reads start last before after Whole over now mid a b taken0 taken1 taken2 t found s =
-    let e = read_ends tells before after t.answers over (IsLastRead reads start last false over t.answers (given_all t.answers now)) (IsLeftAlone start last t.answers) now (λ f asks. found, λ never. absurd (never refl t.asks)) t.gives t.asks in
-    play_ends Whole (IsAnswered tells reads before after start last false now) taken0 taken1 taken2 false (stop_behind over) e.o (shown_up_to t.answers now) (segment_of (given_all t.answers now)).text s
-    (over, (t.answers, (answers_alone tells ReadsCodes false t.answers before after tt now t.gives, refl, e.is))) e.ends t.took
+  -- what is answered after a turn and a line
+  pub on_answered : {R : Type 0} (reads : SourceTells R) (start mid_reader last : R) (unwritten : Bool) (before mid_slot after : K) (Whole : Outcome → Texts → Type 0) (now mid next : Session) (a b : Bool) {taken0 taken1 taken2 : Taken} (codes : List ℕ)
+      → Asked tells before mid_slot now mid a b taken1 taken2 → AllByRecursion (λ c. is_input_code c ≡ true) codes → IsLeftAs next (given mid (Typed codes)) (given mid (Typed codes)).stopped
+      → SoFar Whole (IsAnswered tells reads before after start last unwritten now) taken0 taken1 → SoFar Whole (IsAnswered tells reads mid_slot after mid_reader last unwritten next) taken0 taken2
+  on_answered reads start mid_reader last unwritten before mid_slot after Whole now mid next a b codes t typed left s =
+      let end = given_all t.answers now in
+      let left_here = subst (λ (m : Session). IsLeftAs next (given m (Typed codes)) (given m (Typed codes)).stopped) t.same left in
+      so_far_on Whole (IsAnswered tells reads before after start last unwritten now) (IsAnswered tells reads mid_slot after mid_reader last unwritten next) (shown_up_to t.answers now) (segment_of end).text s t.took
+      (λ o first p.
+      let over = p.0 in
+      let here = by_left tells ReadsCodes unwritten mid_slot after tt tt over (IsLastRead reads mid_reader last unwritten over) (IsLeftAlone mid_reader last) (read_still reads mid_reader last unwritten over) next (given (ran end) (Typed codes)) _ refl left_here o first p.1 in
+      let line = by_line tells ReadsCodes unwritten mid_slot after tt tt tt over (IsLastRead reads mid_reader last unwritten over) (IsLastRead reads start last unwritten over) (IsLeftAlone mid_reader last) (IsLeftAlone start last) end codes t.asks typed
+      (λ answers e h. (h.0, λ never. not_alone start last codes answers)) (λ answers h. not_alone start last codes answers) o first here in
+      (over, by_slots tells ReadsCodes unwritten t.answers before mid_slot after tt tt over (IsLastRead reads start last unwritten over) (IsLeftAlone start last) (read_stays reads start last unwritten over) now t.gives (not_file _ t.asks) _ _ line))
+
+  -- what is played after a turn and a line
+  pub on_played : (before mid_slot after : K) (Whole : Outcome → Texts → Type 0) (bytes next_bytes later : List ℕ) (how : Option Over) (failed unwritten : Bool) (now mid next : Session) (a b : Bool) {taken0 taken1 taken2 : Taken} (line codes : List ℕ)
+      → Asked tells before mid_slot now mid a b taken1 taken2 → IsNextLine bytes next_bytes line how → (how ≡ Some End → failed ≡ false) → codes ≡ codes_read mid line → IsLeftAs next (given mid (Typed codes)) (given mid (Typed codes)).stopped
+      → SoFar Whole (IsPlayed tells before after bytes later failed unwritten now) taken0 taken1 → SoFar Whole (IsPlayed tells mid_slot after next_bytes later failed unwritten next) taken0 taken2
+  on_played before mid_slot after Whole bytes next_bytes later how failed unwritten now mid next a b line codes t comes sound read left s =
+      let end = given_all t.answers now in
+      let left_here = subst (λ (m : Session). IsLeftAs next (given m (Typed codes)) (given m (Typed codes)).stopped) t.same left in
+      so_far_on Whole (IsPlayed tells before after bytes later failed unwritten now) (IsPlayed tells mid_slot after next_bytes later failed unwritten next) (shown_up_to t.answers now) (segment_of end).text s t.took
+      (λ o first p.
+      let here = by_left tells ReadsLine unwritten mid_slot after p.0.lines p.1.0 p.0.over (λ answers e. IsLastAnswered unwritten p.1.0 e) (λ answers. Unit {0}) (line_still unwritten p.1.0) next (given (ran end) (Typed codes)) _ refl left_here o first p.1.1.1 in
+      let read_line = played_line mid_slot after line bytes next_bytes later how failed unwritten end codes t.asks comes sound (read ∙ ap (λ (m : Session). codes_read m line) t.same) o first (p.0, (p.1.0, (p.1.1.0, here))) in
+      (read_line.0, (read_line.1.0, (read_line.1.1.0, by_slots tells ReadsLine unwritten t.answers before mid_slot after read_line.0.lines read_line.1.0 read_line.0.over (λ answers e. IsLastAnswered unwritten read_line.1.0 e) (λ answers. Unit {0}) (line_stays unwritten read_line.1.0) now t.gives (not_file _ t.asks) _ _ read_line.1.1.1))))
+
+  -- a write has failed on the way to what the outcome shows
+  failed_end : (before after : K) (answers : List Answer) (over : Over) (Last Lacking : Type 0) (now : Session) (stop : Stop) (text more : Texts) → ((true ≡ false → AsksForLine (ran (given_all answers now)) → ⊥) → Last)
+      → AreSlotAnswers tells true before after now answers → ◌≡◌ {A = Result Event Stop} (Err stop) (Err Write) → (segment_of (given_all answers now)).text ≡ text_joined text more → EndOf answers over true Last Lacking now stop text
+  failed_end before after answers over Last Lacking now stop text more vacuous gives e t =
+      let s = given_all answers now in
+      let end = stop_waiting (event_waited (ran s).waiting) over in
+      let rest = alone_begins end s in
+      record {
+        o = outcome answers end now;
+        is = inl (refl, vacuous (λ f. true_or_false _ f));
+        ends = (
+          same_stop stop Write e,
+          (
+            text_joined more rest.0,
+            ap (λ (o : Outcome). o.text) (outcome_all true answers before after now end gives)
+                ∙ ap (text_joined (shown_up_to answers now)) (rest.1 ∙ ap (λ (u : Texts). text_joined u rest.0) t ∙ sym (same_text text more rest.0))
+                ∙ same_text (shown_up_to answers now) text (text_joined more rest.0),
+          ),
+        );
+      }
+
+  turn_stops : (before after : K) (unwritten : Bool) (answers : List Answer) (over : Over) (Last Lacking : Type 0) (now : Session) (stop : Stop) (text : Texts) → ((unwritten ≡ false → AsksForLine (ran (given_all answers now)) → ⊥) → Last) → Lacking
+      → AreSlotAnswers tells unwritten before after now answers → EndsTurnOrFails unwritten (given_all answers now) (Err stop) text → EndOf answers over unwritten Last Lacking now stop text
+  turn_stops before after true answers over Last Lacking now stop text vacuous lacking gives (e, inl t) =
+      failed_end before after answers over Last Lacking now stop text no_text vacuous gives e (sym t ∙ sym (no_text_behind text))
+  turn_stops before after true answers over Last Lacking now stop text vacuous lacking gives (e, inr (inl comes)) = record {
+    o = record { stop = Memory; text = text_joined (shown_up_to answers now) text };
+    is = kept_end answers over Last Lacking now text lacking comes;
+    ends = (same_stop stop Write e, (no_text, sym (no_text_behind (text_joined (shown_up_to answers now) text))));
+  }
+  turn_stops before after true answers over Last Lacking now stop text vacuous lacking gives (e, inr (inr up)) =
+      let b = begins_so (given_all answers now) text up in failed_end before after answers over Last Lacking now stop text b.0 vacuous gives e b.1
+  turn_stops before after false answers over Last Lacking now stop text vacuous lacking gives (inl h) =
+      let s = given_all answers now in
+      let end = stop_waiting (event_waited (ran s).waiting) over in
+      let stops = stops_by (segment_of s).end stop (sym h.0) in
+      let all = outcome_all false answers before after now end gives ∙ ap (shown_before (shown_up_to answers now)) (outcome_stops [] end stop s stops) in
+      record {
+        o = outcome answers end now;
+        is = inl (refl, vacuous (λ f asks. let w = line_asked s asks in stops_or_waits (segment_of s).end stop w.0 stops w.1));
+        ends = (sym (ap (λ (o : Outcome). o.stop) all), ap (λ (o : Outcome). o.text) all ∙ ap (text_joined (shown_up_to answers now)) (sym h.2));
+      }
+  turn_stops before after false answers over Last Lacking now stop text vacuous lacking gives (inr (e, inl comes)) = record {
+    o = record { stop = Memory; text = text_joined (shown_up_to answers now) text };
+    is = kept_end answers over Last Lacking now text lacking comes;
+    ends = (same_stop stop Memory e, refl);
+  }
+  turn_stops before after false answers over Last Lacking now stop text vacuous lacking gives (inr (e, inr h)) =
+      let s = given_all answers now in
+      let end = stop_waiting (event_waited (ran s).waiting) over in
+      let w = file_asked s h.0 in
+      let all = outcome_all false answers before after now end gives ∙ ap (shown_before (shown_up_to answers now)) (alone_waits end s w.0 w.1) in
+      record {
+        o = outcome answers end now;
+        is = inl (refl, vacuous (λ f asks. not_file _ asks h.0));
+        ends = (
+          same_stop stop Memory e ∙ sym (ap (λ (o : Outcome). o.stop) all ∙ file_stop _ over h.0),
+          ap (λ (o : Outcome). o.text) all ∙ ap (text_joined (shown_up_to answers now)) (no_text_behind (segment_of s).text ∙ sym h.1),
+        );
+      }
+
+  read_ends : (before after : K) (answers : List Answer) (over : Over) (Last Lacking : Type 0) (now : Session) → Last
+      → AreSlotAnswers tells false before after now answers → AsksForLine (ran (given_all answers now)) → EndOf answers over false Last Lacking now (stop_behind over) (segment_of (given_all answers now)).text
+  read_ends before after answers over Last Lacking now last gives asks =
+      let s = given_all answers now in
+      let end = stop_waiting (event_waited (ran s).waiting) over in
+      let w = line_asked s asks in
+      let all = outcome_all false answers before after now end gives ∙ ap (shown_before (shown_up_to answers now)) (alone_waits end s w.0 w.1) in
+      record {
+        o = outcome answers end now;
+        is = inl (refl, last);
+        ends = (sym (ap (λ (o : Outcome). o.stop) all ∙ line_stop _ over asks), ap (λ (o : Outcome). o.text) all ∙ ap (text_joined (shown_up_to answers now)) (no_text_behind (segment_of s).text));
+      }
+
+  pub stops_played : (before after : K) (Whole : Outcome → Texts → Type 0) (bytes later : List ℕ) (failed unwritten : Bool) (now mid : Session) {taken0 taken1 taken2 : Taken} (stop : Stop) → failed ≡ false
+      → IsTurn (AreSlotAnswers tells unwritten before after now) now mid (Err stop) unwritten (TookTexts taken1 taken2 unwritten) → SoFar Whole (IsPlayed tells before after bytes later failed unwritten now) taken0 taken1
+      → IsPlay Whole stop unwritten taken0 taken2
+  stops_played before after Whole bytes later failed unwritten now mid stop sound t s =
+      let h = heard bytes in
+      let e = turn_stops before after unwritten t.answers h.over (IsLastAnswered unwritten h.lines (given_all t.answers now)) (Unit {0}) now stop t.text (λ never f asks. absurd (never f asks)) tt t.gives t.ends in
+      play_ends Whole (IsPlayed tells before after bytes later failed unwritten now) unwritten stop e.o (shown_up_to t.answers now) t.text s
+      (h, (h.lines, (heard_whole bytes later failed h.lines sound, (t.answers, (answers_alone tells ReadsLine unwritten t.answers before after h.lines now t.gives, refl, e.is))))) e.ends t.shown
+
+  pub stops_answered : {R : Type 0} (reads : SourceTells R) (reader : R) (before after : K) (Whole : Outcome → Texts → Type 0) (unwritten : Bool) (now mid : Session) {taken0 taken1 taken2 : Taken} (stop : Stop)
+      → IsTurn (AreSlotAnswers tells unwritten before after now) now mid (Err stop) unwritten (TookTexts taken1 taken2 unwritten) → SoFar Whole (IsAnswered tells reads before after reader reader unwritten now) taken0 taken1
+      → IsPlay Whole stop unwritten taken0 taken2
+  stops_answered reads reader before after Whole unwritten now mid stop t s =
+      let alone : IsLeftAlone reader reader t.answers = λ none. refl in
+      let e = turn_stops before after unwritten t.answers Failed (IsLastRead reads reader reader unwritten Failed t.answers (given_all t.answers now)) (IsLeftAlone reader reader t.answers) now stop t.text (λ never. (λ f asks. absurd (never f asks), λ n. alone)) alone t.gives t.ends in
+      play_ends Whole (IsAnswered tells reads before after reader reader unwritten now) unwritten stop e.o (shown_up_to t.answers now) t.text s
+      (Failed, (t.answers, (answers_alone tells ReadsCodes unwritten t.answers before after tt now t.gives, refl, e.is))) e.ends t.shown
+
+  -- a read that finds no line
+  pub reads_end : (before after : K) (Whole : Outcome → Texts → Type 0) (bytes later : List ℕ) (over : Over) (failed : Bool) (now mid : Session) (a b : Bool) {taken0 taken1 taken2 : Taken}
+      → Asked tells before after now mid a b taken1 taken2 → IsHeard bytes later failed (nothing_more over) [] → SoFar Whole (IsPlayed tells before after bytes later failed false now) taken0 taken1
+      → IsPlay Whole (stop_behind over) false taken0 taken2
+  reads_end before after Whole bytes later over failed now mid a b t hear s =
+      let e = read_ends before after t.answers over (IsLastAnswered false [] (given_all t.answers now)) (Unit {0}) now (λ f asks. refl) t.gives t.asks in
+      play_ends Whole (IsPlayed tells before after bytes later failed false now) false (stop_behind over) e.o (shown_up_to t.answers now) (segment_of (given_all t.answers now)).text s
+      (nothing_more over, ([], (hear, (t.answers, (answers_alone tells ReadsLine false t.answers before after [] now t.gives, refl, e.is))))) e.ends t.took
+
+  pub answers_end : {R : Type 0} (reads : SourceTells R) (start last : R) (before after : K) (Whole : Outcome → Texts → Type 0) (over : Over) (now mid : Session) (a b : Bool) {taken0 taken1 taken2 : Taken}
+      → Asked tells before after now mid a b taken1 taken2 → FoundNoLine reads last over → SoFar Whole (IsAnswered tells reads before after start last false now) taken0 taken1 → IsPlay Whole (stop_behind over) false taken0 taken2
+  answers_end reads start last before after Whole over now mid a b t found s =
+      let e = read_ends before after t.answers over (IsLastRead reads start last false over t.answers (given_all t.answers now)) (IsLeftAlone start last t.answers) now (λ f asks. found, λ never. absurd (never refl t.asks)) t.gives t.asks in
+      play_ends Whole (IsAnswered tells reads before after start last false now) false (stop_behind over) e.o (shown_up_to t.answers now) (segment_of (given_all t.answers now)).text s
+      (over, (t.answers, (answers_alone tells ReadsCodes false t.answers before after tt now t.gives, refl, e.is))) e.ends t.took
 
 -- ---- a reader of lines, whose input goes on or is over
 

@@ -34,8 +34,8 @@ returns g c =
           unread = not_true _ _ c.requires.works.input;
         }))
         | in-Ok-write w ↦ rw (w.stop-is, w.devices-is, sym c.in-Ok-start.ensures) (inl (record {
-          answered = after_none _ _ _ _ _ _ _ _ (took_none _ _ _ w.in-Ok-write.ensures.bytes) w.play-stop.ensures.answered;
-          played = λ bytes told. let p = w.play-stop.ensures.played bytes told in (p.0, p.1, after_none _ _ _ _ _ _ _ _ (took_none _ _ _ w.in-Ok-write.ensures.bytes) p.2);
+          answered = after_none _ _ _ _ _ _ _ (took_none _ _ _ w.in-Ok-write.ensures.bytes) w.play-stop.ensures.answered;
+          played = λ bytes told. let p = w.play-stop.ensures.played bytes told in (p.0, p.1, after_none _ _ _ _ _ _ _ (took_none _ _ _ w.in-Ok-write.ensures.bytes) p.2);
           unread = w.play-stop.ensures.read_failed;
         }))
       ],

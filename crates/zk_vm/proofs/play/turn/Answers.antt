@@ -9,13 +9,13 @@ loop-event-init g c = record {
   script_works = c.requires.script_works;
   limits = refl;
   reads = λ e. refl;
-  so_far = turn_begins _ _ _ _;
+  so_far = turn_begins _ _ _;
 }
 
 pub returns-then-is_read-clause-turn : goal.returns-then-is_read-clause-turn
 returns-then-is_read-clause-turn g c =
     let r = run_reads _ c.loop-event.machine c.run_on.new.machine _ _ (sym c.is_read.ensures ∙ c.if-is_read.true) c.in-Ok.ensures.run in
-    turn_ends _ _ c.loop-event.machine c.run_on.new.machine _ _ _ _ _ _ _ _ r.text c.loop-event.invariant.so_far (inl refl) r.ends r.left (record { screen = r.shown.0; script = r.shown.1 })
+    turn_ends _ _ c.loop-event.machine c.run_on.new.machine _ _ _ _ _ r.text c.loop-event.invariant.so_far (inl refl) r.ends r.left (record { screen = r.shown.0; script = r.shown.1 })
 
 pub returns-then-is_read-clause-same_reads : goal.returns-then-is_read-clause-same_reads
 returns-then-is_read-clause-same_reads g c =
@@ -41,7 +41,7 @@ loop-event-preserved g c =
       script_works = works.1;
       limits = c.serve.ensures.limits ∙ c.run_on.ensures.limits ∙ c.loop-event.invariant.limits;
       reads = λ e. c.in-Ok-serve.ensures.reads e ∙ c.in-Ok.ensures.same_reads ∙ c.loop-event.invariant.reads r.3;
-      so_far = turn_served _ _ c.loop-event.machine c.run_on.new.machine c.serve.new.machine _ _ _ _ _ _ c.loop-event.invariant.so_far r.2 c.in-Ok-serve.ensures.served (record { screen = rw r.0 at r.4.0; script = rw r.0 at r.4.1 });
+      so_far = turn_served _ _ c.loop-event.machine c.run_on.new.machine c.serve.new.machine _ _ _ c.loop-event.invariant.so_far r.2 c.in-Ok-serve.ensures.served (record { screen = rw r.0 at r.4.0; script = rw r.0 at r.4.1 });
     }
 
 pub returns-in-Err-serve-clause-turn : goal.returns-in-Err-serve-clause-turn
@@ -49,7 +49,7 @@ returns-in-Err-serve-clause-turn g c =
     let u = c.in-Err-serve.ensures.unserved in
     let a = run_asks _ c.loop-event.machine c.run_on.new.machine _ _ c.in-Ok.ensures.run in
     let r = run_lacks _ c.loop-event.machine c.run_on.new.machine c.serve.new.machine _ c.in-Err-serve.stop _ u.1 u.0 u.2 c.in-Ok.ensures.run in
-    turn_ends _ _ c.loop-event.machine c.serve.new.machine _ _ _ _ _ _ _ _ r.text c.loop-event.invariant.so_far (inr (a.0, ran_asks c.loop-event.machine c.run_on.new.machine a.2 u.1, u.3)) r.ends r.left (record { screen = r.shown.0; script = r.shown.1 })
+    turn_ends _ _ c.loop-event.machine c.serve.new.machine _ _ _ _ _ r.text c.loop-event.invariant.so_far (inr (a.0, ran_asks c.loop-event.machine c.run_on.new.machine a.2 u.1, u.3)) r.ends r.left (record { screen = r.shown.0; script = r.shown.1 })
 
 pub returns-in-Err-serve-clause-limits : goal.returns-in-Err-serve-clause-limits
 returns-in-Err-serve-clause-limits g c = c.serve.ensures.limits ∙ c.run_on.ensures.limits ∙ c.loop-event.invariant.limits
@@ -57,7 +57,7 @@ returns-in-Err-serve-clause-limits g c = c.serve.ensures.limits ∙ c.run_on.ens
 pub returns-in-Err-clause-turn : goal.returns-in-Err-clause-turn
 returns-in-Err-clause-turn g c =
     let r = run_stops _ c.loop-event.machine c.run_on.new.machine c.in-Err.stop _ c.in-Err.ensures.free_again c.in-Err.ensures.run in
-    turn_ends _ _ c.loop-event.machine c.run_on.new.machine _ _ _ _ _ _ _ _ r.text c.loop-event.invariant.so_far (inl refl) r.ends r.left (record { screen = r.shown.0; script = r.shown.1 })
+    turn_ends _ _ c.loop-event.machine c.run_on.new.machine _ _ _ _ _ r.text c.loop-event.invariant.so_far (inl refl) r.ends r.left (record { screen = r.shown.0; script = r.shown.1 })
 
 pub returns-in-Err-clause-limits : goal.returns-in-Err-clause-limits
 returns-in-Err-clause-limits g c = c.in-Err.ensures.limits ∙ c.loop-event.invariant.limits
