@@ -1,8 +1,8 @@
 -- What is heard of a line without a new line.
 use Rattle.std.proofs.Common.{◌≡◌, ◌⊎◌, ◌&&◌, ℕ, Bool, true, false, not, ◌==◌, List, [], ◌∷◌, ◌++◌, length, Option, refl, sym, ◌∙◌, ap, subst, inl, inr, nat_lt, rules}
 use Rattle.zk_term.proofs.Hearing.{are_lines}
-use Rattle.zk_term.specs.declared.lines.Over.{Over}
-use Rattle.zk_term.specs.declared.lines.Over.TheVariants as over
+use Rattle.zk_term.specs.declared.lines.InputEnd.{InputEnd}
+use Rattle.zk_term.specs.declared.lines.InputEnd.TheVariants as over
 use Rattle.arrayvec.specs.ArrayVec.{ArrayVec}
 use Rattle.zk_term.specs.declared.lines.Input.{Input}
 use Rattle.zk_term.specs.declared.lines.Input.TheVariants as input
@@ -25,7 +25,7 @@ no_new_line [] later h = cc
 no_new_line (b ∷ part) later h = no_new_line part later h.1
 
 -- what comes next of a line's bytes alone is the line
-pub next_is : (bytes later line : List ℕ) (how : Option Over) → IsPlain bytes → IsNextLine bytes later line how → line ≡ bytes
+pub next_is : (bytes later line : List ℕ) (how : Option InputEnd) → IsPlain bytes → IsNextLine bytes later line how → line ≡ bytes
 next_is bytes later line how h (inl e) = absurd (no_new_line e.0.part later (subst IsPlain e.0.whole h))
 next_is bytes later line how h (inr l) = sym l.0.whole
 
@@ -63,11 +63,11 @@ unfolding line_codes characters_of characters_past
 no_codes t [] e = refl
 no_codes t (b ∷ bytes) e = absurd (search (rules, e))
 
-heard_line : (t : ExtraTable) (bytes later : List ℕ) (how : Option Over) (failed sound : Type 0) (codes : ArrayVec ℕ) → IsPlain bytes
+heard_line : (t : ExtraTable) (bytes later : List ℕ) (how : Option InputEnd) (failed sound : Type 0) (codes : ArrayVec ℕ) → IsPlain bytes
     → Hears t bytes later how failed sound (input.Line codes) → codes.items ≡ line_codes t bytes
 heard_line t bytes later how failed sound codes p h = h.2 ∙ ap (λ (l : List ℕ). line_codes t l) (next_is bytes later h.0 how p h.1)
 
-pub codes_heard : (t : ExtraTable) (ahead bytes later : List ℕ) (how : Option Over) (failed sound : Type 0) (result : Input) (codes : ArrayVec ℕ) → ahead ≡ [] → is_line bytes ≡ true
+pub codes_heard : (t : ExtraTable) (ahead bytes later : List ℕ) (how : Option InputEnd) (failed sound : Type 0) (result : Input) (codes : ArrayVec ℕ) → ahead ≡ [] → is_line bytes ≡ true
     → result ≡ input.Line codes → Hears t (ahead ++ bytes) later how failed sound result → codes.items ≡ line_codes t bytes
 codes_heard t ahead bytes later how failed sound result codes ea is er h =
     heard_line t bytes later how failed sound codes (line_plain bytes is)
@@ -80,13 +80,13 @@ not_too_long : (bytes : List ℕ) → is_line bytes ≡ true → (length bytes =
 not_too_long [] is some e = true-false some
 not_too_long (b ∷ bytes) is some e = is_heard b bytes (line_plain (b ∷ bytes) is) (both_true (nat_lt (length (b ∷ bytes)) 65536) (is_plain (b ∷ bytes)) is).0 e
 
-not_heard_by : (t : ExtraTable) (bytes later : List ℕ) (how : Option Over) (failed sound : Type 0) (result : Input) → is_line bytes ≡ true → (length bytes == 0) ≡ false → (failed → ⊥)
+not_heard_by : (t : ExtraTable) (bytes later : List ℕ) (how : Option InputEnd) (failed sound : Type 0) (result : Input) → is_line bytes ≡ true → (length bytes == 0) ≡ false → (failed → ⊥)
     → (result ≡ input.End) ⊎ (result ≡ input.Failed) → Hears t bytes later how failed sound result → ⊥
 not_heard_by t bytes later how failed sound result is some never (inl e) h = not_end bytes some (subst (λ (r : Input). Hears t bytes later how failed sound r) e h).0
 not_heard_by t bytes later how failed sound result is some never (inr e) h =
     elim (subst (λ (r : Input). Hears t bytes later how failed sound r) e h) [ inl x ↦ never x.0 | inr x ↦ not_too_long bytes is some (ap heard x.1.whole ∙ are_lines.too_long x.1.part later x.1.plain x.1.long) ]
 
-pub not_heard : (t : ExtraTable) (ahead bytes later : List ℕ) (how : Option Over) (failed sound : Type 0) (result : Input) → ahead ≡ [] → is_line bytes ≡ true → (length bytes == 0) ≡ false → (failed → ⊥)
+pub not_heard : (t : ExtraTable) (ahead bytes later : List ℕ) (how : Option InputEnd) (failed sound : Type 0) (result : Input) → ahead ≡ [] → is_line bytes ≡ true → (length bytes == 0) ≡ false → (failed → ⊥)
     → (result ≡ input.End) ⊎ (result ≡ input.Failed) → Hears t (ahead ++ bytes) later how failed sound result → ⊥
 not_heard t ahead bytes later how failed sound result ea is some never how_over h =
     not_heard_by t bytes later how failed sound result is some never how_over (subst (λ (a : List ℕ). Hears t (a ++ bytes) later how failed sound result) ea h)

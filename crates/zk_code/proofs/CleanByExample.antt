@@ -3,8 +3,8 @@ use Rattle.std.proofs.Common.{◌≡◌, ◌<◌, ◌≤◌, inl, inr, ℕ, true
 use Rattle.zk_mem.specs.Header.{unit_length}
 use Rattle.zk_mem.specs.Map.{MemoryMap, cell_at}
 use Rattle.zk_code.specs.declared.branch.Branch.{Branch}
-use Rattle.zk_code.specs.declared.branch.Target.{Target}
-use Rattle.zk_code.specs.declared.branch.Target.TheVariants.{At, Past}
+use Rattle.zk_code.specs.declared.branch.BranchTarget.{BranchTarget}
+use Rattle.zk_code.specs.declared.branch.BranchTarget.TheVariants.{At, Past}
 use Rattle.zk_code.specs.declared.instr.Instr.{Instr}
 use Rattle.zk_code.specs.declared.opcode.Opcode.TheVariants.{Call, Control, Printing}
 use Rattle.zk_code.specs.declared.opcode.Call.TheVariants.{CallVs}
@@ -44,7 +44,7 @@ abbrev NoBranch : Instr → Type 0
 NoBranch i = ((b : Branch) × (i.branch ≡ Some b) × IsOutside b.target) → ⊥
 
 abbrev NoJump : Instr → Type 0
-NoJump i = ((t : Target) × (constant_jump (hundred 3) i ≡ Some t) × IsOutside t) → ⊥
+NoJump i = ((t : BranchTarget) × (constant_jump (hundred 3) i ≡ Some t) × IsOutside t) → ⊥
 
 abbrev NoCall : Instr → Type 0
 NoCall i = ((r : ℕ) × (constant_call (hundred 3) i ≡ Some r) × (count_at (hundred 3) r ≡ None)) → ⊥

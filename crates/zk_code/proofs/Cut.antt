@@ -8,7 +8,7 @@ use Rattle.zk_mem.specs.declared.fault.Fault.{Fault}
 use Rattle.zk_mem.specs.declared.fault.Fault.TheVariants.{CodePastEnd, BadOpcode, MissingOperand}
 use Rattle.zk_mem.specs.Map.{MemoryMap, cell_at, HasBytes}
 use Rattle.zk_code.specs.declared.instr.Instr.{Instr}
-use Rattle.zk_code.specs.declared.table.Entry.{Entry}
+use Rattle.zk_code.specs.declared.table.OpcodeRow.{OpcodeRow}
 use Rattle.zk_code.specs.declared.opcode.Opcode.TheVariants.{Comparison}
 use Rattle.zk_code.specs.declared.opcode.Comparison.TheVariants.{Jz, Jl}
 use Rattle.zk_code.specs.declared.table.Follows.TheVariants.{Branches}
@@ -86,7 +86,7 @@ padded_marked m a = record {
 }
 
 -- 2 and 128 begin an instruction in every version, and 190 2 from 5 on
-abbrev jl : Entry
+abbrev jl : OpcodeRow
 jl = record { opcode = Comparison Jl; least = 2; follows = Branches }
 
 -- 2 is the number of `jl` in each version
@@ -100,12 +100,12 @@ unfolding head_at head_by
 head_2 m a e = rw e refl
 
 -- an opcode that is there is not bad
-bad_short : (op : Option Entry) (j k : OperandType) (b : ℕ) (o : Entry) → op ≡ Some o → with_types op j k b ≡ Err BadOpcode → ⊥
+bad_short : (op : Option OpcodeRow) (j k : OperandType) (b : ℕ) (o : OpcodeRow) → op ≡ Some o → with_types op j k b ≡ Err BadOpcode → ⊥
 unfolding with_types
 bad_short op j k b o e h = let q = rw e at h in absurd cc
 
 -- the entry of `jz`
-abbrev jz : Entry
+abbrev jz : OpcodeRow
 jz = record { opcode = Comparison Jz; least = 1; follows = Branches }
 
 -- 0 is the number of `jz` in each version

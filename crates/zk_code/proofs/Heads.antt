@@ -6,7 +6,7 @@ use Rattle.std.proofs.lemmas.Bool.Decides.{nat_tests}
 use Rattle.zk_mem.specs.declared.fault.Fault.{Fault}
 use Rattle.zk_mem.specs.declared.fault.Fault.TheVariants.{CodePastEnd, BadOpcode}
 use Rattle.zk_mem.specs.Map.{MemoryMap, cell_at, HasBytes}
-use Rattle.zk_code.specs.declared.table.Entry.{Entry}
+use Rattle.zk_code.specs.declared.table.OpcodeRow.{OpcodeRow}
 use Rattle.zk_code.specs.declared.head.Head.{Head}
 use Rattle.zk_code.specs.declared.operands.OperandType.{OperandType}
 use Rattle.zk_code.specs.declared.operands.OperandType.TheVariants.{LargeConstant, SmallConstant, VariableNumber, Omitted}
@@ -325,13 +325,13 @@ pub record SpelledHead (m : MemoryMap) (a : ℕ) (h : Head) : Type 0 where
   pub same : (c : ℕ) → operands_at m h.types c ≡ operands_at m (types_of form) c
 
 -- what is read of a head with types
-with_types_read : {F : Fault → Type 0} (op : Option Entry) (j k : OperandType) (b : ℕ) → (op ≡ None → F BadOpcode) →
+with_types_read : {F : Fault → Type 0} (op : Option OpcodeRow) (j k : OperandType) (b : ℕ) → (op ≡ None → F BadOpcode) →
     Reads (λ (h : Head). (op ≡ Some h.entry) × (h.types ≡ j ∷ k ∷ Omitted ∷ Omitted ∷ four_omitted) × (b ≡ h.next)) F (with_types op j k b)
 unfolding with_types
 with_types_read op j k b none = read_then _ _ (read_or BadOpcode op (λ o e. e) none) (λ o e. read_ok (e, refl, refl))
 
 -- what is read of a head with type bytes
-with_type_bytes_read : {Q : List OperandType × ℕ → Type 0} {F : Fault → Type 0} (m : MemoryMap) (op : Option Entry) (two : Bool) (b : ℕ) → (op ≡ None → F BadOpcode) → Reads Q F (types_at m two b) →
+with_type_bytes_read : {Q : List OperandType × ℕ → Type 0} {F : Fault → Type 0} (m : MemoryMap) (op : Option OpcodeRow) (two : Bool) (b : ℕ) → (op ≡ None → F BadOpcode) → Reads Q F (types_at m two b) →
     Reads (λ (h : Head). (op ≡ Some h.entry) × Q (h.types, h.next)) F (with_type_bytes m op two b)
 unfolding with_type_bytes
 with_type_bytes_read m op two b none types = read_then _ _ (read_or BadOpcode op (λ o e. e) none) (λ o e. read_then _ _ types (λ t q. read_ok (e, q)))
@@ -370,13 +370,13 @@ form_read m (DoubleVariable n t w) a b fits f s none lack =
     (λ h r. types_spelled m (DoubleVariable n r.1.0 r.1.1) a b h f r.0 s r.1.3 (λ c. ap (λ (ks : List OperandType). operands_at m ks c) r.1.2))
 
 -- what is spelled so is read
-pub record ReadHead (m : MemoryMap) (a : ℕ) (o : Entry) (ks : List OperandType) (b : ℕ) : Type 0 where
+pub record ReadHead (m : MemoryMap) (a : ℕ) (o : OpcodeRow) (ks : List OperandType) (b : ℕ) : Type 0 where
   pub types : List OperandType
   pub read : head_at m a ≡ Ok (record { entry = o; types = types; next = b })
   pub same : (c : ℕ) → operands_at m types c ≡ operands_at m ks c
 
 -- a form that is spelled is read
-pub form_again : (m : MemoryMap) (f : Form) (a p b : ℕ) (o : Entry) → head_at m a ≡ rest_of m f p → entry_of m.version f ≡ Some o → Stands m p (type_bytes f) b → ReadHead m a o (types_of f) b
+pub form_again : (m : MemoryMap) (f : Form) (a p b : ℕ) (o : OpcodeRow) → head_at m a ≡ rest_of m f p → entry_of m.version f ≡ Some o → Stands m p (type_bytes f) b → ReadHead m a o (types_of f) b
 unfolding with_types with_type_bytes
 form_again m (Long2OP n j k) a p b o e q s = record { types = _; read = e ∙ rw (q, s) refl; same = λ c. operands_pad m (j ∷ k ∷ []) (Omitted ∷ four_omitted) c }
 form_again m (Short1OP n k) a p b o e q s = record { types = _; read = e ∙ rw (q, s) refl; same = λ c. operands_pad m (k ∷ []) (Omitted ∷ Omitted ∷ four_omitted) c }
@@ -431,7 +431,7 @@ head_read m a fits bad lack =
     ]
 
 -- a head that is spelled is read
-pub head_again : (m : MemoryMap) (f : Form) (a p b : ℕ) (o : Entry) → IsForm m.version f → entry_of m.version f ≡ Some o → Stands m a (opcode_bytes f) p → Stands m p (type_bytes f) b → ReadHead m a o (types_of f) b
+pub head_again : (m : MemoryMap) (f : Form) (a p b : ℕ) (o : OpcodeRow) → IsForm m.version f → entry_of m.version f ≡ Some o → Stands m a (opcode_bytes f) p → Stands m p (type_bytes f) b → ReadHead m a o (types_of f) b
 head_again m f a p b o i n s t = form_again m f a p b o (opcode_again m f a p i s) n t
 
 -- an opcode that is not there is bad

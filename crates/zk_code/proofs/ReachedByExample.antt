@@ -6,7 +6,7 @@ use Rattle.std.proofs.lemmas.Bool.{eqb-true}
 use Rattle.std.proofs.lemmas.Bool.Decides.{nat_tests}
 use Rattle.zk_mem.specs.Header.{header_of, unit_length}
 use Rattle.zk_mem.specs.Map.{HasBytes, cell_at, code_word_at}
-use Rattle.zk_code.specs.declared.branch.Target.TheVariants.{At}
+use Rattle.zk_code.specs.declared.branch.BranchTarget.TheVariants.{At}
 use Rattle.zk_code.specs.declared.instr.Instr.{Instr}
 use Rattle.zk_code.specs.declared.opcode.Opcode.TheVariants as opcode
 use Rattle.zk_code.specs.declared.opcode.Comparison.TheVariants.{Jz}

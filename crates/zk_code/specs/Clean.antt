@@ -3,15 +3,15 @@
 use Rattle.std.specs.Prelude.{◌≡◌, ◌<◌, ◌⊎◌, ℕ, Bool, ◌&&◌, ◌||◌, Some, None, is_none}
 use Rattle.zk_mem.specs.Map.{MemoryMap}
 use Rattle.zk_code.specs.declared.branch.Branch.{Branch}
-use Rattle.zk_code.specs.declared.branch.Target.{Target}
-use Rattle.zk_code.specs.declared.branch.Target.TheVariants.{Below, Past}
+use Rattle.zk_code.specs.declared.branch.BranchTarget.{BranchTarget}
+use Rattle.zk_code.specs.declared.branch.BranchTarget.TheVariants.{Below, Past}
 use Rattle.zk_code.specs.declared.instr.Instr.{Instr}
 use Rattle.zk_code.specs.Grammar.{IsInstruction}
 use Rattle.zk_code.specs.Reach.{IsClosed, constant_call, constant_jump, first_constant, is_call, is_jump}
 use Rattle.zk_code.specs.Routines.{count_at}
 
 -- a target lies outside the story (section 4.7)
-abbrev pub IsOutside : Target → Type 0
+abbrev pub IsOutside : BranchTarget → Type 0
 IsOutside (Below d) = Unit {0}
 IsOutside (Past a) = Unit {0}
 IsOutside _ = ⊥
@@ -20,7 +20,7 @@ IsOutside _ = ⊥
 abbrev pub LeadsOut : MemoryMap → Instr → Type 0
 LeadsOut m i =
     ((b : Branch) × (i.branch ≡ Some b) × IsOutside b.target)
-    ⊎ (((t : Target) × (constant_jump m i ≡ Some t) × IsOutside t)
+    ⊎ (((t : BranchTarget) × (constant_jump m i ≡ Some t) × IsOutside t)
     ⊎ ((r : ℕ) × (constant_call m i ≡ Some r) × (count_at m r ≡ None)))
 
 -- what the instruction at an address does may be rewritten: its first byte lies in dynamic memory, or the count of local

@@ -2,7 +2,7 @@
 -- hand.
 use Rattle.std.specs.Prelude.{◌≡◌, ℕ, Bool, true, false, ◌||◌, ◌==◌, [], ◌∷◌}
 use Rattle.zk_mem.specs.Map.{MemoryMap}
-use Rattle.zk_code.specs.declared.branch.Target.TheVariants.{ReturnTrue, At, Below, Past}
+use Rattle.zk_code.specs.declared.branch.BranchTarget.TheVariants.{ReturnTrue, At, Below, Past}
 use Rattle.zk_code.specs.declared.opcode.Opcode.TheVariants.{Call, Control, Printing, Routine}
 use Rattle.zk_code.specs.declared.opcode.Call.TheVariants.{CallVs, CallVn2}
 use Rattle.zk_code.specs.declared.opcode.Control.TheVariants.{Jump, Quit}

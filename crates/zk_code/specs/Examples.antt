@@ -3,8 +3,8 @@
 use Rattle.std.specs.Prelude.{◌≡◌, ℕ, Bool, List, [], ◌∷◌, Option, Some, None, Result, Ok, Err, true, false, map, codes}
 use Rattle.zk_mem.specs.declared.fault.Fault.{Fault}
 use Rattle.zk_mem.specs.declared.fault.Fault.TheVariants.{CodePastEnd, BadOpcode, MissingOperand}
-use Rattle.zk_code.specs.declared.branch.Target.{Target}
-use Rattle.zk_code.specs.declared.branch.Target.TheVariants.{ReturnFalse, ReturnTrue, At, Below, Past}
+use Rattle.zk_code.specs.declared.branch.BranchTarget.{BranchTarget}
+use Rattle.zk_code.specs.declared.branch.BranchTarget.TheVariants.{ReturnFalse, ReturnTrue, At, Below, Past}
 use Rattle.zk_code.specs.declared.instr.Instr.{Instr}
 use Rattle.zk_code.specs.declared.opcode.Opcode.{Opcode}
 use Rattle.zk_code.specs.declared.opcode.Opcode.TheVariants as opcode
@@ -27,7 +27,7 @@ use Rattle.zk_code.specs.declared.opcode.Table.TheVariants.{ScanTable, CopyTable
 use Rattle.zk_code.specs.declared.opcode.Saving.TheVariants.{SaveBranch, SaveStore, RestoreBranch, RestoreStore, Save, Restore, Restart, Verify, SaveUndo, RestoreUndo}
 use Rattle.zk_code.specs.declared.operands.Operand.{Operand}
 use Rattle.zk_code.specs.declared.operands.Operand.TheVariants.{Large, Small, Variable}
-use Rattle.zk_code.specs.declared.table.Entry.{Entry}
+use Rattle.zk_code.specs.declared.table.OpcodeRow.{OpcodeRow}
 use Rattle.zk_code.specs.declared.table.Follows.{Follows}
 use Rattle.zk_code.specs.declared.table.Follows.TheVariants.{Nothing, Stores, Branches, StoresBranches, Text}
 use Rattle.zk_code.specs.Reading.{instr_at}
@@ -44,7 +44,7 @@ plain code operands store next =
     Ok (record { opcode = code; operands = operands; store = store; branch = None; text = None; next = next })
 
 -- an instruction that branches and stores nothing
-abbrev pub branching : Opcode → List Operand → Bool → Target → ℕ → Result Instr Fault
+abbrev pub branching : Opcode → List Operand → Bool → BranchTarget → ℕ → Result Instr Fault
 branching code operands on target next =
     Ok (record { opcode = code; operands = operands; store = None; branch = Some (record { on = on; target = target }); text = None; next = next })
 
@@ -170,7 +170,7 @@ JumpsLead =
 -- ---- opcodes by version (section 14)
 
 -- a line of a table: the opcode, its least operands, and what follows
-abbrev pub listed : Opcode → ℕ → Follows → Option Entry
+abbrev pub listed : Opcode → ℕ → Follows → Option OpcodeRow
 listed code least follows = Some (record { opcode = code; least = least; follows = follows })
 
 -- two-operand opcodes, 2OP: all numbers in version 3, and those that differ in versions 4, 5 and 8 (section 14)

@@ -2,8 +2,8 @@
 use Rattle.std.specs.Prelude.{◌≡◌, ℕ, ◌==◌, Bool, true, false, List, [], ◌∷◌, length, Option, Some, None, option_map, option_and_then, if◌then◌else◌}
 use Rattle.zk_mem.specs.Header.{header_of, unpacked}
 use Rattle.zk_mem.specs.Map.{MemoryMap}
-use Rattle.zk_code.specs.declared.branch.Target.{Target}
-use Rattle.zk_code.specs.declared.branch.Target.TheVariants.{At}
+use Rattle.zk_code.specs.declared.branch.BranchTarget.{BranchTarget}
+use Rattle.zk_code.specs.declared.branch.BranchTarget.TheVariants.{At}
 use Rattle.zk_code.specs.declared.instr.Instr.{Instr}
 use Rattle.zk_code.specs.declared.opcode.Opcode.{Opcode}
 use Rattle.zk_code.specs.declared.opcode.Opcode.TheVariants.{Call, Routine, Control, Printing, Saving}
@@ -53,7 +53,7 @@ first_constant [] = None
 first_constant (o ∷ os) = constant_of o
 
 -- the address of a target inside the story
-abbrev pub address_in : Target → Option ℕ
+abbrev pub address_in : BranchTarget → Option ℕ
 address_in (At a) = Some a
 address_in _ = None
 
@@ -67,7 +67,7 @@ is_jump (Control Jump) = true
 is_jump _ = false
 
 -- where a `jump` by a constant leads (section 15, `jump`)
-unfoldable pub constant_jump : MemoryMap → Instr → Option Target
+unfoldable pub constant_jump : MemoryMap → Instr → Option BranchTarget
 constant_jump m i = if is_jump i.opcode then option_map (jump_target (length m.bytes) i.next) (first_constant i.operands) else None
 
 -- the same, where that is an address in the story

@@ -2,8 +2,8 @@
 -- worked out by hand.
 use Rattle.std.specs.Prelude.{◌≡◌, ℕ, List, [], ◌∷◌, Some, None, true, false, map, replicate}
 use Rattle.zk_mem.specs.Map.{MemoryMap}
-use Rattle.zk_code.specs.declared.branch.Target.{Target}
-use Rattle.zk_code.specs.declared.branch.Target.TheVariants.{ReturnFalse, ReturnTrue, At, Below, Past}
+use Rattle.zk_code.specs.declared.branch.BranchTarget.{BranchTarget}
+use Rattle.zk_code.specs.declared.branch.BranchTarget.TheVariants.{ReturnFalse, ReturnTrue, At, Below, Past}
 use Rattle.zk_code.specs.declared.instr.Instr.{Instr}
 use Rattle.zk_code.specs.declared.opcode.Opcode.{Opcode}
 use Rattle.zk_code.specs.declared.opcode.Opcode.TheVariants as opcode
@@ -57,7 +57,7 @@ abbrev pub before_53 : Opcode → List Operand → Instr
 before_53 code operands = record { opcode = code; operands = operands; store = None; branch = None; text = None; next = 53 }
 
 -- the same with a branch
-abbrev pub branching_to : Target → Instr
+abbrev pub branching_to : BranchTarget → Instr
 branching_to target = record (before_53 (opcode.Comparison Jz) (Small 1 ∷ [])) { branch = Some (record { on = true; target = target }) }
 
 -- a branch leads to its address in the story; one that returns leads to none, and neither does one out of the story

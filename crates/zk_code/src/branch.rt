@@ -5,7 +5,7 @@ ghost use Rattle.zk_code.specs.Targets.{landing, offset_target, branch_target, j
 
 /// Where a branch or a jump leads (Standard, sections 4.7.1 and 4.7.2).
 #[derive(Clone, Copy, PartialEq, Eq, Drop)]
-pub enum Target {
+pub enum BranchTarget {
     /// The routine returns false.
     ReturnFalse,
     /// The routine returns true.
@@ -23,27 +23,27 @@ pub enum Target {
 pub struct Branch {
     /// Whether it is taken where the condition holds, or else where it does not hold.
     pub on: bool,
-    pub target: Target,
+    pub target: BranchTarget,
 }
 
 /// The place `up` less `down` of a story.
-fn place(length: u32, up: u32, down: u32) -> Target
+fn place(length: u32, up: u32, down: u32) -> BranchTarget
     ensures { result ≡ landing length up down }
 {
     if up < down {
-        return Target::Below(down - up);
+        return BranchTarget::Below(down - up);
     }
     let address = up - down;
     if address < length {
-        Target::At(address)
+        BranchTarget::At(address)
     } else {
-        Target::Past(address)
+        BranchTarget::Past(address)
     }
 }
 
 /// Where an offset leads that has so many values in two's complement.
 #[tactic(auto, unfolding(crate::specs::Targets::offset_target))]
-fn by_offset(length: u32, values: u32, from: u32, offset: u16) -> Target
+fn by_offset(length: u32, values: u32, from: u32, offset: u16) -> BranchTarget
     requires from { from ≤ 2 ^ 20 }
     requires values { values ≤ 2 ^ 16 }
     ensures { result ≡ offset_target length values from offset }
@@ -58,13 +58,13 @@ fn by_offset(length: u32, values: u32, from: u32, offset: u16) -> Target
 
 /// Where a branch leads, by its offset of 14 bits, from the address after it.
 #[tactic(auto, unfolding(crate::specs::Targets::branch_target))]
-pub(crate) fn target_of_branch(length: u32, after: u32, offset: u16) -> Target
+pub(crate) fn target_of_branch(length: u32, after: u32, offset: u16) -> BranchTarget
     requires { after ≤ 2 ^ 20 }
     ensures { result ≡ branch_target length after offset }
 {
     match offset {
-        0 => Target::ReturnFalse,
-        1 => Target::ReturnTrue,
+        0 => BranchTarget::ReturnFalse,
+        1 => BranchTarget::ReturnTrue,
         _ => by_offset(length, 0x4000, after, offset),
     }
 }
@@ -72,7 +72,7 @@ pub(crate) fn target_of_branch(length: u32, after: u32, offset: u16) -> Target
 /// Where `jump` leads by the value of its operand, in a story of `length` bytes, from the address
 /// `next` after the instruction (Standard, section 15). It never returns.
 #[tactic(auto, unfolding(crate::specs::Targets::jump_target))]
-pub fn jump_target(length: u32, next: u32, offset: u16) -> Target
+pub fn jump_target(length: u32, next: u32, offset: u16) -> BranchTarget
     requires { next ≤ 2 ^ 20 }
     ensures { result ≡ jump_target length next offset }
 {

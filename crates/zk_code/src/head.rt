@@ -6,7 +6,7 @@ ghost use Rattle.zk_code.specs.Reading.{type_by_bits, type_by_bit, types_at, wit
 use crate::bytes::read_byte;
 use crate::operands::OperandType;
 use crate::table::{
-    Entry, extended_of, one_operand_of, two_operand_of, two_type_bytes, variable_operand_of,
+    OpcodeRow, extended_of, one_operand_of, two_operand_of, two_type_bytes, variable_operand_of,
     zero_operand_of,
 };
 use zk_mem::fault::Fault;
@@ -15,7 +15,7 @@ use zk_mem::memory::Memory;
 /// The opcode of an instruction, the types of its operands, and the address of the first of them.
 #[derive(Drop)]
 pub(crate) struct Head {
-    pub entry: Entry,
+    pub entry: OpcodeRow,
     /// Filled up with `Omitted`.
     pub types: [OperandType; 8],
     pub next: u32,
@@ -75,7 +75,7 @@ fn read_types(memory: &Memory, two: bool, address: u32) -> Result<([OperandType;
 /// The head whose opcode byte has the types.
 #[tactic(auto, unfolding(crate::specs::Reading::with_types))]
 fn head_of(
-    entry: Option<Entry>,
+    entry: Option<OpcodeRow>,
     first: OperandType,
     second: OperandType,
     address: u32,
@@ -97,7 +97,7 @@ fn head_of(
 #[tactic(auto, unfolding(crate::specs::Reading::with_type_bytes))]
 fn read_head_of(
     memory: &Memory,
-    entry: Option<Entry>,
+    entry: Option<OpcodeRow>,
     two: bool,
     address: u32,
 ) -> Result<Head, Fault>

@@ -40,17 +40,17 @@ impl Follows {
 
 /// What the opcode tables say of an opcode.
 #[derive(Clone, Copy, PartialEq, Eq, Drop)]
-pub struct Entry {
+pub struct OpcodeRow {
     pub opcode: Opcode,
     /// The least number of operands.
     pub least: u8,
     pub follows: Follows,
 }
 
-fn listed(opcode: Opcode, least: u8, follows: Follows) -> Option<Entry>
+fn listed(opcode: Opcode, least: u8, follows: Follows) -> Option<OpcodeRow>
     ensures { result ≡ Some (record { opcode = opcode; least = least; follows = follows }) }
 {
-    Some(Entry {
+    Some(OpcodeRow {
         opcode,
         least,
         follows,
@@ -59,7 +59,7 @@ fn listed(opcode: Opcode, least: u8, follows: Follows) -> Option<Entry>
 
 /// The two-operand opcode (2OP) of a number.
 #[tactic(auto, unfolding(crate::specs::Table::two_operand))]
-pub(crate) fn two_operand_of(number: u8, version: u8) -> Option<Entry>
+pub(crate) fn two_operand_of(number: u8, version: u8) -> Option<OpcodeRow>
     ensures { result ≡ two_operand version number }
 {
     match number {
@@ -129,7 +129,7 @@ pub(crate) fn two_operand_of(number: u8, version: u8) -> Option<Entry>
 
 /// The one-operand opcode (1OP) of a number.
 #[tactic(auto, unfolding(crate::specs::Table::one_operand))]
-pub(crate) fn one_operand_of(number: u8, version: u8) -> Option<Entry>
+pub(crate) fn one_operand_of(number: u8, version: u8) -> Option<OpcodeRow>
     ensures { result ≡ one_operand version number }
 {
     match number {
@@ -176,7 +176,7 @@ pub(crate) fn one_operand_of(number: u8, version: u8) -> Option<Entry>
 
 /// The zero-operand opcode (0OP) of a number.
 #[tactic(auto, unfolding(crate::specs::Table::zero_operand))]
-pub(crate) fn zero_operand_of(number: u8, version: u8) -> Option<Entry>
+pub(crate) fn zero_operand_of(number: u8, version: u8) -> Option<OpcodeRow>
     ensures { result ≡ zero_operand version number }
 {
     match number {
@@ -204,7 +204,7 @@ pub(crate) fn zero_operand_of(number: u8, version: u8) -> Option<Entry>
 
 /// The variable-operand opcode (VAR) of a number.
 #[tactic(auto, unfolding(crate::specs::Table::variable_operand))]
-pub(crate) fn variable_operand_of(number: u8, version: u8) -> Option<Entry>
+pub(crate) fn variable_operand_of(number: u8, version: u8) -> Option<OpcodeRow>
     ensures { result ≡ variable_operand version number }
 {
     match number {
@@ -255,7 +255,7 @@ pub(crate) fn variable_operand_of(number: u8, version: u8) -> Option<Entry>
 
 /// The extended opcode (EXT) of a number.
 #[tactic(auto, unfolding(crate::specs::Table::extended))]
-pub(crate) fn extended_of(number: u8, version: u8) -> Option<Entry>
+pub(crate) fn extended_of(number: u8, version: u8) -> Option<OpcodeRow>
     ensures { result ≡ extended version number }
 {
     match number {

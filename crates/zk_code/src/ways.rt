@@ -3,7 +3,7 @@
 ghost use Rattle.std.specs.Prelude.{◌≡◌, ◌≤◌, ◌<◌, ◌*◌, ◌^◌, IfSome};
 ghost use Rattle.zk_code.specs.Reach.{address_in, branch_address, called_at, constant_call, constant_jump, first_constant, goes_on, is_call, is_jump, jump_address, printing_goes_on, routine_goes_on, saving_goes_on};
 
-use crate::branch::{Target, jump_target};
+use crate::branch::{BranchTarget, jump_target};
 use crate::instr::Instr;
 use crate::opcode::{Control, Opcode, Printing, Routine, Saving};
 use zk_mem::header::unpack;
@@ -55,13 +55,13 @@ pub fn goes_on(opcode: Opcode) -> bool
     }
 }
 
-impl Target {
+impl BranchTarget {
     /// The byte address of a target inside the story.
     pub fn address(self) -> Option<u32>
         ensures { result ≡ address_in self }
     {
         match self {
-            Target::At(address) => Some(address),
+            BranchTarget::At(address) => Some(address),
             _ => None,
         }
     }
@@ -91,7 +91,7 @@ impl Instr {
 
     /// Where a `jump` by a constant leads (Standard, section 15).
     #[tactic(auto, unfolding(crate::specs::Reach::constant_jump))]
-    pub fn constant_jump(&self, memory: &Memory) -> Option<Target>
+    pub fn constant_jump(&self, memory: &Memory) -> Option<BranchTarget>
         requires { self.now.next ≤ 2 ^ 20 }
         ensures { result ≡ constant_jump memory.now self.now }
     {

@@ -1,4 +1,4 @@
--- What clap finds in the words of the command line.
+-- What clap finds in the arguments of the command line.
 use Rattle.std.proofs.Common.{◌≡◌, ◌∙◌, ◌<◌, ◌≤◌, ℕ, zero, suc, List, [], ◌∷◌, length, take, get_or, Option, Some, None, IfNone, IfSome, codes, refl, sym, ap, ap₂, arith, subst, Bool, true, false}
 use Rattle.std.specs.Prelude.{SomeIff, IsSomeAnd, map, option_map, unwrap_or}
 use Rattle.std.specs.Str.{bytes_eq}
@@ -35,10 +35,10 @@ pub rules_from : (a b : App) (os : List CommandOption) → a ≡ b → with_rule
 rules_from a b os e = ap (λ (c : App). with_rules c (map option_rule os)) e
 
 -- a number that was read of an option's text
-pub number_said : (rows : List Row) (option : Text) (least most : ℕ) (word : Text) (o : Option ℕ) → first_of option rows ≡ Some word
-    → SomeIff o (IsNumberIn least most word) (number_in word) → IfSome o (λ n. SaysNumber rows option least most n)
-number_said rows option least most word None e h = tt
-number_said rows option least most word (Some n) e h =
+pub number_said : (rows : List Row) (option : Text) (least most : ℕ) (argument : Text) (o : Option ℕ) → first_of option rows ≡ Some argument
+    → SomeIff o (IsNumberIn least most argument) (number_in argument) → IfSome o (λ n. SaysNumber rows option least most n)
+number_said rows option least most argument None e h = tt
+number_said rows option least most argument (Some n) e h =
     subst (λ (o : Option Text). IsSomeAnd o (λ w. IsNumberIn least most w × (number_in w ≡ n))) (sym e) (h.0, sym h.1)
 
 pub firsts : {X Y Z : Type 0} (f : X → Y × Z) (o : Option X) → option_map (λ p. p.0) (option_map f o) ≡ option_map (λ x. (f x).0) o
@@ -51,21 +51,21 @@ paired None name rows e f = cc
 paired (Some p) name rows e f = ap₂ (λ (a : Text) (b : List Row). Some (a, b)) (ap (λ (o : Option Text). unwrap_or o p.0) e) (ap (λ (o : Option (List Row)). unwrap_or o p.1) f)
 
 -- the command and its rows, where clap met one
-pub met : (m : ArgMatches) (a : App) (words : List Text) (name : Text) (rows : List Row) → a ≡ command_line → HasMatchesOf a words m → subcommand_name_of m ≡ Some name
-    → option_map (λ p. p.1) (subcommand_rows_of m) ≡ Some rows → subcommand_of command_line words ≡ Some (name, rows)
-met m a words name rows line_is has named rows_are =
-    ap (λ (b : App). subcommand_of b words) (sym line_is) ∙ sym (has (ap is_simple line_is ∙ command_line_is_simple)).1 ∙ paired (subcommand_rows_of m) name rows (firsts _ _ ∙ named) rows_are
+pub met : (m : ArgMatches) (a : App) (arguments : List Text) (name : Text) (rows : List Row) → a ≡ command_line → HasMatchesOf a arguments m → subcommand_name_of m ≡ Some name
+    → option_map (λ p. p.1) (subcommand_rows_of m) ≡ Some rows → subcommand_of command_line arguments ≡ Some (name, rows)
+met m a arguments name rows line_is has named rows_are =
+    ap (λ (b : App). subcommand_of b arguments) (sym line_is) ∙ sym (has (ap is_simple line_is ∙ command_line_is_simple)).1 ∙ paired (subcommand_rows_of m) name rows (firsts _ _ ∙ named) rows_are
 
--- where clap has met no command, the words ask for nothing
-pub without_command : (m : ArgMatches) (a : App) (words : List Text) → a ≡ command_line → HasMatchesOf a words m → subcommand_name_of m ≡ None → (c : Choice) → Asks words c → ⊥
-without_command m a words line_is has none c h =
-    let met_one : subcommand_rows_of m ≡ Some (h.name, h.rows) = (has (ap is_simple line_is ∙ command_line_is_simple)).1 ∙ ap (λ (b : App). subcommand_of b words) line_is ∙ h.command in
+-- where clap has met no command, the arguments ask for nothing
+pub without_command : (m : ArgMatches) (a : App) (arguments : List Text) → a ≡ command_line → HasMatchesOf a arguments m → subcommand_name_of m ≡ None → (c : Choice) → Asks arguments c → ⊥
+without_command m a arguments line_is has none c h =
+    let met_one : subcommand_rows_of m ≡ Some (h.name, h.rows) = (has (ap is_simple line_is ∙ command_line_is_simple)).1 ∙ ap (λ (b : App). subcommand_of b arguments) line_is ∙ h.command in
     let some : None ≡ Some h.name = sym none ∙ sym (firsts _ _) ∙ ap (option_map (λ (p : Text × List Row). p.0)) met_one in
     absurd cc
 
--- where what clap has met says nothing, the words ask for nothing
-pub unasked : (words : List Text) (name : Text) (rows : List Row) → subcommand_of command_line words ≡ Some (name, rows) → ((c : Choice) → Says name rows c → ⊥) → (c : Choice) → Asks words c → ⊥
-unasked words name rows e none c h =
+-- where what clap has met says nothing, the arguments ask for nothing
+pub unasked : (arguments : List Text) (name : Text) (rows : List Row) → subcommand_of command_line arguments ≡ Some (name, rows) → ((c : Choice) → Says name rows c → ⊥) → (c : Choice) → Asks arguments c → ⊥
+unasked arguments name rows e none c h =
     let both : Some (h.name, h.rows) ≡ Some (name, rows) = sym h.command ∙ e in
     let names : h.name ≡ name = ap (λ (o : Option (Text × List Row)). unwrap_or (option_map (λ p. p.0) o) name) both in
     let same : h.rows ≡ rows = ap (λ (o : Option (Text × List Row)). unwrap_or (option_map (λ p. p.1) o) rows) both in
@@ -76,21 +76,21 @@ pub none_said : (rows : List Row) (option : Text) (least most : ℕ) → first_o
 none_said rows option least most e n h = subst (λ (o : Option Text). IsSomeAnd o (λ w. IsNumberIn least most w × (number_in w ≡ n))) e h
 
 -- neither does one whose text is no number in the range
-pub number_not_said : (rows : List Row) (option : Text) (least most : ℕ) (word : Text) (o : Option ℕ) → first_of option rows ≡ Some word
-    → SomeIff o (IsNumberIn least most word) (number_in word) → IfNone o ((n : ℕ) → SaysNumber rows option least most n → ⊥)
-number_not_said rows option least most word None e h =
+pub number_not_said : (rows : List Row) (option : Text) (least most : ℕ) (argument : Text) (o : Option ℕ) → first_of option rows ≡ Some argument
+    → SomeIff o (IsNumberIn least most argument) (number_in argument) → IfNone o ((n : ℕ) → SaysNumber rows option least most n → ⊥)
+number_not_said rows option least most argument None e h =
     λ n said. h (subst (λ (o : Option Text). IsSomeAnd o (λ w. IsNumberIn least most w × (number_in w ≡ n))) e said).0
-number_not_said rows option least most word (Some n) e h = tt
+number_not_said rows option least most argument (Some n) e h = tt
 
 -- an option whose text is no number in the range says neither a number nor none
-pub none_may_be_said : (rows : List Row) (option : Text) (least most : ℕ) (word : Text) → first_of option rows ≡ Some word
-    → (IsNumberIn least most word → ⊥) → (w : Option ℕ) → MaySayNumber rows option least most w → ⊥
-none_may_be_said rows option least most word e none None h = let both : None ≡ Some word = sym h ∙ e in absurd cc
-none_may_be_said rows option least most word e none (Some n) h = number_not_said rows option least most word None e none n h
+pub none_may_be_said : (rows : List Row) (option : Text) (least most : ℕ) (argument : Text) → first_of option rows ≡ Some argument
+    → (IsNumberIn least most argument → ⊥) → (w : Option ℕ) → MaySayNumber rows option least most w → ⊥
+none_may_be_said rows option least most argument e none None h = let both : None ≡ Some argument = sym h ∙ e in absurd cc
+none_may_be_said rows option least most argument e none (Some n) h = number_not_said rows option least most argument None e none n h
 
 -- a flag by its text
-pub flag_by : (rows : List Row) (name word : Text) (b : Bool) → first_of name rows ≡ Some word → b ≡ bytes_eq word (codes "true") → b ≡ flag_said (first_of name rows)
-flag_by rows name word b e is = is ∙ sym (ap flag_said e)
+pub flag_by : (rows : List Row) (name argument : Text) (b : Bool) → first_of name rows ≡ Some argument → b ≡ bytes_eq argument (codes "true") → b ≡ flag_said (first_of name rows)
+flag_by rows name argument b e is = is ∙ sym (ap flag_said e)
 
 pub no_flag : (rows : List Row) (name : Text) → first_of name rows ≡ None → false ≡ flag_said (first_of name rows)
 no_flag rows name e = sym (ap flag_said e)

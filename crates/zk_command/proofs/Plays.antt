@@ -7,7 +7,7 @@ use Rattle.zk_term.specs.Devices.{Shows}
 use Rattle.zk_term.proofs.Shown.{shows_twice}
 use Rattle.zk_vm.specs.declared.stop.Stop.{Stop}
 use Rattle.zk_vm.specs.declared.stop.Stop.TheVariants.{Write}
-use Rattle.zk_term.specs.declared.lines.Over.TheVariants.{End}
+use Rattle.zk_term.specs.declared.lines.InputEnd.TheVariants.{End}
 use Rattle.zk_term.specs.Lines.{heard}
 use Rattle.zk_vm.specs.Halts.{event_waited}
 use Rattle.zk_step.specs.Routing.{Texts, no_text}

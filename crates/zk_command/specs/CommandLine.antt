@@ -1,4 +1,4 @@
--- What the words of the command line ask for, by clap's function of the words for a simple command.
+-- What the arguments of the command line ask for, by clap's function of the arguments for a simple command.
 use Rattle.std.specs.Prelude.{◌≡◌, ◌⊎◌, ◌≤◌, ◌||◌, ℕ, Bool, true, false, not, List, [], ◌∷◌, Option, Some, None, codes, length, map, option_map, unwrap_or, if◌then◌else◌, IsSomeAnd}
 use Rattle.std.specs.Str.Parse.{IsNumeral, digits_value, without_leading_plus}
 use Rattle.clap.specs.Words.{App, HasKind, Row, Rule, Text, all_of, fault_of, first_of, kind_of, new_app, new_rule, subcommand_of, with_rule, with_subcommand}
@@ -27,12 +27,12 @@ abbrev pub number_option : Text → Text → Rule
 number_option name default = record (new_rule name) { long = Some name; value_names = 1; defaults = default ∷ [] }
 
 -- the path of a story, which has to be given
-abbrev pub story_word : Rule
-story_word = record (new_rule (codes "STORY")) { required = true }
+abbrev pub story_argument : Rule
+story_argument = record (new_rule (codes "STORY")) { required = true }
 
 -- the paths of stories, one or more
-abbrev pub story_words : Rule
-story_words = record story_word { action = Some Append }
+abbrev pub story_arguments : Rule
+story_arguments = record story_argument { action = Some Append }
 
 -- the option `--name VALUE`, which may be left out
 abbrev pub value_option : Text → Rule
@@ -69,7 +69,7 @@ play_command = with_rules (new_app (codes "play")) (
     ∷ flag (codes "upper")
     ∷ value_option (codes "width")
     ∷ flag (codes "echo")
-    ∷ story_word
+    ∷ story_argument
     ∷ [])
 
 -- `info [--header] [--map] [--abbreviations] [--dictionary] [--objects] [--tree] [--ifid] STORY..`
@@ -82,16 +82,16 @@ info_command = with_rules (new_app (codes "info")) (
     ∷ flag (codes "objects")
     ∷ flag (codes "tree")
     ∷ flag (codes "ifid")
-    ∷ story_words
+    ∷ story_arguments
     ∷ [])
 
 -- `disasm STORY`
 abbrev pub disasm_command : App
-disasm_command = with_rule (new_app (codes "disasm")) story_word
+disasm_command = with_rule (new_app (codes "disasm")) story_argument
 
 -- `check STORY..`
 abbrev pub check_command : App
-check_command = with_rule (new_app (codes "check")) story_words
+check_command = with_rule (new_app (codes "check")) story_arguments
 
 -- zkit's command line: these commands; help and the version are clap's
 abbrev pub command_line : App
@@ -99,19 +99,19 @@ command_line =
     with_subcommand (with_subcommand (with_subcommand (with_subcommand (on_top (λ s. record s { has_version = true; subcommand_required = true }) (new_app (codes "zkit")))
     play_command.top) info_command.top) disasm_command.top) check_command.top
 
--- the number that a word's digits say, with or without a plus before them
+-- the number that an argument's digits say, with or without a plus before them
 abbrev pub number_in : Text → ℕ
-number_in word = digits_value 10 (without_leading_plus word)
+number_in argument = digits_value 10 (without_leading_plus argument)
 
--- a word is a number in a range: digits, with or without a plus before them
-pub record IsNumberIn (least most : ℕ) (word : Text) : Type 0 where
-  pub digits : IsNumeral 10 (without_leading_plus word)
-  pub from_least : least ≤ number_in word
-  pub to_most : number_in word ≤ most
+-- an argument is a number in a range: digits, with or without a plus before them
+pub record IsNumberIn (least most : ℕ) (argument : Text) : Type 0 where
+  pub digits : IsNumeral 10 (without_leading_plus argument)
+  pub from_least : least ≤ number_in argument
+  pub to_most : number_in argument ≤ most
 
 -- the text that clap found for an option is a number in a range
 abbrev pub SaysNumber : List Row → Text → ℕ → ℕ → ℕ → Type 0
-SaysNumber rows option least most n = IsSomeAnd (first_of option rows) (λ word. IsNumberIn least most word × (number_in word ≡ n))
+SaysNumber rows option least most n = IsSomeAnd (first_of option rows) (λ argument. IsNumberIn least most argument × (number_in argument ≡ n))
 
 -- the same of an option that may be left out
 abbrev pub MaySayNumber : List Row → Text → ℕ → ℕ → Option ℕ → Type 0
@@ -128,7 +128,7 @@ pub record SaysLimits (rows : List Row) (l : Limits) : Type 0 where
 -- a flag is given, by the text that clap has for it: `true` where it is
 abbrev pub flag_said : Option Text → Bool
 flag_said None = false
-flag_said (Some word) = bytes_eq word (codes "true")
+flag_said (Some argument) = bytes_eq argument (codes "true")
 
 -- what is shown, by `--upper`
 abbrev pub view_said : List Row → View
@@ -178,25 +178,25 @@ Says name rows (Play story save script m) =
     × (option_map (λ s. s.now) script ≡ first_of (codes "script") rows) × SaysSettings rows m
 Says name rows (Show stories listing) = SaysStories rows (map (λ s. s.now) stories.items) × SaysListing name rows listing
 
--- the words ask for a choice: clap finds a command in them that says it
-pub record Asks (words : List Text) (c : Choice) : Type 0 where
+-- the arguments ask for a choice: clap finds a command in them that says it
+pub record Asks (arguments : List Text) (c : Choice) : Type 0 where
   pub name : Text
   pub rows : List Row
-  pub command : subcommand_of command_line words ≡ Some (name, rows)
+  pub command : subcommand_of command_line arguments ≡ Some (name, rows)
   pub says : Says name rows c
 
--- the status after words that are not understood, or that ask for help
+-- the status after arguments that are not understood, or that ask for help
 abbrev pub usage_status : ErrorKind → ℕ
 usage_status kind.DisplayHelp = 0
 usage_status kind.DisplayVersion = 0
 usage_status kind.OutOfMemory = 5
 usage_status _ = 1
 
--- the words are refused: there is no memory, or clap's function of the words has a fault, or they ask for nothing and the
+-- the arguments are refused: there is no memory, or clap's function of the arguments has a fault, or they ask for nothing and the
 -- error is no help
 abbrev pub IsRefusedWith : List Text → Error → Type 0
-IsRefusedWith words e =
-    HasKind (fault_of command_line words) e ⊎ ((1 ≤ usage_status (kind_of e)) × ((c : Choice) → Asks words c → ⊥))
+IsRefusedWith arguments e =
+    HasKind (fault_of command_line arguments) e ⊎ ((1 ≤ usage_status (kind_of e)) × ((c : Choice) → Asks arguments c → ⊥))
 
 -- the limits of a choice lie in their ranges
 abbrev pub HasLimits : Choice → Type 0

@@ -1,6 +1,6 @@
 // What is known of a run, for the lines in words.
 
-use crate::astray::Astray;
+use crate::bad_destination::BadDestination;
 use crate::watched::Notes;
 use std::cell::Cell;
 
@@ -80,7 +80,7 @@ pub struct About<'a> {
     /// The path of one of several stories that are listed, as it is shown.
     pub heading: Option<&'a str>,
     pub looks: Cell<Looks>,
-    pub astray: Cell<Option<Astray>>,
+    pub bad_destination: Cell<Option<BadDestination>>,
     pub input: Notes,
     pub screen: Notes,
     pub script: Notes,
@@ -94,7 +94,7 @@ impl<'a> About<'a> {
             script_path,
             heading: None,
             looks: Cell::new(Looks::Unknown),
-            astray: Cell::new(None),
+            bad_destination: Cell::new(None),
             input: Notes::new(),
             screen: Notes::new(),
             script: Notes::new(),

@@ -1,4 +1,4 @@
-// What the words of the command line ask for.
+// What the arguments of the command line ask for.
 
 ghost use Rattle.std.specs.Prelude.{◌≡◌, ◌≤◌, ℕ, List, codes, IfErr, IfNone, IfOk, IfSome, OnErr, SomeIff, Option, false, [], map, unwrap_or};
 ghost use Rattle.std.specs.Str.{bytes_eq};
@@ -9,7 +9,7 @@ ghost use Rattle.zk_vm.specs.declared.limits.Limits.{Limits};
 ghost use Rattle.zk_command.specs.declared.choice.Choice.{Choice};
 ghost use Rattle.zk_command.specs.declared.listing.Listing.{Listing};
 ghost use Rattle.zk_command.specs.declared.settings.Settings.{Settings};
-ghost use Rattle.zk_command.specs.CommandLine.{Asks, HasLimits, IsNumberIn, IsRefusedWith, MaySayNumber, Says, SaysLimits, SaysListing, SaysSettings, SaysNumber, SaysStory, check_command, command_line, disasm_command, flag_said, info_command, number_in, option_rule, play_command, sections_said, story_word, story_words, usage_status, view_said, with_rules};
+ghost use Rattle.zk_command.specs.CommandLine.{Asks, HasLimits, IsNumberIn, IsRefusedWith, MaySayNumber, Says, SaysLimits, SaysListing, SaysSettings, SaysNumber, SaysStory, check_command, command_line, disasm_command, flag_said, info_command, number_in, option_rule, play_command, sections_said, story_argument, story_arguments, usage_status, view_said, with_rules};
 
 use crate::listing::{Listing, Sections};
 use crate::settings::Settings;
@@ -220,8 +220,8 @@ fn option_of<'a>(alloc: Global, option: CommandOption) -> Arg<'a>
 }
 
 /// The path of the story.
-fn story_word_of<'a>(alloc: Global) -> Arg<'a>
-    ensures rule { rule_of result ≡ story_word }
+fn story_argument_of<'a>(alloc: Global) -> Arg<'a>
+    ensures rule { rule_of result ≡ story_argument }
     ensures local { result.global ≡ false }
 {
     Arg::new(alloc, "STORY")
@@ -242,11 +242,11 @@ fn with_arg<'a>(command: Command<'a>, arg: Arg<'a>) -> Result<Command<'a>, Alloc
 }
 
 /// The paths of stories.
-fn story_words_of<'a>(alloc: Global) -> Arg<'a>
-    ensures rule { rule_of result ≡ story_words }
+fn story_arguments_of<'a>(alloc: Global) -> Arg<'a>
+    ensures rule { rule_of result ≡ story_arguments }
     ensures local { result.global ≡ false }
 {
-    story_word_of(alloc).action(ArgAction::Append)
+    story_argument_of(alloc).action(ArgAction::Append)
 }
 
 /// A command with options as well.
@@ -283,7 +283,7 @@ fn play_command_of<'a>(alloc: Global) -> Result<Command<'a>, AllocError>
     let example = "Example: zkit play --steps 50000000 story.z5";
     let command = described(alloc, "play", "Plays a story", example);
     let command = with_options(alloc, command, &PLAY_OPTIONS)?;
-    with_arg(command, story_word_of(alloc))
+    with_arg(command, story_argument_of(alloc))
 }
 
 /// The command `info`.
@@ -295,7 +295,7 @@ fn info_command_of<'a>(alloc: Global) -> Result<Command<'a>, AllocError>
     let example = "Example: zkit info --dictionary story.z5";
     let command = described(alloc, "info", about, example);
     let command = with_options(alloc, command, &INFO_OPTIONS)?;
-    with_arg(command, story_words_of(alloc))
+    with_arg(command, story_arguments_of(alloc))
 }
 
 /// The command `disasm`.
@@ -305,7 +305,7 @@ fn disasm_command_of<'a>(alloc: Global) -> Result<Command<'a>, AllocError>
 {
     let about = "Lists the instructions that a run of a story can reach";
     let command = described(alloc, "disasm", about, "Example: zkit disasm story.z5");
-    with_arg(command, story_word_of(alloc))
+    with_arg(command, story_argument_of(alloc))
 }
 
 /// The command `check`.
@@ -315,7 +315,7 @@ fn check_command_of<'a>(alloc: Global) -> Result<Command<'a>, AllocError>
 {
     let about = "Lists what is wrong with stories, and ends with status 6 where something is";
     let command = described(alloc, "check", about, CHECK_HELP);
-    with_arg(command, story_words_of(alloc))
+    with_arg(command, story_arguments_of(alloc))
 }
 
 /// zkit's command line.
@@ -337,11 +337,11 @@ fn command_line_of<'a>(alloc: Global) -> Result<Command<'a>, AllocError>
     command.subcommand(check)
 }
 
-/// The number that a word says, if it lies in a range.
-fn number_from(word: &str, range: Range) -> Option<u64>
-    ensures { SomeIff result (IsNumberIn range.least range.most word.now) (number_in word.now) }
+/// The number that an argument says, if it lies in a range.
+fn number_from(argument: &str, range: Range) -> Option<u64>
+    ensures { SomeIff result (IsNumberIn range.least range.most argument.now) (number_in argument.now) }
 {
-    match word.parse::<u64>() {
+    match argument.parse::<u64>() {
         Ok(n) if n >= range.least && n <= range.most => Some(n),
         _ => None,
     }
@@ -356,10 +356,10 @@ fn number_of(matches: &ArgMatches<'_>, range: Range) -> Option<u64>
     ensures none { IfNone result ((n : ℕ)
         → SaysNumber (rows_of (found_of matches.now)) range.option.now range.least range.most n → ⊥) }
 {
-    let Some(word) = matches.get_str(range.option) else {
+    let Some(argument) = matches.get_str(range.option) else {
         return None;
     };
-    number_from(word, range)
+    number_from(argument, range)
 }
 
 /// An error of the command line.
@@ -464,7 +464,7 @@ fn has_flag(matches: &ArgMatches<'_>, name: &str) -> bool
     ensures { result ≡ flag_said (first_of name.now (rows_of (found_of matches.now))) }
 {
     match matches.get_str(name) {
-        Some(word) => word == "true",
+        Some(argument) => argument == "true",
         None => false,
     }
 }
@@ -488,10 +488,10 @@ fn width_of(alloc: Global, play: &ArgMatches<'_>) -> Result<Option<u8>, Error>
     ensures says_none { OnErr result ((w : Option ℕ)
         → MaySayNumber (rows_of (found_of play.now)) (codes "width") 20 255 w → ⊥) }
 {
-    let Some(word) = play.get_str(WIDTH.option) else {
+    let Some(argument) = play.get_str(WIDTH.option) else {
         return Ok(None);
     };
-    match number_from(word, WIDTH) {
+    match number_from(argument, WIDTH) {
         Some(width) => Ok(Some(width as u8)),
         None => Err(out_of_range(alloc, WIDTH)),
     }
@@ -675,14 +675,14 @@ fn stories_of<'a>(alloc: Global, found: &ArgMatches<'a>) -> Result<Vec<&'a str>,
     Ok(list)
 }
 
-/// What the words ask for, the first of which is the program's name.
-pub fn choose<'a>(alloc: Global, words: &'a [&'a str]) -> Result<Choice<'a>, Error>
-    ensures asks { IfOk result (λ c. Asks (map (λ s. s.now) words.entry.now) c) }
+/// What the arguments ask for, the first of which is the program's name.
+pub fn choose<'a>(alloc: Global, arguments: &'a [&'a str]) -> Result<Choice<'a>, Error>
+    ensures asks { IfOk result (λ c. Asks (map (λ s. s.now) arguments.entry.now) c) }
     ensures in_range { IfOk result (λ c. HasLimits c) }
-    ensures refused { IfErr result (λ e. IsRefusedWith (map (λ s. s.now) words.entry.now) e) }
+    ensures refused { IfErr result (λ e. IsRefusedWith (map (λ s. s.now) arguments.entry.now) e) }
 {
     let mut command = command_line_of(alloc)?;
-    let matches = command.try_get_matches_from_mut(words)?;
+    let matches = command.try_get_matches_from_mut(arguments)?;
     let Some((name, found)) = matches.subcommand() else {
         let text = "a command is missing";
         return Err(usage_error(&mut command, ErrorKind::MissingSubcommand, text));

@@ -15,30 +15,30 @@ const MOST_BYTES: u64 = 2_097_152;
 
 /// Where a saved game goes: the file behind the links of its path, and what the system tells of the one that is there.
 #[derive(Drop)]
-struct Place {
+struct SaveTarget {
     path: String,
     old: Option<Metadata>,
 }
 
 /// Where a game goes for which there is no file yet. What a link names is made, so that the system can tell its path.
-fn new_place(rt: &HostRuntime, path: &str) -> io::Result<Place> {
+fn new_place(rt: &HostRuntime, path: &str) -> io::Result<SaveTarget> {
     if fs::read_link(rt, path).is_err() {
         let path = String::from_str(rt.alloc(), path)?;
-        return Ok(Place { path, old: None });
+        return Ok(SaveTarget { path, old: None });
     }
     OpenOptions::new().write(true).create(true).open(rt, path)?;
     let path = fs::canonicalize(rt, path)?.into_string();
-    Ok(Place { path, old: None })
+    Ok(SaveTarget { path, old: None })
 }
 
 /// Where a saved game goes. Who may not write to the file that is there can't replace it either.
-fn save_place(rt: &HostRuntime, path: &str) -> Result<Place, NoGame> {
+fn save_place(rt: &HostRuntime, path: &str) -> Result<SaveTarget, NoGame> {
     let Some(old) = standing(fs::metadata(rt, path))? else {
         return Ok(new_place(rt, path)?);
     };
     OpenOptions::new().write(true).open(rt, path)?;
     let path = fs::canonicalize(rt, path)?.into_string();
-    Ok(Place {
+    Ok(SaveTarget {
         path,
         old: Some(old),
     })
@@ -92,7 +92,7 @@ fn take_place(rt: &HostRuntime, beside: &str, file: &File, path: &str) -> Result
 }
 
 /// Writes a file beside a path, and then gives it that path. Where that fails nothing is left beside it.
-fn replace(rt: &HostRuntime, place: &Place, bytes: &[u8]) -> Result<bool, NoGame> {
+fn replace(rt: &HostRuntime, place: &SaveTarget, bytes: &[u8]) -> Result<bool, NoGame> {
     // it is the owner's alone until it has the old file's rights
     let mode = if place.old.is_some() { 0o600 } else { 0o666 };
     let (beside, mut file) = make_beside(rt, place.path.as_str(), mode)?;

@@ -1,8 +1,9 @@
-// What the words of a command line ask for: stories that are played, listed and checked, and what is told of their endings.
+// What the arguments of a command line ask for: stories that are played, listed and checked, and what is told of their endings.
 #![tactic(auto)]
 
 pub mod about;
-mod astray;
+pub mod arguments;
+mod bad_destination;
 mod beside;
 pub mod choice;
 pub mod exit;
@@ -21,4 +22,3 @@ pub mod settings;
 pub mod shown;
 pub mod verdict;
 pub mod watched;
-pub mod words;

@@ -7,7 +7,7 @@ ghost use Rattle.zk_vm.specs.Plays.{slot_tells, source_tells};
 ghost use Rattle.zk_command.specs.Playing.{EndsPlay, IsReported, Work, play_on};
 
 use crate::about::About;
-use crate::astray::Astray;
+use crate::bad_destination::BadDestination;
 use crate::exit::Exit;
 use crate::opening::open_story;
 use crate::report::report;
@@ -37,7 +37,9 @@ pub struct Devices<I, S, T, K> {
 /// Notes where a bad target leads that has stopped a machine.
 fn note_target(about: &About, machine: &Machine, stop: &Stop) {
     if let Stop::Fault(address, Fault::BadTarget) = stop {
-        about.astray.set(Astray::at(machine.memory(), *address));
+        about
+            .bad_destination
+            .set(BadDestination::at(machine.memory(), *address));
     }
 }
 

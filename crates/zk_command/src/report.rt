@@ -195,8 +195,8 @@ fn words_on_write(alloc: Global, about: &About) -> Result<String, AllocError> {
 
 /// What is wrong with an instruction, in words.
 fn words_on_fault(alloc: Global, fault: Fault, about: &About) -> Result<String, AllocError> {
-    match about.astray.get() {
-        Some(astray) if fault == Fault::BadTarget => astray.text(alloc),
+    match about.bad_destination.get() {
+        Some(bad_destination) if fault == Fault::BadTarget => bad_destination.text(alloc),
         _ => format!(in alloc; "{fault}"),
     }
 }

@@ -5,7 +5,7 @@ ghost use Rattle.zk_command.specs.ScriptFiles.{failed_in};
 
 use crate::watched::{Notes, Watched};
 use std::fs::File;
-use zk_term::over::Over;
+use zk_term::io_device::IoDevice;
 use zk_term::target::{Failed, Target};
 
 /// A file that the first write makes or empties, even a write of no bytes, where an option names one. Without one what it
@@ -15,7 +15,7 @@ pub struct ScriptFile<'a> {
     rt: &'a HostRuntime,
     path: Option<&'a str>,
     notes: &'a Notes,
-    file: Option<Over<Watched<'a, File>>>,
+    file: Option<IoDevice<Watched<'a, File>>>,
     told: bool,
     failed: bool,
 }
@@ -54,7 +54,7 @@ fn write_to<'a>(
     rt: &HostRuntime,
     path: &str,
     notes: &'a Notes,
-    file: &mut Option<Over<Watched<'a, File>>>,
+    file: &mut Option<IoDevice<Watched<'a, File>>>,
     bytes: &[u8],
 ) -> Result<usize, Failed>
     ensures count { IfOk result (λ n. n ≤ length bytes.now) }
@@ -71,7 +71,7 @@ fn write_to<'a>(
             return Err(Failed);
         }
     };
-    let mut open = Over::new(Watched::new(made, notes));
+    let mut open = IoDevice::new(Watched::new(made, notes));
     let written = open.write(bytes);
     *file = Some(open);
     written

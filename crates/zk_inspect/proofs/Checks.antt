@@ -7,8 +7,8 @@ use Rattle.zk_mem.specs.declared.fault.Fault.{Fault}
 use Rattle.zk_mem.specs.Checksum.{has_right_sum, stated_length}
 use Rattle.zk_mem.specs.Map.{MemoryMap, HasBytes}
 use Rattle.zk_code.specs.declared.branch.Branch.{Branch}
-use Rattle.zk_code.specs.declared.branch.Target.{Target}
-use Rattle.zk_code.specs.declared.branch.Target.TheVariants.{Below, Past}
+use Rattle.zk_code.specs.declared.branch.BranchTarget.{BranchTarget}
+use Rattle.zk_code.specs.declared.branch.BranchTarget.TheVariants.{Below, Past}
 use Rattle.zk_code.specs.declared.instr.Instr.{Instr}
 use Rattle.zk_code.specs.Clean.{IsOutside, LeadsOut, IsLow}
 use Rattle.zk_code.specs.Grammar.{IsInstruction}
@@ -51,7 +51,7 @@ undecodable m code xs bytes h k = subst (IsListOf (Finds m UndecodableCode)) (sy
 
 -- ---- what leads out of the story
 
-out_decides : (t : Target) → is_outside t ≡ true ↔ IsOutside t
+out_decides : (t : BranchTarget) → is_outside t ≡ true ↔ IsOutside t
 out_decides (Below d) = (λ e. tt, λ h. refl)
 out_decides (Past a) = (λ e. tt, λ h. refl)
 out_decides t = (λ e. absurd cc, λ h. absurd h)

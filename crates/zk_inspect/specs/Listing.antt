@@ -9,8 +9,8 @@ use Rattle.zk_text.specs.Extra.{own_characters}
 use Rattle.zk_text.specs.Meaning.{Units, text_units}
 use Rattle.zk_text.specs.Shown.{shown_all}
 use Rattle.zk_code.specs.declared.branch.Branch.{Branch}
-use Rattle.zk_code.specs.declared.branch.Target.{Target}
-use Rattle.zk_code.specs.declared.branch.Target.TheVariants.{ReturnFalse, ReturnTrue, At, Below, Past}
+use Rattle.zk_code.specs.declared.branch.BranchTarget.{BranchTarget}
+use Rattle.zk_code.specs.declared.branch.BranchTarget.TheVariants.{ReturnFalse, ReturnTrue, At, Below, Past}
 use Rattle.zk_code.specs.declared.instr.Instr.{Instr}
 use Rattle.zk_code.specs.declared.opcode.Opcode.{Opcode}
 use Rattle.zk_code.specs.declared.opcode.Opcode.TheVariants.{Assignment}
@@ -81,7 +81,7 @@ store_text None = []
 store_text (Some v) = codes " -> " ++ variable_text v
 
 -- where a branch leads (section 4.7)
-unfoldable pub target_text : Target → List ℕ
+unfoldable pub target_text : BranchTarget → List ℕ
 target_text ReturnFalse = codes "rfalse"
 target_text ReturnTrue = codes "rtrue"
 target_text (At a) = address_digits a

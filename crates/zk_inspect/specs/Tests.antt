@@ -3,8 +3,8 @@ use Rattle.std.specs.Prelude.{ℕ, Bool, true, false, ◌||◌, Option, Some, No
 use Rattle.zk_mem.specs.declared.fault.Fault.{Fault}
 use Rattle.zk_mem.specs.Map.{MemoryMap}
 use Rattle.zk_code.specs.declared.branch.Branch.{Branch}
-use Rattle.zk_code.specs.declared.branch.Target.{Target}
-use Rattle.zk_code.specs.declared.branch.Target.TheVariants.{Below, Past}
+use Rattle.zk_code.specs.declared.branch.BranchTarget.{BranchTarget}
+use Rattle.zk_code.specs.declared.branch.BranchTarget.TheVariants.{Below, Past}
 use Rattle.zk_code.specs.declared.instr.Instr.{Instr}
 use Rattle.zk_code.specs.Reach.{constant_call, constant_jump}
 use Rattle.zk_code.specs.Reading.{instr_at}
@@ -17,7 +17,7 @@ abbrev pub is_undecodable : MemoryMap → ℕ → Bool
 is_undecodable m a = is_err (instr_at m a)
 
 -- a target lies outside the story (section 4.7)
-abbrev pub is_outside : Target → Bool
+abbrev pub is_outside : BranchTarget → Bool
 is_outside (Below d) = true
 is_outside (Past a) = true
 is_outside _ = false
@@ -28,7 +28,7 @@ branches_out None = false
 branches_out (Some b) = is_outside b.target
 
 -- a jump does
-abbrev pub jumps_out : Option Target → Bool
+abbrev pub jumps_out : Option BranchTarget → Bool
 jumps_out None = false
 jumps_out (Some t) = is_outside t
 

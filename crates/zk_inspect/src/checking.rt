@@ -18,7 +18,7 @@ use crate::reach::reach;
 use crate::text_faults::{FailingTexts, find_nested, find_past_end, list_failing};
 use crate::texts::mark_all_texts;
 use std::alloc::{AllocError, Global};
-use zk_code::branch::{Branch, Target};
+use zk_code::branch::{Branch, BranchTarget};
 use zk_code::decode::decode_by;
 use zk_code::ends::TextEnds;
 use zk_code::instr::Instr;
@@ -50,10 +50,10 @@ fn is_undecodable(memory: &Memory, ends: &TextEnds, address: u32) -> bool
 }
 
 /// Whether a target lies outside the story.
-fn is_outside(target: Target) -> bool
+fn is_outside(target: BranchTarget) -> bool
     ensures { result ≡ is_outside target }
 {
-    matches!(target, Target::Below(_) | Target::Past(_))
+    matches!(target, BranchTarget::Below(_) | BranchTarget::Past(_))
 }
 
 /// Whether a branch leads out of the story.
@@ -67,7 +67,7 @@ fn branches_out(branch: Option<Branch>) -> bool
 }
 
 /// Whether a jump leads out of the story.
-fn jumps_out(target: Option<Target>) -> bool
+fn jumps_out(target: Option<BranchTarget>) -> bool
     ensures { result ≡ jumps_out target }
 {
     match target {

@@ -6,7 +6,7 @@ ghost use Rattle.zk_code.specs.Operands.{constant_of};
 ghost use Rattle.zk_inspect.specs.Listing.{branch_text, first_text, further_text, jump_text, names_variable, operand_text, operands_text, reference_text, store_text, takes_variable, target_text, variable_text};
 
 use crate::writing::{write_byte, write_word};
-use zk_code::branch::{Branch, Target as Destination};
+use zk_code::branch::{Branch, BranchTarget as Destination};
 use zk_code::instr::Instr;
 use zk_code::opcode::{Assignment, Opcode};
 use zk_code::operands::Operand;

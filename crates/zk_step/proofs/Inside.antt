@@ -7,8 +7,8 @@ use Rattle.zk_mem.specs.declared.fault.Fault.{Fault}
 use Rattle.zk_mem.specs.Header.{header_of, unpacked}
 use Rattle.zk_mem.specs.Map.{MemoryMap, cell_at}
 use Rattle.zk_code.specs.declared.branch.Branch.{Branch}
-use Rattle.zk_code.specs.declared.branch.Target.{Target}
-use Rattle.zk_code.specs.declared.branch.Target.TheVariants.{ReturnFalse, ReturnTrue, At, Below, Past}
+use Rattle.zk_code.specs.declared.branch.BranchTarget.{BranchTarget}
+use Rattle.zk_code.specs.declared.branch.BranchTarget.TheVariants.{ReturnFalse, ReturnTrue, At, Below, Past}
 use Rattle.zk_code.specs.declared.instr.Instr.{Instr}
 use Rattle.zk_code.specs.declared.opcode.Opcode.{Opcode}
 use Rattle.zk_code.specs.declared.opcode.Opcode.TheVariants as opcode
@@ -120,7 +120,7 @@ module _ (m : MemoryMap) (P : ℕ → Type 0) (clean : IsClean m P) (keeps : Kee
   pub next_inside : goes_on i.opcode ≡ true → P i.next
   next_inside on = clean.closed.behind a i.next i inside stands on
 
-  way_into : (t : Target) → ((c : ℕ) → t ≡ At c → P c) → LeadsInto P (continuation_of t)
+  way_into : (t : BranchTarget) → ((c : ℕ) → t ≡ At c → P c) → LeadsInto P (continuation_of t)
   way_into ReturnFalse h = tt
   way_into ReturnTrue h = tt
   way_into (At c) h = h c refl

@@ -2,7 +2,7 @@
 use Rattle.std.specs.Prelude.{◌≡◌, ℕ, [], ◌∷◌, Some, None, Ok, Err, true, false, codes, replicate}
 use Rattle.zk_state.specs.declared.refusal.Limit.TheVariants.{Frames, Words}
 use Rattle.zk_state.specs.declared.refusal.Refusal.TheVariants.{Limit}
-use Rattle.zk_code.specs.declared.branch.Target.TheVariants as target
+use Rattle.zk_code.specs.declared.branch.BranchTarget.TheVariants as target
 use Rattle.zk_code.specs.declared.opcode.Opcode.TheVariants as opcode
 use Rattle.zk_code.specs.declared.opcode.Arithmetic.TheVariants.{Sub}
 use Rattle.zk_code.specs.declared.opcode.Comparison.TheVariants.{Jl}

@@ -1,7 +1,7 @@
 -- Worked examples of routines and of the way on, by hand from the Standard.
 use Rattle.std.specs.Prelude.{◌≡◌, ℕ, List, [], ◌∷◌, Some, None, Ok, Err, true, false, replicate}
 use Rattle.zk_mem.specs.declared.fault.Fault.TheVariants.{NoSuchLocal, BadTarget, ReturnFromMain, BadFrame}
-use Rattle.zk_code.specs.declared.branch.Target.TheVariants as target
+use Rattle.zk_code.specs.declared.branch.BranchTarget.TheVariants as target
 use Rattle.zk_code.specs.declared.opcode.Opcode.TheVariants as opcode
 use Rattle.zk_code.specs.declared.opcode.Call.TheVariants.{CallVs, Call1s, Call2s, CallVs2, CallVn, Call1n, Call2n, CallVn2}
 use Rattle.zk_code.specs.declared.opcode.Control.TheVariants.{Jump, Quit}

@@ -3,7 +3,7 @@
 use Rattle.std.specs.Prelude.{◌≡◌, ℕ, true, false, List, [], ◌∷◌, ◌++◌, Some, None, Ok, Err, replicate, codes}
 use Rattle.zk_mem.specs.declared.fault.Fault.TheVariants.{ReadOnly, StackEmpty, NoSuchLocal, BadTarget, ReturnFromMain}
 use Rattle.zk_mem.specs.Map.{MemoryMap}
-use Rattle.zk_code.specs.declared.branch.Target.TheVariants as target
+use Rattle.zk_code.specs.declared.branch.BranchTarget.TheVariants as target
 use Rattle.zk_code.specs.declared.instr.Instr.{Instr}
 use Rattle.zk_code.specs.declared.opcode.Opcode.TheVariants as opcode
 use Rattle.zk_code.specs.declared.opcode.Saving.TheVariants.{SaveBranch, SaveStore, RestoreBranch, RestoreStore, Save, Restore, Restart, Verify, SaveUndo, RestoreUndo}

@@ -17,7 +17,7 @@ use crate::game_state::GameState;
 use crate::returning::{check_return, return_value, store, throw_value};
 use crate::values::Values;
 use crate::variables::write_named;
-use zk_code::branch::{Branch, Target, jump_target};
+use zk_code::branch::{Branch, BranchTarget, jump_target};
 use zk_code::instr::Instr;
 use zk_mem::fault::Fault;
 use zk_state::refusal::Refusal;
@@ -33,14 +33,14 @@ pub enum Continuation {
     Out,
 }
 
-fn continuation_of(target: Target) -> Continuation
+fn continuation_of(target: BranchTarget) -> Continuation
     ensures { result ≡ continuation_of target }
 {
     match target {
-        Target::At(a) => Continuation::To(a),
-        Target::ReturnFalse => Continuation::Back(0),
-        Target::ReturnTrue => Continuation::Back(1),
-        Target::Below(_) | Target::Past(_) => Continuation::Out,
+        BranchTarget::At(a) => Continuation::To(a),
+        BranchTarget::ReturnFalse => Continuation::Back(0),
+        BranchTarget::ReturnTrue => Continuation::Back(1),
+        BranchTarget::Below(_) | BranchTarget::Past(_) => Continuation::Out,
     }
 }
 

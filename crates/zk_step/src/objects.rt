@@ -8,7 +8,7 @@ use zk_code::opcode::{ObjectChange, ObjectQuestion};
 use zk_mem::fault::Fault;
 use zk_mem::memory::Memory;
 use zk_tables::attributes::{attribute, set_attribute};
-use zk_tables::links::Links;
+use zk_tables::links::WalkCount;
 use zk_tables::properties::{
     next_property, property, property_address, property_length, put_property,
 };
@@ -31,8 +31,8 @@ pub fn change_object(
     match operation {
         ObjectChange::SetAttr => set_attribute(memory, object, number, true)?,
         ObjectChange::ClearAttr => set_attribute(memory, object, number, false)?,
-        ObjectChange::InsertObj => insert(memory, object, number, &mut Links::new())?,
-        ObjectChange::RemoveObj => remove(memory, object, &mut Links::new())?,
+        ObjectChange::InsertObj => insert(memory, object, number, &mut WalkCount::new())?,
+        ObjectChange::RemoveObj => remove(memory, object, &mut WalkCount::new())?,
         ObjectChange::PutProp => put_property(memory, object, number, value)?,
     }
     Ok(())

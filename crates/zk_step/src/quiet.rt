@@ -2,7 +2,7 @@
 
 ghost use Rattle.zk_state.specs.Frames.{bounds_of};
 ghost use Rattle.std.specs.Prelude.{◌≡◌, ℕ, Option, Ok, Err, MatchResult};
-ghost use Rattle.zk_step.specs.Effects.{effect_by, IsQuiet};
+ghost use Rattle.zk_step.specs.Effects.{effect_by, HasYield};
 ghost use Rattle.zk_step.specs.Endings.{ends_with};
 
 use crate::arithmetic::arithmetic;
@@ -21,7 +21,7 @@ use zk_mem::fault::Fault;
 #[inline(always)]
 #[tactic(auto, unfolding(crate::specs::Routines::routine_effect))]
 pub fn yield_of(opcode: Opcode, game: &mut GameState, values: &[u16]) -> Result<Yield, Fault>
-    requires { IsQuiet opcode }
+    requires { HasYield opcode }
     ensures value { MatchResult result (λ y. (text : Option ℕ)
         → effect_by opcode game.old text values.now ≡ Ok (game.new, ends_with y))
         (λ f. (text : Option ℕ) → effect_by opcode game.old text values.now ≡ Err f) }

@@ -8,7 +8,7 @@ use Rattle.zk_mem.specs.declared.fault.Fault.{Fault}
 use Rattle.zk_mem.specs.declared.fault.Fault.TheVariants.{BadObject, BadTree}
 use Rattle.zk_mem.specs.Map.{MemoryMap, readable_end}
 use Rattle.zk_tables.specs.declared.layout.Layout.{Layout}
-use Rattle.zk_tables.specs.declared.links.Place.{Place}
+use Rattle.zk_tables.specs.declared.links.LinkPlace.{LinkPlace}
 use Rattle.zk_tables.specs.Layout.{early_layout, late_layout, layout_of, default_words_start, is_entry, entry_of, entries, entries_in}
 use Rattle.zk_tables.specs.Links.{link_at, sibling_of, child_of, address_of}
 use Rattle.zk_tables.specs.Chain.{IsPath, IsChain, Repeats, IsBad, MeetsBad, chain_from, children_of, ChildrenAreChains}
@@ -265,7 +265,7 @@ bad_entry : (m : MemoryMap) (o : ℕ) → IsBad m o → entry_of m o ≡ Err Bad
 unfolding entry_of
 bad_entry m o b = rw b.1 refl
 
-bad_link : (m : MemoryMap) (place : Place) → IsBad m place.object → link_at m place ≡ Err BadObject
+bad_link : (m : MemoryMap) (place : LinkPlace) → IsBad m place.object → link_at m place ≡ Err BadObject
 unfolding link_at address_of
 bad_link m place b = rw (zero_test place.object b.0, bad_entry m place.object b) refl
 

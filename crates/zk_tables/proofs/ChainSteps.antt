@@ -6,7 +6,7 @@ use Rattle.zk_mem.specs.declared.fault.Fault.{Fault}
 use Rattle.zk_mem.specs.declared.fault.Fault.TheVariants.{BadTree}
 use Rattle.zk_mem.specs.Results.{◌>>=◌}
 use Rattle.zk_mem.specs.Map.{MemoryMap}
-use Rattle.zk_tables.specs.declared.links.Place.{Place}
+use Rattle.zk_tables.specs.declared.links.LinkPlace.{LinkPlace}
 use Rattle.zk_tables.specs.Layout.{entry_of, entries}
 use Rattle.zk_tables.specs.Links.{link_at, sibling_of, child_of}
 use Rattle.zk_tables.specs.Chain.{chain_from, children_of, how_many}
@@ -86,7 +86,7 @@ uncounted_chain (Err d) e h = cc
 -- ---- the link that names an object
 
 -- among the objects from x on, where a link at a place names x
-unfoldable pub naming_from : MemoryMap → ℕ → ℕ → Place → ℕ → Result Place Fault
+unfoldable pub naming_from : MemoryMap → ℕ → ℕ → LinkPlace → ℕ → Result LinkPlace Fault
 naming_from m n x place o = chain_from m n x >>= λ xs. naming_in place xs o
 
 pub naming_start : (m : MemoryMap) (p o x : ℕ) → link_at m (child_of p) ≡ Ok x → naming_from m (entries m - 0) x (child_of p) o ≡ naming_among m p o
@@ -97,31 +97,31 @@ pub naming_start_bad : (m : MemoryMap) (p o : ℕ) (e : Fault) → link_at m (ch
 unfolding naming_among children_of
 naming_start_bad m p o e h = rw h refl
 
-pub naming_end : (m : MemoryMap) (n x o : ℕ) (place : Place) → x ≡ 0 → naming_from m n x place o ≡ Err BadTree
+pub naming_end : (m : MemoryMap) (n x o : ℕ) (place : LinkPlace) → x ≡ 0 → naming_from m n x place o ≡ Err BadTree
 unfolding naming_from
 naming_end m n x o place h = rw (chain_end m n x h) refl
 
-skip : (r : Result (List ℕ) Fault) (place : Place) (x o : ℕ) → eqb x o ≡ false → (r >>= (λ xs. Ok (x ∷ xs)) >>= λ xs. naming_in place xs o) ≡ (r >>= λ xs. naming_in (sibling_of x) xs o)
+skip : (r : Result (List ℕ) Fault) (place : LinkPlace) (x o : ℕ) → eqb x o ≡ false → (r >>= (λ xs. Ok (x ∷ xs)) >>= λ xs. naming_in place xs o) ≡ (r >>= λ xs. naming_in (sibling_of x) xs o)
 skip (Ok xs) place x o h = rw h refl
 skip (Err e) place x o h = refl
 
-pub naming_next : (m : MemoryMap) (n i x z o : ℕ) (place : Place) → i < n → x ≢ 0 → x ≢ o → link_at m (sibling_of x) ≡ Ok z → naming_from m (n - i) x place o ≡ naming_from m (n - (i + 1)) z (sibling_of x) o
+pub naming_next : (m : MemoryMap) (n i x z o : ℕ) (place : LinkPlace) → i < n → x ≢ 0 → x ≢ o → link_at m (sibling_of x) ≡ Ok z → naming_from m (n - i) x place o ≡ naming_from m (n - (i + 1)) z (sibling_of x) o
 unfolding naming_from
 naming_next m n i x z o place lt ne other h = rw (chain_next m n i x z lt ne h) (skip (chain_from m (n - (i + 1)) z) place x o (ne_eqb x o other))
 
-pub naming_fault : (m : MemoryMap) (n x o : ℕ) (place : Place) (e : Fault) → chain_from m n x ≡ Err e → naming_from m n x place o ≡ Err e
+pub naming_fault : (m : MemoryMap) (n x o : ℕ) (place : LinkPlace) (e : Fault) → chain_from m n x ≡ Err e → naming_from m n x place o ≡ Err e
 unfolding naming_from
 naming_fault m n x o place e h = rw h refl
 
-here : (r : Result (List ℕ) Fault) (place : Place) (x o : ℕ) → eqb x o ≡ true → IsOk (r >>= λ xs. Ok (x ∷ xs)) → (r >>= (λ xs. Ok (x ∷ xs)) >>= λ xs. naming_in place xs o) ≡ Ok place
+here : (r : Result (List ℕ) Fault) (place : LinkPlace) (x o : ℕ) → eqb x o ≡ true → IsOk (r >>= λ xs. Ok (x ∷ xs)) → (r >>= (λ xs. Ok (x ∷ xs)) >>= λ xs. naming_in place xs o) ≡ Ok place
 here (Ok xs) place x o h ok = rw h refl
 here (Err e) place x o h ok = absurd cc
 
-link_here : (m : MemoryMap) (n x o : ℕ) (place : Place) (r : Result ℕ Fault) → eqb x o ≡ true → IsOk (r >>= λ z. chain_from m n z >>= λ xs. Ok (x ∷ xs)) → (r >>= (λ z. chain_from m n z >>= λ xs. Ok (x ∷ xs)) >>= λ xs. naming_in place xs o) ≡ Ok place
+link_here : (m : MemoryMap) (n x o : ℕ) (place : LinkPlace) (r : Result ℕ Fault) → eqb x o ≡ true → IsOk (r >>= λ z. chain_from m n z >>= λ xs. Ok (x ∷ xs)) → (r >>= (λ z. chain_from m n z >>= λ xs. Ok (x ∷ xs)) >>= λ xs. naming_in place xs o) ≡ Ok place
 link_here m n x o place (Ok z) h ok = here (chain_from m n z) place x o h ok
 link_here m n x o place (Err e) h ok = absurd cc
 
-pub naming_here : (m : MemoryMap) (n i x o : ℕ) (place : Place) → i < n → x ≢ 0 → x ≡ o → IsOk (chain_from m (n - i) x) → naming_from m (n - i) x place o ≡ Ok place
+pub naming_here : (m : MemoryMap) (n i x o : ℕ) (place : LinkPlace) → i < n → x ≢ 0 → x ≡ o → IsOk (chain_from m (n - i) x) → naming_from m (n - i) x place o ≡ Ok place
 unfolding naming_from chain_from
 naming_here m n i x o place lt ne same ok =
     let open_test = zero_test x ne in

@@ -6,7 +6,7 @@ use Rattle.std.proofs.lemmas.Bool.{cases_lt}
 use Rattle.zk_mem.specs.Laws.{IsSameBut}
 use Rattle.zk_mem.proofs.Writes.{byte_is_written, word_is_written}
 use Rattle.zk_mem.specs.Map.{MemoryMap}
-use Rattle.zk_tables.specs.declared.links.Place.{Place}
+use Rattle.zk_tables.specs.declared.links.LinkPlace.{LinkPlace}
 use Rattle.zk_tables.specs.Layout.{layout_of}
 use Rattle.zk_tables.specs.Links.{number_put, link_put}
 use Rattle.zk_tables.specs.TreeLaws.{IsByteOf, ChangesOnly}
@@ -46,7 +46,7 @@ outside a b c h = ⊎_elim (λ low. inl low) (λ high. ⊎_elim (λ within. absu
 -- ---- links
 
 -- a link that is written changes nothing else
-pub put_changes : (m n : MemoryMap) (place : Place) (v : ℕ) → link_put m place v ≡ Ok n → ChangesOnly m n (place ∷ [])
+pub put_changes : (m n : MemoryMap) (place : LinkPlace) (v : ℕ) → link_put m place v ≡ Ok n → ChangesOnly m n (place ∷ [])
 put_changes m n place v h =
     let w = written m n place v h in
     let alone = number_alone m n w.0 v w.2 in
@@ -60,17 +60,17 @@ put_changes m n place v h =
       size = alone.size;
     }
 
-pub changes_shape : (m n : MemoryMap) (places : List Place) → ChangesOnly m n places → IsSameShape m n
+pub changes_shape : (m n : MemoryMap) (places : List LinkPlace) → ChangesOnly m n places → IsSameShape m n
 changes_shape m n places c = record { version = c.version; static_base = c.static_base; file = c.file; long = c.size }
 
-byte_back : (m n : MemoryMap) (place : Place) (a : ℕ) → IsSameShape m n → IsByteOf n place a → IsByteOf m place a
+byte_back : (m n : MemoryMap) (place : LinkPlace) (a : ℕ) → IsSameShape m n → IsByteOf n place a → IsByteOf m place a
 byte_back m n place a s b =
     let width : (layout_of n.version).link_bytes ≡ (layout_of m.version).link_bytes = ap (λ (v : ℕ). (layout_of v).link_bytes) s.version in
     let high = b.high in
     record { start = b.start; address = sym (address_same m n place s) ∙ b.address; low = b.low; high = omega arith }
 
 -- one change after another
-pub changes_join : (l m n : MemoryMap) (ps qs : List Place) → ChangesOnly l m ps → ChangesOnly m n qs → ChangesOnly l n (ps ++ qs)
+pub changes_join : (l m n : MemoryMap) (ps qs : List LinkPlace) → ChangesOnly l m ps → ChangesOnly m n qs → ChangesOnly l n (ps ++ qs)
 changes_join l m n ps qs c d = record {
   links = λ q out. d.links q (λ h. out (Contains-append_right ps qs q h)) ∙ c.links q (λ h. out (Contains-append_left ps qs q h));
   others = λ a out.
@@ -84,7 +84,7 @@ changes_join l m n ps qs c d = record {
 }
 
 -- of more links nothing else changes either
-pub changes_more : (m n : MemoryMap) (ps qs : List Place) → ((q : Place) → Contains ps q → Contains qs q) → ChangesOnly m n ps → ChangesOnly m n qs
+pub changes_more : (m n : MemoryMap) (ps qs : List LinkPlace) → ((q : LinkPlace) → Contains ps q → Contains qs q) → ChangesOnly m n ps → ChangesOnly m n qs
 changes_more m n ps qs more c = record {
   links = λ q out. c.links q (λ h. out (more q h));
   others = λ a out. c.others a (λ place h b. out place (more place h) b);

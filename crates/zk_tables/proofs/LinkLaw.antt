@@ -9,7 +9,7 @@ use Rattle.zk_mem.specs.Map.{MemoryMap, readable_end, byte_at, word_at, byte_put
 use Rattle.zk_tables.specs.declared.layout.Layout.{Layout}
 use Rattle.zk_tables.specs.declared.links.Link.{Link}
 use Rattle.zk_tables.specs.declared.links.Link.TheVariants.{Parent, Sibling, Child}
-use Rattle.zk_tables.specs.declared.links.Place.{Place}
+use Rattle.zk_tables.specs.declared.links.LinkPlace.{LinkPlace}
 use Rattle.zk_tables.specs.Layout.{early_layout, late_layout, layout_of, default_words_start, first_entry, entry_of}
 use Rattle.zk_tables.specs.Links.{order_of, address_of, number_at, number_put, link_at, link_put, LinksAreWritten}
 use Rattle.zk_tables.proofs.Steps.{bind_ok, chosen, same_value, same_map}
@@ -57,11 +57,11 @@ same_order Child Sibling e = absurd (omega arith)
 same_order Child Child e = refl
 
 -- where a link stands, in numbers
-record Standing (m : MemoryMap) (place : Place) (a : ℕ) : Type 0 where
+record Standing (m : MemoryMap) (place : LinkPlace) (a : ℕ) : Type 0 where
   counted : 0 < place.object
   is : first_entry (layout_of m.version) (default_words_start m) + (layout_of m.version).entry_bytes * (place.object - 1) + (layout_of m.version).attribute_bytes + (layout_of m.version).link_bytes * order_of place.link ≡ a
 
-standing : (m : MemoryMap) (place : Place) (a : ℕ) → address_of m place ≡ Ok a → Standing m place a
+standing : (m : MemoryMap) (place : LinkPlace) (a : ℕ) → address_of m place ≡ Ok a → Standing m place a
 unfolding address_of
 standing m place a h =
     let e = bind_ok (entry_of m place.object) _ a h in
@@ -79,13 +79,13 @@ same_numbers : (l : Layout) → ((l ≡ early_layout) ⊎ (l ≡ late_layout)) �
 same_numbers l (inl e) first o p j k x y u v h = let same : first + 9 * (o - 1) + 4 + 1 * j ≡ first + 9 * (p - 1) + 4 + 1 * k = rw e at h in (omega arith, omega arith)
 same_numbers l (inr e) first o p j k x y u v h = let same : first + 14 * (o - 1) + 6 + 2 * j ≡ first + 14 * (p - 1) + 6 + 2 * k = rw e at h in (omega arith, omega arith)
 
-abbrev place_with : Link → ℕ → Place
+abbrev place_with : Link → ℕ → LinkPlace
 place_with k o = record { link = k; object = o }
 
 same_place : (j k : Link) (o p : ℕ) → j ≡ k → o ≡ p → place_with j o ≡ place_with k p
 same_place j k o p d e = rw (d, e) refl
 
-one_link : (m : MemoryMap) (place q : Place) (a : ℕ) → address_of m place ≡ Ok a → address_of m q ≡ Ok a → place ≡ q
+one_link : (m : MemoryMap) (place q : LinkPlace) (a : ℕ) → address_of m place ≡ Ok a → address_of m q ≡ Ok a → place ≡ q
 one_link m place q a h k =
     let s = standing m place a h in
     let t = standing m q a k in
@@ -95,7 +95,7 @@ one_link m place q a h k =
 late_numbers : (first o p j k : ℕ) (a b : ℕ) → first + 14 * (o - 1) + 6 + 2 * j ≡ a → first + 14 * (p - 1) + 6 + 2 * k ≡ b → b + 1 ≢ a
 late_numbers first o p j k a b x y z = omega arith
 
-late_apart : (m : MemoryMap) (place q : Place) (a b : ℕ) → layout_of m.version ≡ late_layout → address_of m place ≡ Ok a → address_of m q ≡ Ok b → b + 1 ≢ a
+late_apart : (m : MemoryMap) (place q : LinkPlace) (a b : ℕ) → layout_of m.version ≡ late_layout → address_of m place ≡ Ok a → address_of m q ≡ Ok b → b + 1 ≢ a
 late_apart m place q a b e h k =
     let s = standing m place a h in
     let t = standing m q b k in
@@ -103,10 +103,10 @@ late_apart m place q a b e h k =
 
 -- ---- the links
 
-real_place : (m : MemoryMap) (place : Place) (a : ℕ) → address_of m place ≡ Ok a → eqb place.object 0 ≡ false
+real_place : (m : MemoryMap) (place : LinkPlace) (a : ℕ) → address_of m place ≡ Ok a → eqb place.object 0 ≡ false
 real_place m place a h = let s = standing m place a h in let counted = s.counted in ne_eqb place.object 0 (λ e. omega arith)
 
-pub address_same : (m n : MemoryMap) (place : Place) → IsSameShape m n → address_of n place ≡ address_of m place
+pub address_same : (m n : MemoryMap) (place : LinkPlace) → IsSameShape m n → address_of n place ≡ address_of m place
 unfolding address_of
 address_same m n place s = rw (entry_same m n place.object s, s.version) refl
 
@@ -133,11 +133,11 @@ number_other m n a b o ne apart v h = elim (layouts m.version) [
       rw (v, e) back)
 ]
 
-pub written : (m n : MemoryMap) (place : Place) (o : ℕ) → link_put m place o ≡ Ok n → (a : ℕ) × (address_of m place ≡ Ok a) × (number_put m a o ≡ Ok n)
+pub written : (m n : MemoryMap) (place : LinkPlace) (o : ℕ) → link_put m place o ≡ Ok n → (a : ℕ) × (address_of m place ≡ Ok a) × (number_put m a o ≡ Ok n)
 unfolding link_put
 written m n place o h = bind_ok (address_of m place) (λ a. number_put m a o) n h
 
-pub link_read : (m n : MemoryMap) (place : Place) (o : ℕ) → ((layout_of m.version).link_bytes ≡ 1 → o < 256) → link_put m place o ≡ Ok n → link_at n place ≡ Ok o
+pub link_read : (m n : MemoryMap) (place : LinkPlace) (o : ℕ) → ((layout_of m.version).link_bytes ≡ 1 → o < 256) → link_put m place o ≡ Ok n → link_at n place ≡ Ok o
 unfolding link_at
 link_read m n place o fits h =
     let shape = put_shape m n place o h in
@@ -145,13 +145,13 @@ link_read m n place o fits h =
     let there : address_of n place ≡ Ok w.0 = address_same m n place shape ∙ w.1 in
     rw (real_place m place w.0 w.1, there) (number_read m n w.0 o fits shape.version w.2)
 
-other_at : (m n : MemoryMap) (place q : Place) (o : ℕ) (r : Result ℕ Fault) → q ≢ place → IsSameShape m n → (a : ℕ) → address_of m place ≡ Ok a → number_put m a o ≡ Ok n → address_of m q ≡ r → (r >>= number_at n) ≡ (r >>= number_at m)
+other_at : (m n : MemoryMap) (place q : LinkPlace) (o : ℕ) (r : Result ℕ Fault) → q ≢ place → IsSameShape m n → (a : ℕ) → address_of m place ≡ Ok a → number_put m a o ≡ Ok n → address_of m q ≡ r → (r >>= number_at n) ≡ (r >>= number_at m)
 other_at m n place q o (Err e) ne shape a h k s = refl
 other_at m n place q o (Ok b) ne shape a h k s =
     let differ : b ≢ a = λ z. ne (sym (one_link m place q a h (s ∙ ap (λ (x : ℕ). Ok x) z))) in
     number_other m n a b o differ (λ e. (late_apart m place q a b e h s, late_apart m q place b a e s h)) shape.version k
 
-pub link_other : (m n : MemoryMap) (place q : Place) (o : ℕ) → q ≢ place → link_put m place o ≡ Ok n → link_at n q ≡ link_at m q
+pub link_other : (m n : MemoryMap) (place q : LinkPlace) (o : ℕ) → q ≢ place → link_put m place o ≡ Ok n → link_at n q ≡ link_at m q
 unfolding link_at
 link_other m n place q o ne h =
     let shape = put_shape m n place o h in

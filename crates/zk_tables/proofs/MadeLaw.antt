@@ -8,7 +8,7 @@ use Rattle.std.proofs.lemmas.Cmp.{nat_eq_equiv}
 use Rattle.zk_mem.specs.declared.fault.Fault.{Fault}
 use Rattle.zk_mem.specs.declared.fault.Fault.TheVariants.{ReadOnly, BadObject, BadTree}
 use Rattle.zk_mem.specs.Map.{MemoryMap}
-use Rattle.zk_tables.specs.declared.links.Place.{Place}
+use Rattle.zk_tables.specs.declared.links.LinkPlace.{LinkPlace}
 use Rattle.zk_tables.specs.Layout.{layout_of, is_entry, entry_of}
 use Rattle.zk_tables.specs.Links.{parent_of, sibling_of, child_of, address_of, number_at, link_at, write_test, write_tests}
 use Rattle.zk_tables.specs.Chain.{IsChain}
@@ -24,25 +24,25 @@ use Rattle.zk_tables.proofs.Paths.{found, differs, lacks}
 
 -- ---- links that may be written
 
-passes : (m : MemoryMap) (place : Place) → IsWritable m place → write_test m place ≡ Ok tt
+passes : (m : MemoryMap) (place : LinkPlace) → IsWritable m place → write_test m place ≡ Ok tt
 unfolding write_test
 passes m place w = rw (w.address, le-leb (w.start + (layout_of m.version).link_bytes) m.static_base w.dynamic) refl
 
-pass_all : (m : MemoryMap) (a b c : Place) → IsWritable m a → IsWritable m b → IsWritable m c → write_tests m a (b ∷ c ∷ []) ≡ Ok tt
+pass_all : (m : MemoryMap) (a b c : LinkPlace) → IsWritable m a → IsWritable m b → IsWritable m c → write_tests m a (b ∷ c ∷ []) ≡ Ok tt
 pass_all m a b c x y z = rw (passes m a x, passes m b y, passes m c z) refl
 
 -- a link with an address is refused as read-only alone
-locked : (m : MemoryMap) (place : Place) (a : ℕ) (d : Fault) → address_of m place ≡ Ok a → write_test m place ≡ Err d → d ≡ ReadOnly
+locked : (m : MemoryMap) (place : LinkPlace) (a : ℕ) (d : Fault) → address_of m place ≡ Ok a → write_test m place ≡ Err d → d ≡ ReadOnly
 unfolding write_test
 locked m place a d h w = elim (chosen (nat_le (a + (layout_of m.version).link_bytes) m.static_base) _ _ _ (rw h at w)) [
   | inl t ↦ absurd cc
   | inr t ↦ (let same : d ≡ ReadOnly = cc in same)
 ]
 
-HasAddress : MemoryMap → Place → Type 0
+HasAddress : MemoryMap → LinkPlace → Type 0
 HasAddress m place = (a : ℕ) × (address_of m place ≡ Ok a)
 
-locked_all : (m : MemoryMap) (a b c : Place) (d : Fault) → HasAddress m a → HasAddress m b → HasAddress m c → write_tests m a (b ∷ c ∷ []) ≡ Err d → d ≡ ReadOnly
+locked_all : (m : MemoryMap) (a b c : LinkPlace) (d : Fault) → HasAddress m a → HasAddress m b → HasAddress m c → write_tests m a (b ∷ c ∷ []) ≡ Err d → d ≡ ReadOnly
 unfolding HasAddress
 locked_all m a b c d x y z h = elim (bind_err (write_test m a) (λ _. write_tests m b (c ∷ [])) d h) [
   | inl e ↦ locked m a x.0 d x.1 e
@@ -53,20 +53,20 @@ locked_all m a b c d x y z h = elim (bind_err (write_test m a) (λ _. write_test
 ]
 
 -- a link that names an object has an address
-naming_address : (m : MemoryMap) (place : Place) (v : ℕ) → v ≢ 0 → link_at m place ≡ Ok v → HasAddress m place
+naming_address : (m : MemoryMap) (place : LinkPlace) (v : ℕ) → v ≢ 0 → link_at m place ≡ Ok v → HasAddress m place
 unfolding link_at HasAddress
 naming_address m place v some h = elim (chosen (eqb place.object 0) _ _ _ h) [
   | inl t ↦ absurd (some (same_value v 0 (sym t.1)))
   | inr t ↦ (let e = bind_ok (address_of m place) (number_at m) v t.1 in (e.0, e.1))
 ]
 
-entry_address : (m : MemoryMap) (place : Place) (a : ℕ) → entry_of m place.object ≡ Ok a → HasAddress m place
+entry_address : (m : MemoryMap) (place : LinkPlace) (a : ℕ) → entry_of m place.object ≡ Ok a → HasAddress m place
 unfolding address_of HasAddress
 entry_address m place a h = rw h (_, refl)
 
 -- ---- the link that names an object
 
-named_there : (q : Place) (xs : List ℕ) (o : ℕ) → list_any (eqb o) xs ≡ true → (place : Place) × (naming_in q xs o ≡ Ok place)
+named_there : (q : LinkPlace) (xs : List ℕ) (o : ℕ) → list_any (eqb o) xs ≡ true → (place : LinkPlace) × (naming_in q xs o ≡ Ok place)
 named_there q [] o h = absurd cc
 named_there q (z ∷ zs) o h =
     ⊎_elim
@@ -76,16 +76,16 @@ named_there q (z ∷ zs) o h =
     rw other (named_there (sibling_of z) zs o rest))
     (cases_Bool (eqb z o))
 
-none_named : (q : Place) (xs : List ℕ) (o : ℕ) → list_any (eqb o) xs ≡ false → naming_in q xs o ≡ Err BadTree
+none_named : (q : LinkPlace) (xs : List ℕ) (o : ℕ) → list_any (eqb o) xs ≡ false → naming_in q xs o ≡ Err BadTree
 none_named q [] o h = refl
 none_named q (z ∷ zs) o h = rw (ne_eqb z o (differs o z zs h)) (none_named (sibling_of z) zs o (or_parts (eqb o z) (list_any (eqb o) zs) h).1)
 
-naming_found : (m : MemoryMap) (o p : ℕ) (xs : List ℕ) (place : Place) → IsChain m p xs → naming_in (child_of p) xs o ≡ Ok place → IsNaming m o p place
+naming_found : (m : MemoryMap) (o p : ℕ) (xs : List ℕ) (place : LinkPlace) → IsChain m p xs → naming_in (child_of p) xs o ≡ Ok place → IsNaming m o p place
 naming_found m o p xs place c h =
     let f = found m o c.whole.first (child_of p) xs place c.whole.child c.whole.path h in
     record { names = f.names; children = xs; chain = c; among = ⊎_elim (λ e. inl e) (λ s. inr (s.0, s.1, s.3)) f.among }
 
-named_by : (m : MemoryMap) (o p : ℕ) (place : Place) → p ≢ 0 → link_at m (parent_of o) ≡ Ok p → naming_among m p o ≡ Ok place → naming_of m o ≡ Ok (Some place)
+named_by : (m : MemoryMap) (o p : ℕ) (place : LinkPlace) → p ≢ 0 → link_at m (parent_of o) ≡ Ok p → naming_among m p o ≡ Ok place → naming_of m o ≡ Ok (Some place)
 unfolding naming_of
 named_by m o p place some at h = rw (at, zero_test p some, h) refl
 
@@ -101,7 +101,7 @@ removed_from m o p xs some at c has free =
     let among : naming_among m p o ≡ Ok t.0 = with_children m o p xs (((children_are_chains m p).chain xs).1 c) ∙ t.1 in
     removal_done m o t.0 (named_by m o p t.0 some at among) (pass_all m t.0 (parent_of o) (sibling_of o) (free.naming t.0 (naming_found m o p xs t.0 c t.1)) free.its_parent free.its_sibling)
 
-by_tests : (m : MemoryMap) (o : ℕ) (place : Place) (e : Fault) → naming_of m o ≡ Ok (Some place) → HasAddress m place → (a : ℕ) → entry_of m o ≡ Ok a → (r : Result (Unit {0}) Fault) → write_tests m place (parent_of o ∷ sibling_of o ∷ []) ≡ r → removed m o ≡ Err e → e ≡ ReadOnly
+by_tests : (m : MemoryMap) (o : ℕ) (place : LinkPlace) (e : Fault) → naming_of m o ≡ Ok (Some place) → HasAddress m place → (a : ℕ) → entry_of m o ≡ Ok a → (r : Result (Unit {0}) Fault) → write_tests m place (parent_of o ∷ sibling_of o ∷ []) ≡ r → removed m o ≡ Err e → e ≡ ReadOnly
 by_tests m o place e named there a h (Ok u) w bad = absurd (not_err (removed m o) e (removal_done m o place named w) bad)
 by_tests m o place e named there a h (Err d) w bad =
     let refused = removal_refused m o place d named w in

@@ -6,7 +6,7 @@ use Rattle.std.proofs.lemmas.Map.Views.{Contains-from_any}
 use Rattle.std.proofs.lemmas.Bool.{eqb-true, eqb-false, ne_eqb, or_parts, or_from, cases_Bool}
 use Rattle.zk_mem.specs.Map.{MemoryMap}
 use Rattle.zk_tables.specs.declared.links.Link.TheVariants.{Parent, Sibling, Child}
-use Rattle.zk_tables.specs.declared.links.Place.{Place}
+use Rattle.zk_tables.specs.declared.links.LinkPlace.{LinkPlace}
 use Rattle.zk_tables.specs.Layout.{entries}
 use Rattle.zk_tables.specs.Links.{link_at, parent_of, sibling_of, child_of}
 use Rattle.zk_tables.specs.Chain.{IsPath}
@@ -63,24 +63,24 @@ distinct_without o (z ∷ zs) h =
 -- ---- places
 
 pub other_sibling : (x y : ℕ) → x ≢ y → sibling_of x ≢ sibling_of y
-other_sibling x y ne e = ne (ap (λ (p : Place). p.object) e)
+other_sibling x y ne e = ne (ap (λ (p : LinkPlace). p.object) e)
 
 pub other_child : (x y : ℕ) → x ≢ y → child_of x ≢ child_of y
-other_child x y ne e = ne (ap (λ (p : Place). p.object) e)
+other_child x y ne e = ne (ap (λ (p : LinkPlace). p.object) e)
 
 pub sibling_parent : (x y : ℕ) → sibling_of x ≢ parent_of y
-sibling_parent x y e = let k : Sibling ≡ Parent = ap (λ (p : Place). p.link) e in cc
+sibling_parent x y e = let k : Sibling ≡ Parent = ap (λ (p : LinkPlace). p.link) e in cc
 
 pub child_parent : (x y : ℕ) → child_of x ≢ parent_of y
-child_parent x y e = let k : Child ≡ Parent = ap (λ (p : Place). p.link) e in cc
+child_parent x y e = let k : Child ≡ Parent = ap (λ (p : LinkPlace). p.link) e in cc
 
 pub child_sibling : (x y : ℕ) → child_of x ≢ sibling_of y
-child_sibling x y e = let k : Child ≡ Sibling = ap (λ (p : Place). p.link) e in cc
+child_sibling x y e = let k : Child ≡ Sibling = ap (λ (p : LinkPlace). p.link) e in cc
 
 -- ---- the link that names an object on a path
 
 -- what is known of the link that a walk along the siblings finds
-pub record IsFound (m : MemoryMap) (o : ℕ) (q : Place) (xs : List ℕ) (place : Place) : Type 0 where
+pub record IsFound (m : MemoryMap) (o : ℕ) (q : LinkPlace) (xs : List ℕ) (place : LinkPlace) : Type 0 where
   pub some : o ≢ 0
   pub names : link_at m place ≡ Ok o
   pub among : (place ≡ q) ⊎ ((x : ℕ) × Contains xs x × (x ≢ o) × (place ≡ sibling_of x))
@@ -93,7 +93,7 @@ unfolding IsPath
 path_few m x [] p = let none : x ≡ 0 = p in omega arith
 path_few m x (z ∷ zs) p = rw p.0 (linked_counted m z p.2.0 p.1 p.2.1)
 
-pub found : (m : MemoryMap) (o x : ℕ) (q : Place) (xs : List ℕ) (place : Place) → link_at m q ≡ Ok x → IsPath m x xs 0 → naming_in q xs o ≡ Ok place → IsFound m o q xs place
+pub found : (m : MemoryMap) (o x : ℕ) (q : LinkPlace) (xs : List ℕ) (place : LinkPlace) → link_at m q ≡ Ok x → IsPath m x xs 0 → naming_in q xs o ≡ Ok place → IsFound m o q xs place
 unfolding IsPath
 found m o x q [] place l p h = absurd cc
 found m o x q (z ∷ zs) place l p h = elim (chosen (eqb z o) _ _ _ h) [
@@ -141,13 +141,13 @@ path_kept m n o x (z ∷ zs) some keeps p h =
     (p.0, p.1, (p.2.0, keeps z p.2.0 (differs o z zs h) (next_other m o p.2.0 zs some p.2.2 rest) p.2.1, path_kept m n o p.2.0 zs some keeps p.2.2 rest))
 
 -- the first object that a link names, and the path from there
-pub record IsPathBy (m : MemoryMap) (q : Place) (xs : List ℕ) : Type 0 where
+pub record IsPathBy (m : MemoryMap) (q : LinkPlace) (xs : List ℕ) : Type 0 where
   pub first : ℕ
   pub link : link_at m q ≡ Ok first
   pub path : IsPath m first xs 0
 
 -- where the link that named the object names its sibling, the path goes on after the object
-pub path_without : (m n : MemoryMap) (o x next : ℕ) (q : Place) (xs : List ℕ) (place : Place) → o ≢ 0 → KeepsSiblings m n o
+pub path_without : (m n : MemoryMap) (o x next : ℕ) (q : LinkPlace) (xs : List ℕ) (place : LinkPlace) → o ≢ 0 → KeepsSiblings m n o
     → link_at m (sibling_of o) ≡ Ok next → link_at n place ≡ Ok next → ((w : ℕ) → w ≢ o → link_at m q ≡ Ok w → link_at n q ≡ Ok w)
     → link_at m q ≡ Ok x → IsPath m x xs 0 → IsDistinct eqb xs → naming_in q xs o ≡ Ok place → IsPathBy n q (without o xs)
 unfolding IsPath

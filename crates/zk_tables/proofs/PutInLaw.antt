@@ -6,7 +6,7 @@ use Rattle.std.proofs.lemmas.Map.Views.{Contains-from_any, list_any-from_Contain
 use Rattle.std.proofs.lemmas.Bool.{eqb-true, both_ways, ne_eqb, cases_Bool, cases_eq}
 use Rattle.std.proofs.lemmas.Cmp.{nat_eq_equiv}
 use Rattle.zk_mem.specs.Map.{MemoryMap, HasBytes}
-use Rattle.zk_tables.specs.declared.links.Place.{Place}
+use Rattle.zk_tables.specs.declared.links.LinkPlace.{LinkPlace}
 use Rattle.zk_tables.specs.Layout.{late_layout, entry_of}
 use Rattle.zk_tables.specs.Links.{parent_of, sibling_of, child_of, address_of, number_at, link_at, link_put}
 use Rattle.zk_tables.specs.Chain.{IsPath, IsChain}
@@ -31,7 +31,7 @@ number_small m a v fits h = elim (layouts m.version) [
   | inr e ↦ record { fits = λ one. let no : late_layout.link_bytes ≡ 1 = rw e at one in absurd (omega arith) }
 ]
 
-link_small : (m : MemoryMap) (q : Place) (v : ℕ) → HasBytes m → link_at m q ≡ Ok v → IsSmall m v
+link_small : (m : MemoryMap) (q : LinkPlace) (v : ℕ) → HasBytes m → link_at m q ≡ Ok v → IsSmall m v
 unfolding link_at
 link_small m q v fits h = elim (chosen (eqb q.object 0) _ _ _ h) [
   | inl t ↦ (let zero : 0 ≡ v = same_value 0 v t.1 in object_small m v (omega arith))
@@ -171,7 +171,7 @@ elsewhere_between m between o q p xs at out c none =
     ⊎_elim (λ zero. let same = r.lone zero in rw same c) (λ one. (r.taken one).elsewhere q xs c none) (cases_eq p 0)
 
 -- what both write is one of four links
-among_four : (a b c e q : Place) → Contains (a ∷ b ∷ c ∷ c ∷ b ∷ e ∷ []) q → Contains (a ∷ b ∷ c ∷ e ∷ []) q
+among_four : (a b c e q : LinkPlace) → Contains (a ∷ b ∷ c ∷ c ∷ b ∷ e ∷ []) q → Contains (a ∷ b ∷ c ∷ e ∷ []) q
 among_four a b c e q h =
     let third : Contains (a ∷ b ∷ c ∷ e ∷ []) c = later_of a c (b ∷ c ∷ e ∷ []) (later_of b c (c ∷ e ∷ []) (first_of c (e ∷ []))) in
     let second : Contains (a ∷ b ∷ c ∷ e ∷ []) b = later_of a b (b ∷ c ∷ e ∷ []) (first_of b (c ∷ e ∷ [])) in
@@ -188,7 +188,7 @@ among_four a b c e q h =
     (one_of b q (c ∷ c ∷ b ∷ e ∷ []) h))
     (one_of a q (b ∷ c ∷ c ∷ b ∷ e ∷ []) h)
 
-among_three : (b c e q : Place) → Contains (c ∷ b ∷ e ∷ []) q → Contains (b ∷ c ∷ e ∷ []) q
+among_three : (b c e q : LinkPlace) → Contains (c ∷ b ∷ e ∷ []) q → Contains (b ∷ c ∷ e ∷ []) q
 among_three b c e q h =
     ⊎_elim (λ z. rw (← z) (later_of b c (c ∷ e ∷ []) (first_of c (e ∷ []))))
     (λ h. ⊎_elim (λ z. rw (← z) (first_of b (c ∷ e ∷ [])))
@@ -197,7 +197,7 @@ among_three b c e q h =
     (one_of c q (b ∷ e ∷ []) h)
 
 -- the link that named the object is none of the object's own
-named_parent : (m : MemoryMap) (o p : ℕ) (place : Place) → IsNaming m o p place → place ≢ parent_of o
+named_parent : (m : MemoryMap) (o p : ℕ) (place : LinkPlace) → IsNaming m o p place → place ≢ parent_of o
 named_parent m o p place n e = ⊎_elim (λ z. child_parent p o (sym z ∙ e)) (λ s. sibling_parent s.0 o (sym s.2 ∙ e)) n.among
 
 named_sibling : (m between : MemoryMap) (o p : ℕ) → o ≢ 0 → (t : IsTakenOut m between o p) → t.place ≢ sibling_of o

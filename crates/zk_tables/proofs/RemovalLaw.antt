@@ -4,14 +4,14 @@ use Rattle.zk_mem.specs.declared.fault.Fault.{Fault}
 use Rattle.zk_mem.specs.declared.fault.Fault.TheVariants.{BadObject, BadTree}
 use Rattle.zk_mem.specs.Results.{◌>>=◌}
 use Rattle.zk_mem.specs.Map.{MemoryMap}
-use Rattle.zk_tables.specs.declared.links.Place.{Place}
+use Rattle.zk_tables.specs.declared.links.LinkPlace.{LinkPlace}
 use Rattle.zk_tables.specs.Links.{parent_of, child_of, link_at}
 use Rattle.zk_tables.specs.Chain.{children_of}
 use Rattle.zk_tables.specs.Tree.{naming_in, naming_among, naming_of, unlinked, unlinked_where, removed, ChainsDecide}
 use Rattle.zk_tables.proofs.ChainSteps.{zero_test}
 use Rattle.zk_tables.proofs.ChainLaw.{children_are_chains}
 
-where_named : (m : MemoryMap) (o : ℕ) (r : Result Place Fault) → (r >>= (λ place. Ok (Some place)) >>= unlinked_where m o) ≡ (r >>= λ place. unlinked m place o)
+where_named : (m : MemoryMap) (o : ℕ) (r : Result LinkPlace Fault) → (r >>= (λ place. Ok (Some place)) >>= unlinked_where m o) ≡ (r >>= λ place. unlinked m place o)
 unfolding unlinked_where
 where_named m o (Ok place) = refl
 where_named m o (Err e) = refl

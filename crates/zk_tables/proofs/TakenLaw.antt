@@ -3,7 +3,7 @@ use Rattle.std.proofs.Common.{◌≡◌, ◌≢◌, ℕ, ◌≤◌, ◌<◌, fal
 use Rattle.std.specs.List.{list_any}
 use Rattle.zk_mem.specs.Map.{MemoryMap}
 use Rattle.zk_tables.specs.declared.layout.Layout.{Layout}
-use Rattle.zk_tables.specs.declared.links.Place.{Place}
+use Rattle.zk_tables.specs.declared.links.LinkPlace.{LinkPlace}
 use Rattle.zk_tables.specs.Layout.{early_layout, late_layout, layout_of, entries, entries_in}
 use Rattle.zk_tables.specs.Links.{parent_of, sibling_of, child_of, link_at, link_put}
 use Rattle.zk_tables.specs.Chain.{IsChain, children_of}
@@ -43,18 +43,18 @@ pub same_small : (m n : MemoryMap) (v : ℕ) → n.version ≡ m.version → IsS
 same_small m n v e s = record { fits = λ one. s.fits (ap (λ (x : ℕ). (layout_of x).link_bytes) (sym e) ∙ one) }
 
 -- a link that is written names the object
-pub names_it : (m n : MemoryMap) (place : Place) (v : ℕ) → IsSmall m v → link_put m place v ≡ Ok n → link_at n place ≡ Ok v
+pub names_it : (m n : MemoryMap) (place : LinkPlace) (v : ℕ) → IsSmall m v → link_put m place v ≡ Ok n → link_at n place ≡ Ok v
 names_it m n place v s h = link_read m n place v s.fits h
 
 -- ---- the three links
 
-record IsUnlinked (m n : MemoryMap) (o : ℕ) (place : Place) (next : ℕ) : Type 0 where
+record IsUnlinked (m n : MemoryMap) (o : ℕ) (place : LinkPlace) (next : ℕ) : Type 0 where
   no_parent : link_at n (parent_of o) ≡ Ok 0
   no_sibling : link_at n (sibling_of o) ≡ Ok 0
   closed : link_at n place ≡ Ok next
   only : ChangesOnly m n (place ∷ parent_of o ∷ sibling_of o ∷ [])
 
-three_links : (m n : MemoryMap) (o : ℕ) (place : Place) (next : ℕ) → link_at m (sibling_of o) ≡ Ok next → next ≤ entries m → place ≢ parent_of o → place ≢ sibling_of o
+three_links : (m n : MemoryMap) (o : ℕ) (place : LinkPlace) (next : ℕ) → link_at m (sibling_of o) ≡ Ok next → next ≤ entries m → place ≢ parent_of o → place ≢ sibling_of o
     → unlinked m place o ≡ Ok n → IsUnlinked m n o place next
 unfolding unlinked
 three_links m n o place next s few np ns h =
@@ -77,30 +77,30 @@ three_links m n o place next s few np ns h =
 -- ---- what becomes of chains
 
 -- a link that is none of three is kept
-pub kept_by_three : (m n : MemoryMap) (a b c q : Place) → ChangesOnly m n (a ∷ b ∷ c ∷ []) → q ≢ a → q ≢ b → q ≢ c → link_at n q ≡ link_at m q
+pub kept_by_three : (m n : MemoryMap) (a b c q : LinkPlace) → ChangesOnly m n (a ∷ b ∷ c ∷ []) → q ≢ a → q ≢ b → q ≢ c → link_at n q ≡ link_at m q
 kept_by_three m n a b c q only na nb nc =
     only.links q (λ h. ⊎_elim (λ e. na (sym e)) (λ h. ⊎_elim (λ e. nb (sym e)) (λ h. ⊎_elim (λ e. nc (sym e)) (λ h. none_of q h) (one_of c q [] h)) (one_of b q (c ∷ []) h)) (one_of a q (b ∷ c ∷ []) h))
 
 -- a link that names another object is not the one that named this one
-other_name : (m : MemoryMap) (o w : ℕ) (place q : Place) → link_at m place ≡ Ok o → w ≢ o → link_at m q ≡ Ok w → q ≢ place
+other_name : (m : MemoryMap) (o w : ℕ) (place q : LinkPlace) → link_at m place ≡ Ok o → w ≢ o → link_at m q ≡ Ok w → q ≢ place
 other_name m o w place q names ne h e = let at : link_at m place ≡ Ok w = rw e at h in ne (same_value w o (sym at ∙ names))
 
-keeps_siblings : (m n : MemoryMap) (o next : ℕ) (place : Place) → link_at m place ≡ Ok o → IsUnlinked m n o place next → KeepsSiblings m n o
+keeps_siblings : (m n : MemoryMap) (o next : ℕ) (place : LinkPlace) → link_at m place ≡ Ok o → IsUnlinked m n o place next → KeepsSiblings m n o
 keeps_siblings m n o next place names u z w other ne h =
     kept_by_three m n place (parent_of o) (sibling_of o) (sibling_of z) u.only (other_name m o w place (sibling_of z) names ne h) (sibling_parent z o) (other_sibling z o other) ∙ h
 
-keeps_child : (m n : MemoryMap) (o next p w : ℕ) (place : Place) → link_at m place ≡ Ok o → IsUnlinked m n o place next → w ≢ o → link_at m (child_of p) ≡ Ok w → link_at n (child_of p) ≡ Ok w
+keeps_child : (m n : MemoryMap) (o next p w : ℕ) (place : LinkPlace) → link_at m place ≡ Ok o → IsUnlinked m n o place next → w ≢ o → link_at m (child_of p) ≡ Ok w → link_at n (child_of p) ≡ Ok w
 keeps_child m n o next p w place names u ne h =
     kept_by_three m n place (parent_of o) (sibling_of o) (child_of p) u.only (other_name m o w place (child_of p) names ne h) (child_parent p o) (child_sibling p o) ∙ h
 
-chain_without : (m n : MemoryMap) (o p next : ℕ) (place : Place) (xs : List ℕ) → o ≢ 0 → link_at m place ≡ Ok o → link_at m (sibling_of o) ≡ Ok next → IsUnlinked m n o place next
+chain_without : (m n : MemoryMap) (o p next : ℕ) (place : LinkPlace) (xs : List ℕ) → o ≢ 0 → link_at m place ≡ Ok o → link_at m (sibling_of o) ≡ Ok next → IsUnlinked m n o place next
     → IsChain m p xs → naming_in (child_of p) xs o ≡ Ok place → IsChain n p (without o xs)
 chain_without m n o p next place xs some names s u c h =
     let w = c.whole in
     let r = path_without m n o w.first next (child_of p) xs place some (keeps_siblings m n o next place names u) s u.closed (λ v ne at. keeps_child m n o next p v place names u ne at) w.child w.path c.apart h in
     record { whole = record { first = r.first; child = r.link; path = r.path }; apart = distinct_without o xs c.apart }
 
-chain_elsewhere : (m n : MemoryMap) (o q next : ℕ) (place : Place) (xs : List ℕ) → o ≢ 0 → link_at m place ≡ Ok o → IsUnlinked m n o place next → IsChain m q xs → list_any (eqb o) xs ≡ false → IsChain n q xs
+chain_elsewhere : (m n : MemoryMap) (o q next : ℕ) (place : LinkPlace) (xs : List ℕ) → o ≢ 0 → link_at m place ≡ Ok o → IsUnlinked m n o place next → IsChain m q xs → list_any (eqb o) xs ≡ false → IsChain n q xs
 chain_elsewhere m n o q next place xs some names u c none =
     let w = c.whole in
     record {
@@ -114,11 +114,11 @@ chain_elsewhere m n o q next place xs some names u c none =
 
 -- ---- the law
 
-not_parent : (o p : ℕ) (place : Place) → ((place ≡ child_of p) ⊎ ((x : ℕ) × (place ≡ sibling_of x))) → place ≢ parent_of o
+not_parent : (o p : ℕ) (place : LinkPlace) → ((place ≡ child_of p) ⊎ ((x : ℕ) × (place ≡ sibling_of x))) → place ≢ parent_of o
 not_parent o p place (inl e) h = child_parent p o (sym e ∙ h)
 not_parent o p place (inr e) h = sibling_parent e.0 o (sym e.1 ∙ h)
 
-same_children : (m : MemoryMap) (p o : ℕ) (xs ys : List ℕ) (place : Place) → IsChain m p xs → IsChain m p ys → naming_in (child_of p) xs o ≡ Ok place → naming_in (child_of p) ys o ≡ Ok place
+same_children : (m : MemoryMap) (p o : ℕ) (xs ys : List ℕ) (place : LinkPlace) → IsChain m p xs → IsChain m p ys → naming_in (child_of p) xs o ≡ Ok place → naming_in (child_of p) ys o ≡ Ok place
 same_children m p o xs ys place c d h =
     let r = children_are_chains m p in
     let same = (r.chain ys).1 d in
@@ -126,7 +126,7 @@ same_children m p o xs ys place c d h =
     let one : xs ≡ ys = cc in
     rw one at h
 
-taken_out : (m n : MemoryMap) (o p : ℕ) (xs : List ℕ) (place : Place) → IsChain m p xs → naming_in (child_of p) xs o ≡ Ok place → unlinked m place o ≡ Ok n → IsTakenOut m n o p
+taken_out : (m n : MemoryMap) (o p : ℕ) (xs : List ℕ) (place : LinkPlace) → IsChain m p xs → naming_in (child_of p) xs o ≡ Ok place → unlinked m place o ≡ Ok n → IsTakenOut m n o p
 taken_out m n o p xs place c h k =
     let w = c.whole in
     let f = found m o w.first (child_of p) xs place w.child w.path h in
@@ -150,7 +150,7 @@ lone m n o p at h zero =
     let none : naming_of m o ≡ Ok None = rw (at, zero) refl in
     same_map n m (sym h ∙ no_removal m o none)
 
-listed : (m : MemoryMap) (p o : ℕ) (place : Place) → naming_among m p o ≡ Ok place → (xs : List ℕ) × (children_of m p ≡ Ok xs) × (naming_in (child_of p) xs o ≡ Ok place)
+listed : (m : MemoryMap) (p o : ℕ) (place : LinkPlace) → naming_among m p o ≡ Ok place → (xs : List ℕ) × (children_of m p ≡ Ok xs) × (naming_in (child_of p) xs o ≡ Ok place)
 unfolding naming_among
 listed m p o place h = bind_ok (children_of m p) (λ xs. naming_in (child_of p) xs o) place h
 

@@ -5,7 +5,7 @@ use Rattle.std.proofs.lemmas.Bool.{ne_eqb, eq-eqb, eqb-true, cases_Bool}
 use Rattle.zk_mem.specs.declared.fault.Fault.{Fault}
 use Rattle.zk_mem.specs.Results.{◌>>=◌}
 use Rattle.zk_mem.specs.Map.{MemoryMap}
-use Rattle.zk_tables.specs.declared.links.Place.{Place}
+use Rattle.zk_tables.specs.declared.links.LinkPlace.{LinkPlace}
 use Rattle.zk_tables.specs.Layout.{layout_of, entry_of, entries_in, entries}
 use Rattle.zk_tables.specs.Links.{parent_of, sibling_of, child_of, link_at, link_put, write_tests}
 use Rattle.zk_tables.specs.Tree.{naming_of, unlinked, unlinked_where, removed, linked, inserted}
@@ -25,7 +25,7 @@ pub bad_removal : (m : MemoryMap) (o : ℕ) (d : Fault) → naming_of m o ≡ Er
 unfolding removed
 bad_removal m o d h = rw h refl
 
-removal_of : (m : MemoryMap) (o : ℕ) (place : Place) → naming_of m o ≡ Ok (Some place) → removed m o ≡ unlinked m place o
+removal_of : (m : MemoryMap) (o : ℕ) (place : LinkPlace) → naming_of m o ≡ Ok (Some place) → removed m o ≡ unlinked m place o
 unfolding removed unlinked_where
 removal_of m o place h = rw h refl
 
@@ -34,7 +34,7 @@ unfolding link_at
 no_parent m = refl
 
 -- an object that a link names has an entry
-named_entry : (m : MemoryMap) (o : ℕ) (place : Place) → naming_of m o ≡ Ok (Some place) → (a : ℕ) × (entry_of m o ≡ Ok a)
+named_entry : (m : MemoryMap) (o : ℕ) (place : LinkPlace) → naming_of m o ≡ Ok (Some place) → (a : ℕ) × (entry_of m o ≡ Ok a)
 unfolding naming_of
 named_entry m o place h =
     let e = bind_ok (link_at m (parent_of o)) _ (Some place) h in
@@ -45,27 +45,27 @@ named_entry m o place h =
       | inr z ↦ link_entry m (parent_of o) e.0 (λ zero. let t = eq-eqb o 0 zero in absurd cc) e.1
     ]
 
-named_sibling : (m : MemoryMap) (o : ℕ) (place : Place) → naming_of m o ≡ Ok (Some place) → (v : ℕ) × (link_at m (sibling_of o) ≡ Ok v)
+named_sibling : (m : MemoryMap) (o : ℕ) (place : LinkPlace) → naming_of m o ≡ Ok (Some place) → (v : ℕ) × (link_at m (sibling_of o) ≡ Ok v)
 named_sibling m o place h = let e = named_entry m o place h in has_link m (sibling_of o) e.0 e.1
 
 -- ---- the three links that a removal writes
 
-removal_writes : (m : MemoryMap) (o : ℕ) (place : Place) → naming_of m o ≡ Ok (Some place) → (next : ℕ) × (removed m o ≡ put_all m (place, next) ((parent_of o, 0) ∷ (sibling_of o, 0) ∷ []))
+removal_writes : (m : MemoryMap) (o : ℕ) (place : LinkPlace) → naming_of m o ≡ Ok (Some place) → (next : ℕ) × (removed m o ≡ put_all m (place, next) ((parent_of o, 0) ∷ (sibling_of o, 0) ∷ []))
 unfolding unlinked
 removal_writes m o place h = let next = named_sibling m o place h in (next.0, rw (removal_of m o place h, next.1) refl)
 
-pub removal_refused : (m : MemoryMap) (o : ℕ) (place : Place) (d : Fault) → naming_of m o ≡ Ok (Some place) → write_tests m place (parent_of o ∷ sibling_of o ∷ []) ≡ Err d → removed m o ≡ Err d
+pub removal_refused : (m : MemoryMap) (o : ℕ) (place : LinkPlace) (d : Fault) → naming_of m o ≡ Ok (Some place) → write_tests m place (parent_of o ∷ sibling_of o ∷ []) ≡ Err d → removed m o ≡ Err d
 removal_refused m o place d h w =
     let r = removal_writes m o place h in
     r.1 ∙ all_refused m m (place, r.0) ((parent_of o, 0) ∷ (sibling_of o, 0) ∷ []) d (same_shape m) w
 
-pub removal_done : (m : MemoryMap) (o : ℕ) (place : Place) → naming_of m o ≡ Ok (Some place) → write_tests m place (parent_of o ∷ sibling_of o ∷ []) ≡ Ok tt → IsOk (removed m o)
+pub removal_done : (m : MemoryMap) (o : ℕ) (place : LinkPlace) → naming_of m o ≡ Ok (Some place) → write_tests m place (parent_of o ∷ sibling_of o ∷ []) ≡ Ok tt → IsOk (removed m o)
 removal_done m o place h w =
     let r = removal_writes m o place h in
     let n = all_written m m (place, r.0) ((parent_of o, 0) ∷ (sibling_of o, 0) ∷ []) (same_shape m) w in
     is_ok_of (removed m o) n.0 (r.1 ∙ n.1)
 
-unlinked_shape : (m n : MemoryMap) (o : ℕ) (place : Place) → unlinked m place o ≡ Ok n → IsSameShape m n
+unlinked_shape : (m n : MemoryMap) (o : ℕ) (place : LinkPlace) → unlinked m place o ≡ Ok n → IsSameShape m n
 unfolding unlinked
 unlinked_shape m n o place h =
     let next = bind_ok (link_at m (sibling_of o)) _ n h in
@@ -76,14 +76,14 @@ unlinked_shape m n o place h =
     let third = put_shape two.0 n (sibling_of o) 0 two.2 in
     shape_join m one.0 n first (shape_join one.0 two.0 n second third)
 
-where_shape : (m n : MemoryMap) (o : ℕ) (place : Option Place) → unlinked_where m o place ≡ Ok n → IsSameShape m n
+where_shape : (m n : MemoryMap) (o : ℕ) (place : Option LinkPlace) → unlinked_where m o place ≡ Ok n → IsSameShape m n
 unfolding unlinked_where
 where_shape m n o None h = let same : m ≡ n = cc in rw (← same) (same_shape m)
 where_shape m n o (Some place) h = unlinked_shape m n o place h
 
 -- ---- the whole removal
 
-pub remove_ends : (m n : MemoryMap) (o : ℕ) (place : Option Place) (r : Result (Unit {0}) Fault) → naming_of m o ≡ Ok place → IsOk (removed m o)
+pub remove_ends : (m n : MemoryMap) (o : ℕ) (place : Option LinkPlace) (r : Result (Unit {0}) Fault) → naming_of m o ≡ Ok place → IsOk (removed m o)
     → MatchResult r (λ _. unlinked_where m o place ≡ Ok n) (λ e. unlinked_where m o place ≡ Err e)
     → MatchResult r (λ _. removed m o ≡ Ok n) (λ e. (removed m o ≡ Err e) × (n ≡ m))
 unfolding removed
@@ -155,11 +155,11 @@ linked_done m n o d t shape w =
     let done = all_written m n (sibling_of o, l.0) ((parent_of o, d) ∷ (child_of d, o) ∷ []) shape w in
     is_ok_of (linked n o d) done.0 (l.1 ∙ done.1)
 
-pub removed_by : (m n : MemoryMap) (o : ℕ) (place : Option Place) → naming_of m o ≡ Ok place → unlinked_where m o place ≡ Ok n → removed m o ≡ Ok n
+pub removed_by : (m n : MemoryMap) (o : ℕ) (place : Option LinkPlace) → naming_of m o ≡ Ok place → unlinked_where m o place ≡ Ok n → removed m o ≡ Ok n
 unfolding removed
 removed_by m n o place h k = rw h k
 
-pub removal_stands : (m : MemoryMap) (o : ℕ) (place : Option Place) (d : Fault) → naming_of m o ≡ Ok place → IsOk (removed m o) → unlinked_where m o place ≡ Err d → ⊥
+pub removal_stands : (m : MemoryMap) (o : ℕ) (place : Option LinkPlace) (d : Fault) → naming_of m o ≡ Ok place → IsOk (removed m o) → unlinked_where m o place ≡ Err d → ⊥
 unfolding removed
 removal_stands m o place d h ok bad = not_err (removed m o) d ok (rw h bad)
 

@@ -10,7 +10,7 @@ use Rattle.zk_mem.specs.Map.{MemoryMap, readable_end, byte_at, word_at, byte_put
 use Rattle.zk_tables.specs.declared.layout.Layout.{Layout}
 use Rattle.zk_tables.specs.declared.links.Link.{Link}
 use Rattle.zk_tables.specs.declared.links.Link.TheVariants.{Parent, Sibling, Child}
-use Rattle.zk_tables.specs.declared.links.Place.{Place}
+use Rattle.zk_tables.specs.declared.links.LinkPlace.{LinkPlace}
 use Rattle.zk_tables.specs.Layout.{early_layout, late_layout, layout_of, default_words_start, first_entry, is_entry, is_entry_in, entry_of}
 use Rattle.zk_tables.specs.Links.{order_of, address_of, number_at, number_put, link_at, link_put, write_test, write_tests}
 use Rattle.zk_tables.proofs.Steps.{bind_ok, bind_err, chosen, same_value, same_fault, same_map}
@@ -57,7 +57,7 @@ link_within l (inl e) first end o k n h = let small = order_small k in let room 
 link_within l (inr e) first end o k n h = let small = order_small k in let room : first + 14 * o ≤ end = rw e at h in rw e (omega arith)
 
 -- a link lies in data
-pub address_within : (m : MemoryMap) (place : Place) (a : ℕ) → address_of m place ≡ Ok a → a + (layout_of m.version).link_bytes ≤ readable_end m
+pub address_within : (m : MemoryMap) (place : LinkPlace) (a : ℕ) → address_of m place ≡ Ok a → a + (layout_of m.version).link_bytes ≤ readable_end m
 unfolding address_of
 address_within m place a h =
     let e = bind_ok (entry_of m place.object) _ a h in
@@ -146,11 +146,11 @@ number_refused m a v h k = elim (layouts m.version) [
 
 -- ---- links
 
-entry_address : (m : MemoryMap) (place : Place) (a : ℕ) → entry_of m place.object ≡ Ok a → (x : ℕ) × (address_of m place ≡ Ok x)
+entry_address : (m : MemoryMap) (place : LinkPlace) (a : ℕ) → entry_of m place.object ≡ Ok a → (x : ℕ) × (address_of m place ≡ Ok x)
 unfolding address_of
 entry_address m place a h = rw h (_, refl)
 
-pub has_link : (m : MemoryMap) (place : Place) (a : ℕ) → entry_of m place.object ≡ Ok a → (v : ℕ) × (link_at m place ≡ Ok v)
+pub has_link : (m : MemoryMap) (place : LinkPlace) (a : ℕ) → entry_of m place.object ≡ Ok a → (v : ℕ) × (link_at m place ≡ Ok v)
 unfolding link_at
 has_link m place a h =
     let f = entry_there m place.object (entry_takes m place.object a h).0 in
@@ -164,7 +164,7 @@ low_test true x a h = refl
 low_test false x a h = absurd cc
 
 -- a link that may be written is written
-pub link_written : (m : MemoryMap) (place : Place) (v : ℕ) → write_test m place ≡ Ok tt → (n : MemoryMap) × (link_put m place v ≡ Ok n) × IsSameShape m n
+pub link_written : (m : MemoryMap) (place : LinkPlace) (v : ℕ) → write_test m place ≡ Ok tt → (n : MemoryMap) × (link_put m place v ≡ Ok n) × IsSameShape m n
 unfolding write_test link_put
 link_written m place v h =
     let e = bind_ok (address_of m place) _ tt h in
@@ -176,7 +176,7 @@ high_test true x d h = absurd cc
 high_test false x d h = let same : d ≡ ReadOnly = cc in (refl, same)
 
 -- and one that may not is refused, for the same reason
-pub link_refused : (m : MemoryMap) (place : Place) (v : ℕ) (d : Fault) → write_test m place ≡ Err d → link_put m place v ≡ Err d
+pub link_refused : (m : MemoryMap) (place : LinkPlace) (v : ℕ) (d : Fault) → write_test m place ≡ Err d → link_put m place v ≡ Err d
 unfolding write_test link_put
 link_refused m place v d h =
     elim (bind_err (address_of m place) _ d h) [
@@ -190,12 +190,12 @@ pub entry_same : (m n : MemoryMap) (o : ℕ) → IsSameShape m n → entry_of n 
 unfolding entry_of is_entry
 entry_same m n o s = rw (s.version, s.file, s.long) refl
 
-pub writable_same : (m n : MemoryMap) (place : Place) → IsSameShape m n → write_test n place ≡ write_test m place
+pub writable_same : (m n : MemoryMap) (place : LinkPlace) → IsSameShape m n → write_test n place ≡ write_test m place
 unfolding write_test address_of
 writable_same m n place s = rw (entry_same m n place.object s, s.version, s.static_base) refl
 
 -- what a change of a link leaves as it was
-pub put_shape : (m n : MemoryMap) (place : Place) (v : ℕ) → link_put m place v ≡ Ok n → IsSameShape m n
+pub put_shape : (m n : MemoryMap) (place : LinkPlace) (v : ℕ) → link_put m place v ≡ Ok n → IsSameShape m n
 put_shape m n place v h = by_test (write_test m place) refl
   where
     by_test : (r : Result (Unit {0}) Fault) → write_test m place ≡ r → IsSameShape m n
@@ -205,16 +205,16 @@ put_shape m n place v h = by_test (write_test m place) refl
 -- ---- several links, one after another
 
 -- links that get numbers
-abbrev pub put_all : MemoryMap → Place × ℕ → List (Place × ℕ) → Result MemoryMap Fault
+abbrev pub put_all : MemoryMap → LinkPlace × ℕ → List (LinkPlace × ℕ) → Result MemoryMap Fault
 put_all m w [] = link_put m w.0 w.1
 put_all m w (v ∷ vs) = link_put m w.0 w.1 >>= λ n. put_all n v vs
 
-abbrev pub places : List (Place × ℕ) → List Place
+abbrev pub places : List (LinkPlace × ℕ) → List LinkPlace
 places [] = []
 places (w ∷ ws) = w.0 ∷ places ws
 
 -- where they may all be written, they are
-pub all_written : (l m : MemoryMap) (w : Place × ℕ) (ws : List (Place × ℕ)) → IsSameShape l m → write_tests l w.0 (places ws) ≡ Ok tt → (n : MemoryMap) × (put_all m w ws ≡ Ok n)
+pub all_written : (l m : MemoryMap) (w : LinkPlace × ℕ) (ws : List (LinkPlace × ℕ)) → IsSameShape l m → write_tests l w.0 (places ws) ≡ Ok tt → (n : MemoryMap) × (put_all m w ws ≡ Ok n)
 all_written l m w [] s h = let one = link_written m w.0 w.1 (writable_same l m w.0 s ∙ h) in (one.0, one.1)
 all_written l m w (v ∷ vs) s h =
     let e = bind_ok (write_test l w.0) (λ _. write_tests l v.0 (places vs)) tt h in
@@ -222,7 +222,7 @@ all_written l m w (v ∷ vs) s h =
     rw one.1 (all_written l one.0 v vs (shape_join l m one.0 s one.2) e.2)
 
 -- and else they are refused, for the same reason
-pub all_refused : (l m : MemoryMap) (w : Place × ℕ) (ws : List (Place × ℕ)) (d : Fault) → IsSameShape l m → write_tests l w.0 (places ws) ≡ Err d → put_all m w ws ≡ Err d
+pub all_refused : (l m : MemoryMap) (w : LinkPlace × ℕ) (ws : List (LinkPlace × ℕ)) (d : Fault) → IsSameShape l m → write_tests l w.0 (places ws) ≡ Err d → put_all m w ws ≡ Err d
 all_refused l m w [] d s h = link_refused m w.0 w.1 d (writable_same l m w.0 s ∙ h)
 all_refused l m w (v ∷ vs) d s h =
     elim (bind_err (write_test l w.0) (λ _. write_tests l v.0 (places vs)) d h) [
@@ -239,7 +239,7 @@ unfolding entry_of
 entry_cases m o = elim (cases_Bool (is_entry m o)) [ inl h ↦ inl (h, rw h (_, refl)) | inr h ↦ inr (h, rw h refl) ]
 
 -- a link of an object is there where it has an entry
-pub link_entry : (m : MemoryMap) (place : Place) (v : ℕ) → place.object ≢ 0 → link_at m place ≡ Ok v → (a : ℕ) × (entry_of m place.object ≡ Ok a)
+pub link_entry : (m : MemoryMap) (place : LinkPlace) (v : ℕ) → place.object ≢ 0 → link_at m place ≡ Ok v → (a : ℕ) × (entry_of m place.object ≡ Ok a)
 unfolding link_at address_of
 link_entry m place v ne h =
     let test = ne_eqb place.object 0 ne in
@@ -248,7 +248,7 @@ link_entry m place v ne h =
     (f.0, f.1)
 
 -- and a bad object has none
-pub link_bad : (m : MemoryMap) (place : Place) (d : Fault) → place.object ≢ 0 → link_at m place ≡ Err d → (is_entry m place.object ≡ false) × (d ≡ BadObject)
+pub link_bad : (m : MemoryMap) (place : LinkPlace) (d : Fault) → place.object ≢ 0 → link_at m place ≡ Err d → (is_entry m place.object ≡ false) × (d ≡ BadObject)
 unfolding link_at address_of
 link_bad m place d ne h =
     elim (entry_cases m place.object) [

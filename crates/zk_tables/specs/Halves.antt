@@ -10,13 +10,13 @@ abbrev pub entry_key : MemoryMap → Dictionary → ℕ → List ℕ
 entry_key m d i = bytes_from m (entry_start d i) (key_length m.version)
 
 -- where a search by halves comes to: an entry, and how many keys were compared on the way
-pub record Place : Type 0 where
+pub record LinkPlace : Type 0 where
   pub entry : ℕ
   pub compared : ℕ
 
 -- at most so many more times, of the entries that are left, from one on, the one in the middle is compared with the
 -- key: where it is below the key those after it are left, else those before it
-unfoldable pub halved : MemoryMap → Dictionary → List ℕ → ℕ → ℕ → ℕ → ℕ → Place
+unfoldable pub halved : MemoryMap → Dictionary → List ℕ → ℕ → ℕ → ℕ → ℕ → LinkPlace
 halved m d key zero compared first left = record { entry = first; compared = compared }
 halved m d key (suc more) compared first left =
     if nat_lt 0 left
@@ -26,7 +26,7 @@ halved m d key (suc more) compared first left =
     else record { entry = first; compared = compared }
 
 -- fewer than 32,768 entries are used up after 15 times
-unfoldable pub halved_whole : MemoryMap → Dictionary → List ℕ → Place
+unfoldable pub halved_whole : MemoryMap → Dictionary → List ℕ → LinkPlace
 halved_whole m d key = halved m d key 15 0 0 d.entries
 
 -- the address of the entry that the search comes to, where it begins with the key, else 0

@@ -5,28 +5,28 @@ use Rattle.zk_mem.specs.declared.fault.Fault.{Fault}
 use Rattle.zk_mem.specs.declared.fault.Fault.TheVariants.{BadObject, BadTree}
 use Rattle.zk_mem.specs.Results.{◌>>=◌}
 use Rattle.zk_mem.specs.Map.{MemoryMap}
-use Rattle.zk_tables.specs.declared.links.Place.{Place}
+use Rattle.zk_tables.specs.declared.links.LinkPlace.{LinkPlace}
 use Rattle.zk_tables.specs.Layout.{entry_of}
 use Rattle.zk_tables.specs.Links.{parent_of, sibling_of, child_of, link_at, link_put}
 use Rattle.zk_tables.specs.Chain.{children_of, IsChain, Repeats, MeetsBad}
 
 -- the link that names o, in a chain whose first object a link names
-abbrev pub naming_in : Place → List ℕ → ℕ → Result Place Fault
+abbrev pub naming_in : LinkPlace → List ℕ → ℕ → Result LinkPlace Fault
 naming_in place [] o = Err BadTree
 naming_in place (x ∷ xs) o = if x == o then Ok place else naming_in (sibling_of x) xs o
 
 -- the same, where the children are those of an object
-unfoldable pub naming_among : MemoryMap → ℕ → ℕ → Result Place Fault
+unfoldable pub naming_among : MemoryMap → ℕ → ℕ → Result LinkPlace Fault
 naming_among m parent o = children_of m parent >>= λ xs. naming_in (child_of parent) xs o
 
 -- the link that names an object in the whole chain of its parent, where it has a parent
-unfoldable pub naming_of : MemoryMap → ℕ → Result (Option Place) Fault
+unfoldable pub naming_of : MemoryMap → ℕ → Result (Option LinkPlace) Fault
 naming_of m o = do
   parent ← link_at m (parent_of o)
   if parent == 0 then Ok None else (naming_among m parent o >>= λ place. Ok (Some place))
 
 -- the link that names an object gets the object's sibling; the object's parent and sibling become 0
-unfoldable pub unlinked : MemoryMap → Place → ℕ → Result MemoryMap Fault
+unfoldable pub unlinked : MemoryMap → LinkPlace → ℕ → Result MemoryMap Fault
 unlinked m place o = do
   next ← link_at m (sibling_of o)
   named ← link_put m place next
@@ -34,7 +34,7 @@ unlinked m place o = do
   link_put orphan (sibling_of o) 0
 
 -- an object without a parent stays as it is
-unfoldable pub unlinked_where : MemoryMap → ℕ → Option Place → Result MemoryMap Fault
+unfoldable pub unlinked_where : MemoryMap → ℕ → Option LinkPlace → Result MemoryMap Fault
 unlinked_where m o None = Ok m
 unlinked_where m o (Some place) = unlinked m place o
 

@@ -5,14 +5,14 @@ use Rattle.std.specs.List.{Contains, filter}
 use Rattle.zk_mem.specs.declared.fault.Fault.{Fault}
 use Rattle.zk_mem.specs.declared.fault.Fault.TheVariants.{BadObject, BadTree, ReadOnly}
 use Rattle.zk_mem.specs.Map.{MemoryMap, HasBytes, cell_at}
-use Rattle.zk_tables.specs.declared.links.Place.{Place}
+use Rattle.zk_tables.specs.declared.links.LinkPlace.{LinkPlace}
 use Rattle.zk_tables.specs.Layout.{layout_of, is_entry}
 use Rattle.zk_tables.specs.Links.{parent_of, sibling_of, child_of, address_of, link_at}
 use Rattle.zk_tables.specs.Chain.{IsChain}
 use Rattle.zk_tables.specs.Tree.{removed, inserted}
 
 -- a byte of a link
-pub record IsByteOf (m : MemoryMap) (place : Place) (a : ℕ) : Type 0 where
+pub record IsByteOf (m : MemoryMap) (place : LinkPlace) (a : ℕ) : Type 0 where
   -- the link begins here
   pub start : ℕ
   pub address : address_of m place ≡ Ok start
@@ -21,11 +21,11 @@ pub record IsByteOf (m : MemoryMap) (place : Place) (a : ℕ) : Type 0 where
   pub high : a < start + (layout_of m.version).link_bytes
 
 -- of a memory, nothing but some links changes
-pub record ChangesOnly (m n : MemoryMap) (places : List Place) : Type 0 where
+pub record ChangesOnly (m n : MemoryMap) (places : List LinkPlace) : Type 0 where
   -- every other link names what it named
-  pub links : (q : Place) → (Contains places q → ⊥) → link_at n q ≡ link_at m q
+  pub links : (q : LinkPlace) → (Contains places q → ⊥) → link_at n q ≡ link_at m q
   -- every byte outside these links is as it was
-  pub others : (a : ℕ) → ((place : Place) → Contains places place → IsByteOf m place a → ⊥) → cell_at n a ≡ cell_at m a
+  pub others : (a : ℕ) → ((place : LinkPlace) → Contains places place → IsByteOf m place a → ⊥) → cell_at n a ≡ cell_at m a
   -- and so is all else that memory has
   pub version : n.version ≡ m.version
   pub static_base : n.static_base ≡ m.static_base
@@ -38,7 +38,7 @@ abbrev pub without : ℕ → List ℕ → List ℕ
 without object xs = filter (λ x. not (nat_eq x object)) xs
 
 -- the link that names an object among the children of its parent
-pub record IsNaming (m : MemoryMap) (object parent : ℕ) (place : Place) : Type 0 where
+pub record IsNaming (m : MemoryMap) (object parent : ℕ) (place : LinkPlace) : Type 0 where
   -- it names the object
   pub names : link_at m place ≡ Ok object
   -- the children of the parent
@@ -54,7 +54,7 @@ pub record IsTakenOut (m n : MemoryMap) (object parent : ℕ) : Type 0 where
   -- nor a sibling
   pub no_sibling : link_at n (sibling_of object) ≡ Ok 0
   -- the link that named it
-  pub place : Place
+  pub place : LinkPlace
   pub naming : IsNaming m object parent place
   -- names the sibling that it had
   pub closed : link_at n place ≡ link_at m (sibling_of object)
@@ -78,7 +78,7 @@ RemovalsTakeOut = (m n : MemoryMap) (object parent : ℕ) → link_at m (parent_
 -- an object that had a parent is put into a destination
 pub record IsMoved (m n : MemoryMap) (object destination parent : ℕ) : Type 0 where
   -- the link that named it among its parent's children
-  pub place : Place
+  pub place : LinkPlace
   pub naming : IsNaming m object parent place
   -- names the sibling that it had, unless it is the one that names the object anew
   pub closed : place ≢ child_of destination → link_at n place ≡ link_at m (sibling_of object)
@@ -119,7 +119,7 @@ InsertionsPutFirst = (m n : MemoryMap) (object destination : ℕ) → HasBytes m
 -- ---- when they are made
 
 -- a link that may be written
-pub record IsWritable (m : MemoryMap) (place : Place) : Type 0 where
+pub record IsWritable (m : MemoryMap) (place : LinkPlace) : Type 0 where
   -- the link begins here
   pub start : ℕ
   pub address : address_of m place ≡ Ok start
@@ -128,7 +128,7 @@ pub record IsWritable (m : MemoryMap) (place : Place) : Type 0 where
 
 -- the links that a removal writes may be written
 pub record AllowsRemoval (m : MemoryMap) (object parent : ℕ) : Type 0 where
-  pub naming : (place : Place) → IsNaming m object parent place → IsWritable m place
+  pub naming : (place : LinkPlace) → IsNaming m object parent place → IsWritable m place
   pub its_parent : IsWritable m (parent_of object)
   pub its_sibling : IsWritable m (sibling_of object)
 

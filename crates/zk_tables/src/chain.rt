@@ -7,7 +7,7 @@ ghost use Rattle.zk_tables.specs.Links.{CountsUpTo};
 ghost use Rattle.zk_tables.specs.Tree.{naming_among};
 
 use crate::layout::{count_entries, entry};
-use crate::links::{Links, Place, child_link, sibling_link};
+use crate::links::{LinkPlace, WalkCount, child_link, sibling_link};
 use zk_mem::fault::Fault;
 use zk_mem::memory::Memory;
 
@@ -16,7 +16,7 @@ pub(crate) fn count_chain(
     memory: &Memory,
     first: u16,
     most: u16,
-    links: &mut Links,
+    links: &mut WalkCount,
 ) -> Result<u16, Fault>
     requires { links.old ≤ 4100000000 }
     ensures value { result ≡ how_many (chain_from memory.now most first) }
@@ -44,8 +44,8 @@ pub(crate) fn find_naming(
     memory: &Memory,
     parent: u16,
     object: u16,
-    links: &mut Links,
-) -> Result<Place, Fault>
+    links: &mut WalkCount,
+) -> Result<LinkPlace, Fault>
     requires { links.old ≤ 4000000000 }
     ensures value { result ≡ naming_among memory.now parent object }
     ensures few { CountsUpTo links.old links.new (entries memory.now + 1) }

@@ -3,7 +3,7 @@
 ghost use Rattle.std.specs.Prelude.{◌≡◌, ◌≤◌, ◌<◌, ◌+◌, ◌*◌, IfOk, true, length, get_or, ℕ};
 ghost use Rattle.zk_mem.specs.Map.{readable_end};
 ghost use Rattle.zk_tables.specs.Dictionaries.{key_length, magnitude, dictionary_byte, dictionary_word, dictionary_by, dictionary_at, IsDictionaryOf, begins_with, is_above, do_not_fall, bytes_from, front_at, number_at, keys_from, entry_start, has_key, found_from, found_in};
-ghost use Rattle.zk_tables.specs.Halves.{Place, entry_key, halved_whole, compared_to_end, compared_by_halves};
+ghost use Rattle.zk_tables.specs.Halves.{LinkPlace, entry_key, halved_whole, compared_to_end, compared_by_halves};
 
 use zk_mem::fault::Fault;
 use zk_mem::memory::Memory;

@@ -33,40 +33,40 @@ impl Link {
 
 /// One link of one object.
 #[derive(Clone, Copy)]
-pub struct Place {
+pub struct LinkPlace {
     pub link: Link,
     pub object: u16,
 }
 
-pub(crate) fn parent_link(object: u16) -> Place
+pub(crate) fn parent_link(object: u16) -> LinkPlace
     ensures { result ≡ parent_of object }
 {
-    Place {
+    LinkPlace {
         link: Link::Parent,
         object,
     }
 }
 
-pub(crate) fn sibling_link(object: u16) -> Place
+pub(crate) fn sibling_link(object: u16) -> LinkPlace
     ensures { result ≡ sibling_of object }
 {
-    Place {
+    LinkPlace {
         link: Link::Sibling,
         object,
     }
 }
 
-pub(crate) fn child_link(object: u16) -> Place
+pub(crate) fn child_link(object: u16) -> LinkPlace
     ensures { result ≡ child_of object }
 {
-    Place {
+    LinkPlace {
         link: Link::Child,
         object,
     }
 }
 
 #[inline(always)]
-fn walked(object: u16, first: bool) -> Place
+fn walked(object: u16, first: bool) -> LinkPlace
     ensures { result ≡ walked_link object first }
 {
     if first {
@@ -79,7 +79,7 @@ fn walked(object: u16, first: bool) -> Place
 /// Where a link stands in a layout.
 #[inline(always)]
 #[tactic(auto, unfolding(crate::specs::Links::address_of))]
-fn address_in(memory: &Memory, layout: Layout, place: Place) -> Result<u32, Fault>
+fn address_in(memory: &Memory, layout: Layout, place: LinkPlace) -> Result<u32, Fault>
     requires layout { layout ≡ layout_of memory.now.version }
     requires entry { 9 ≤ layout.entry_bytes }
     ensures value { result ≡ address_of memory.now place }
@@ -92,7 +92,7 @@ fn address_in(memory: &Memory, layout: Layout, place: Place) -> Result<u32, Faul
 /// Where a link stands.
 #[inline(always)]
 #[tactic(auto, unfolding(crate::specs::Layout::layout_of))]
-pub(crate) fn address(memory: &Memory, place: Place) -> Result<u32, Fault>
+pub(crate) fn address(memory: &Memory, place: LinkPlace) -> Result<u32, Fault>
     ensures value { result ≡ address_of memory.now place }
     ensures bound { IfOk result (λ address. address < 131072) }
 {
@@ -132,7 +132,7 @@ fn write_number(memory: &mut Memory, address: u32, object: u16) -> Result<(), Fa
 /// The object that a link names, or 0.
 #[inline(always)]
 #[tactic(auto, unfolding(crate::specs::Links::link_at))]
-pub(crate) fn read_link(memory: &Memory, place: Place) -> Result<u16, Fault>
+pub(crate) fn read_link(memory: &Memory, place: LinkPlace) -> Result<u16, Fault>
     ensures { result ≡ link_at memory.now place }
 {
     if place.object == 0 {
@@ -144,7 +144,7 @@ pub(crate) fn read_link(memory: &Memory, place: Place) -> Result<u16, Fault>
 
 /// Makes a link name an object.
 #[tactic(auto, unfolding(crate::specs::Links::link_put))]
-pub(crate) fn write_link(memory: &mut Memory, place: Place, object: u16) -> Result<(), Fault>
+pub(crate) fn write_link(memory: &mut Memory, place: LinkPlace, object: u16) -> Result<(), Fault>
     ensures { MatchResult result (λ _. link_put memory.old place object ≡ Ok memory.new)
         (λ e. (link_put memory.old place object ≡ Err e) × (memory.new ≡ memory.old)) }
 {
@@ -154,7 +154,7 @@ pub(crate) fn write_link(memory: &mut Memory, place: Place, object: u16) -> Resu
 
 /// Whether a link may be written: `ReadOnly` where it lies outside dynamic memory.
 #[tactic(auto, unfolding(crate::specs::Links::write_test))]
-fn check_write(memory: &Memory, place: Place) -> Result<(), Fault>
+fn check_write(memory: &Memory, place: LinkPlace) -> Result<(), Fault>
     ensures { result ≡ write_test memory.now place }
 {
     let address = address(memory, place)?;
@@ -169,9 +169,9 @@ fn check_write(memory: &Memory, place: Place) -> Result<(), Fault>
 /// Whether three links may be written: the first that may not decides.
 pub(crate) fn check_writes(
     memory: &Memory,
-    first: Place,
-    second: Place,
-    third: Place,
+    first: LinkPlace,
+    second: LinkPlace,
+    third: LinkPlace,
 ) -> Result<(), Fault>
     ensures { result ≡ write_tests memory.now first (second ∷ third ∷ []) }
 {
@@ -182,11 +182,11 @@ pub(crate) fn check_writes(
 
 /// Reads the links to children and siblings, and counts them. Contracts see it as how many were read.
 #[derive(Drop)]
-pub struct Links {
+pub struct WalkCount {
     count: u32,
 }
 
-impl Model for Links {
+impl Model for WalkCount {
     ghost use Rattle.std.specs.Prelude.{ℕ};
 
     ghost Value = { ℕ };
@@ -194,12 +194,12 @@ impl Model for Links {
     ghost view = { λ l. l.count };
 }
 
-impl Links {
+impl WalkCount {
     /// None were read.
-    pub fn new() -> Links
+    pub fn new() -> WalkCount
         ensures { result ≡ 0 }
     {
-        Links { count: 0 }
+        WalkCount { count: 0 }
     }
 
     /// How many were read.

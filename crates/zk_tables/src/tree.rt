@@ -9,7 +9,7 @@ ghost use Rattle.zk_tables.specs.Tree.{naming_of, unlinked_where, removed, linke
 use crate::chain::{count_chain, find_naming};
 use crate::layout::{count_entries, entry};
 use crate::links::{
-    Links, Place, check_writes, child_link, parent_link, read_link, sibling_link, write_link,
+    LinkPlace, Links, check_writes, child_link, parent_link, read_link, sibling_link, write_link,
 };
 use zk_mem::fault::Fault;
 use zk_mem::memory::Memory;
@@ -46,7 +46,7 @@ pub fn child(memory: &Memory, object: u16) -> Result<u16, Fault>
 /// `BadObject` where the object, or one that the chain meets, has no entry in data, `BadTree` where the chain repeats an
 /// object.
 #[tactic(auto, unfolding(crate::specs::Chain::children_of))]
-pub fn chain(memory: &Memory, object: u16, links: &mut Links) -> Result<u16, Fault>
+pub fn chain(memory: &Memory, object: u16, links: &mut WalkCount) -> Result<u16, Fault>
     requires { links.old ≤ 4000000000 }
     ensures value { result ≡ how_many (children_of memory.now object) }
     ensures bound { IfOk result (λ n. n ≤ entries memory.now) }
@@ -59,7 +59,11 @@ pub fn chain(memory: &Memory, object: u16, links: &mut Links) -> Result<u16, Fau
 
 /// The link that names an object among its parent's children, if it has a parent.
 #[tactic(auto, unfolding(crate::specs::Tree::naming_of))]
-fn naming_link(memory: &Memory, object: u16, links: &mut Links) -> Result<Option<Place>, Fault>
+fn naming_link(
+    memory: &Memory,
+    object: u16,
+    links: &mut WalkCount,
+) -> Result<Option<LinkPlace>, Fault>
     requires { links.old ≤ 4000000000 }
     ensures value { result ≡ naming_of memory.now object }
     ensures few { CountsUpTo links.old links.new (entries memory.now + 1) }
@@ -72,7 +76,11 @@ fn naming_link(memory: &Memory, object: u16, links: &mut Links) -> Result<Option
 }
 
 /// Whether an object may be removed, and the link that names it then.
-fn check_removal(memory: &Memory, object: u16, links: &mut Links) -> Result<Option<Place>, Fault>
+fn check_removal(
+    memory: &Memory,
+    object: u16,
+    links: &mut WalkCount,
+) -> Result<Option<LinkPlace>, Fault>
     requires { links.old ≤ 4000000000 }
     ensures value { MatchResult result
         (λ place. (naming_of memory.now object ≡ Ok place) × IsOk (removed memory.now object))
@@ -91,8 +99,8 @@ fn check_removal(memory: &Memory, object: u16, links: &mut Links) -> Result<Opti
 fn unlink(
     memory: &mut Memory,
     object: u16,
-    place: Option<Place>,
-    links: &mut Links,
+    place: Option<LinkPlace>,
+    links: &mut WalkCount,
 ) -> Result<(), Fault>
     requires { links.old ≤ 4100000000 }
     ensures value { MatchResult result (λ _. unlinked_where memory.old object place ≡ Ok memory.new)
@@ -114,7 +122,7 @@ fn link_first(
     memory: &mut Memory,
     object: u16,
     destination: u16,
-    links: &mut Links,
+    links: &mut WalkCount,
 ) -> Result<(), Fault>
     requires { links.old ≤ 4100000000 }
     ensures value { MatchResult result (λ _. linked memory.old object destination ≡ Ok memory.new)
@@ -134,7 +142,7 @@ fn link_first(
 /// children meets such an object. `BadTree` where that chain repeats an object or lacks this one. Then
 /// `ReadOnly` where one of the links lies outside dynamic memory. A refusal changes no memory; the links read before
 /// it count.
-pub fn remove(memory: &mut Memory, object: u16, links: &mut Links) -> Result<(), Fault>
+pub fn remove(memory: &mut Memory, object: u16, links: &mut WalkCount) -> Result<(), Fault>
     requires { links.old ≤ 4000000000 }
     ensures value { MatchResult result (λ _. removed memory.old object ≡ Ok memory.new)
         (λ e. (removed memory.old object ≡ Err e) × (memory.new ≡ memory.old)) }
@@ -153,7 +161,7 @@ pub fn insert(
     memory: &mut Memory,
     object: u16,
     destination: u16,
-    links: &mut Links,
+    links: &mut WalkCount,
 ) -> Result<(), Fault>
     requires { links.old ≤ 4000000000 }
     ensures value { MatchResult result (λ _. inserted memory.old object destination ≡ Ok memory.new)

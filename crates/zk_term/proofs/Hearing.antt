@@ -3,7 +3,7 @@ use Rattle.std.proofs.Common.{◌≡◌, ℕ, Bool, true, false, ◌==◌, List,
 use Rattle.std.proofs.lemmas.Bool.Decides.{nat_tests}
 use Rattle.std.specs.List.{list_all, slice_split}
 use Rattle.std.specs.Str.Lines.{lines_of_parts, strip_carriage_return}
-use Rattle.zk_term.specs.declared.lines.Over.TheVariants as over
+use Rattle.zk_term.specs.declared.lines.InputEnd.TheVariants as over
 use Rattle.zk_term.specs.Lines.{heard, heard_in, behind, nothing_more, is_new_line, is_short, while_short, ended_in, ended_lines, IsPlain, AreLines}
 
 -- ---- parts

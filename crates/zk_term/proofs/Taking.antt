@@ -6,7 +6,7 @@ use Rattle.std.proofs.lemmas.Bool.Decides.{nat_tests}
 use Rattle.std.specs.List.{concat}
 use Rattle.std.specs.Str.Lines.{strip_carriage_return}
 use Rattle.arrayvec.specs.ArrayVec.{ArrayVec}
-use Rattle.zk_term.specs.declared.lines.Over.TheVariants as over
+use Rattle.zk_term.specs.declared.lines.InputEnd.TheVariants as over
 use Rattle.zk_text.specs.Extra.{ExtraTable}
 use Rattle.zk_term.specs.Characters.{line_codes}
 use Rattle.zk_term.specs.Lines.{Reading, Gives, GivesEach, GivesLine, IsPlain, is_new_line, AreGiven, Takes, TakesByte, TakesPlain}

@@ -4,8 +4,8 @@ use Rattle.std.proofs.lemmas.Bool.Decides.{nat_tests}
 use Rattle.std.proofs.lemmas.List.Sums.{sum_by-append}
 use Rattle.std.specs.List.{join_with_byte, slice_split}
 use Rattle.zk_term.specs.Wrapping.{is_space, begins_character, columns, fits, further_words, all_words, wrapped_line, wrapped}
-use Rattle.zk_term.specs.declared.open_line.Kind.{Kind}
-use Rattle.zk_term.specs.declared.open_line.Kind.TheVariants.{Empty, Row, Words}
+use Rattle.zk_term.specs.declared.open_line.LineKind.{LineKind}
+use Rattle.zk_term.specs.declared.open_line.LineKind.TheVariants.{Empty, Row, Words}
 use Rattle.zk_term.specs.Lines.{is_new_line}
 use Rattle.zk_term.specs.OpenLines.{BreaksLine, EndsLine, GoesOn, HasNoSpace, HoldsBy, HoldsOn, IsFullFor, IsHeld, IsOpen, rest_by, rest_of_line, rest_of_text, rest_of_words, Takes, TakesAmongWords, TakesInLine, WordsGoOn}
 use Rattle.zk_term.specs.declared.open_line.Line.{Line}
@@ -196,7 +196,7 @@ join_first s t [] = refl
 join_first s t (line ∷ lines) = append_assoc s t (10 ∷ join_with_byte 10 (line ∷ lines))
 
 -- at its end a line gives out what is held back
-at_the_end : (kind : Kind) (width room : ℕ) (held : List ℕ) → HoldsBy kind held → rest_by kind width room held [] ≡ held
+at_the_end : (kind : LineKind) (width room : ℕ) (held : List ℕ) → HoldsBy kind held → rest_by kind width room held [] ≡ held
 unfolding further_words
 at_the_end Empty width room held h = sym h
 at_the_end Row width room held h = sym h
@@ -231,7 +231,7 @@ at_the_front line rest e = let p = parts is_new_line rest in rw (e, p.are) refl
 pub line_at_the_front : (line : Line) → line.kind ≡ Empty → line.held.items ≡ [] → IsOpen (wrapped line.width) line [] []
 line_at_the_front line kind none = open_line (wrapped line.width) line [] [] (λ rest. sym (at_the_front line rest kind)) (rw kind none)
 
-holds_none : (kind : Kind) (held : List ℕ) → held ≡ [] → HoldsBy kind held
+holds_none : (kind : LineKind) (held : List ℕ) → held ≡ [] → HoldsBy kind held
 holds_none Empty held e = e
 holds_none Row held e = e
 holds_none Words held e = rw e tt

@@ -1,7 +1,7 @@
 -- Worked examples of this crate's definitions. Their values come from the Unicode Standard and the Z-machine's by hand,
 -- and no definition made them.
 use Rattle.std.specs.Prelude.{◌≡◌, ℕ, List, [], ◌∷◌, ◌++◌, Some, None, replicate, codes}
-use Rattle.zk_term.specs.declared.lines.Over.TheVariants as over
+use Rattle.zk_term.specs.declared.lines.InputEnd.TheVariants as over
 use Rattle.zk_term.specs.declared.windows.Window.TheVariants.{Lower, Upper}
 use Rattle.zk_term.specs.Characters.{characters_of, line_codes}
 use Rattle.zk_term.specs.Lines.{Heard, heard}

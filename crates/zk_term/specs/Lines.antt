@@ -4,8 +4,8 @@ use Rattle.std.specs.List.{list_all, slice_split, AllByRecursion, concat}
 use Rattle.std.specs.Str.Lines.{lines_of_parts, strip_carriage_return}
 use Rattle.arrayvec.specs.ArrayVec.{ArrayVec}
 use Rattle.zk_text.specs.Extra.{ExtraTable, is_input_code}
-use Rattle.zk_term.specs.declared.lines.Over.{Over}
-use Rattle.zk_term.specs.declared.lines.Over.TheVariants as over
+use Rattle.zk_term.specs.declared.lines.InputEnd.{InputEnd}
+use Rattle.zk_term.specs.declared.lines.InputEnd.TheVariants as over
 use Rattle.zk_term.specs.declared.lines.Input.{Input}
 use Rattle.zk_term.specs.declared.lines.Input.TheVariants as input
 use Rattle.zk_term.specs.Characters.{line_codes}
@@ -14,7 +14,7 @@ use Rattle.zk_term.specs.Devices.{HasJust}
 -- what can be read of an input: its lines, and how it is over after them
 pub record Heard : Type 0 where
   pub lines : List (List ℕ)
-  pub over : Over
+  pub over : InputEnd
 
 -- the byte of a new line
 abbrev pub is_new_line : ℕ → Bool
@@ -46,7 +46,7 @@ abbrev pub behind : List ℕ → Heard → Heard
 behind line h = record { lines = line ∷ h.lines; over = h.over }
 
 -- nothing more can be read
-abbrev pub nothing_more : Over → Heard
+abbrev pub nothing_more : InputEnd → Heard
 nothing_more o = record { lines = []; over = o }
 
 -- ---- reading line by line
@@ -55,15 +55,15 @@ nothing_more o = record { lines = []; over = o }
 -- over, if it is
 pub record Reading : Type 0 where
   pub ahead : List ℕ
-  pub over : Option Over
+  pub over : Option InputEnd
 
 -- the answer where an input is over
-abbrev pub over_input : Over → Input
+abbrev pub over_input : InputEnd → Input
 over_input over.End = input.End
 over_input over.Failed = input.Failed
 
 -- how the input is over after an answer: after a line it goes on, unless the line was the last
-abbrev pub IsOverAfter : Input → Option Over → Type 0
+abbrev pub IsOverAfter : Input → Option InputEnd → Type 0
 IsOverAfter (input.Line codes) how = (how ≡ None) ⊎ (how ≡ Some over.End)
 IsOverAfter input.End how = how ≡ Some over.End
 IsOverAfter input.Failed how = how ≡ Some over.Failed
@@ -89,7 +89,7 @@ pub record IsLastLine (bytes later line : List ℕ) : Type 0 where
   pub none : later ≡ []
 
 -- a line comes first, and the input goes on or is over after it
-abbrev pub IsNextLine : List ℕ → List ℕ → List ℕ → Option Over → Type 0
+abbrev pub IsNextLine : List ℕ → List ℕ → List ℕ → Option InputEnd → Type 0
 IsNextLine bytes later line how = (IsEndedLine bytes later line × (how ≡ None)) ⊎ (IsLastLine bytes later line × (how ≡ Some over.End))
 
 -- a read failed in a line: a part of the line had come, with no new line, and this is what comes later
@@ -152,7 +152,7 @@ pub record ReadFailed {S : Type 0} (fails : S → S → Type 0) (failed : S → 
 
 -- an answer is what comes next of the bytes from here on, before those that come later; where a line is not there either
 -- a read has failed, or none has failed and too many bytes came
-abbrev pub Hears : ExtraTable → List ℕ → List ℕ → Option Over → Type 0 → Type 0 → Input → Type 0
+abbrev pub Hears : ExtraTable → List ℕ → List ℕ → Option InputEnd → Type 0 → Type 0 → Input → Type 0
 Hears t bytes later how failed sound (input.Line codes) = (line : List ℕ) × IsNextLine bytes later line how × (codes.items ≡ line_codes t line)
 Hears t bytes later how failed sound input.End = (bytes ≡ []) × (later ≡ [])
 Hears t bytes later how failed sound input.Failed = (failed × BreaksOff bytes later) ⊎ (sound × IsTooLong bytes later)
@@ -170,7 +170,7 @@ FailsAlone failed sound too_long _ = sound
 -- ---- one step of it
 
 -- a line's bytes are heard next, or how the input is over: those kept have the line's codes
-abbrev pub HearsBytes : List ℕ → List ℕ → Option Over → Type 0 → Type 0 → Result (ArrayVec ℕ) Over → Type 0
+abbrev pub HearsBytes : List ℕ → List ℕ → Option InputEnd → Type 0 → Type 0 → Result (ArrayVec ℕ) InputEnd → Type 0
 HearsBytes bytes later how failed sound (Ok kept) = (line : List ℕ) × IsNextLine bytes later line how × ((t : ExtraTable) → line_codes t kept.items ≡ line_codes t line)
 HearsBytes bytes later how failed sound (Err over.End) = (bytes ≡ []) × (later ≡ [])
 HearsBytes bytes later how failed sound (Err over.Failed) = (failed × BreaksOff bytes later) ⊎ (sound × IsTooLong bytes later)
@@ -180,17 +180,17 @@ abbrev pub Gives : Reading → Option (List ℕ) → Reading → Option (List �
 Gives r left r' left' given = (bytes : List ℕ) → left ≡ Some bytes → (later : List ℕ) × (left' ≡ Some later) × (r.ahead ++ bytes ≡ given ++ (r'.ahead ++ later))
 
 -- a step of theirs gives bytes, or none at the end
-abbrev pub GivesEach : {X : Type 0} → (X → List ℕ) → Reading → Option (List ℕ) → Reading → Option (List ℕ) → Result X Over → Type 0
+abbrev pub GivesEach : {X : Type 0} → (X → List ℕ) → Reading → Option (List ℕ) → Reading → Option (List ℕ) → Result X InputEnd → Type 0
 GivesEach given r left r' left' (Ok x) = Gives r left r' left' (given x)
 GivesEach given r left r' left' (Err over.End) = Gives r left r' left' [] × ((bytes : List ℕ) → left ≡ Some bytes → r.ahead ++ bytes ≡ [])
 GivesEach given r left r' left' (Err over.Failed) = Gives r left r' left' []
 
 -- they give a line, of which these bytes are kept, or how the input is over
-abbrev pub GivesLine : Reading → Option (List ℕ) → Reading → Option (List ℕ) → Type 0 → Type 0 → Result (ArrayVec ℕ) Over → Type 0
+abbrev pub GivesLine : Reading → Option (List ℕ) → Reading → Option (List ℕ) → Type 0 → Type 0 → Result (ArrayVec ℕ) InputEnd → Type 0
 GivesLine r left r' left' failed sound result = (bytes : List ℕ) → left ≡ Some bytes → (later : List ℕ) × (left' ≡ Some later) × HearsBytes (r.ahead ++ bytes) (r'.ahead ++ later) r'.over failed sound result
 
 -- what holds of the source after a step, by how it has gone
-abbrev pub GoesBy : {X : Type 0} → Type 0 → Type 0 → Type 0 → Result X Over → Type 0
+abbrev pub GoesBy : {X : Type 0} → Type 0 → Type 0 → Type 0 → Result X InputEnd → Type 0
 GoesBy failed ended sound (Ok x) = sound
 GoesBy failed ended sound (Err over.End) = ended × sound
 GoesBy failed ended sound (Err over.Failed) = failed

@@ -1,8 +1,8 @@
 -- The line that is open while a text is wrapped.
 use Rattle.std.specs.Prelude.{◌≡◌, ◌⊎◌, ℕ, ◌+◌, ◌-◌, ◌<◌, ◌≤◌, false, List, [], ◌∷◌, ◌++◌, drop, length, map}
 use Rattle.std.specs.List.{AllByRecursion, join_with_byte, slice_split}
-use Rattle.zk_term.specs.declared.open_line.Kind.{Kind}
-use Rattle.zk_term.specs.declared.open_line.Kind.TheVariants.{Empty, Row, Words}
+use Rattle.zk_term.specs.declared.open_line.LineKind.{LineKind}
+use Rattle.zk_term.specs.declared.open_line.LineKind.TheVariants.{Empty, Row, Words}
 use Rattle.zk_term.specs.declared.open_line.Line.{Line}
 use Rattle.zk_term.specs.Lines.{is_new_line}
 use Rattle.zk_term.specs.Pages.{WroteSome}
@@ -18,7 +18,7 @@ IsHeld [] = Unit {0}
 IsHeld (b ∷ word) = (b ≡ 32) × HasNoSpace word × (length word < 1024)
 
 -- a line holds bytes back only among words
-abbrev pub HoldsBy : Kind → List ℕ → Type 0
+abbrev pub HoldsBy : LineKind → List ℕ → Type 0
 HoldsBy Empty held = held ≡ []
 HoldsBy Row held = held ≡ []
 HoldsBy Words held = IsHeld held
@@ -31,7 +31,7 @@ rest_of_words width room held rest =
     all_words width (room + columns held) (slice_split is_space (held ++ rest))
 
 -- of any line
-abbrev pub rest_by : Kind → ℕ → ℕ → List ℕ → List ℕ → List ℕ
+abbrev pub rest_by : LineKind → ℕ → ℕ → List ℕ → List ℕ → List ℕ
 rest_by Empty width room held rest = wrapped_line width rest
 rest_by Row width room held rest = rest
 rest_by Words width room held rest = rest_of_words width room held rest

@@ -1,14 +1,14 @@
 // The devices that a story is played on.
 #![tactic(auto)]
 
+pub mod byte_buffer;
 pub mod echo;
 pub mod examples;
+pub mod io_device;
 pub mod laws;
 pub mod lines;
 pub mod nothing;
 pub mod open_line;
-pub mod out;
-pub mod over;
 pub mod page;
 pub mod source;
 pub mod target;

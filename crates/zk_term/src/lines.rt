@@ -5,7 +5,7 @@ ghost use Rattle.std.specs.List.{AllByRecursion};
 ghost use Rattle.std.specs.Str.Lines.{strip_carriage_return};
 ghost use Rattle.zk_text.specs.Extra.{is_input_code};
 ghost use Rattle.zk_term.specs.Characters.{character_length, character_of, character_step, typed_code, line_codes};
-ghost use Rattle.zk_term.specs.declared.lines.Over.{Over};
+ghost use Rattle.zk_term.specs.declared.lines.InputEnd.{InputEnd};
 ghost use Rattle.zk_term.specs.Devices.{HasJust};
 ghost use Rattle.zk_term.specs.Lines.{Reading, ReadFailed, GivesEach, GivesLine, GoesBy, FailsAlone, Hears, HasInputCodes, IsOverAfter, MeetsBound, over_input, TakesByte};
 
@@ -26,7 +26,7 @@ const TOO_LONG: u32 = 65_536;
 
 /// How an input is over.
 #[derive(Clone, Copy, PartialEq, Eq, Drop)]
-pub(crate) enum Over {
+pub(crate) enum InputEnd {
     /// It has no more bytes.
     End,
     /// It can't be read any more.
@@ -51,12 +51,12 @@ pub struct Lines {
     buffer: [u8; CHUNK],
     start: usize,
     end: usize,
-    over: Option<Over>,
+    over: Option<InputEnd>,
 }
 
 impl Model for Lines {
     ghost use Rattle.std.specs.Prelude.{◌-◌, ◌≤◌, take, drop};
-    ghost use Rattle.zk_term.specs.declared.lines.Over.{Over};
+    ghost use Rattle.zk_term.specs.declared.lines.InputEnd.{InputEnd};
     ghost use Rattle.zk_term.specs.Lines.{Reading};
 
     ghost Value = { Reading };
@@ -140,14 +140,14 @@ fn without_return(mut line: ArrayVec<u8, KEPT>) -> ArrayVec<u8, KEPT>
     line
 }
 
-impl Over {
+impl InputEnd {
     /// The answer where an input is over.
     fn input(self) -> Input
         ensures { result ≡ over_input self }
     {
         match self {
-            Over::End => Input::End,
-            Over::Failed => Input::Failed,
+            InputEnd::End => Input::End,
+            InputEnd::Failed => Input::Failed,
         }
     }
 }
@@ -166,7 +166,7 @@ impl Lines {
     }
 
     /// Reads at least one byte ahead, where none is left.
-    fn fill<S: Source>(&mut self, source: &mut S) -> Result<(), Over>
+    fn fill<S: Source>(&mut self, source: &mut S) -> Result<(), InputEnd>
         requires { self.old.ahead ≡ [] }
         ensures room { IfOk result (λ _. 0 < length self.new.ahead) }
         ensures bytes { GivesEach (λ _. []) self.old (S.left source.old) self.new
@@ -177,13 +177,13 @@ impl Lines {
             (HasJust S.ends source.new) (S.failed source.new ≡ S.failed source.old) result }
     {
         match source.read(&mut self.buffer) {
-            Ok(0) => Err(Over::End),
+            Ok(0) => Err(InputEnd::End),
             Ok(count) => {
                 self.start = 0;
                 self.end = count;
                 Ok(())
             }
-            Err(Failed) => Err(Over::Failed),
+            Err(Failed) => Err(InputEnd::Failed),
         }
     }
 
@@ -201,7 +201,7 @@ impl Lines {
 
     /// The next byte of the input: the source is asked where none is left of what it gave.
     #[tactic(auto, using(crate::proofs::Taking::gives_ahead, crate::proofs::Taking::gives_then))]
-    fn next_byte<S: Source>(&mut self, source: &mut S) -> Result<u8, Over>
+    fn next_byte<S: Source>(&mut self, source: &mut S) -> Result<u8, InputEnd>
         ensures bytes { GivesEach (λ b. b ∷ []) self.old (S.left source.old) self.new
             (S.left source.new) result }
         ensures taken { IfOk result
@@ -219,14 +219,14 @@ impl Lines {
     /// The bytes of the next line, of a longer one the first 1,024 alone. After a last line, which no new line ends, the
     /// input is over.
     #[tactic(auto, using(crate::proofs::Taking::taken_on, crate::proofs::Taking::taken_line, crate::proofs::Taking::taken_last, crate::proofs::Taking::taken_end, crate::proofs::Taking::taken_failed, crate::proofs::Taking::taken_long))]
-    fn take_line<S: Source>(&mut self, source: &mut S) -> Result<ArrayVec<u8, KEPT>, Over>
+    fn take_line<S: Source>(&mut self, source: &mut S) -> Result<ArrayVec<u8, KEPT>, InputEnd>
         requires { self.old.over ≡ None }
         ensures heard { GivesLine self.old (S.left source.old) self.new (S.left source.new)
             (ReadFailed S.fails S.failed source.new self.new)
             (S.failed source.new ≡ S.failed source.old) result }
-        ensures over { OnOk result ((self.new.over ≡ None) ⊎ (self.new.over ≡ Some Over.End)) }
+        ensures over { OnOk result ((self.new.over ≡ None) ⊎ (self.new.over ≡ Some InputEnd.End)) }
         ensures none { OnErr result (self.new.over ≡ None) }
-        ensures ends { self.new.over ≡ Some Over.End → HasJust S.ends source.new }
+        ensures ends { self.new.over ≡ Some InputEnd.End → HasJust S.ends source.new }
         ensures goes { GoesBy (ReadFailed S.fails S.failed source.new self.new
             ⊎ ((S.failed source.new ≡ S.failed source.old)
             × MeetsBound S.gives source.old source.new self.old self.new))
@@ -237,17 +237,17 @@ impl Lines {
             match self.next_byte(source) {
                 Ok(b'\n') => return Ok(without_return(line)),
                 Ok(byte) => keep(&mut line, byte),
-                Err(Over::End) => {
+                Err(InputEnd::End) => {
                     if taken == 0 {
-                        return Err(Over::End);
+                        return Err(InputEnd::End);
                     }
-                    self.over = Some(Over::End);
+                    self.over = Some(InputEnd::End);
                     return Ok(line);
                 }
-                Err(Over::Failed) => return Err(Over::Failed),
+                Err(InputEnd::Failed) => return Err(InputEnd::Failed),
             }
         }
-        Err(Over::Failed)
+        Err(InputEnd::Failed)
     }
 
     /// Waits for the next line, and answers its codes.
@@ -267,7 +267,7 @@ impl Lines {
     ///
     /// `Lines` reads ahead of the line that it answers: it is to be given the same source each time.
     pub fn line<S: Source>(&mut self, source: &mut S, extra: &Extra) -> Input
-        ensures over { (o : Over) → self.old.over ≡ Some o
+        ensures over { (o : InputEnd) → self.old.over ≡ Some o
             → (result ≡ over_input o) × (self.new ≡ self.old) × (source.new ≡ source.old) }
         ensures heard { (bytes : List ℕ) → self.old.over ≡ None → S.left source.old ≡ Some bytes
             → (later : List ℕ) × (S.left source.new ≡ Some later)
@@ -280,7 +280,7 @@ impl Lines {
             (ReadFailed S.fails S.failed source.new self.new)
             (S.failed source.new ≡ S.failed source.old)
             (MeetsBound S.gives source.old source.new self.old self.new) result }
-        ensures ends { self.old.over ≡ None → self.new.over ≡ Some Over.End
+        ensures ends { self.old.over ≡ None → self.new.over ≡ Some InputEnd.End
             → HasJust S.ends source.new }
     {
         if let Some(over) = self.over {

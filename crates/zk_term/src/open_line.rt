@@ -13,7 +13,7 @@ use arrayvec::ArrayVec;
 
 /// What has come of an open line: nothing, the front of a row of the upper window, or words.
 #[derive(Clone, Copy, PartialEq, Eq, Drop)]
-pub enum Kind {
+pub enum LineKind {
     Empty,
     Row,
     Words,
@@ -24,7 +24,7 @@ pub enum Kind {
 #[derive(Drop)]
 pub struct Line {
     width: usize,
-    kind: Kind,
+    kind: LineKind,
     room: usize,
     held: ArrayVec<u8, 1024>,
 }
@@ -49,10 +49,14 @@ fn all_columns_of(bytes: &[u8]) -> usize
 }
 
 /// What a line is that begins with a byte.
-fn kind_by(byte: u8) -> Kind
-    ensures { result ≡ (if nat_eq byte 124 then Kind.Row else Kind.Words) }
+fn kind_by(byte: u8) -> LineKind
+    ensures { result ≡ (if nat_eq byte 124 then LineKind.Row else LineKind.Words) }
 {
-    if byte == b'|' { Kind::Row } else { Kind::Words }
+    if byte == b'|' {
+        LineKind::Row
+    } else {
+        LineKind::Words
+    }
 }
 
 impl Line {
@@ -63,7 +67,7 @@ impl Line {
     {
         Line {
             width,
-            kind: Kind::Empty,
+            kind: LineKind::Empty,
             room: width,
             held: ArrayVec::new(),
         }
@@ -151,7 +155,7 @@ impl Line {
         ensures width { self.new.width ≡ self.old.width }
         ensures taken { HoldsBy self.old.kind self.old.held.items → Begins self.old self.new byte }
     {
-        if let Kind::Empty = self.kind {
+        if let LineKind::Empty = self.kind {
             self.room = self.width;
             self.kind = kind_by(byte);
         }
@@ -164,8 +168,8 @@ impl Line {
     {
         self.begin(byte);
         match self.kind {
-            Kind::Row => page.write(&[byte]),
-            Kind::Empty | Kind::Words => self.take_among_words(page, byte),
+            LineKind::Row => page.write(&[byte]),
+            LineKind::Empty | LineKind::Words => self.take_among_words(page, byte),
         }
     }
 
@@ -176,7 +180,7 @@ impl Line {
         page.write(self.held.as_slice());
         page.write(b"\n");
         self.held.clear();
-        self.kind = Kind::Empty;
+        self.kind = LineKind::Empty;
     }
 
     /// Takes a byte.
@@ -247,6 +251,6 @@ impl Line {
         ensures none { self.new.held.items ≡ [] }
         ensures open { IsOpen (wrapped self.new.width) self.new [] [] }
     {
-        self.kind = Kind::Empty;
+        self.kind = LineKind::Empty;
     }
 }

@@ -16,7 +16,7 @@ pub struct Wrapped<T> {
 }
 
 impl<T: Target> Wrapped<T> {
-    /// Over a target, with lines of so many columns, or with lines as they come.
+    /// InputEnd a target, with lines of so many columns, or with lines as they come.
     pub fn new(target: T, width: Option<u8>) -> Wrapped<T>
         ensures inner { result.inner ≡ target }
         ensures width { width_of result.line ≡ width }

@@ -9,7 +9,7 @@ use zk_inspect::error::ListError;
 use zk_inspect::reach::reach;
 use zk_mem::memory::{Memory, Setup};
 use zk_mem::story::Story;
-use zk_term::over::Over;
+use zk_term::io_device::IoDevice;
 
 /// A story that ends with this code, which begins at 0x40.
 pub(crate) fn story(alloc: Global, version: u8, code: &[u8]) -> Result<Memory, Fail> {
@@ -41,7 +41,7 @@ pub(crate) fn listed(alloc: Global, version: u8, code: &[u8]) -> Result<Vec<u8>,
 
 pub(crate) fn list(alloc: Global, memory: &Memory) -> Result<Vec<u8>, Fail> {
     let code = reach(alloc, memory)?;
-    let mut target = Over::new(Vec::new(alloc));
+    let mut target = IoDevice::new(Vec::new(alloc));
     match disassemble(memory, &code, &mut target) {
         Ok(()) => {}
         Err(_) => {}
@@ -91,7 +91,7 @@ impl Write for Narrow {
 fn a_failed_write_is_told(rt: HostRuntime) -> Result<(), Fail> {
     let memory = story(rt.alloc(), 3, &[0xb2, 0xb5, 0xc5, 0xbb, 0xba])?;
     let code = reach(rt.alloc(), &memory)?;
-    let mut target = Over::new(Narrow {
+    let mut target = IoDevice::new(Narrow {
         taken: Vec::new(rt.alloc()),
     });
     same(

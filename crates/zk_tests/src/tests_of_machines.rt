@@ -11,8 +11,8 @@ use zk_mem::story::Story;
 use zk_state::refusal::Limit;
 use zk_step::ending::Event;
 use zk_step::game_state::View;
+use zk_term::io_device::IoDevice;
 use zk_term::nothing::Nothing;
-use zk_term::over::Over;
 use zk_vm::limits::Limits;
 use zk_vm::machine::Machine;
 use zk_vm::play::turn;
@@ -122,7 +122,7 @@ fn nothing_is_written_after_a_failure(rt: HostRuntime) -> Result<(), Fail> {
         taken: Vec::new(rt.alloc()),
         has_failed: false,
     };
-    let (mut screen, mut script) = (Over::new(fails), Over::new(Vec::new(rt.alloc())));
+    let (mut screen, mut script) = (IoDevice::new(fails), IoDevice::new(Vec::new(rt.alloc())));
     let stop = turn(
         rt.alloc(),
         &mut screen,

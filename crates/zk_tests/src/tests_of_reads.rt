@@ -6,8 +6,8 @@ use std::cell::Cell;
 use std::io::{self, Read, Write};
 use std::test::Fail;
 use zk_step::ending::Event;
+use zk_term::io_device::IoDevice;
 use zk_term::nothing::Nothing;
-use zk_term::over::Over;
 use zk_vm::limits::Limits;
 use zk_vm::play::{play, turn};
 use zk_vm::slot::NoSlot;
@@ -69,7 +69,7 @@ fn turns_go_from_read_to_read(rt: HostRuntime) -> Result<(), Fail> {
     let code = [0xe5, 0x7f, 0x61, 0xf6, 0x7f, 0x01, 0x00, 0xba];
     let mut machine = started(&rt, AMPLE, &code)?;
     let taken = Cell::new(0);
-    let mut screen = Over::new(Counting { taken: &taken });
+    let mut screen = IoDevice::new(Counting { taken: &taken });
     demand(&rt, machine.waiting() == None);
     let first = turn(
         rt.alloc(),
@@ -84,7 +84,7 @@ fn turns_go_from_read_to_read(rt: HostRuntime) -> Result<(), Fail> {
     if machine.waiting() == Some(Event::Char) {
         machine.answer_char(120);
         demand(&rt, machine.waiting() == None);
-        let mut screen = Over::new(Counting { taken: &taken });
+        let mut screen = IoDevice::new(Counting { taken: &taken });
         let last = turn(
             rt.alloc(),
             &mut screen,
@@ -107,8 +107,8 @@ fn all_text_is_written_before_the_reader_is_asked(rt: HostRuntime) -> Result<(),
     ];
     let mut machine = started(&rt, AMPLE, &code)?;
     let (taken, noted) = (Cell::new(0), Cell::new(0));
-    let mut screen = Over::new(Counting { taken: &taken });
-    let mut reader = Over::new(Watching {
+    let mut screen = IoDevice::new(Counting { taken: &taken });
+    let mut reader = IoDevice::new(Watching {
         taken: &taken,
         noted: &noted,
         rest: b"x\ny\n",

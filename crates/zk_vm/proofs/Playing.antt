@@ -2,8 +2,8 @@
 use Rattle.std.proofs.Common.{◌≡◌, ◌∙◌, ◌≤◌, ◌<◌, ◌⊎◌, ◌||◌, inl, inr, ℕ, suc, ◌+◌, ◌-◌, Bool, true, false, List, [], ◌∷◌, ◌++◌, append_assoc, append-nil, Option, Some, None, Result, Ok, Err, refl, ap, sym, subst, arith, length}
 use Rattle.std.specs.List.{AllByRecursion}
 use Rattle.zk_text.specs.Extra.{is_input_code}
-use Rattle.zk_term.specs.declared.lines.Over.{Over}
-use Rattle.zk_term.specs.declared.lines.Over.TheVariants.{End, Failed}
+use Rattle.zk_term.specs.declared.lines.InputEnd.{InputEnd}
+use Rattle.zk_term.specs.declared.lines.InputEnd.TheVariants.{End, Failed}
 use Rattle.arrayvec.specs.ArrayVec.{ArrayVec}
 use Rattle.zk_term.specs.Devices.{HasJust}
 use Rattle.zk_term.specs.declared.lines.Input.TheVariants as input
@@ -389,7 +389,7 @@ outcome_on a answers end s w e = rw e refl
 
 -- ---- an answer in front
 
-on_outcome : (a : Answer) (answers : List Answer) (over : Over) (Last Last' Lacking Lacking' : Type 0) (s : Session) (w : Waiting) (o : Outcome) → (segment_of s).end ≡ Ok w → (Last → Last') → (Lacking → Lacking')
+on_outcome : (a : Answer) (answers : List Answer) (over : InputEnd) (Last Last' Lacking Lacking' : Type 0) (s : Session) (w : Waiting) (o : Outcome) → (segment_of s).end ≡ Ok w → (Last → Last') → (Lacking → Lacking')
     → IsOutcomeOn answers over Last Lacking (given (ran s) a) o → IsOutcomeOn (a ∷ answers) over Last' Lacking' s (shown_before (segment_of s).text o)
 unfolding given_all shown_up_to
 on_outcome a answers over Last Last' Lacking Lacking' s w o e last lacking (inl h) = inl (ap (shown_before (segment_of s).text) h.0 ∙ sym (outcome_on a answers _ s w e), last h.1)
@@ -414,7 +414,7 @@ pub record Stays (Last : List Answer → Session → Type 0) (Lacking : List Ans
 alone_behind : {R : Type 0} (start last : R) (a : Answer) (answers : List Answer) → IsLeftAlone start last answers → IsLeftAlone start last (a ∷ answers)
 alone_behind start last a answers h none = h none.1
 
-read_stays : {R : Type 0} (reads : SourceTells R) (start last : R) (unwritten : Bool) (over : Over) → Stays (IsLastRead reads start last unwritten over) (IsLeftAlone start last)
+read_stays : {R : Type 0} (reads : SourceTells R) (start last : R) (unwritten : Bool) (over : InputEnd) → Stays (IsLastRead reads start last unwritten over) (IsLeftAlone start last)
 read_stays reads start last unwritten over = record {
   last = λ a answers end h. (h.0, λ never. alone_behind start last a answers (h.1 never));
   lacking = λ a answers h. alone_behind start last a answers h;
@@ -436,7 +436,7 @@ true_is_no_end : (failed : Bool) → failed ≡ true → failed ≡ false → �
 true_is_no_end failed h k = absurd cc
 
 -- a line more in front
-heard_on : (bytes next later line : List ℕ) (failed : Bool) (how : Option Over) (h : Heard) (left : List (List ℕ)) → IsNextLine bytes next line how → (how ≡ Some End → failed ≡ false) → IsHeard next later failed h left → IsHeard bytes later failed (behind line h) left
+heard_on : (bytes next later line : List ℕ) (failed : Bool) (how : Option InputEnd) (h : Heard) (left : List (List ℕ)) → IsNextLine bytes next line how → (how ≡ Some End → failed ≡ false) → IsHeard next later failed h left → IsHeard bytes later failed (behind line h) left
 heard_on bytes next later line false how h left (inl (e, goes)) sound k = ap (behind line) k ∙ sym (ap heard e.whole ∙ are_lines.ended e.part next e.plain e.short ∙ ap (λ (l : List ℕ). behind l (heard next)) (sym e.is))
 heard_on bytes next later line false how h left (inr (e, ends)) sound k =
     ap (behind line) (k ∙ ap heard e.none ∙ are_lines.none) ∙ sym (ap heard e.whole ∙ last_heard line e.some e.plain e.short)
@@ -455,7 +455,7 @@ no_line s stop e asks = no_wait s stop e (line_asked s asks)
 no_file : (s : Session) (stop : Stop) → s.stopped ≡ Some stop → AsksForFile (ran s) → ⊥
 no_file s stop e asks = no_wait s stop e (file_asked s asks)
 
-outcome_of_stopped : (answers : List Answer) (over : Over) (Last Last' Lacking : Type 0) (m s : Session) (stop : Stop) (o : Outcome) → m.stopped ≡ Some stop → s.stopped ≡ Some stop → (Last → Last') → IsOutcomeOn answers over Last Lacking m o → IsOutcomeOn answers over Last' Lacking s o
+outcome_of_stopped : (answers : List Answer) (over : InputEnd) (Last Last' Lacking : Type 0) (m s : Session) (stop : Stop) (o : Outcome) → m.stopped ≡ Some stop → s.stopped ≡ Some stop → (Last → Last') → IsOutcomeOn answers over Last Lacking m o → IsOutcomeOn answers over Last' Lacking s o
 outcome_of_stopped answers over Last Last' Lacking m s stop o e f last (inl h) = inl (h.0 ∙ outcome_stopped answers _ m stop e ∙ sym (outcome_stopped answers _ s stop f), last h.1)
 outcome_of_stopped answers over Last Last' Lacking m s stop o e f last (inr h) = absurd (no_keeping (given_all answers m) stop h.2.0 (stopped_all answers m stop e) h.2.1.0)
 
@@ -463,7 +463,7 @@ outcome_of_stopped answers over Last Last' Lacking m s stop o e f last (inr h) =
 abbrev pub IsStill : (List Answer → Session → Type 0) → Type 0
 IsStill Last = (answers : List Answer) (m s : Session) → (AsksForLine (ran m) → ⊥) → (AsksForLine (ran s) → ⊥) → Last answers m → Last answers s
 
-read_still : {R : Type 0} (reads : SourceTells R) (start last : R) (unwritten : Bool) (over : Over) → IsStill (IsLastRead reads start last unwritten over)
+read_still : {R : Type 0} (reads : SourceTells R) (start last : R) (unwritten : Bool) (over : InputEnd) → IsStill (IsLastRead reads start last unwritten over)
 read_still reads start last unwritten over answers m s in_m in_s h = (λ f asks. absurd (in_s asks), λ never. h.1 (λ f. in_m))
 
 line_still : (unwritten : Bool) (left : List (List ℕ)) → IsStill (λ answers end. IsLastAnswered unwritten left end)
@@ -499,7 +499,7 @@ module _ {K X : Type 0} (tells : SlotTells K) (Reads : X → X → Session → L
   answers_alone [] before after x s h = (h, refl)
   answers_alone (a ∷ answers) before after x s h = answers_slot before h.0 after x x s a answers h.1.0 (answers_alone answers h.0 after x (given (ran s) a) h.1.1)
 
-  by_slot : (before mid after : K) (x y : X) (over : Over) (Last : List Answer → Session → Type 0) (Lacking : List Answer → Type 0) → Stays Last Lacking → (s : Session) (a : Answer) → IsSlotAnswer tells before mid (ran s) a
+  by_slot : (before mid after : K) (x y : X) (over : InputEnd) (Last : List Answer → Session → Type 0) (Lacking : List Answer → Type 0) → Stays Last Lacking → (s : Session) (a : Answer) → IsSlotAnswer tells before mid (ran s) a
       → (o : Outcome) (first : Texts) → IsOutcomeBy tells Reads unwritten mid after x y over Last Lacking (given (ran s) a) o first → IsOutcomeBy tells Reads unwritten before after x y over Last Lacking s (shown_before (segment_of s).text o) (text_joined (segment_of s).text first)
   by_slot before mid after x y over Last Lacking stays s a is o first (answers, (are, shown, on)) =
       let w = file_asked s (slot_asks tells before mid (ran s) a is) in (
@@ -511,7 +511,7 @@ module _ {K X : Type 0} (tells : SlotTells K) (Reads : X → X → Session → L
         ),
       )
 
-  by_slots : (answers : List Answer) (before mid after : K) (x y : X) (over : Over) (Last : List Answer → Session → Type 0) (Lacking : List Answer → Type 0) → Stays Last Lacking → (s : Session) → AreSlotAnswers tells false before mid s answers → (AsksForFile (ran (given_all answers s)) → ⊥)
+  by_slots : (answers : List Answer) (before mid after : K) (x y : X) (over : InputEnd) (Last : List Answer → Session → Type 0) (Lacking : List Answer → Type 0) → Stays Last Lacking → (s : Session) → AreSlotAnswers tells false before mid s answers → (AsksForFile (ran (given_all answers s)) → ⊥)
       → (o : Outcome) (first : Texts) → IsOutcomeBy tells Reads unwritten mid after x y over Last Lacking (given_all answers s) o first → IsOutcomeBy tells Reads unwritten before after x y over Last Lacking s (shown_before (shown_up_to answers s) o) (text_joined (shown_up_to answers s) first)
   unfolding AreSlotAnswers given_all shown_up_to
   by_slots [] before mid after x y over Last Lacking stays s (inl h) none o first p = subst (λ (k : K). IsOutcomeBy tells Reads unwritten k after x y over Last Lacking s o first) h p
@@ -523,7 +523,7 @@ module _ {K X : Type 0} (tells : SlotTells K) (Reads : X → X → Session → L
       subst (λ (u : Texts). IsOutcomeBy tells Reads unwritten before after x y over Last Lacking s (shown_before (text_joined (segment_of s).text rest) o) u) (same_text (segment_of s).text rest first)
       (subst (λ (q : Outcome). IsOutcomeBy tells Reads unwritten before after x y over Last Lacking s q (text_joined (segment_of s).text (text_joined rest first))) (same_shown (segment_of s).text rest o) all)
 
-  by_line : (before after : K) (x mid y : X) (over : Over) (Last Last' : List Answer → Session → Type 0) (Lacking Lacking' : List Answer → Type 0) (s : Session) (codes : List ℕ) → AsksForLine (ran s) → Reads x mid (ran s) codes
+  by_line : (before after : K) (x mid y : X) (over : InputEnd) (Last Last' : List Answer → Session → Type 0) (Lacking Lacking' : List Answer → Type 0) (s : Session) (codes : List ℕ) → AsksForLine (ran s) → Reads x mid (ran s) codes
       → ((answers : List Answer) (end : Session) → Last answers end → Last' (Typed codes ∷ answers) end) → ((answers : List Answer) → Lacking answers → Lacking' (Typed codes ∷ answers))
       → (o : Outcome) (first : Texts) → IsOutcomeBy tells Reads unwritten before after mid y over Last Lacking (given (ran s) (Typed codes)) o first → IsOutcomeBy tells Reads unwritten before after x y over Last' Lacking' s (shown_before (segment_of s).text o) (text_joined (segment_of s).text first)
   by_line before after x mid y over Last Last' Lacking Lacking' s codes asks read last lacking o first (answers, (are, shown, on)) =
@@ -536,7 +536,7 @@ module _ {K X : Type 0} (tells : SlotTells K) (Reads : X → X → Session → L
         ),
       )
 
-  by_stopped : (before after : K) (x y : X) (over : Over) (Last : List Answer → Session → Type 0) (Lacking : List Answer → Type 0) → IsStill Last → (m s : Session) (stop : Stop) → m.stopped ≡ Some stop → s.stopped ≡ Some stop
+  by_stopped : (before after : K) (x y : X) (over : InputEnd) (Last : List Answer → Session → Type 0) (Lacking : List Answer → Type 0) → IsStill Last → (m s : Session) (stop : Stop) → m.stopped ≡ Some stop → s.stopped ≡ Some stop
       → (o : Outcome) (first : Texts) → IsOutcomeBy tells Reads unwritten before after x y over Last Lacking m o first → IsOutcomeBy tells Reads unwritten before after x y over Last Lacking s o first
   unfolding AreAnswers
   by_stopped before after x y over Last Lacking still m s stop e f o first ([], (are, shown, on)) = (
@@ -551,7 +551,7 @@ module _ {K X : Type 0} (tells : SlotTells K) (Reads : X → X → Session → L
   by_stopped before after x y over Last Lacking still m s stop e f o first (GameKept kept ∷ answers, (are, shown, on)) = absurd (no_file m stop e (slot_asks tells before are.0 (ran m) (GameKept kept) are.1.0))
   by_stopped before after x y over Last Lacking still m s stop e f o first (File file ∷ answers, (are, shown, on)) = absurd (no_file m stop e (slot_asks tells before are.0 (ran m) (File file) are.1.0))
 
-  by_left : (before after : K) (x y : X) (over : Over) (Last : List Answer → Session → Type 0) (Lacking : List Answer → Type 0) → IsStill Last → (m s : Session) (z : Option Stop) → s.stopped ≡ z → IsLeftAs m s z
+  by_left : (before after : K) (x y : X) (over : InputEnd) (Last : List Answer → Session → Type 0) (Lacking : List Answer → Type 0) → IsStill Last → (m s : Session) (z : Option Stop) → s.stopped ≡ z → IsLeftAs m s z
       → (o : Outcome) (first : Texts) → IsOutcomeBy tells Reads unwritten before after x y over Last Lacking m o first → IsOutcomeBy tells Reads unwritten before after x y over Last Lacking s o first
   by_left before after x y over Last Lacking still m s None e left o first p = subst (λ (n : Session). IsOutcomeBy tells Reads unwritten before after x y over Last Lacking n o first) left p
   by_left before after x y over Last Lacking still m s (Some stop) e left o first p = by_stopped before after x y over Last Lacking still m s stop left.0 e o first p
@@ -569,10 +569,10 @@ not_file x h k =
     true_no_false : (b : Bool) → b ≡ true → b ≡ false → ⊥
     true_no_false b h k = absurd cc
 
-line_stop : (x : Option Event) (over : Over) → (e : Event) × ((x ≡ Some e) × (is_read e ≡ true)) → stop_waiting x over ≡ stop_behind over
+line_stop : (x : Option Event) (over : InputEnd) → (e : Event) × ((x ≡ Some e) × (is_read e ≡ true)) → stop_waiting x over ≡ stop_behind over
 line_stop x over h = rw (h.1.0, h.1.1) refl
 
-file_stop : (x : Option Event) (over : Over) → (e : Event) × ((x ≡ Some e) × (is_read e ≡ false)) → stop_waiting x over ≡ Memory
+file_stop : (x : Option Event) (over : InputEnd) → (e : Event) × ((x ≡ Some e) × (is_read e ≡ false)) → stop_waiting x over ≡ Memory
 file_stop x over h = rw (h.1.0, h.1.1) refl
 
 -- a turn that asks has written all of its text, and its machine waits for a line
@@ -657,7 +657,7 @@ play_ends Whole Rest false stop o first second s p e took = record {
 }
 
 -- the outcome that a turn ends
-pub record EndOf (answers : List Answer) (over : Over) (unwritten : Bool) (Last Lacking : Type 0) (now : Session) (stop : Stop) (text : Texts) : Type 0 where
+pub record EndOf (answers : List Answer) (over : InputEnd) (unwritten : Bool) (Last Lacking : Type 0) (now : Session) (stop : Stop) (text : Texts) : Type 0 where
   pub o : Outcome
   pub is : IsOutcomeOn answers over Last Lacking now o
   pub ends : EndsSo unwritten stop (shown_up_to answers now) text o
@@ -665,7 +665,7 @@ pub record EndOf (answers : List Answer) (over : Over) (unwritten : Bool) (Last 
 true_or_false : (A : Type 0) → ◌≡◌ {A = Bool} true false → A
 true_or_false A h = absurd cc
 
-kept_end : (answers : List Answer) (over : Over) (Last Lacking : Type 0) (now : Session) (text : Texts) → Lacking → ComesToKeep (given_all answers now) text → IsOutcomeOn answers over Last Lacking now (record { stop = Memory; text = text_joined (shown_up_to answers now) text })
+kept_end : (answers : List Answer) (over : InputEnd) (Last Lacking : Type 0) (now : Session) (text : Texts) → Lacking → ComesToKeep (given_all answers now) text → IsOutcomeOn answers over Last Lacking now (record { stop = Memory; text = text_joined (shown_up_to answers now) text })
 kept_end answers over Last Lacking now text lacking comes = inr (refl, lacking, (text, (comes, refl)))
 
 -- a segment begins with what is shown up to a step of it
@@ -703,7 +703,7 @@ module _ {K : Type 0} (tells : SlotTells K) where
       let w = file_asked s (slot_asks tells before h.0 (ran s) a h.1.0) in
       outcome_on a answers end s w.0 w.1 ∙ ap (shown_before (segment_of s).text) (outcome_all unwritten answers h.0 after (given (ran s) a) end h.1.1) ∙ same_shown (segment_of s).text (shown_up_to answers (given (ran s) a)) _
 
-  played_line : (before after : K) (line bytes next later : List ℕ) (how : Option Over) (failed unwritten : Bool) (s : Session) (codes : List ℕ) → AsksForLine (ran s) → IsNextLine bytes next line how → (how ≡ Some End → failed ≡ false) → codes ≡ codes_read (ran s) line
+  played_line : (before after : K) (line bytes next later : List ℕ) (how : Option InputEnd) (failed unwritten : Bool) (s : Session) (codes : List ℕ) → AsksForLine (ran s) → IsNextLine bytes next line how → (how ≡ Some End → failed ≡ false) → codes ≡ codes_read (ran s) line
       → (o : Outcome) (first : Texts) → IsPlayed tells before after next later failed unwritten (given (ran s) (Typed codes)) o first → IsPlayed tells before after bytes later failed unwritten s (shown_before (segment_of s).text o) (text_joined (segment_of s).text first)
   played_line before after line bytes next later how failed unwritten s codes asks comes sound read o first (h, (left, (is, by))) = (
     behind line h,
@@ -750,7 +750,7 @@ module _ {K : Type 0} (tells : SlotTells K) where
       (over, by_slots tells ReadsCodes unwritten t.answers before mid_slot after tt tt over (IsLastRead reads start last unwritten over) (IsLeftAlone start last) (read_stays reads start last unwritten over) now t.gives (not_file _ t.asks) _ _ line))
 
   -- what is played after a turn and a line
-  pub on_played : (before mid_slot after : K) (Whole : Outcome → Texts → Type 0) (bytes next_bytes later : List ℕ) (how : Option Over) (failed unwritten : Bool) (now mid next : Session) (a b : Bool) {taken0 taken1 taken2 : Taken} (line codes : List ℕ)
+  pub on_played : (before mid_slot after : K) (Whole : Outcome → Texts → Type 0) (bytes next_bytes later : List ℕ) (how : Option InputEnd) (failed unwritten : Bool) (now mid next : Session) (a b : Bool) {taken0 taken1 taken2 : Taken} (line codes : List ℕ)
       → Asked tells before mid_slot now mid a b taken1 taken2 → IsNextLine bytes next_bytes line how → (how ≡ Some End → failed ≡ false) → codes ≡ codes_read mid line → IsLeftAs next (given mid (Typed codes)) (given mid (Typed codes)).stopped
       → SoFar Whole (IsPlayed tells before after bytes later failed unwritten now) taken0 taken1 → SoFar Whole (IsPlayed tells mid_slot after next_bytes later failed unwritten next) taken0 taken2
   on_played before mid_slot after Whole bytes next_bytes later how failed unwritten now mid next a b line codes t comes sound read left s =
@@ -763,7 +763,7 @@ module _ {K : Type 0} (tells : SlotTells K) where
       (read_line.0, (read_line.1.0, (read_line.1.1.0, by_slots tells ReadsLine unwritten t.answers before mid_slot after read_line.0.lines read_line.1.0 read_line.0.over (λ answers e. IsLastAnswered unwritten read_line.1.0 e) (λ answers. Unit {0}) (line_stays unwritten read_line.1.0) now t.gives (not_file _ t.asks) _ _ read_line.1.1.1))))
 
   -- a write has failed on the way to what the outcome shows
-  failed_end : (before after : K) (answers : List Answer) (over : Over) (Last Lacking : Type 0) (now : Session) (stop : Stop) (text more : Texts) → ((true ≡ false → AsksForLine (ran (given_all answers now)) → ⊥) → Last)
+  failed_end : (before after : K) (answers : List Answer) (over : InputEnd) (Last Lacking : Type 0) (now : Session) (stop : Stop) (text more : Texts) → ((true ≡ false → AsksForLine (ran (given_all answers now)) → ⊥) → Last)
       → AreSlotAnswers tells true before after now answers → ◌≡◌ {A = Result Event Stop} (Err stop) (Err Write) → (segment_of (given_all answers now)).text ≡ text_joined text more → EndOf answers over true Last Lacking now stop text
   failed_end before after answers over Last Lacking now stop text more vacuous gives e t =
       let s = given_all answers now in
@@ -783,7 +783,7 @@ module _ {K : Type 0} (tells : SlotTells K) where
         );
       }
 
-  turn_stops : (before after : K) (unwritten : Bool) (answers : List Answer) (over : Over) (Last Lacking : Type 0) (now : Session) (stop : Stop) (text : Texts) → ((unwritten ≡ false → AsksForLine (ran (given_all answers now)) → ⊥) → Last) → Lacking
+  turn_stops : (before after : K) (unwritten : Bool) (answers : List Answer) (over : InputEnd) (Last Lacking : Type 0) (now : Session) (stop : Stop) (text : Texts) → ((unwritten ≡ false → AsksForLine (ran (given_all answers now)) → ⊥) → Last) → Lacking
       → AreSlotAnswers tells unwritten before after now answers → EndsTurnOrFails unwritten (given_all answers now) (Err stop) text → EndOf answers over unwritten Last Lacking now stop text
   turn_stops before after true answers over Last Lacking now stop text vacuous lacking gives (e, inl t) =
       failed_end before after answers over Last Lacking now stop text no_text vacuous gives e (sym t ∙ sym (no_text_behind text))
@@ -823,7 +823,7 @@ module _ {K : Type 0} (tells : SlotTells K) where
         );
       }
 
-  read_ends : (before after : K) (answers : List Answer) (over : Over) (Last Lacking : Type 0) (now : Session) → Last
+  read_ends : (before after : K) (answers : List Answer) (over : InputEnd) (Last Lacking : Type 0) (now : Session) → Last
       → AreSlotAnswers tells false before after now answers → AsksForLine (ran (given_all answers now)) → EndOf answers over false Last Lacking now (stop_behind over) (segment_of (given_all answers now)).text
   read_ends before after answers over Last Lacking now last gives asks =
       let s = given_all answers now in
@@ -855,7 +855,7 @@ module _ {K : Type 0} (tells : SlotTells K) where
       (Failed, (t.answers, (answers_alone tells ReadsCodes unwritten t.answers before after tt now t.gives, refl, e.is))) e.ends t.shown
 
   -- a read that finds no line
-  pub reads_end : (before after : K) (Whole : Outcome → Texts → Type 0) (bytes later : List ℕ) (over : Over) (failed : Bool) (now mid : Session) (a b : Bool) {taken0 taken1 taken2 : Taken}
+  pub reads_end : (before after : K) (Whole : Outcome → Texts → Type 0) (bytes later : List ℕ) (over : InputEnd) (failed : Bool) (now mid : Session) (a b : Bool) {taken0 taken1 taken2 : Taken}
       → Asked tells before after now mid a b taken1 taken2 → IsHeard bytes later failed (nothing_more over) [] → SoFar Whole (IsPlayed tells before after bytes later failed false now) taken0 taken1
       → IsPlay Whole (stop_behind over) false taken0 taken2
   reads_end before after Whole bytes later over failed now mid a b t hear s =
@@ -863,7 +863,7 @@ module _ {K : Type 0} (tells : SlotTells K) where
       play_ends Whole (IsPlayed tells before after bytes later failed false now) false (stop_behind over) e.o (shown_up_to t.answers now) (segment_of (given_all t.answers now)).text s
       (nothing_more over, ([], (hear, (t.answers, (answers_alone tells ReadsLine false t.answers before after [] now t.gives, refl, e.is))))) e.ends t.took
 
-  pub answers_end : {R : Type 0} (reads : SourceTells R) (start last : R) (before after : K) (Whole : Outcome → Texts → Type 0) (over : Over) (now mid : Session) (a b : Bool) {taken0 taken1 taken2 : Taken}
+  pub answers_end : {R : Type 0} (reads : SourceTells R) (start last : R) (before after : K) (Whole : Outcome → Texts → Type 0) (over : InputEnd) (now mid : Session) (a b : Bool) {taken0 taken1 taken2 : Taken}
       → Asked tells before after now mid a b taken1 taken2 → FoundNoLine reads last over → SoFar Whole (IsAnswered tells reads before after start last false now) taken0 taken1 → IsPlay Whole (stop_behind over) false taken0 taken2
   answers_end reads start last before after Whole over now mid a b t found s =
       let e = read_ends before after t.answers over (IsLastRead reads start last false over t.answers (given_all t.answers now)) (IsLeftAlone start last t.answers) now (λ f asks. found, λ never. absurd (never refl t.asks)) t.gives t.asks in
@@ -872,41 +872,41 @@ module _ {K : Type 0} (tells : SlotTells K) where
 
 -- ---- a reader of lines, whose input goes on or is over
 
-abbrev pub GoesOnOr : Option Over → Type 0 → Type 0
+abbrev pub GoesOnOr : Option InputEnd → Type 0 → Type 0
 GoesOnOr how J = (how ≡ None) ⊎ ((how ≡ Some End) × J)
 
-pub over_on : (how : Option Over) (J : Type 0) → (how ≡ None) ⊎ (how ≡ Some End) → (how ≡ Some End → J) → GoesOnOr how J
+pub over_on : (how : Option InputEnd) (J : Type 0) → (how ≡ None) ⊎ (how ≡ Some End) → (how ≡ Some End → J) → GoesOnOr how J
 over_on how J (inl h) k = inl h
 over_on how J (inr h) k = inr (h, k h)
 
 -- one that answers a line or a failure goes on
-pub line_open : (how : Option Over) (J : Type 0) (codes : ArrayVec ℕ) → GoesOnOr how J → ((o : Over) → how ≡ Some o → input.Line codes ≡ over_input o) → how ≡ None
+pub line_open : (how : Option InputEnd) (J : Type 0) (codes : ArrayVec ℕ) → GoesOnOr how J → ((o : InputEnd) → how ≡ Some o → input.Line codes ≡ over_input o) → how ≡ None
 line_open how J codes (inl h) k = h
 line_open how J codes (inr h) k = let e = k End h.0 in absurd cc
 
-pub failed_open : (how : Option Over) (J : Type 0) → GoesOnOr how J → ((o : Over) → how ≡ Some o → input.Failed ≡ over_input o) → how ≡ None
+pub failed_open : (how : Option InputEnd) (J : Type 0) → GoesOnOr how J → ((o : InputEnd) → how ≡ Some o → input.Failed ≡ over_input o) → how ≡ None
 failed_open how J (inl h) k = h
 failed_open how J (inr h) k = let e = k End h.0 in absurd cc
 
-pub no_end : (how : Option Over) (A : Type 0) → how ≡ None → how ≡ Some End → A
+pub no_end : (how : Option InputEnd) (A : Type 0) → how ≡ None → how ≡ Some End → A
 no_end how A h k = absurd cc
 
 -- after a last line nothing is left
-pub last_none : (bytes next line : List ℕ) (how : Option Over) → IsNextLine bytes next line how → how ≡ Some End → next ≡ []
+pub last_none : (bytes next line : List ℕ) (how : Option InputEnd) → IsNextLine bytes next line how → how ≡ Some End → next ≡ []
 last_none bytes next line how (inl h) e = no_end how (next ≡ []) h.1 e
 last_none bytes next line how (inr h) e = h.0.none
 
 -- an end that was found before, or is found now
-pub end_left : {R : Type 0} (left : R → Option (List ℕ)) (old new : R) (how : Option Over) (J : Type 0) (ahead bytes more : List ℕ) → left old ≡ Some bytes → GoesOnOr how J → (how ≡ Some End → ahead ++ bytes ≡ [])
+pub end_left : {R : Type 0} (left : R → Option (List ℕ)) (old new : R) (how : Option InputEnd) (J : Type 0) (ahead bytes more : List ℕ) → left old ≡ Some bytes → GoesOnOr how J → (how ≡ Some End → ahead ++ bytes ≡ [])
     → (how ≡ None → (later : List ℕ) × (left new ≡ Some later) × ((ahead ++ bytes ≡ []) × (more ++ later ≡ []))) → (how ≡ Some End → new ≡ old) → (later : List ℕ) × (left new ≡ Some later) × (ahead ++ bytes ≡ [])
 end_left left old new how J ahead bytes more told (inl h) before now same = let n = now h in (n.0, n.1, n.2.0)
 end_left left old new how J ahead bytes more told (inr h) before now same = (bytes, ap left (same h.0) ∙ told, before h.0)
 
-pub end_found : {R : Type 0} (ends : R → R → Type 0) (old new : R) (how : Option Over) → GoesOnOr how (HasJust ends old) → (how ≡ None → HasJust ends new) → (how ≡ Some End → new ≡ old) → HasJust ends new
+pub end_found : {R : Type 0} (ends : R → R → Type 0) (old new : R) (how : Option InputEnd) → GoesOnOr how (HasJust ends old) → (how ≡ None → HasJust ends new) → (how ≡ Some End → new ≡ old) → HasJust ends new
 end_found {R} ends old new how (inl h) now same = now h
 end_found {R} ends old new how (inr h) now same = subst (λ (r : R). HasJust ends r) (sym (same h.0)) h.1
 
-pub end_sound : {R : Type 0} (failed : R → Bool) (old new : R) (how : Option Over) (J : Type 0) → GoesOnOr how J → (how ≡ None → failed new ≡ failed old) → (how ≡ Some End → new ≡ old) → failed new ≡ failed old
+pub end_sound : {R : Type 0} (failed : R → Bool) (old new : R) (how : Option InputEnd) (J : Type 0) → GoesOnOr how J → (how ≡ None → failed new ≡ failed old) → (how ≡ Some End → new ≡ old) → failed new ≡ failed old
 end_sound failed old new how J (inl h) now same = now h
 end_sound failed old new how J (inr h) now same = ap failed (same h.0)
 

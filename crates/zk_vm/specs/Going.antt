@@ -94,14 +94,14 @@ IsHalted old new answer Shown =
 -- ---- steps that are made in silence
 
 -- a state after so many of them
-abbrev pub behind_strides : State → ℕ → GameState → ℕ → State
-behind_strides s n w place = record s { game = w; place = place; steps = s.steps + n }
+abbrev pub after_steps : State → ℕ → GameState → ℕ → State
+after_steps s n w place = record s { game = w; place = place; steps = s.steps + n }
 
 -- a machine has made some steps by instructions that show nothing, and goes on
 pub record GoesAhead (old new : Session) : Type 0 where
   pub steps : ℕ
   pub quiet_steps : QuietSteps steps old.state.game old.state.place new.state.game new.state.place
-  pub there : new ≡ record old { state = behind_strides old.state steps new.state.game new.state.place }
+  pub there : new ≡ record old { state = after_steps old.state steps new.state.game new.state.place }
 
 -- the instruction after them is refused
 pub record StopsAhead (old new : Session) (answer : Halt) : Type 0 where

@@ -6,8 +6,8 @@ use Rattle.zk_state.specs.declared.refusal.Limit.{Limit}
 use Rattle.zk_save.specs.declared.restore.RestoreError.{RestoreError}
 use Rattle.zk_save.specs.Loading.{restored}
 use Rattle.zk_save.specs.Quetzal.{saved}
-use Rattle.zk_term.specs.declared.lines.Over.{Over}
-use Rattle.zk_term.specs.declared.lines.Over.TheVariants.{End, Failed}
+use Rattle.zk_term.specs.declared.lines.InputEnd.{InputEnd}
+use Rattle.zk_term.specs.declared.lines.InputEnd.TheVariants.{End, Failed}
 use Rattle.zk_term.specs.Characters.{line_codes}
 use Rattle.zk_term.specs.Devices.{HasJust, Shows}
 use Rattle.zk_term.specs.Lines.{Heard, heard, ended_lines, MeetsBound, Reading}
@@ -177,18 +177,18 @@ pub record IsTurn (Gives : List Answer → Type 0) (old new : Session) (answer :
 -- ---- a play
 
 -- why a read finds no answer
-abbrev pub stop_behind : Over → Stop
+abbrev pub stop_behind : InputEnd → Stop
 stop_behind End = EndOfInput
 stop_behind Failed = Read
 
 -- why a machine ends that waits, by what it waits for: there is no line, or no memory for a saved game
-abbrev pub stop_waiting : Option Event → Over → Stop
+abbrev pub stop_waiting : Option Event → InputEnd → Stop
 stop_waiting None over = stop_behind over
 stop_waiting (Some event) over = if is_read event then stop_behind over else Memory
 
 -- An outcome of a machine's run on answers, after which it finds none; or on its way from the last answer there was no
 -- memory for a state that is to be kept.
-abbrev pub IsOutcomeOn : List Answer → Over → (IsLast IsLacking : Type 0) → Session → Outcome → Type 0
+abbrev pub IsOutcomeOn : List Answer → InputEnd → (IsLast IsLacking : Type 0) → Session → Outcome → Type 0
 IsOutcomeOn answers over IsLast IsLacking s o =
     ((o ≡ outcome answers (stop_waiting (event_waited (ran (given_all answers s)).waiting) over) s) × IsLast)
     ⊎ ((o.stop ≡ Memory) × IsLacking × ((text : Texts) × (ComesToKeep (given_all answers s) text × (o.text ≡ text_joined (shown_up_to answers s) text))))
@@ -203,7 +203,7 @@ AreAnswers {K} {X} t Reads unwritten before after x y s (a ∷ answers) =
     (mid : K) × (IsSlotAnswer t before mid (ran s) a × AreAnswers t Reads unwritten mid after x y (given (ran s) a) answers)
 
 -- An outcome of a machine's run on some of them, and what was shown up to the last one.
-abbrev pub IsOutcomeBy : {K X : Type 0} → SlotTells K → (X → X → Session → List ℕ → Type 0) → Bool → K → K → X → X → Over → (List Answer → Session → Type 0) → (List Answer → Type 0) → Session → Outcome → Texts → Type 0
+abbrev pub IsOutcomeBy : {K X : Type 0} → SlotTells K → (X → X → Session → List ℕ → Type 0) → Bool → K → K → X → X → InputEnd → (List Answer → Session → Type 0) → (List Answer → Type 0) → Session → Outcome → Texts → Type 0
 IsOutcomeBy {K} {X} t Reads unwritten before after x y over Last Lacking s o first =
     (answers : List Answer) × (AreAnswers t Reads unwritten before after x y s answers × (first ≡ shown_up_to answers s)
     × IsOutcomeOn answers over (Last answers (given_all answers s)) (Lacking answers) s o)
@@ -229,7 +229,7 @@ abbrev pub HasMetBound : {R : Type 0} → (R → R → List ℕ → Type 0) → 
 HasMetBound {R} gives after = (start : R) × ((old : Reading) × ((new : Reading) × MeetsBound gives start after old new))
 
 -- the last read of a source found no line: it found the end, or it failed, or too many bytes had come without a new line
-abbrev pub FoundNoLine : {R : Type 0} → SourceTells R → R → Over → Type 0
+abbrev pub FoundNoLine : {R : Type 0} → SourceTells R → R → InputEnd → Type 0
 FoundNoLine {R} r after End = HasJust r.ends after × (r.failed after ≡ false)
 FoundNoLine {R} r after Failed = (HasJust r.fails after × (r.failed after ≡ true)) ⊎ ((r.failed after ≡ false) × HasMetBound r.gives after)
 
@@ -244,7 +244,7 @@ IsLeftAlone {R} before after answers = AllByRecursion IsNoLine answers → after
 
 -- where a machine waits for a line after its last answer, and all was written, the last read found none; else there was none
 -- after that answer
-abbrev pub IsLastRead : {R : Type 0} → SourceTells R → R → R → Bool → Over → List Answer → Session → Type 0
+abbrev pub IsLastRead : {R : Type 0} → SourceTells R → R → R → Bool → InputEnd → List Answer → Session → Type 0
 IsLastRead {R} r before after unwritten over answers s =
     (unwritten ≡ false → AsksForLine (ran s) → FoundNoLine r after over)
     × ((unwritten ≡ false → AsksForLine (ran s) → ⊥) → IsLeftAlone before after answers)
@@ -252,7 +252,7 @@ IsLastRead {R} r before after unwritten over answers s =
 -- An outcome of a machine's run on answers of a slot, and on some for which a source was read.
 abbrev pub IsAnswered : {K R : Type 0} → SlotTells K → SourceTells R → K → K → R → R → Bool → Session → Outcome → Texts → Type 0
 IsAnswered {K} {R} t r slot0 slot1 before after unwritten s o first =
-    (over : Over) × IsOutcomeBy t ReadsCodes unwritten slot0 slot1 tt tt over (IsLastRead r before after unwritten over) (IsLeftAlone before after) s o first
+    (over : InputEnd) × IsOutcomeBy t ReadsCodes unwritten slot0 slot1 tt tt over (IsLastRead r before after unwritten over) (IsLeftAlone before after) s o first
 
 -- ---- on the bytes of an input
 

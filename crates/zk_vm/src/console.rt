@@ -4,7 +4,7 @@ ghost use Rattle.std.specs.Prelude.{◌≡◌, ◌||◌, [], false};
 ghost use Rattle.zk_vm.specs.Consoles.{Written};
 
 use crate::screen::Screen;
-use zk_term::out::Out;
+use zk_term::byte_buffer::ByteBuffer;
 use zk_term::target::{Failed, Target};
 
 /// Collects the UTF-8 of each character, and gives it to its target where there is much of it, and at `finish`. Once a
@@ -13,8 +13,8 @@ use zk_term::target::{Failed, Target};
 pub struct Console<'a, S, T> {
     screen: &'a mut S,
     script: &'a mut T,
-    to_screen: Out,
-    to_script: Out,
+    to_screen: ByteBuffer,
+    to_script: ByteBuffer,
     failed: bool,
 }
 
@@ -31,8 +31,8 @@ impl<'a, S, T> Console<'a, S, T> {
         Console {
             screen,
             script,
-            to_screen: Out::new(),
-            to_script: Out::new(),
+            to_screen: ByteBuffer::new(),
+            to_script: ByteBuffer::new(),
             failed: false,
         }
     }

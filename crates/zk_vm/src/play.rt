@@ -4,7 +4,7 @@ ghost use Rattle.std.specs.Prelude.{◌≡◌, ◌≤◌, ◌<◌, ◌+◌, ◌�
 ghost use Rattle.std.specs.List.{AllByRecursion};
 ghost use Rattle.zk_text.specs.Extra.{is_input_code, own_characters};
 ghost use Rattle.zk_term.specs.Devices.{HasJust, Shows};
-ghost use Rattle.zk_term.specs.declared.lines.Over.{Over};
+ghost use Rattle.zk_term.specs.declared.lines.InputEnd.{InputEnd};
 ghost use Rattle.zk_term.specs.Lines.{Hears, FailsAlone, HasInputCodes, IsOverAfter, MeetsBound, ReadFailed, over_input};
 ghost use Rattle.zk_vm.specs.Answers.{first_code};
 ghost use Rattle.zk_vm.specs.Answers.Answer.{Typed};
@@ -215,7 +215,7 @@ pub fn turn<S: Target, T: Target, K: SaveSlot>(
 
 /// The next line, by the extra characters in force.
 fn next_line<R: Source>(lines: &mut Lines, reader: &mut R, machine: &Machine) -> Input
-    ensures over { (o : Over) → lines.old.over ≡ Some o
+    ensures over { (o : InputEnd) → lines.old.over ≡ Some o
         → (result ≡ over_input o) × (lines.new ≡ lines.old) × (reader.new ≡ reader.old) }
     ensures heard { (bytes : List ℕ) → lines.old.over ≡ None → R.left reader.old ≡ Some bytes
         → (later : List ℕ) × (R.left reader.new ≡ Some later)
@@ -229,7 +229,7 @@ fn next_line<R: Source>(lines: &mut Lines, reader: &mut R, machine: &Machine) ->
         (ReadFailed R.fails R.failed reader.new lines.new)
         (R.failed reader.new ≡ R.failed reader.old)
         (MeetsBound R.gives reader.old reader.new lines.old lines.new) result }
-    ensures ends { lines.old.over ≡ None → lines.new.over ≡ Some Over.End
+    ensures ends { lines.old.over ≡ None → lines.new.over ≡ Some InputEnd.End
         → HasJust R.ends reader.new }
 {
     lines.line(reader, &Extra::of(machine.memory()))

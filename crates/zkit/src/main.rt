@@ -15,6 +15,7 @@ use std::io::{self, Printer};
 use std::os::fd::{AsRawFd, IntoRawFd, RawFd};
 use std::process::ExitCode;
 use zk_command::about::About;
+use zk_command::arguments::{NO_TEXT, argument_of};
 use zk_command::choice::{Choice, choose, story_named, usage_status_of};
 use zk_command::exit::Exit;
 use zk_command::listing::{Listing, leave_out, list_and_report};
@@ -26,25 +27,24 @@ use zk_command::script::ScriptFile;
 use zk_command::settings::Settings;
 use zk_command::shown::Shown;
 use zk_command::watched::Watched;
-use zk_command::words::{NO_TEXT, word_of};
 use zk_term::echo::Echo;
-use zk_term::over::Over;
+use zk_term::io_device::IoDevice;
 use zk_term::target::Target;
 use zk_term::wrapped::Wrapped;
 use zk_vm::slot::SaveSlot;
 use zk_vm::stop::Stop;
 
-/// So many bytes a word of the command line has at most.
+/// So many bytes an argument of the command line has at most.
 const MOST_BYTES: usize = 131_072;
 
 /// Standard output.
 fn screen_of<'a>(
     rt: &'a HostRuntime,
     about: &'a About,
-) -> Over<Watched<'a, Printer<'a, HostRuntime>>>
+) -> IoDevice<Watched<'a, Printer<'a, HostRuntime>>>
     ensures { result.failed ≡ false }
 {
-    Over::new(Watched::new(io::writer(rt), &about.screen))
+    IoDevice::new(Watched::new(io::writer(rt), &about.screen))
 }
 
 /// Plays the story in a file, with its transcript in a script and its saved game in a slot, and answers the program's
@@ -59,10 +59,10 @@ fn play<T: Target + Drop, K: SaveSlot + Drop>(
     requires in_range { AreInRange settings.limits }
     requires script_works { T.failed script ≡ false }
 {
-    let mut errors = Over::new(rt.stderr());
+    let mut errors = IoDevice::new(rt.stderr());
     let mut devices = Devices {
         input: Echo::new(
-            Over::new(Watched::new(rt.stdin(), &about.input)),
+            IoDevice::new(Watched::new(rt.stdin(), &about.input)),
             screen_of(rt, about),
             settings.echo,
         ),
@@ -84,7 +84,7 @@ fn play<T: Target + Drop, K: SaveSlot + Drop>(
 
 /// Lists the story in a file, below its heading where it is one of several, and answers the program's status.
 fn list<'a>(rt: &HostRuntime, path: &'a str, heading: Option<&'a str>, listing: Listing) -> u8 {
-    let mut errors = Over::new(rt.stderr());
+    let mut errors = IoDevice::new(rt.stderr());
     let about = About::listed(path, heading);
     let mut screen = screen_of(rt, &about);
     match File::open(rt, path) {
@@ -120,7 +120,10 @@ fn list_each(rt: &HostRuntime, stories: &[&str], listing: Listing) -> u8 {
 fn out_of_memory(rt: &HostRuntime) -> u8
     ensures { result ≡ 5 }
 {
-    report_briefly(&Exit::Stopped(Stop::Memory), &mut Over::new(rt.stderr()))
+    report_briefly(
+        &Exit::Stopped(Stop::Memory),
+        &mut IoDevice::new(rt.stderr()),
+    )
 }
 
 /// Tells why help can't be written, and answers the program's status.
@@ -130,10 +133,10 @@ fn tell_unwritten(rt: &HostRuntime, failure: &io::Error) -> u8
     let about = About::new("", "");
     about.screen.note(failure);
     let exit = Exit::Stopped(Stop::Write);
-    report_listing(rt.alloc(), &exit, &about, &mut Over::new(rt.stderr()))
+    report_listing(rt.alloc(), &exit, &about, &mut IoDevice::new(rt.stderr()))
 }
 
-/// Shows help, the version or what is wrong with the words, and answers the program's status: 4 where help can't be
+/// Shows help, the version or what is wrong with the arguments, and answers the program's status: 4 where help can't be
 /// written.
 fn tell_usage(rt: &HostRuntime, error: &Error) -> u8
     ensures { (result ≡ usage_status (kind_of error.now))
@@ -165,16 +168,16 @@ fn option_on_story(
     }
 }
 
-/// Tells how a story is played, where the first word names a file in a command's place.
-fn tell_command(rt: &HostRuntime, words: &[&str], error: &Error) {
+/// Tells how a story is played, where the first argument names a file in a command's place.
+fn tell_command(rt: &HostRuntime, arguments: &[&str], error: &Error) {
     if error.kind() != ErrorKind::InvalidSubcommand {
         return;
     }
-    let Some(word) = words.get(1) else {
+    let Some(argument) = arguments.get(1) else {
         return;
     };
-    if fs::exists(rt, *word).unwrap_or(false) {
-        let _ = eprintln!(rt; "\nto play it: zkit play {}", Shown(word));
+    if fs::exists(rt, *argument).unwrap_or(false) {
+        let _ = eprintln!(rt; "\nto play it: zkit play {}", Shown(argument));
     }
 }
 
@@ -196,7 +199,7 @@ fn play_with(
     play(rt, &about, settings, file, SaveFile::new(rt, save))
 }
 
-/// Tells that a word is no text, and answers the program's status.
+/// Tells that an argument is no text, and answers the program's status.
 fn tell_no_text(rt: &HostRuntime) -> u8
     ensures { result ≡ 1 }
 {
@@ -204,18 +207,18 @@ fn tell_no_text(rt: &HostRuntime) -> u8
     1
 }
 
-/// Does what the words ask for, and answers the program's status. A path that is no text is left out where stories are
-/// listed; nothing else is done by such a word.
-fn answer(rt: &HostRuntime, words: &[String]) -> u8 {
-    let Ok(words) = words
+/// Does what the arguments ask for, and answers the program's status. A path that is no text is left out where stories are
+/// listed; nothing else is done by such an argument.
+fn answer(rt: &HostRuntime, arguments: &[String]) -> u8 {
+    let Ok(arguments) = arguments
         .iter()
-        .map(|word| word.as_str())
+        .map(|argument| argument.as_str())
         .collect::<Vec<&str>>(rt.alloc())
     else {
         return out_of_memory(rt);
     };
-    let are_text = !words.iter().any(|word| word.contains(NO_TEXT));
-    match choose(rt.alloc(), words.as_slice()) {
+    let are_text = !arguments.iter().any(|argument| argument.contains(NO_TEXT));
+    match choose(rt.alloc(), arguments.as_slice()) {
         Ok(Choice::Show { stories, listing }) => list_each(rt, stories.as_slice(), listing),
         _ if !are_text => tell_no_text(rt),
         Ok(
@@ -228,39 +231,39 @@ fn answer(rt: &HostRuntime, words: &[String]) -> u8 {
         ) => play_with(rt, story, save, script, settings),
         Err(error) => {
             let status = tell_usage(rt, &error);
-            tell_command(rt, words.as_slice(), &error);
+            tell_command(rt, arguments.as_slice(), &error);
             status
         }
     }
 }
 
-/// A word that the program is called with, by its number, if there are so many.
-fn read_word(rt: &HostRuntime, number: usize) -> Result<Option<String>, AllocError> {
+/// An argument that the program is called with, by its number, if there are so many.
+fn read_argument(rt: &HostRuntime, number: usize) -> Result<Option<String>, AllocError> {
     let mut bytes = vec![in rt.alloc(); 0; MOST_BYTES]?;
     match rt.arg(number, bytes.as_mut_slice()) {
-        Ok(count) => Ok(Some(word_of(rt.alloc(), &bytes[..count])?)),
+        Ok(count) => Ok(Some(argument_of(rt.alloc(), &bytes[..count])?)),
         Err(FillError::NotPresent) => Ok(None),
         Err(FillError::TooLong) => Err(AllocError),
     }
 }
 
-/// The words that the program is called with, its name first, where one of them is no text.
-fn read_words_apart(rt: &HostRuntime) -> io::Result<Vec<String>> {
-    let mut words = Vec::new(rt.alloc());
+/// The arguments that the program is called with, its name first, where one of them is no text.
+fn read_arguments_apart(rt: &HostRuntime) -> io::Result<Vec<String>> {
+    let mut arguments = Vec::new(rt.alloc());
     for number in 0..usize::MAX {
-        match read_word(rt, number)? {
-            Some(word) => words.push(word)?,
+        match read_argument(rt, number)? {
+            Some(argument) => arguments.push(argument)?,
             None => break,
         }
     }
-    Ok(words)
+    Ok(arguments)
 }
 
-/// The words that the program is called with, its name first.
-fn read_words(rt: &HostRuntime) -> io::Result<Vec<String>> {
+/// The arguments that the program is called with, its name first.
+fn read_arguments(rt: &HostRuntime) -> io::Result<Vec<String>> {
     match env::args(rt) {
-        Ok(words) => Ok(words.collect(rt.alloc())?),
-        Err(error) if error.kind() == io::ErrorKind::InvalidData => read_words_apart(rt),
+        Ok(arguments) => Ok(arguments.collect(rt.alloc())?),
+        Err(error) if error.kind() == io::ErrorKind::InvalidData => read_arguments_apart(rt),
         Err(error) => Err(error),
     }
 }
@@ -285,8 +288,8 @@ fn hold_numbers(rt: &HostRuntime) {
 
 fn main(rt: HostRuntime) -> ExitCode {
     hold_numbers(&rt);
-    let status = match read_words(&rt) {
-        Ok(words) => answer(&rt, words.as_slice()),
+    let status = match read_arguments(&rt) {
+        Ok(arguments) => answer(&rt, arguments.as_slice()),
         Err(_) => out_of_memory(&rt),
     };
     ExitCode::from(status)

@@ -19,12 +19,12 @@ returns-in-Ok-clause-asks c =
 
 pub returns-in_err-matches-clause-refused : goal.returns-in_err-matches-clause-refused
 returns-in_err-matches-clause-refused c =
-    let words = map (λ s. s.now) c.args.words.now in
+    let arguments = map (λ s. s.now) c.args.arguments.now in
     let line_is = c.in_ok-command.ensures in
     let error = c.in_err-matches.field-0.0 in
     let same : c.from_residual-in_err-matches.result ≡ Err error = search rules in
-    let kinds = subst (λ (a : App). HasKind (fault_of a words) error) line_is (c.in_err-matches.ensures.kinds (ap is_simple_and_free line_is ∙ command_line_is_free)) in
-    subst (λ r. IfErr r (λ e. IsRefusedWith words e)) (sym same) (inl kinds)
+    let kinds = subst (λ (a : App). HasKind (fault_of a arguments) error) line_is (c.in_err-matches.ensures.kinds (ap is_simple_and_free line_is ∙ command_line_is_free)) in
+    subst (λ r. IfErr r (λ e. IsRefusedWith arguments e)) (sym same) (inl kinds)
 
 pub returns-in_default-clause-refused : goal.returns-in_default-clause-refused
 returns-in_default-clause-refused c =

@@ -13,11 +13,11 @@ returns-in_default-clause-says c =
 pub returns-in-Some-number_from-clause-says : goal.returns-in-Some-number_from-clause-says
 returns-in-Some-number_from-clause-says c =
     let found = found_of c.args.play.now in
-    let text : first_value found (codes "width") ≡ Some c.in-Some.word.now = search rules in
-    number_said (rows_of found) (codes "width") 20 255 c.in-Some.word.now (Some c.in-Some-number_from.width) (sym (first_value-rows found (codes "width")) ∙ text) c.in-Some-number_from.ensures
+    let text : first_value found (codes "width") ≡ Some c.in-Some.argument.now = search rules in
+    number_said (rows_of found) (codes "width") 20 255 c.in-Some.argument.now (Some c.in-Some-number_from.width) (sym (first_value-rows found (codes "width")) ∙ text) c.in-Some-number_from.ensures
 
 pub returns-in-None-clause-says_none : goal.returns-in-None-clause-says_none
 returns-in-None-clause-says_none c =
     let found = found_of c.args.play.now in
-    let text : first_value found (codes "width") ≡ Some c.in-Some.word.now = search rules in
-    none_may_be_said (rows_of found) (codes "width") 20 255 c.in-Some.word.now (sym (first_value-rows found (codes "width")) ∙ text) c.in-None.ensures
+    let text : first_value found (codes "width") ≡ Some c.in-Some.argument.now = search rules in
+    none_may_be_said (rows_of found) (codes "width") 20 255 c.in-Some.argument.now (sym (first_value-rows found (codes "width")) ∙ text) c.in-None.ensures

@@ -1,6 +1,6 @@
 use Rattle.std.proofs.Common.{[], inl, inr, refl, sym, ap}
 use Rattle.zk_term.specs.Lines.{heard}
-use Rattle.zk_term.specs.declared.lines.Over.TheVariants.{End}
+use Rattle.zk_term.specs.declared.lines.InputEnd.TheVariants.{End}
 use Rattle.zk_vm.specs.Halts.{event_waited}
 use Rattle.zk_vm.specs.Outcome.{Session, begun, given_all, outcome, ran}
 use Rattle.zk_vm.specs.Plays.{source_tells, stop_waiting}

@@ -1,5 +1,5 @@
 use Rattle.std.proofs.Common.{◌≡◌, ◌∙◌, ◌||◌, ◌+◌, ◌++◌, Some, inl, false, ap, refl}
-use Rattle.zk_term.specs.declared.lines.Over.TheVariants.{End, Failed}
+use Rattle.zk_term.specs.declared.lines.InputEnd.TheVariants.{End, Failed}
 use Rattle.zk_vm.specs.Plays.{source_tells}
 use Rattle.zk_vm.proofs.Playing.{so_far_none, on_played, on_answered, stops_played, stops_answered, reads_end, answers_end, heard_end, heard_failed, turn_asked, fewer, over_on, line_open, failed_open, no_end, last_none, end_left, end_found, end_sound, failed_found, true_or}
 use Rattle.zk_vm.proofs.play.play.Goals as goal

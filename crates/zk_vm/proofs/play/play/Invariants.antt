@@ -1,5 +1,5 @@
 use Rattle.std.proofs.Common.{◌≡◌, ◌⊎◌, ℕ, List, [], ◌++◌, Bool, None, Some, false}
-use Rattle.zk_term.specs.declared.lines.Over.TheVariants.{End}
+use Rattle.zk_term.specs.declared.lines.InputEnd.TheVariants.{End}
 use Rattle.zk_term.specs.Devices.{HasJust}
 use Rattle.zk_vm.specs.Plays.{IsPlayed, IsAnswered, slot_tells, source_tells, taken_by}
 use Rattle.zk_vm.proofs.Playing.{SoFar, turns_left}

@@ -1,5 +1,5 @@
 use Rattle.std.proofs.Common.{◌∙◌, ◌-◌, Some, take, drop, refl, arith}
-use Rattle.zk_term.specs.declared.lines.Over.TheVariants as over
+use Rattle.zk_term.specs.declared.lines.InputEnd.TheVariants as over
 use Rattle.zk_term.proofs.Taking.{taken_on, taken_line, taken_last, taken_end, taken_long, plain_more}
 use Rattle.zk_term.proofs.lines.Lines.take_line.Goals as goal
 

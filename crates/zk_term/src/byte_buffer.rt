@@ -11,11 +11,11 @@ use std::marker::Model;
 /// Bytes that wait to be given to a target, at most 1,024: they go out together where there is no more room, and at
 /// `flush`.
 #[derive(Drop)]
-pub struct Out {
+pub struct ByteBuffer {
     waiting: ArrayVec<u8, 1024>,
 }
 
-impl Model for Out {
+impl Model for ByteBuffer {
     ghost use Rattle.std.specs.Prelude.{List, ℕ};
 
     ghost Value = { List ℕ };
@@ -23,12 +23,12 @@ impl Model for Out {
     ghost view = { λ o. o.waiting.items };
 }
 
-impl Out {
+impl ByteBuffer {
     /// No bytes.
-    pub fn new() -> Out
+    pub fn new() -> ByteBuffer
         ensures { result ≡ [] }
     {
-        Out {
+        ByteBuffer {
             waiting: ArrayVec::new(),
         }
     }

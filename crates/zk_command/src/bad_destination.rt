@@ -1,7 +1,7 @@
 // Where an instruction leads that has a bad target, for the lines in words.
 
 use std::alloc::{AllocError, Global};
-use zk_code::branch::{Branch, Target};
+use zk_code::branch::{Branch, BranchTarget};
 use zk_code::decode::decode;
 use zk_code::instr::Instr;
 use zk_code::opcode::Opcode;
@@ -10,7 +10,7 @@ use zk_mem::memory::Memory;
 
 /// Where an instruction leads that has a bad target, by byte addresses.
 #[derive(Clone, Copy, PartialEq, Eq, Drop)]
-pub enum Astray {
+pub enum BadDestination {
     /// It calls an address inside the story, where no routine begins.
     Routine(u32),
     /// It calls an address past the story.
@@ -28,26 +28,26 @@ pub enum Astray {
 }
 
 /// Where a call leads.
-fn called(memory: &Memory, i: &Instr) -> Astray {
+fn called(memory: &Memory, i: &Instr) -> BadDestination {
     match i.constant_call(memory) {
-        Some(address) if memory.cell(address).is_none() => Astray::PastRoutine(address),
-        Some(address) => Astray::Routine(address),
-        None => Astray::SomeRoutine,
+        Some(address) if memory.cell(address).is_none() => BadDestination::PastRoutine(address),
+        Some(address) => BadDestination::Routine(address),
+        None => BadDestination::SomeRoutine,
     }
 }
 
 /// Where a branch or a jump leads.
-fn led(target: Target) -> Option<Astray> {
+fn led(target: BranchTarget) -> Option<BadDestination> {
     match target {
-        Target::Past(address) => Some(Astray::Past(address)),
-        Target::Below(count) => Some(Astray::Before(count)),
+        BranchTarget::Past(address) => Some(BadDestination::Past(address)),
+        BranchTarget::Below(count) => Some(BadDestination::Before(count)),
         _ => None,
     }
 }
 
-impl Astray {
+impl BadDestination {
     /// Where the instruction at a byte address leads, which has a bad target.
-    pub fn at(memory: &Memory, address: u32) -> Option<Astray> {
+    pub fn at(memory: &Memory, address: u32) -> Option<BadDestination> {
         if address > 0x10_0000 {
             return None;
         }
@@ -60,7 +60,7 @@ impl Astray {
         if is_jump(i.opcode) {
             return match i.constant_jump(memory) {
                 Some(target) => led(target),
-                None => Some(Astray::SomeJump),
+                None => Some(BadDestination::SomeJump),
             };
         }
         let led = match i.branch {
@@ -68,29 +68,31 @@ impl Astray {
             None => None,
         };
         // a `restore` whose own branch leads somewhere
-        led.or(Some(Astray::SavedGame))
+        led.or(Some(BadDestination::SavedGame))
     }
 
     /// Where it leads, in words.
     pub fn text(self, alloc: Global) -> Result<String, AllocError> {
         match self {
-            Astray::Routine(a) => format!(in alloc;
+            BadDestination::Routine(a) => format!(in alloc;
                 "the story calls address {a:05x}, where no routine begins"
             ),
-            Astray::PastRoutine(a) => format!(in alloc;
+            BadDestination::PastRoutine(a) => format!(in alloc;
                 "the story calls address {a:05x}, which is past its end"
             ),
-            Astray::SomeRoutine => format!(in alloc;
+            BadDestination::SomeRoutine => format!(in alloc;
                 "the story calls an address past its end, or where no routine begins"
             ),
-            Astray::Past(a) => format!(in alloc;
+            BadDestination::Past(a) => format!(in alloc;
                 "the story goes on at address {a:05x}, which is past its end"
             ),
-            Astray::Before(n) => format!(in alloc;
+            BadDestination::Before(n) => format!(in alloc;
                 "the story goes on {n} bytes before its beginning"
             ),
-            Astray::SomeJump => format!(in alloc; "the story jumps out of itself"),
-            Astray::SavedGame => format!(in alloc; "the saved game goes on past the story's end"),
+            BadDestination::SomeJump => format!(in alloc; "the story jumps out of itself"),
+            BadDestination::SavedGame => format!(in alloc;
+                "the saved game goes on past the story's end"
+            ),
         }
     }
 }

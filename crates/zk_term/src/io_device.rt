@@ -11,17 +11,17 @@ use std::io::{Read, Write};
 /// that takes none of some bytes. A writer may hold bytes back until it is flushed: `flushed` says that it was, and that
 /// nothing was written since.
 #[derive(Drop)]
-pub struct Over<T> {
+pub struct IoDevice<T> {
     inner: T,
     failed: bool,
     flushed: bool,
 }
 
-impl<T> Over<T> {
-    pub fn new(inner: T) -> Over<T>
+impl<T> IoDevice<T> {
+    pub fn new(inner: T) -> IoDevice<T>
         ensures { result ≡ record { inner = inner; failed = false; flushed = false } }
     {
-        Over {
+        IoDevice {
             inner,
             failed: false,
             flushed: false,
@@ -36,7 +36,7 @@ impl<T> Over<T> {
     }
 }
 
-impl<R: Read> Source for Over<R> {
+impl<R: Read> Source for IoDevice<R> {
     ghost left = { λ o. R.remaining o.inner };
 
     ghost failed = { λ o. o.failed };
@@ -58,7 +58,7 @@ impl<R: Read> Source for Over<R> {
     }
 }
 
-impl<W: Write> Target for Over<W> {
+impl<W: Write> Target for IoDevice<W> {
     ghost taken = { λ o. W.contents o.inner };
 
     ghost failed = { λ o. o.failed };
