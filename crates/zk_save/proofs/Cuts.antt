@@ -47,11 +47,11 @@ unfolding first_of_frames
 frame_cut bs w le h b e cut =
     rw (not_below (length bs) 8 le, not_below 31 (slice_index bs 3) h, not_below 127 (slice_index bs 5) b, ← e, is_below (length bs) (8 + 2 * (slice_index bs 3 % 16) + 2 * w) cut) refl
 
-pub frame_whole : (bs : List ℕ) (w place supplied : ℕ) (result : Option ℕ) → 8 ≤ length bs → slice_index bs 3 ≤ 31 → slice_index bs 5 ≤ 127 → w ≡ word_count bs → 8 + 2 * (slice_index bs 3 % 16) + 2 * w ≤ length bs
-    → place ≡ number_of (take 3 bs) → result ≡ result_in (slice_index bs 3) (slice_index bs 4) → supplied ≡ arguments_in 7 (slice_index bs 5)
-    → Some (frame_seen (take (8 + 2 * (slice_index bs 3 % 16) - 8) (drop 8 bs)) (take (8 + 2 * (slice_index bs 3 % 16) + 2 * w - (8 + 2 * (slice_index bs 3 % 16))) (drop (8 + 2 * (slice_index bs 3 % 16)) bs)) place result supplied, take (length bs - (8 + 2 * (slice_index bs 3 % 16) + 2 * w)) (drop (8 + 2 * (slice_index bs 3 % 16) + 2 * w) bs)) ≡ first_of_frames bs
+pub frame_whole : (bs : List ℕ) (w pc supplied : ℕ) (result : Option ℕ) → 8 ≤ length bs → slice_index bs 3 ≤ 31 → slice_index bs 5 ≤ 127 → w ≡ word_count bs → 8 + 2 * (slice_index bs 3 % 16) + 2 * w ≤ length bs
+    → pc ≡ number_of (take 3 bs) → result ≡ result_in (slice_index bs 3) (slice_index bs 4) → supplied ≡ arguments_in 7 (slice_index bs 5)
+    → Some (frame_seen (take (8 + 2 * (slice_index bs 3 % 16) - 8) (drop 8 bs)) (take (8 + 2 * (slice_index bs 3 % 16) + 2 * w - (8 + 2 * (slice_index bs 3 % 16))) (drop (8 + 2 * (slice_index bs 3 % 16)) bs)) pc result supplied, take (length bs - (8 + 2 * (slice_index bs 3 % 16) + 2 * w)) (drop (8 + 2 * (slice_index bs 3 % 16) + 2 * w) bs)) ≡ first_of_frames bs
 unfolding first_of_frames
-frame_whole bs w place supplied result le h b e fits p r s =
+frame_whole bs w pc supplied result le h b e fits p r s =
     let l : ℕ = slice_index bs 3 % 16 in
     let one : 8 + 2 * l - 8 ≡ 2 * l = omega arith in
     let two : 8 + 2 * l + 2 * w - (8 + 2 * l) ≡ 2 * w = omega arith in

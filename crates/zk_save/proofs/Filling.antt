@@ -267,5 +267,5 @@ pub frame_room : (s t : FrameList) (ls : List ℕ) (p : ℕ) (v : Option ℕ) (n
 unfolding sizes_of
 frame_room s t ls p v n l w h e few = rw h (omega (arith, e, few))
 
-pub frame_put : (s t u : FrameList) (ls ws : List ℕ) (p : ℕ) (v : Option ℕ) (n : ℕ) → t ≡ with_routine s ls p v n → u ≡ with_words t (t.current.words ++ ws) → u ≡ with_frame s (record { locals = ls; words = ws; place = p; result = v; supplied = n })
+pub frame_put : (s t u : FrameList) (ls ws : List ℕ) (p : ℕ) (v : Option ℕ) (n : ℕ) → t ≡ with_routine s ls p v n → u ≡ with_words t (t.current.words ++ ws) → u ≡ with_frame s (record { locals = ls; words = ws; pc = p; result = v; supplied = n })
 frame_put s t u ls ws p v n h e = e ∙ ap (λ (x : FrameList). with_words x (x.current.words ++ ws)) h

@@ -51,7 +51,7 @@ state_by m parts =
     if not (is_of_story m.file parts.story) then Err OtherStory else
     loaded_by (or_refuse BadMemory (dynamic_in m parts.memory)) (λ dynamic.
     loaded_by (or_refuse BadStack (frames_read parts.stack)) (λ frames.
-    Ok (record { dynamic = dynamic; frames = reverse frames; place = number_of (bytes_behind 10 3 parts.story) })))
+    Ok (record { dynamic = dynamic; frames = reverse frames; pc = number_of (bytes_behind 10 3 parts.story) })))
 
 module _ (file : List ℕ) (m : MemoryMap) (s : FrameList) where
   in_steps : restored file m s ≡ loaded_by (form_in file) (λ form. loaded_by (loaded_by (or_refuse Truncated (chunks_in form)) parts_of) (λ p. loaded_by (state_by m p) (λ w. put_in_place w m s)))
@@ -96,7 +96,7 @@ module _ (file : List ℕ) (m : MemoryMap) (s : FrameList) where
             wide = ap (λ (q : ℕ × ℕ). q.1) frames.2
 
             state : WholeState
-            state = record { dynamic = dynamic.0; frames = reverse frames.0; place = number_of (bytes_behind 10 3 p.story) }
+            state = record { dynamic = dynamic.0; frames = reverse frames.0; pc = number_of (bytes_behind 10 3 p.story) }
 
             by_state : restored file m s ≡ put_in_place state m s
             unfolding state

@@ -122,7 +122,7 @@ bits_small k le =
 
 first_of_head : (p0 p1 p2 flags v args w0 w1 l w : ℕ) (lb wb rest : List ℕ) → flags ≤ 31 → args ≤ 127 → flags % 16 ≡ l → number_of (w0 ∷ w1 ∷ []) ≡ w → length lb ≡ 2 * l → length wb ≡ 2 * w
     → first_of_frames (p0 ∷ p1 ∷ p2 ∷ flags ∷ v ∷ args ∷ w0 ∷ w1 ∷ (lb ++ (wb ++ rest)))
-    ≡ Some (record { locals = words_of lb; words = words_of wb; place = number_of (p0 ∷ p1 ∷ p2 ∷ []); result = result_in flags v; supplied = arguments_in 7 args }, rest)
+    ≡ Some (record { locals = words_of lb; words = words_of wb; pc = number_of (p0 ∷ p1 ∷ p2 ∷ []); result = result_in flags v; supplied = arguments_in 7 args }, rest)
 unfolding first_of_frames
 first_of_head p0 p1 p2 flags v args w0 w1 l w lb wb rest f a le we ll lw =
     let bs : List ℕ = p0 ∷ p1 ∷ p2 ∷ flags ∷ v ∷ args ∷ w0 ∷ w1 ∷ (lb ++ (wb ++ rest)) in
@@ -151,10 +151,10 @@ frame_again f rest is =
     let n : ℕ = length f.locals in
     let flags : ℕ = drop_flag f.result + n in
     let args : ℕ = 2 ^ f.supplied - 1 in
-    ap first_of_frames (frame_apart (bytes_3 f.place ++ flags ∷ variable_of f.result ∷ args ∷ []) f rest)
-    ∙ first_of_head (f.place / 65536) (f.place / 256 % 256) (f.place % 256) flags (variable_of f.result) args (length f.words / 256) (length f.words % 256) n (length f.words) (words_bytes f.locals) (words_bytes f.words) rest
+    ap first_of_frames (frame_apart (bytes_3 f.pc ++ flags ∷ variable_of f.result ∷ args ∷ []) f rest)
+    ∙ first_of_head (f.pc / 65536) (f.pc / 256 % 256) (f.pc % 256) flags (variable_of f.result) args (length f.words / 256) (length f.words % 256) n (length f.words) (words_bytes f.locals) (words_bytes f.words) rest
     (flags_small f.result n is.locals) (bits_small f.supplied is.supplied) (flags_locals f.result n is.locals) (number_2 (length f.words)) (length_words f.locals) (length_words f.words)
-    ∙ rw (words_again f.locals, words_again f.words, number_3 f.place, flags_result f.result n is.locals, bits_again f.supplied is.supplied) refl
+    ∙ rw (words_again f.locals, words_again f.words, number_3 f.pc, flags_result f.result n is.locals, bits_again f.supplied is.supplied) refl
 
 pub rest_again : (fs : List Frame) → All IsFrame fs → frames_rest (flat_map frame_bytes fs) ≡ Some fs
 rest_again [] h = frames_none
@@ -215,43 +215,43 @@ form_again cs =
 
 -- ---- the story
 
-story_by : (r c place : ℕ) (serial : List ℕ) → length serial ≡ 6
-    → (length (bytes_2 r ++ serial ++ bytes_2 c ++ bytes_3 place) ≡ 13) × (take 8 (bytes_2 r ++ serial ++ bytes_2 c ++ bytes_3 place) ≡ bytes_2 r ++ serial)
-    × (bytes_behind 8 2 (bytes_2 r ++ serial ++ bytes_2 c ++ bytes_3 place) ≡ bytes_2 c) × (bytes_behind 10 3 (bytes_2 r ++ serial ++ bytes_2 c ++ bytes_3 place) ≡ bytes_3 place)
-story_by r c place (s1 ∷ s2 ∷ s3 ∷ s4 ∷ s5 ∷ s6 ∷ []) h = (refl, refl, refl, refl)
-story_by r c place [] h = absurd (omega (arith, h))
-story_by r c place (s1 ∷ []) h = absurd (omega (arith, h))
-story_by r c place (s1 ∷ s2 ∷ []) h = absurd (omega (arith, h))
-story_by r c place (s1 ∷ s2 ∷ s3 ∷ []) h = absurd (omega (arith, h))
-story_by r c place (s1 ∷ s2 ∷ s3 ∷ s4 ∷ []) h = absurd (omega (arith, h))
-story_by r c place (s1 ∷ s2 ∷ s3 ∷ s4 ∷ s5 ∷ []) h = absurd (omega (arith, h))
-story_by r c place (s1 ∷ s2 ∷ s3 ∷ s4 ∷ s5 ∷ s6 ∷ x ∷ xs) h = absurd (omega (arith, h))
+story_by : (r c pc : ℕ) (serial : List ℕ) → length serial ≡ 6
+    → (length (bytes_2 r ++ serial ++ bytes_2 c ++ bytes_3 pc) ≡ 13) × (take 8 (bytes_2 r ++ serial ++ bytes_2 c ++ bytes_3 pc) ≡ bytes_2 r ++ serial)
+    × (bytes_behind 8 2 (bytes_2 r ++ serial ++ bytes_2 c ++ bytes_3 pc) ≡ bytes_2 c) × (bytes_behind 10 3 (bytes_2 r ++ serial ++ bytes_2 c ++ bytes_3 pc) ≡ bytes_3 pc)
+story_by r c pc (s1 ∷ s2 ∷ s3 ∷ s4 ∷ s5 ∷ s6 ∷ []) h = (refl, refl, refl, refl)
+story_by r c pc [] h = absurd (omega (arith, h))
+story_by r c pc (s1 ∷ []) h = absurd (omega (arith, h))
+story_by r c pc (s1 ∷ s2 ∷ []) h = absurd (omega (arith, h))
+story_by r c pc (s1 ∷ s2 ∷ s3 ∷ []) h = absurd (omega (arith, h))
+story_by r c pc (s1 ∷ s2 ∷ s3 ∷ s4 ∷ []) h = absurd (omega (arith, h))
+story_by r c pc (s1 ∷ s2 ∷ s3 ∷ s4 ∷ s5 ∷ []) h = absurd (omega (arith, h))
+story_by r c pc (s1 ∷ s2 ∷ s3 ∷ s4 ∷ s5 ∷ s6 ∷ x ∷ xs) h = absurd (omega (arith, h))
 
-module _ (file : List ℕ) (place : ℕ) (six : length (header_of file).serial ≡ 6) where
-  story_length : length (story_content file place) ≡ 13
+module _ (file : List ℕ) (pc : ℕ) (six : length (header_of file).serial ≡ 6) where
+  story_length : length (story_content file pc) ≡ 13
   unfolding story_content
-  story_length = let p = story_by (header_of file).release (story_checksum file) place (header_of file).serial six in p.0
+  story_length = let p = story_by (header_of file).release (story_checksum file) pc (header_of file).serial six in p.0
 
   is_checksum : (n : ℕ) → (n == n) ≡ true
   is_checksum n = grind (arith, nat_tests)
 
-  story_front : take 8 (story_content file place) ≡ bytes_2 (header_of file).release ++ (header_of file).serial
+  story_front : take 8 (story_content file pc) ≡ bytes_2 (header_of file).release ++ (header_of file).serial
   unfolding story_content
-  story_front = let p = story_by (header_of file).release (story_checksum file) place (header_of file).serial six in p.1
+  story_front = let p = story_by (header_of file).release (story_checksum file) pc (header_of file).serial six in p.1
 
-  story_sum : bytes_behind 8 2 (story_content file place) ≡ bytes_2 (story_checksum file)
+  story_sum : bytes_behind 8 2 (story_content file pc) ≡ bytes_2 (story_checksum file)
   unfolding story_content
-  story_sum = let p = story_by (header_of file).release (story_checksum file) place (header_of file).serial six in p.2
+  story_sum = let p = story_by (header_of file).release (story_checksum file) pc (header_of file).serial six in p.2
 
-  story_again : is_of_story file (story_content file place) ≡ true
+  story_again : is_of_story file (story_content file pc) ≡ true
   unfolding is_of_story
   story_again =
       let h = header_of file in
       rw (story_front, story_sum, number_2 (story_checksum file), same_bytes (bytes_2 h.release ++ h.serial), is_checksum (story_checksum file)) refl
 
-  place_again : number_of (bytes_behind 10 3 (story_content file place)) ≡ place
+  place_again : number_of (bytes_behind 10 3 (story_content file pc)) ≡ pc
   unfolding story_content
-  place_again = let p = story_by (header_of file).release (story_checksum file) place (header_of file).serial six in ap number_of p.3 ∙ number_3 place
+  place_again = let p = story_by (header_of file).release (story_checksum file) pc (header_of file).serial six in ap number_of p.3 ∙ number_3 pc
 
 -- ---- memory
 
@@ -293,21 +293,21 @@ module _ (a : List ℕ) (c : Chunk) (d : List ℕ) where
       let second : All HasName (c ∷ record { name = codes "Stks"; content = d } ∷ []) = All-cons HasName c (record { name = codes "Stks"; content = d } ∷ []) named third in
       All-cons HasName (record { name = codes "IFhd"; content = a }) (c ∷ record { name = codes "Stks"; content = d } ∷ []) refl second
 
-pub loaded_again : (m : MemoryMap) (s : FrameList) (place : ℕ) → length (header_of m.file).serial ≡ 6 → m.static_base ≤ length m.file → length (take m.static_base m.bytes) ≡ m.static_base → BeginsFirst s → All IsFrame (frames_of s)
-    → IsLoadedAgain m s place (saved m s place)
+pub loaded_again : (m : MemoryMap) (s : FrameList) (pc : ℕ) → length (header_of m.file).serial ≡ 6 → m.static_base ≤ length m.file → length (take m.static_base m.bytes) ≡ m.static_base → BeginsFirst s → All IsFrame (frames_of s)
+    → IsLoadedAgain m s pc (saved m s pc)
 unfolding saved loaded parts_of content_of memory_chunk
-loaded_again m s place six le long begins each =
+loaded_again m s pc six le long begins each =
     let part : IsPart m (memory_part m) = part_again m le long in
-    let names : All HasName (saved_chunks m s place) = have_names (story_content m.file place) (memory_part m) (stack_content (reverse (frames_of s))) part.named in
+    let names : All HasName (saved_chunks m s pc) = have_names (story_content m.file pc) (memory_part m) (stack_content (reverse (frames_of s))) part.named in
     rw (
-      form_again (saved_chunks m s place),
-      chunks_again (saved_chunks m s place) names,
-      not_below (length (story_content m.file place)) 13 (omega (arith, story_length m.file place six)),
+      form_again (saved_chunks m s pc),
+      chunks_again (saved_chunks m s pc) names,
+      not_below (length (story_content m.file pc)) 13 (omega (arith, story_length m.file pc six)),
       part.is_memory,
       part.no_stack,
-      story_again m.file place six,
+      story_again m.file pc six,
       part.gives,
       stack_again s begins each,
-      place_again m.file place six,
+      place_again m.file pc six,
       reverse-reverse (frames_of s),
     ) refl

@@ -69,10 +69,10 @@ turned_again m reset turned n flags ds le e r t s =
     let bytes : turned ≡ with_bytes m (xored m.file ds) = t ∙ ap (λ (x : MemoryMap). with_bytes x (xored x.bytes ds)) r in
     s ∙ ap (λ (k : ℕ). settled k turned) e ∙ ap (settled (slice_index m.bytes 0x11)) (bytes ∙ ap (with_bytes m) whole)
 
-pub goes_back : (file : List ℕ) (k : KeptState) (m n : MemoryMap) (f g : FrameList) (place : ℕ) (others : List WholeState) → n ≡ again m (xored (take (length k.difference) m.file) k.difference ++ drop (length (xored (take (length k.difference) m.file) k.difference)) m.file) → g ≡ with_frames f k.frames → place ≡ k.place
-    → gone_back (whole_state m.file k ∷ others) m f ≡ Some (n, g, place, others)
+pub goes_back : (file : List ℕ) (k : KeptState) (m n : MemoryMap) (f g : FrameList) (pc : ℕ) (others : List WholeState) → n ≡ again m (xored (take (length k.difference) m.file) k.difference ++ drop (length (xored (take (length k.difference) m.file) k.difference)) m.file) → g ≡ with_frames f k.frames → pc ≡ k.pc
+    → gone_back (whole_state m.file k ∷ others) m f ≡ Some (n, g, pc, others)
 unfolding gone_back
-goes_back file k m n f g place others e h p = rw (e, h, p) refl
+goes_back file k m n f g pc others e h p = rw (e, h, p) refl
 
 pub states_put : (file : List ℕ) (n : ℕ) (k : KeptState) (w : WholeState) (ks : List KeptState) → whole_state file k ≡ w → map (whole_state file) (take n (k ∷ ks)) ≡ take n (w ∷ map (whole_state file) ks)
 states_put file n k w ks e = sym (take-map (whole_state file) n (k ∷ ks)) ∙ ap (λ (x : WholeState). take n (x ∷ map (whole_state file) ks)) e

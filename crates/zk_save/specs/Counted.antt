@@ -39,11 +39,11 @@ chunk_cut c = chunk_seen c.name.now c.content.now
 
 -- a frame whose words are written as bytes
 abbrev pub frame_seen : List ℕ → List ℕ → ℕ → Option ℕ → ℕ → Frame
-frame_seen locals words place result supplied = record { locals = words_of locals; words = words_of words; place = place; result = result; supplied = supplied }
+frame_seen locals words pc result supplied = record { locals = words_of locals; words = words_of words; pc = pc; result = result; supplied = supplied }
 
 -- a frame that the code has cut off, and what stands after it
 abbrev pub frame_cut : FrameBytes → Frame × List ℕ
-frame_cut f = (frame_seen f.locals.now f.words.now f.place f.result f.supplied, f.rest.now)
+frame_cut f = (frame_seen f.locals.now f.words.now f.pc f.result f.supplied, f.rest.now)
 
 -- the first frame as it is written, and what stands after it
 abbrev pub first_written : List ℕ → Option (Frame × List ℕ)

@@ -57,7 +57,7 @@ DifferencesAreTurned =
 
 -- a frame without local variables, with one word
 abbrev pub frame : ℕ → Frame
-frame word = record { locals = []; words = word ∷ []; place = 0; result = None; supplied = 0 }
+frame word = record { locals = []; words = word ∷ []; pc = 0; result = None; supplied = 0 }
 
 -- frames of which there may be two with nine words together
 abbrev pub frames_with : Frame → FrameList
@@ -70,16 +70,16 @@ memory_with bytes = record { version = 3; static_base = 2; bytes = bytes; file =
 -- what differs from the file is kept, and gives the whole state over the file
 abbrev pub DifferencesAreKept : Type 0
 DifferencesAreKept =
-    (states_in (1 ∷ 2 ∷ 3 ∷ []) (record { states = record { difference = 5 ∷ 0 ∷ []; frames = frame 7 ∷ []; place = 9 } ∷ []; most = 1 })
-    ≡ record { dynamic = 4 ∷ 2 ∷ []; frames = frame 7 ∷ []; place = 9 } ∷ [])
-    × (state_of (memory_with (4 ∷ 2 ∷ 3 ∷ [])) (frames_with (frame 7)) 9 ≡ record { dynamic = 4 ∷ 2 ∷ []; frames = frame 7 ∷ []; place = 9 })
+    (states_in (1 ∷ 2 ∷ 3 ∷ []) (record { states = record { difference = 5 ∷ 0 ∷ []; frames = frame 7 ∷ []; pc = 9 } ∷ []; most = 1 })
+    ≡ record { dynamic = 4 ∷ 2 ∷ []; frames = frame 7 ∷ []; pc = 9 } ∷ [])
+    × (state_of (memory_with (4 ∷ 2 ∷ 3 ∷ [])) (frames_with (frame 7)) 9 ≡ record { dynamic = 4 ∷ 2 ∷ []; frames = frame 7 ∷ []; pc = 9 })
 
--- the newest state is gone back to, with its memory, its frames and its place, and the others are left; without one
+-- the newest state is gone back to, with its memory, its frames and its program counter, and the others are left; without one
 -- there is nothing to go back to
 abbrev pub NewestIsGoneBackTo : Type 0
 NewestIsGoneBackTo =
-    (gone_back (record { dynamic = 4 ∷ 2 ∷ []; frames = frame 7 ∷ []; place = 9 } ∷ record { dynamic = 5 ∷ 5 ∷ []; frames = frame 8 ∷ []; place = 8 } ∷ []) (memory_with (6 ∷ 6 ∷ 3 ∷ [])) (frames_with (frame 1))
-    ≡ Some (again (memory_with (6 ∷ 6 ∷ 3 ∷ [])) (4 ∷ 2 ∷ 3 ∷ []), frames_with (frame 7), 9, record { dynamic = 5 ∷ 5 ∷ []; frames = frame 8 ∷ []; place = 8 } ∷ []))
+    (gone_back (record { dynamic = 4 ∷ 2 ∷ []; frames = frame 7 ∷ []; pc = 9 } ∷ record { dynamic = 5 ∷ 5 ∷ []; frames = frame 8 ∷ []; pc = 8 } ∷ []) (memory_with (6 ∷ 6 ∷ 3 ∷ [])) (frames_with (frame 1))
+    ≡ Some (again (memory_with (6 ∷ 6 ∷ 3 ∷ [])) (4 ∷ 2 ∷ 3 ∷ []), frames_with (frame 7), 9, record { dynamic = 5 ∷ 5 ∷ []; frames = frame 8 ∷ []; pc = 8 } ∷ []))
     × (gone_back [] (memory_with (6 ∷ 6 ∷ 3 ∷ [])) (frames_with (frame 1)) ≡ None)
 
 -- ---- saved games
@@ -97,19 +97,19 @@ ChunksAreWritten =
     (chunk_bytes (record { name = codes "abcd"; content = 7 ∷ 8 ∷ 9 ∷ [] }) ≡ 0x61 ∷ 0x62 ∷ 0x63 ∷ 0x64 ∷ 0 ∷ 0 ∷ 0 ∷ 3 ∷ 7 ∷ 8 ∷ 9 ∷ 0 ∷ [])
     × (chunk_bytes (record { name = codes "abcd"; content = 7 ∷ 8 ∷ [] }) ≡ 0x61 ∷ 0x62 ∷ 0x63 ∷ 0x64 ∷ 0 ∷ 0 ∷ 0 ∷ 2 ∷ 7 ∷ 8 ∷ [])
 
--- a routine's frame: its place, 16 where its result is dropped and the number of its local variables, the variable of
+-- a routine's frame: its return address, 16 where its result is dropped and the number of its local variables, the variable of
 -- its result, a bit for each argument, the number of its words, then the local variables and the words
 abbrev pub FramesAreWritten : Type 0
 FramesAreWritten =
-    (frame_bytes (record { locals = 0x0102 ∷ 0x0304 ∷ []; words = 0x0506 ∷ []; place = 0x012345; result = Some 17; supplied = 2 })
+    (frame_bytes (record { locals = 0x0102 ∷ 0x0304 ∷ []; words = 0x0506 ∷ []; pc = 0x012345; result = Some 17; supplied = 2 })
     ≡ 0x01 ∷ 0x23 ∷ 0x45 ∷ 0x02 ∷ 17 ∷ 0b11 ∷ 0 ∷ 1 ∷ 1 ∷ 2 ∷ 3 ∷ 4 ∷ 5 ∷ 6 ∷ [])
-    × (frame_bytes (record { locals = 9 ∷ []; words = []; place = 66; result = None; supplied = 7 })
+    × (frame_bytes (record { locals = 9 ∷ []; words = []; pc = 66; result = None; supplied = 7 })
     ≡ 0 ∷ 0 ∷ 66 ∷ 0x11 ∷ 0 ∷ 0b1111111 ∷ 0 ∷ 0 ∷ 0 ∷ 9 ∷ [])
 
 -- the first frame comes first, and its head is zeros, though its result goes nowhere
 abbrev pub TheFirstComesFirst : Type 0
 TheFirstComesFirst =
-    stack_content (record { locals = []; words = 8 ∷ []; place = 0; result = None; supplied = 0 } ∷ record { locals = []; words = []; place = 66; result = Some 0; supplied = 0 } ∷ [])
+    stack_content (record { locals = []; words = 8 ∷ []; pc = 0; result = None; supplied = 0 } ∷ record { locals = []; words = []; pc = 66; result = Some 0; supplied = 0 } ∷ [])
     ≡ 0 ∷ 0 ∷ 0 ∷ 0 ∷ 0 ∷ 0 ∷ 0 ∷ 1 ∷ 0 ∷ 8 ∷ 0 ∷ 0 ∷ 66 ∷ 0 ∷ 0 ∷ 0 ∷ 0 ∷ 0 ∷ []
 
 -- a file of version 3 with a serial number and a checksum, and three bytes of code
@@ -136,7 +136,7 @@ ShorterMemoryIsSaved =
 abbrev pub GamesAreSaved : Type 0
 GamesAreSaved =
     saved (record { version = 3; static_base = 3; bytes = 3 ∷ 0x20 ∷ [] ++ drop 2 (story_file 7); file = story_file 7; undo_states = 0 })
-    (record { current = record { locals = []; words = []; place = 0; result = None; supplied = 0 }; callers = []; most_frames = 1; most_words = 0 }) 65
+    (record { current = record { locals = []; words = []; pc = 0; result = None; supplied = 0 }; callers = []; most_frames = 1; most_words = 0 }) 65
     ≡ 0x46 ∷ 0x4f ∷ 0x52 ∷ 0x4d ∷ 0 ∷ 0 ∷ 0 ∷ 0x36 ∷ 0x49 ∷ 0x46 ∷ 0x5a ∷ 0x53
     ∷ 0x49 ∷ 0x46 ∷ 0x68 ∷ 0x64 ∷ 0 ∷ 0 ∷ 0 ∷ 13 ∷ 0 ∷ 9 ∷ 48 ∷ 49 ∷ 50 ∷ 51 ∷ 52 ∷ 53 ∷ 0 ∷ 7 ∷ 0 ∷ 0 ∷ 65 ∷ 0
     ∷ 0x43 ∷ 0x4d ∷ 0x65 ∷ 0x6d ∷ 0 ∷ 0 ∷ 0 ∷ 3 ∷ 0 ∷ 0 ∷ 0x20 ∷ 0
@@ -173,7 +173,7 @@ ChunksAreRead =
     × (chunks_in (head (codes "abcd") 2 ++ 7 ∷ 8 ∷ head (codes "efgh") 1) ≡ None)
     × (chunks_in [] ≡ Some [])
 
--- the bytes that say the story, and the place
+-- the bytes that say the story, and the program counter
 abbrev pub story_bytes : ℕ → ℕ → List ℕ
 story_bytes high low = 0 ∷ 9 ∷ 48 ∷ 49 ∷ 50 ∷ 51 ∷ 52 ∷ 53 ∷ high ∷ low ∷ 0 ∷ 0 ∷ 65 ∷ []
 
@@ -192,9 +192,9 @@ FirstsCount =
 abbrev pub FramesAreRead : Type 0
 FramesAreRead =
     (first_of_frames (0x01 ∷ 0x23 ∷ 0x45 ∷ 0x12 ∷ 17 ∷ 0b101 ∷ 0 ∷ 1 ∷ 1 ∷ 2 ∷ 3 ∷ 4 ∷ 5 ∷ 6 ∷ 7 ∷ [])
-    ≡ Some (record { locals = 0x0102 ∷ 0x0304 ∷ []; words = 0x0506 ∷ []; place = 0x012345; result = None; supplied = 1 }, 7 ∷ []))
-    × (first_of_frames (0 ∷ 0 ∷ 66 ∷ 0x00 ∷ 17 ∷ 0b1111111 ∷ 0 ∷ 0 ∷ []) ≡ Some (record { locals = []; words = []; place = 66; result = Some 17; supplied = 7 }, []))
-    × (first_of_frames (0 ∷ 0 ∷ 66 ∷ 0x00 ∷ 0 ∷ 0b1111110 ∷ 0 ∷ 0 ∷ []) ≡ Some (record { locals = []; words = []; place = 66; result = Some 0; supplied = 0 }, []))
+    ≡ Some (record { locals = 0x0102 ∷ 0x0304 ∷ []; words = 0x0506 ∷ []; pc = 0x012345; result = None; supplied = 1 }, 7 ∷ []))
+    × (first_of_frames (0 ∷ 0 ∷ 66 ∷ 0x00 ∷ 17 ∷ 0b1111111 ∷ 0 ∷ 0 ∷ []) ≡ Some (record { locals = []; words = []; pc = 66; result = Some 17; supplied = 7 }, []))
+    × (first_of_frames (0 ∷ 0 ∷ 66 ∷ 0x00 ∷ 0 ∷ 0b1111110 ∷ 0 ∷ 0 ∷ []) ≡ Some (record { locals = []; words = []; pc = 66; result = Some 0; supplied = 0 }, []))
     × (first_of_frames (0 ∷ 0 ∷ 66 ∷ 0x20 ∷ 0 ∷ 0 ∷ 0 ∷ 0 ∷ []) ≡ None)
     × (first_of_frames (0 ∷ 0 ∷ 66 ∷ 0x00 ∷ 0 ∷ 0x80 ∷ 0 ∷ 0 ∷ []) ≡ None)
     × (first_of_frames (0 ∷ 0 ∷ 66 ∷ 0x00 ∷ 0 ∷ 0 ∷ 0 ∷ []) ≡ None)
@@ -204,7 +204,7 @@ FramesAreRead =
 abbrev pub TheFirstIsRead : Type 0
 TheFirstIsRead =
     (frames_read (0 ∷ 0 ∷ 0 ∷ 0 ∷ 0 ∷ 0 ∷ 0 ∷ 1 ∷ 0 ∷ 8 ∷ 0 ∷ 0 ∷ 66 ∷ 0 ∷ 0 ∷ 0 ∷ 0 ∷ 0 ∷ [])
-    ≡ Some (record { locals = []; words = 8 ∷ []; place = 0; result = None; supplied = 0 } ∷ record { locals = []; words = []; place = 66; result = Some 0; supplied = 0 } ∷ []))
+    ≡ Some (record { locals = []; words = 8 ∷ []; pc = 0; result = None; supplied = 0 } ∷ record { locals = []; words = []; pc = 66; result = Some 0; supplied = 0 } ∷ []))
     × (frames_read (0 ∷ 0 ∷ 0 ∷ 0 ∷ 1 ∷ 0 ∷ 0 ∷ 0 ∷ []) ≡ None)
     × (frames_read (0 ∷ 0 ∷ 0 ∷ 0x10 ∷ 0 ∷ 0 ∷ 0 ∷ 0 ∷ []) ≡ None)
     × (frames_read (replicate 8 0 ++ 0 ∷ []) ≡ None)
@@ -259,7 +259,7 @@ loaded_from file = loaded memory_of_story file
 
 -- the state of the game
 abbrev pub game_state : WholeState
-game_state = record { dynamic = 3 ∷ 0x20 ∷ 0 ∷ []; frames = record { locals = []; words = []; place = 0; result = None; supplied = 0 } ∷ []; place = 65 }
+game_state = record { dynamic = 3 ∷ 0x20 ∷ 0 ∷ []; frames = record { locals = []; words = []; pc = 0; result = None; supplied = 0 } ∷ []; pc = 65 }
 
 -- chunks come in any order, and bytes after the form don't count; of two reasons to refuse the earlier one is told
 abbrev pub GamesAreLoaded : Type 0
@@ -284,7 +284,7 @@ within most_frames most_words = record { current = frame 1; callers = []; most_f
 -- frames past the bounds are refused, and that there are too many is told first
 abbrev pub BoundsAreKept : Type 0
 BoundsAreKept =
-    (put_in_place (record { dynamic = 4 ∷ 2 ∷ []; frames = frame 7 ∷ frame 8 ∷ []; place = 9 }) (memory_with (6 ∷ 6 ∷ 3 ∷ [])) (within 2 2)
+    (put_in_place (record { dynamic = 4 ∷ 2 ∷ []; frames = frame 7 ∷ frame 8 ∷ []; pc = 9 }) (memory_with (6 ∷ 6 ∷ 3 ∷ [])) (within 2 2)
     ≡ Ok (again (memory_with (6 ∷ 6 ∷ 3 ∷ [])) (4 ∷ 2 ∷ 3 ∷ []), record { current = frame 7; callers = frame 8 ∷ []; most_frames = 2; most_words = 2 }, 9))
-    × (put_in_place (record { dynamic = 4 ∷ 2 ∷ []; frames = frame 7 ∷ frame 8 ∷ []; place = 9 }) (memory_with (6 ∷ 6 ∷ 3 ∷ [])) (within 1 1) ≡ Err (Limit Frames))
-    × (put_in_place (record { dynamic = 4 ∷ 2 ∷ []; frames = frame 7 ∷ frame 8 ∷ []; place = 9 }) (memory_with (6 ∷ 6 ∷ 3 ∷ [])) (within 2 1) ≡ Err (Limit Words))
+    × (put_in_place (record { dynamic = 4 ∷ 2 ∷ []; frames = frame 7 ∷ frame 8 ∷ []; pc = 9 }) (memory_with (6 ∷ 6 ∷ 3 ∷ [])) (within 1 1) ≡ Err (Limit Frames))
+    × (put_in_place (record { dynamic = 4 ∷ 2 ∷ []; frames = frame 7 ∷ frame 8 ∷ []; pc = 9 }) (memory_with (6 ∷ 6 ∷ 3 ∷ [])) (within 2 1) ≡ Err (Limit Words))

@@ -47,7 +47,7 @@ memory_chunk (c ∷ cs) = if bytes_eq c.name (codes "CMem") || bytes_eq c.name (
 abbrev pub story_part : List ℕ → Option (List ℕ)
 story_part content = if nat_lt (length content) 13 then None else Some content
 
--- what says the story and the place, the memory, and the frames
+-- what says the story and the program counter, the memory, and the frames
 pub record Parts : Type 0 where
   pub story : List ℕ
   pub memory : Chunk
@@ -93,7 +93,7 @@ loaded m bytes =
     if not (is_of_story m.file parts.story) then Err OtherStory else
     loaded_by (or_refuse BadMemory (dynamic_in m parts.memory)) (λ dynamic.
     loaded_by (or_refuse BadStack (frames_read parts.stack)) (λ frames.
-    Ok (record { dynamic = dynamic; frames = reverse frames; place = number_of (bytes_behind 10 3 parts.story) }))))))
+    Ok (record { dynamic = dynamic; frames = reverse frames; pc = number_of (bytes_behind 10 3 parts.story) }))))))
 
 -- ---- restoring
 
@@ -105,7 +105,7 @@ frames_fit (Err (refusal.Fault f)) = Err BadStack
 
 -- a whole state takes the place of a memory and frames, within their bounds; it tells where the run goes on
 unfoldable pub put_in_place : WholeState → MemoryMap → FrameList → Result (MemoryMap × FrameList × ℕ) RestoreError
-put_in_place w m s = loaded_by (frames_fit (within_bounds (with_frames s w.frames))) (λ frames. Ok (memory_back w m, frames, w.place))
+put_in_place w m s = loaded_by (frames_fit (within_bounds (with_frames s w.frames))) (λ frames. Ok (memory_back w m, frames, w.pc))
 
 -- a saved game is restored: what it loads takes the place of memory and frames (Standard, section 15, `restore`)
 unfoldable pub restored : List ℕ → MemoryMap → FrameList → Result (MemoryMap × FrameList × ℕ) RestoreError
@@ -113,6 +113,6 @@ restored bytes m s = loaded_by (loaded m bytes) (λ w. put_in_place w m s)
 
 -- ---- laws
 
--- what was saved is loaded: the same dynamic memory, frames and place
+-- what was saved is loaded: the same dynamic memory, frames and program counter
 abbrev pub IsLoadedAgain : MemoryMap → FrameList → ℕ → List ℕ → Type 0
-IsLoadedAgain m s place file = loaded m file ≡ Ok (record { dynamic = take m.static_base m.bytes; frames = s.current ∷ s.callers; place = place })
+IsLoadedAgain m s pc file = loaded m file ≡ Ok (record { dynamic = take m.static_base m.bytes; frames = s.current ∷ s.callers; pc = pc })

@@ -45,10 +45,10 @@ form_bytes cs = chunk_bytes (record { name = codes "FORM"; content = codes "IFZS
 unfoldable pub story_checksum : List ℕ → ℕ
 story_checksum file = if (header_of file).checksum == 0 then file_sum file else (header_of file).checksum
 
--- the release, the serial number and the checksum of the story, and the place where the run goes on (Quetzal 1.4,
+-- the release, the serial number and the checksum of the story, and the address where the run goes on (Quetzal 1.4,
 -- section 5)
 unfoldable pub story_content : List ℕ → ℕ → List ℕ
-story_content file place = bytes_2 (header_of file).release ++ (header_of file).serial ++ bytes_2 (story_checksum file) ++ bytes_3 place
+story_content file pc = bytes_2 (header_of file).release ++ (header_of file).serial ++ bytes_2 (story_checksum file) ++ bytes_3 pc
 
 -- ---- frames (Quetzal 1.4, section 4)
 
@@ -71,10 +71,10 @@ variable_of (Some v) = v
 abbrev pub with_stack : List ℕ → Frame → List ℕ
 with_stack head f = head ++ bytes_2 (length f.words) ++ words_bytes f.locals ++ words_bytes f.words
 
--- a frame: the place that it returns to, flags with the number of local variables, the variable of its result, a bit
+-- a frame: the address that it returns to, flags with the number of local variables, the variable of its result, a bit
 -- for each argument, and its words (Quetzal 1.4, section 4)
 unfoldable pub frame_bytes : Frame → List ℕ
-frame_bytes f = with_stack (bytes_3 f.place ++ (drop_flag f.result + length f.locals) ∷ variable_of f.result ∷ (2 ^ f.supplied - 1) ∷ []) f
+frame_bytes f = with_stack (bytes_3 f.pc ++ (drop_flag f.result + length f.locals) ∷ variable_of f.result ∷ (2 ^ f.supplied - 1) ∷ []) f
 
 -- the first frame, which stands outside of all routines: its head is zeros (Quetzal 1.4, section 4)
 unfoldable pub first_bytes : Frame → List ℕ
@@ -100,12 +100,12 @@ memory_part m =
 
 -- the chunks of a saved game: the story, its memory and the frames (Quetzal 1.4, sections 2 to 5)
 abbrev pub saved_chunks : MemoryMap → FrameList → ℕ → List Chunk
-saved_chunks m s place =
-    record { name = codes "IFhd"; content = story_content m.file place }
+saved_chunks m s pc =
+    record { name = codes "IFhd"; content = story_content m.file pc }
     ∷ memory_part m
     ∷ record { name = codes "Stks"; content = stack_content (reverse (frames_of s)) }
     ∷ []
 
 -- a saved game (Quetzal 1.4, section 2)
 unfoldable pub saved : MemoryMap → FrameList → ℕ → List ℕ
-saved m s place = form_bytes (saved_chunks m s place)
+saved m s pc = form_bytes (saved_chunks m s pc)

@@ -87,7 +87,7 @@ frame_of locals words bs =
       record {
         locals = words_of (bytes_behind 8 (2 * locals) bs);
         words = words_of (bytes_behind (8 + 2 * locals) (2 * words) bs);
-        place = number_of (take 3 bs);
+        pc = number_of (take 3 bs);
         result = result_in (slice_index bs 3) (slice_index bs 4);
         supplied = arguments_in 7 (slice_index bs 5);
       },

@@ -13,7 +13,7 @@ bytes_in cs n = unwrap_or (unpacked n cs) []
 
 -- a kept state that contracts speak of
 abbrev pub kept_seen : PackedState.Inside → KeptState
-kept_seen k = record { difference = bytes_in k.packed.items k.length; frames = k.frames; place = k.place }
+kept_seen k = record { difference = bytes_in k.packed.items k.length; frames = k.frames; pc = k.pc }
 
 -- the memory of a kept state is packed
 pub record IsPacked (k : PackedState.Inside) : Type 0 where

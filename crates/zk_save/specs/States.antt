@@ -5,21 +5,21 @@ use Rattle.zk_mem.specs.Again.{again}
 use Rattle.zk_state.specs.Frames.{Frame, FrameList, frames_of, sizes_of, bounds_of, with_frames}
 use Rattle.zk_save.specs.Unpacking.{xored}
 
--- a whole state: dynamic memory, all frames with the newest first, and the place where the run goes on (section 6.1)
+-- a whole state: dynamic memory, all frames with the newest first, and the address where the run goes on (section 6.1)
 pub record WholeState : Type 0 where
   pub dynamic : List ℕ
   pub frames : List Frame
-  pub place : ℕ
+  pub pc : ℕ
 
 -- the state that a memory and frames are in
 abbrev pub state_of : MemoryMap → FrameList → ℕ → WholeState
-state_of m f place = record { dynamic = take m.static_base m.bytes; frames = frames_of f; place = place }
+state_of m f pc = record { dynamic = take m.static_base m.bytes; frames = frames_of f; pc = pc }
 
--- a state that is kept: what its dynamic memory differs in from the story file, its frames and its place
+-- a state that is kept: what its dynamic memory differs in from the story file, its frames and its program counter
 pub record KeptState : Type 0 where
   pub difference : List ℕ
   pub frames : List Frame
-  pub place : ℕ
+  pub pc : ℕ
 
 -- the states that are kept, newest first, and how many there may be
 pub record UndoStates : Type 0 where
@@ -28,7 +28,7 @@ pub record UndoStates : Type 0 where
 
 -- the whole state that is kept over a story file
 abbrev pub whole_state : List ℕ → KeptState → WholeState
-whole_state file k = record { dynamic = xored (take (length k.difference) file) k.difference; frames = k.frames; place = k.place }
+whole_state file k = record { dynamic = xored (take (length k.difference) file) k.difference; frames = k.frames; pc = k.pc }
 
 -- the whole states that are kept over a story file, newest first
 unfoldable pub states_in : List ℕ → UndoStates → List WholeState
@@ -42,7 +42,7 @@ memory_back w m = again m (w.dynamic ++ drop (length w.dynamic) m.file)
 -- of all, and the others are left (section 15, `restore_undo`)
 unfoldable pub gone_back : List WholeState → MemoryMap → FrameList → Option (MemoryMap × FrameList × ℕ × List WholeState)
 gone_back [] m f = None
-gone_back (w ∷ ws) m f = Some (memory_back w m, with_frames f w.frames, w.place, ws)
+gone_back (w ∷ ws) m f = Some (memory_back w m, with_frames f w.frames, w.pc, ws)
 
 -- a kept state of a story with its static base here, and within bounds on frames and words
 pub record IsOf (base most_frames most_words : ℕ) (k : KeptState) : Type 0 where

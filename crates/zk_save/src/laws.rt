@@ -37,10 +37,10 @@ fn has_six(serial: &[u8; 6])
     ensures { length serial.now ≡ 6 }
 {}
 
-/// What was saved is loaded again: the same dynamic memory, frames and place.
+/// What was saved is loaded again: the same dynamic memory, frames and program counter.
 pub fn saved_is_loaded(memory: &Memory, frames: &Frames)
-    ensures { (place : ℕ)
-        → IsLoadedAgain memory.now frames.now place (saved memory.now frames.now place) }
+    ensures { (pc : ℕ)
+        → IsLoadedAgain memory.now frames.now pc (saved memory.now frames.now pc) }
 {
     let header = memory.header();
     has_six(&header.serial);

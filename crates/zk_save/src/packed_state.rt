@@ -11,14 +11,14 @@ use zk_mem::memory::Memory;
 use zk_state::frames::{Frames, FramesCopy};
 
 /// A state that is kept: what dynamic memory differs in from the story file, packed, a copy of all frames,
-/// and the place where the run goes on.
+/// and the address where the run goes on.
 #[derive(Drop)]
 pub(crate) struct PackedState {
     packed: Vec<u8>,
     // how many bytes are packed
     length: usize,
     frames: FramesCopy,
-    place: u32,
+    pc: u32,
 }
 
 impl Model for PackedState {
@@ -39,10 +39,10 @@ impl PackedState {
         alloc: Global,
         memory: &Memory,
         frames: &Frames,
-        place: u32,
+        pc: u32,
     ) -> Result<PackedState, AllocError>
         ensures state { IfOk result
-            (λ k. whole_state memory.now.file k ≡ state_of memory.now frames.now place) }
+            (λ k. whole_state memory.now.file k ≡ state_of memory.now frames.now pc) }
         ensures is_of { IfOk result
             (IsOf memory.now.static_base frames.now.most_frames frames.now.most_words) }
     {
@@ -54,7 +54,7 @@ impl PackedState {
             packed,
             length: dynamic.len(),
             frames,
-            place,
+            pc,
         })
     }
 
@@ -76,6 +76,6 @@ impl PackedState {
         turn(self.packed.as_slice(), memory);
         memory.settle(flags);
         frames.put_back(&self.frames);
-        self.place
+        self.pc
     }
 }

@@ -105,7 +105,7 @@ fn find(form: &[u8]) -> Option<Found<'_>>
     Some(found)
 }
 
-/// The parts of a saved game: what says the story and the place, the chunk of memory, and the frames.
+/// The parts of a saved game: what says the story and the program counter, the chunk of memory, and the frames.
 #[derive(Clone, Copy, Drop)]
 pub(crate) struct Parts<'a> {
     pub story: &'a [u8],

@@ -53,7 +53,7 @@ pub(crate) fn chunk_at_front(bytes: &[u8]) -> Option<ChunkView<'_>>
 pub(crate) struct FrameBytes<'a> {
     pub locals: &'a [u8],
     pub words: &'a [u8],
-    pub place: u32,
+    pub pc: u32,
     pub result: Option<u8>,
     pub supplied: u8,
     pub rest: &'a [u8],
@@ -87,7 +87,7 @@ pub(crate) fn frame_at_front(bytes: &[u8]) -> Option<FrameBytes<'_>>
     ensures len { IfSome result
         (λ f. length f.locals.now + length f.words.now + length f.rest.now + 8 ≡ length bytes.now) }
     ensures locals { IfSome result (λ f. length f.locals.now ≤ 30) }
-    ensures place { IfSome result (λ f. f.place < 2 ^ 24) }
+    ensures pc { IfSome result (λ f. f.pc < 2 ^ 24) }
     ensures supplied { IfSome result (λ f. f.supplied ≤ 7) }
 {
     if bytes.len() < 8 {
@@ -104,7 +104,7 @@ pub(crate) fn frame_at_front(bytes: &[u8]) -> Option<FrameBytes<'_>>
     Some(FrameBytes {
         locals: &bytes[8..words],
         words: &bytes[words..end],
-        place: number(&bytes[..3]),
+        pc: number(&bytes[..3]),
         result: result_variable(bytes[3], bytes[4]),
         supplied: arguments(bytes[5]),
         rest: &bytes[end..],

@@ -94,7 +94,7 @@ pub fn refusal(file: &[u8], memory: &Memory, frames: &Frames) -> Option<RestoreE
 }
 
 /// Restores a saved game (Quetzal 1.4; Standard, section 15, `restore`): its dynamic memory and its frames
-/// take the place of these, and the place is told where the run goes on: the address of the branch data of
+/// take the place of these, and the address is told where the run goes on: the address of the branch data of
 /// `save` in version 3, of its store byte from version 4 on. Bits 0 and 1 of Flags 2 stay, and the header's
 /// fields that an interpreter sets are set again (Standard, section 6.1.2). No memory is asked for.
 ///
@@ -112,10 +112,10 @@ pub fn refusal(file: &[u8], memory: &Memory, frames: &Frames) -> Option<RestoreE
 /// than there may be.
 pub fn restore(file: &[u8], memory: &mut Memory, frames: &mut Frames) -> Result<u32, RestoreError>
     ensures value { MatchResult result
-        (λ place. restored file.now memory.old frames.old ≡ Ok (memory.new, frames.new, place))
+        (λ pc. restored file.now memory.old frames.old ≡ Ok (memory.new, frames.new, pc))
         (λ e. (restored file.now memory.old frames.old ≡ Err e) × (memory.new ≡ memory.old)
         × (frames.new ≡ frames.old)) }
-    ensures place { IfOk result (λ place. place < 2 ^ 24) }
+    ensures pc { IfOk result (λ pc. pc < 2 ^ 24) }
     ensures base { memory.new.static_base ≡ memory.old.static_base }
     ensures story { (memory.new.file ≡ memory.old.file)
         × (memory.new.undo_states ≡ memory.old.undo_states) }

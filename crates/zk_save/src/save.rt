@@ -110,7 +110,7 @@ fn put_frame(out: &mut Vec<u8>, frame: &FrameView) -> Result<(), AllocError>
     requires is_frame { IsFrame (record {
       locals = frame.now.locals.now;
       words = frame.now.words.now;
-      place = frame.now.place;
+      pc = frame.now.pc;
       result = frame.now.result;
       supplied = frame.now.supplied;
     }) }
@@ -119,12 +119,12 @@ fn put_frame(out: &mut Vec<u8>, frame: &FrameView) -> Result<(), AllocError>
         (record {
           locals = frame.now.locals.now;
           words = frame.now.words.now;
-          place = frame.now.place;
+          pc = frame.now.pc;
           result = frame.now.result;
           supplied = frame.now.supplied;
         })) }
 {
-    put_3(out, frame.place)?;
+    put_3(out, frame.pc)?;
     out.push(flags_byte(frame.result, frame.locals.len() as u8))?;
     out.push(variable_byte(frame.result))?;
     out.push((1 << frame.supplied) - 1)?;
@@ -140,7 +140,7 @@ fn put_first(out: &mut Vec<u8>, frame: &FrameView) -> Result<(), AllocError>
         (record {
           locals = frame.now.locals.now;
           words = frame.now.words.now;
-          place = frame.now.place;
+          pc = frame.now.pc;
           result = frame.now.result;
           supplied = frame.now.supplied;
         })) }
@@ -182,11 +182,11 @@ pub(crate) fn checksum_of(memory: &Memory) -> u16
     checksum
 }
 
-/// The story and the place where the run goes on (Quetzal 1.4, section 5).
+/// The story and the address where the run goes on (Quetzal 1.4, section 5).
 #[tactic(auto, unfolding(crate::specs::Quetzal::story_content))]
-fn story_of(alloc: Global, memory: &Memory, place: u32) -> Result<Vec<u8>, AllocError>
-    requires { place < 2 ^ 24 }
-    ensures value { IfOk result (λ v. v.items ≡ story_content memory.now.file place) }
+fn story_of(alloc: Global, memory: &Memory, pc: u32) -> Result<Vec<u8>, AllocError>
+    requires { pc < 2 ^ 24 }
+    ensures value { IfOk result (λ v. v.items ≡ story_content memory.now.file pc) }
     ensures len { IfOk result (λ v. length v.items ≡ 13) }
 {
     let header = memory.header();
@@ -194,7 +194,7 @@ fn story_of(alloc: Global, memory: &Memory, place: u32) -> Result<Vec<u8>, Alloc
     put_2(&mut out, header.release)?;
     out.extend_from_slice(&header.serial)?;
     put_2(&mut out, checksum_of(memory))?;
-    put_3(&mut out, place)?;
+    put_3(&mut out, pc)?;
     Ok(out)
 }
 
@@ -218,21 +218,16 @@ fn put_memory(alloc: Global, out: &mut Vec<u8>, memory: &Memory) -> Result<(), A
 }
 
 /// The file of a saved game (Quetzal 1.4): a form of the chunks `IFhd`, `CMem` or `UMem`, whichever is shorter,
-/// and `Stks`, for a memory and frames that go on at a place. The place is the address of the branch data of `save` in version 3, and of
+/// and `Stks`, for a memory and frames that go on at an address. The address is that of the branch data of `save` in version 3, and of
 /// its store byte from version 4 on.
-pub fn save(
-    alloc: Global,
-    memory: &Memory,
-    frames: &Frames,
-    place: u32,
-) -> Result<Vec<u8>, AllocError>
-    requires { place < 2 ^ 24 }
-    ensures value { IfOk result (λ v. v.items ≡ saved memory.now frames.now place) }
+pub fn save(alloc: Global, memory: &Memory, frames: &Frames, pc: u32) -> Result<Vec<u8>, AllocError>
+    requires { pc < 2 ^ 24 }
+    ensures value { IfOk result (λ v. v.items ≡ saved memory.now frames.now pc) }
     ensures len { IfOk result (λ v. length v.items ≤ 51 + memory.now.static_base
         + 8 * frames.now.most_frames + 2 * frames.now.most_words) }
     ensures short { OnOk result (length (memory_part memory.now).content ≤ memory.now.static_base) }
 {
-    let story = story_of(alloc, memory, place)?;
+    let story = story_of(alloc, memory, pc)?;
     let stack = stack_of(alloc, frames)?;
     let mut chunks = Vec::new(alloc);
     chunks.extend_from_slice(b"IFZS")?;

@@ -74,13 +74,13 @@ impl Undo {
         }
     }
 
-    /// Keeps the state of a memory and frames that goes on at a place, and drops the oldest state where
+    /// Keeps the state of a memory and frames that goes on at an address, and drops the oldest state where
     /// there are too many. Where none is wanted, nothing changes, and no memory is asked for. Where there is
     /// no memory, all states stay.
-    pub fn put(&mut self, memory: &Memory, frames: &Frames, place: u32) -> Result<(), AllocError>
+    pub fn put(&mut self, memory: &Memory, frames: &Frames, pc: u32) -> Result<(), AllocError>
         ensures ok { OnOk result (states_in memory.now.file self.new
             ≡ take self.old.most
-            (state_of memory.now frames.now place ∷ states_in memory.now.file self.old)) }
+            (state_of memory.now frames.now pc ∷ states_in memory.now.file self.old)) }
         ensures err { OnErr result (self.new ≡ self.old) }
         ensures none { self.old.most ≡ 0 → IsOk result × (self.new ≡ self.old) }
         ensures most { self.new.most ≡ self.old.most }
@@ -92,7 +92,7 @@ impl Undo {
             Some(ring) => ring,
             None => return Ok(()),
         };
-        let kept = PackedState::new(alloc, memory, frames, place)?;
+        let kept = PackedState::new(alloc, memory, frames, pc)?;
         forget(ring.push_back(kept));
         Ok(())
     }
@@ -112,7 +112,7 @@ impl Undo {
         }
     }
 
-    /// Goes back to the newest state: memory and frames are put back, the place is told, and the state is no
+    /// Goes back to the newest state: memory and frames are put back, the address is told, and the state is no
     /// longer kept. Where there is none, nothing changes. No memory is asked for. The states have to be of
     /// the same story and bounds.
     pub fn take(&mut self, memory: &mut Memory, frames: &mut Frames) -> Option<u32>
@@ -120,8 +120,8 @@ impl Undo {
         ensures value { MatchOption result ((gone_back (states_in memory.old.file self.old)
             memory.old frames.old ≡ None) × (self.new ≡ self.old)
             × (memory.new ≡ memory.old) × (frames.new ≡ frames.old))
-            (λ place. gone_back (states_in memory.old.file self.old) memory.old frames.old
-            ≡ Some (memory.new, frames.new, place, states_in memory.old.file self.new)) }
+            (λ pc. gone_back (states_in memory.old.file self.old) memory.old frames.old
+            ≡ Some (memory.new, frames.new, pc, states_in memory.old.file self.new)) }
         ensures most { self.new.most ≡ self.old.most }
         ensures are_of { AreOf memory.new frames.new self.new }
         ensures story { (memory.new.file ≡ memory.old.file)

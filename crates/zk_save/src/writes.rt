@@ -71,7 +71,7 @@ fn push_words(frames: &mut Frames, bytes: &[u8])
 /// Puts a frame above the others, for which there is room.
 fn put_frame(frames: &mut Frames, frame: &FrameBytes)
     requires locals { length frame.now.locals.now ≤ 30 }
-    requires place { frame.now.place < 2 ^ 24 }
+    requires pc { frame.now.pc < 2 ^ 24 }
     requires supplied { frame.now.supplied ≤ 7 }
     requires few_frames { length (frames_of frames.old) + 1 ≤ frames.old.most_frames }
     requires few_words { total_of frames.old
@@ -79,13 +79,13 @@ fn put_frame(frames: &mut Frames, frame: &FrameBytes)
         ≤ frames.old.most_words }
     ensures { frames.new ≡ record frames.old {
       current = frame_seen frame.now.locals.now
-          frame.now.words.now frame.now.place frame.now.result frame.now.supplied;
+          frame.now.words.now frame.now.pc frame.now.result frame.now.supplied;
       callers = frames_of frames.old;
     } }
 {
     let words = words_at_front(frame.locals);
     let locals = &words[..frame.locals.len() / 2];
-    let _ = frames.call(locals, frame.place, frame.result, frame.supplied);
+    let _ = frames.call(locals, frame.pc, frame.result, frame.supplied);
     push_words(frames, frame.words);
 }
 

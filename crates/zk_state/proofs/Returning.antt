@@ -39,7 +39,7 @@ module _ (current caller : FrameRecord) (callers : List FrameRecord) (xs : List 
   plain : FrameList
   plain = list_of caller callers rest f m
 
-  given : (x : ℕ) (t : FrameList) → taken plain current.result x ≡ Ok t → given_back (list_of current (callers ++ caller ∷ []) xs f m) x ≡ Ok (t, record { place = current.place; result = current.result })
+  given : (x : ℕ) (t : FrameList) → taken plain current.result x ≡ Ok t → given_back (list_of current (callers ++ caller ∷ []) xs f m) x ≡ Ok (t, record { pc = current.pc; result = current.result })
   unfolding given_back plain rest
   given x t h = rw (leave_ok current caller callers xs f m, h) refl
 
@@ -56,7 +56,7 @@ module _ (current caller : FrameRecord) (callers : List FrameRecord) (xs : List 
   gives : (x : ℕ) (v : Option ℕ) (ys : List ℕ) → current.result ≡ v → taken plain current.result x ≡ Ok (list_of caller callers ys f m) → length ys ≤ m → caller.stack_base ≤ length ys → GivesBack (list_of current (callers ++ caller ∷ []) xs f m) x v
   gives x v ys e h fits low = record {
     frames = list_of caller callers ys f m;
-    back = record { place = current.place; result = current.result };
+    back = record { pc = current.pc; result = current.result };
     given = given x (list_of caller callers ys f m) h;
     within = within ys fits low;
     result = e;
@@ -83,7 +83,7 @@ module _ (current caller : FrameRecord) (callers : List FrameRecord) (xs : List 
   unfolding taken plain rest pushed
   back_full x v e zero le = (
     with_word plain x,
-    record { place = current.place; result = current.result },
+    record { pc = current.pc; result = current.result },
     given x (with_word plain x) (rw (e, zero) refl),
     e ∙ ap (λ (n : ℕ). Some n) zero,
     push_full caller callers rest f m under.0 stack_base x under.2 (omega arith) (omega (arith, long)),

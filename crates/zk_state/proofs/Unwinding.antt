@@ -15,14 +15,14 @@ same_bounds : (s s' : FrameList) (fs : List Frame) → 0 < length fs → s.most_
 same_bounds s s' [] some f w = absurd (omega arith)
 same_bounds s s' (x ∷ fs) some f w = rw (f, w) refl
 
-left_is : (f g : Frame) (gs : List Frame) (a w : ℕ) → left (record { current = f; callers = g ∷ gs; most_frames = a; most_words = w }) ≡ Ok (record { current = g; callers = gs; most_frames = a; most_words = w }, record { place = f.place; result = f.result })
+left_is : (f g : Frame) (gs : List Frame) (a w : ℕ) → left (record { current = f; callers = g ∷ gs; most_frames = a; most_words = w }) ≡ Ok (record { current = g; callers = gs; most_frames = a; most_words = w }, record { pc = f.pc; result = f.result })
 unfolding left
 left_is f g gs a w = rw (lt-ltb 0 (length (g ∷ gs)) (omega arith)) refl
 
 left_more : (f g : Frame) (gs : List Frame) (a w : ℕ) (s' : FrameList) (x : Return) (k : ℕ) → left (record { current = f; callers = g ∷ gs; most_frames = a; most_words = w }) ≡ Ok (s', x) → k ≤ length gs → without_newest (k + 1) (record { current = f; callers = g ∷ gs; most_frames = a; most_words = w }) ≡ without_newest k s'
 left_more f g gs a w s' x k h le =
     let rest : FrameList = record { current = g; callers = gs; most_frames = a; most_words = w } in
-    let back : Return = record { place = f.place; result = f.result } in
+    let back : Return = record { pc = f.pc; result = f.result } in
     let pair : (rest, back) ≡ (s', x) = cc (left_is f g gs a w) in
     let e : rest ≡ s' = ap (λ (p : FrameList × Return). p.0) pair in
     rw (add-one k, ← e) (same_bounds (record { current = f; callers = g ∷ gs; most_frames = a; most_words = w }) rest (drop k (g ∷ gs)) (omega (arith, length-drop k (g ∷ gs))) refl refl)
@@ -35,7 +35,7 @@ pub record IsOneFewer (s s' : FrameList) (k : ℕ) : Type 0 where
 left_long : (f g : Frame) (gs : List Frame) (a w : ℕ) (s' : FrameList) (x : Return) → left (record { current = f; callers = g ∷ gs; most_frames = a; most_words = w }) ≡ Ok (s', x) → length s'.callers + 1 ≡ length (g ∷ gs)
 left_long f g gs a w s' x h =
     let rest : FrameList = record { current = g; callers = gs; most_frames = a; most_words = w } in
-    let back : Return = record { place = f.place; result = f.result } in
+    let back : Return = record { pc = f.pc; result = f.result } in
     let pair : (rest, back) ≡ (s', x) = cc (left_is f g gs a w) in
     let e : rest ≡ s' = ap (λ (p : FrameList × Return). p.0) pair in
     rw (← e) (add-one (length gs))
@@ -45,7 +45,7 @@ apart r x e a b = cc
 
 left_never : (f g : Frame) (gs : List Frame) (a w : ℕ) (e : Fault) → left (record { current = f; callers = g ∷ gs; most_frames = a; most_words = w }) ≡ Err e → ⊥
 left_never f g gs a w e h =
-    apart (left (record { current = f; callers = g ∷ gs; most_frames = a; most_words = w })) (record { current = g; callers = gs; most_frames = a; most_words = w }, record { place = f.place; result = f.result }) e (left_is f g gs a w) h
+    apart (left (record { current = f; callers = g ∷ gs; most_frames = a; most_words = w })) (record { current = g; callers = gs; most_frames = a; most_words = w }, record { pc = f.pc; result = f.result }) e (left_is f g gs a w) h
 
 fewer : (r : Result Return Fault) (f : Frame) (fs : List Frame) (a w : ℕ) (s' : FrameList) (k : ℕ) → k + 1 ≤ length fs → MatchResult r (λ x. left (record { current = f; callers = fs; most_frames = a; most_words = w }) ≡ Ok (s', x)) (λ e. (left (record { current = f; callers = fs; most_frames = a; most_words = w }) ≡ Err e) × (s' ≡ record { current = f; callers = fs; most_frames = a; most_words = w })) → IsOneFewer (record { current = f; callers = fs; most_frames = a; most_words = w }) s' k
 fewer r f [] a w s' k le h = absurd (omega arith)

@@ -166,7 +166,7 @@ viewed s n own e i le oe ee =
       end = omega (arith, high);
       few = omega (arith, high, i.top, i.few_words);
       value = λ f h. frame_at s.records.callers s.records.current xs n i.base stack_base i.below le ∙ ap (λ (g : Frame). Some g) (same ∙ h);
-      is = λ f h. rw (← h) (record { locals = omega (arith, locals_length own (take e s.words.items) short, record_of.short); supplied = record_of.supplied; place = record_of.place });
+      is = λ f h. rw (← h) (record { locals = omega (arith, locals_length own (take e s.words.items) short, record_of.short); supplied = record_of.supplied; pc = record_of.pc });
     }
 
 pub few_callers : (s : Inside) (v : FrameList) → seen s ≡ v → (n : ℕ) → n ≤ length v.callers → n ≤ length s.records.callers

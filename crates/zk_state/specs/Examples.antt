@@ -7,9 +7,9 @@ use Rattle.zk_state.specs.declared.refusal.Refusal.TheVariants.{Limit}
 use Rattle.zk_state.specs.Frames.{Frame, FrameList, first_frames, total_of, within_bounds, pushed, popped, top_of, with_top, local_of, with_local, called, left, unwound, taken, given_back}
 use Rattle.zk_state.specs.Limits.{limit_number}
 
--- a frame with these local variables and words, that returns to a place and gives its result to a variable
+-- a frame with these local variables and words, that returns to an address and gives its result to a variable
 abbrev pub frame : List ℕ → List ℕ → ℕ → Option ℕ → Frame
-frame locals words place result = record { locals = locals; words = words; place = place; result = result; supplied = 1 }
+frame locals words pc result = record { locals = locals; words = words; pc = pc; result = result; supplied = 1 }
 
 -- these frames, of which there may be three with nine words together
 abbrev pub frames_with : Frame → List Frame → FrameList
@@ -59,12 +59,12 @@ CallsPutAFrame =
     called (alone (11 ∷ []) (44 ∷ [])) (5 ∷ 6 ∷ []) 80 (Some 0) 1
     ≡ Ok (frames_with (frame (5 ∷ 6 ∷ []) [] 80 (Some 0)) (frame (11 ∷ []) (44 ∷ []) 70 (Some 2) ∷ []))
 
--- a return drops the frame with its words, and tells its own place and variable; the first frame has none (sections
+-- a return drops the frame with its words, and tells its own return address and variable; the first frame has none (sections
 -- 5.5 and 6.3.2)
 abbrev pub ReturnsDropAFrame : Type 0
 ReturnsDropAFrame =
     (left (frames_with (frame (5 ∷ []) (6 ∷ []) 80 (Some 0)) (frame (11 ∷ []) (44 ∷ []) 70 (Some 2) ∷ []))
-    ≡ Ok (alone (11 ∷ []) (44 ∷ []), record { place = 80; result = Some 0 }))
+    ≡ Ok (alone (11 ∷ []) (44 ∷ []), record { pc = 80; result = Some 0 }))
     × (left (alone [] []) ≡ Err ReturnFromMain)
 
 -- of three frames the newest has number 2, and the first number 0 (section 15, `throw`)
@@ -91,7 +91,7 @@ ValuesAreTaken =
 abbrev pub ValuesAreGivenBack : Type 0
 ValuesAreGivenBack =
     given_back (frames_with (frame (5 ∷ []) (6 ∷ []) 80 (Some 1)) (frame (11 ∷ []) (44 ∷ []) 70 (Some 2) ∷ [])) 9
-    ≡ Ok (alone (9 ∷ []) (44 ∷ []), record { place = 80; result = Some 1 })
+    ≡ Ok (alone (9 ∷ []) (44 ∷ []), record { pc = 80; result = Some 1 })
 
 -- ---- bounds: three frames and nine words here
 

@@ -13,7 +13,7 @@ use zk_mem::fault::Fault;
 /// Where a routine returns to: the byte address, and the variable that takes its result, if any.
 #[derive(Clone, Copy, PartialEq, Eq, Drop)]
 pub struct Return {
-    pub place: u32,
+    pub pc: u32,
     pub result: Option<u8>,
 }
 
@@ -68,7 +68,7 @@ impl Model for FramesCopy {
 pub struct FrameView<'a> {
     pub locals: &'a [u16],
     pub words: &'a [u16],
-    pub place: u32,
+    pub pc: u32,
     pub result: Option<u8>,
     pub supplied: u8,
 }
@@ -108,7 +108,7 @@ fn view_of<'a>(words: &'a [u16], own: FrameRecord, end: usize) -> FrameView<'a>
     ensures value { frame_of own (take end words.now) ≡ record {
       locals = result.locals.now;
       words = result.words.now;
-      place = result.place;
+      pc = result.pc;
       result = result.result;
       supplied = result.supplied;
     } }
@@ -116,7 +116,7 @@ fn view_of<'a>(words: &'a [u16], own: FrameRecord, end: usize) -> FrameView<'a>
     FrameView {
         locals: &words[own.base as usize..own.stack_base as usize],
         words: &words[own.stack_base as usize..end],
-        place: own.place,
+        pc: own.pc,
         result: own.result,
         supplied: own.supplied,
     }
@@ -199,14 +199,14 @@ impl Frames {
             ≡ Some (record {
               locals = result.locals.now;
               words = result.words.now;
-              place = result.place;
+              pc = result.pc;
               result = result.result;
               supplied = result.supplied;
             }) }
         ensures is_frame { IsFrame (record {
           locals = result.locals.now;
           words = result.words.now;
-          place = result.place;
+          pc = result.pc;
           result = result.result;
           supplied = result.supplied;
         }) }
@@ -405,7 +405,7 @@ impl Frames {
         Ok(())
     }
 
-    /// Begins a routine with these local variables. It will return to the byte address `place`,
+    /// Begins a routine with these local variables. It will return to the byte address `pc`,
     /// its result goes to the variable `store`, and it was given `supplied` arguments (Standard,
     /// section 6.4). With a frame too many this is `Limit::Frames`, else with words too many
     /// `Limit::Words`.
@@ -413,20 +413,20 @@ impl Frames {
     pub fn call(
         &mut self,
         locals: &[u16],
-        place: u32,
+        pc: u32,
         store: Option<u8>,
         supplied: u8,
     ) -> Result<(), Refusal>
         requires locals { length locals.now ≤ 15 }
-        requires place { place < 2 ^ 24 }
+        requires pc { pc < 2 ^ 24 }
         requires supplied { supplied ≤ 7 }
         ensures { MatchResult result
-            (λ _. called self.old locals.now place store supplied ≡ Ok self.new)
-            (λ e. (called self.old locals.now place store supplied ≡ Err e)
+            (λ _. called self.old locals.now pc store supplied ≡ Ok self.new)
+            (λ e. (called self.old locals.now pc store supplied ≡ Err e)
             × (self.new ≡ self.old)) }
     {
         let count = locals.len() as u8;
-        match self.call_with(count, locals, place, store, supplied) {
+        match self.call_with(count, locals, pc, store, supplied) {
             Ok(()) => Ok(()),
             Err(refusal) => Err(refusal),
         }
@@ -440,16 +440,16 @@ impl Frames {
         &mut self,
         count: u8,
         arguments: &[u16],
-        place: u32,
+        pc: u32,
         store: Option<u8>,
         supplied: u8,
     ) -> Result<(), Refusal>
         requires locals { count ≤ 15 }
-        requires place { place < 2 ^ 24 }
+        requires pc { pc < 2 ^ 24 }
         requires supplied { supplied ≤ 7 }
         ensures { MatchResult result
-            (λ _. called self.old (filled count arguments.now) place store supplied ≡ Ok self.new)
-            (λ e. (called self.old (filled count arguments.now) place store supplied ≡ Err e)
+            (λ _. called self.old (filled count arguments.now) pc store supplied ≡ Ok self.new)
+            (λ e. (called self.old (filled count arguments.now) pc store supplied ≡ Err e)
             × (self.new ≡ self.old)) }
     {
         if self.records.depth() + 1 >= self.most_frames {
@@ -463,7 +463,7 @@ impl Frames {
         self.records.begin(FrameRecord {
             base: self.top as u32,
             stack_base: stack_base as u32,
-            place,
+            pc,
             result: store,
             supplied,
         });
@@ -486,7 +486,7 @@ impl Frames {
         self.top = self.records.base();
         self.records.end();
         Ok(Return {
-            place: own.place,
+            pc: own.pc,
             result: own.result,
         })
     }

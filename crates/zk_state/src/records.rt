@@ -12,7 +12,7 @@ use std::marker::Model;
 pub(crate) struct FrameRecord {
     pub(crate) base: u32,
     pub(crate) stack_base: u32,
-    pub(crate) place: u32,
+    pub(crate) pc: u32,
     pub(crate) result: Option<u8>,
     pub(crate) supplied: u8,
 }
@@ -21,7 +21,7 @@ pub(crate) struct FrameRecord {
 pub(crate) const FIRST: FrameRecord = FrameRecord {
     base: 0,
     stack_base: 0,
-    place: 0,
+    pc: 0,
     result: None,
     supplied: 0,
 };

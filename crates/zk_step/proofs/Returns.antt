@@ -10,7 +10,7 @@ use Rattle.zk_state.specs.declared.refusal.Refusal.{Refusal}
 use Rattle.zk_state.specs.declared.refusal.Refusal.TheVariants as refusal
 use Rattle.zk_state.specs.Frames.{FrameList, left, within_bounds, taken, given_back, GivesBack, RefusesBack}
 use Rattle.zk_step.specs.declared.game_state.GameState.{GameState}
-use Rattle.zk_step.specs.Limited.{kept, limited_place}
+use Rattle.zk_step.specs.Limited.{kept, limited_pc}
 use Rattle.zk_step.specs.Routines.{stored, returned}
 use Rattle.zk_step.specs.Variables.{with_frames, with_memory, global_address, variable_written, named_written}
 
@@ -43,12 +43,12 @@ global_stored w v x h =
     let past : nat_lt v 16 ≡ false = grind (arith, nat_tests) in
     rw (none, past) refl
 
--- frames with where the routine returns to, and a game state with the next place
+-- frames with where the routine returns to, and a game state with the next address
 abbrev with_back : Return → FrameList → FrameList × Return
 with_back b u = (u, b)
 
 abbrev goes_at : ℕ → GameState → GameState × ℕ
-goes_at place w = (w, place)
+goes_at pc w = (w, pc)
 
 -- the caller takes the value
 taken_is : (s t : FrameList) (b back : Return) (x : ℕ) → (taken s b.result x >>= λ u. Ok (with_back b u)) ≡ Ok (t, back) → (taken s b.result x ≡ Ok t) × (b ≡ back)
@@ -71,7 +71,7 @@ left_is s t back x h = go (left s) refl h
         (p.0, e ∙ ap (λ (b : Return). let both : FrameList × Return = (p.0, b) in Ok both) parts.1, subst (λ (b : Return). taken p.0 b.result x ≡ Ok t) parts.1 parts.0)
     go (Err f) e k = absurd cc
 
-returned_own : (w : GameState) (x : ℕ) (t : FrameList) (back : Return) → given_back w.frames x ≡ Ok (t, back) → IsOwn back.result → returned w x ≡ Ok (with_frames w t, back.place)
+returned_own : (w : GameState) (x : ℕ) (t : FrameList) (back : Return) → given_back w.frames x ≡ Ok (t, back) → IsOwn back.result → returned w x ≡ Ok (with_frames w t, back.pc)
 unfolding returned
 returned_own w x t back h own =
     let parts = left_is w.frames t back x h in
@@ -83,41 +83,41 @@ global_same u t o v x e high h =
     let same = global_taken u v x high in
     cc
 
-put_back : (w : GameState) (u : FrameList) (place : ℕ) (r : Result MemoryMap Fault) → ((r >>= λ m. Ok (with_memory (with_frames w u) m)) >>= λ x. Ok (goes_at place x)) ≡ (r >>= λ m. Ok (goes_at place (with_memory (with_frames w u) m)))
-put_back w u place (Ok m) = refl
-put_back w u place (Err f) = refl
+put_back : (w : GameState) (u : FrameList) (pc : ℕ) (r : Result MemoryMap Fault) → ((r >>= λ m. Ok (with_memory (with_frames w u) m)) >>= λ x. Ok (goes_at pc x)) ≡ (r >>= λ m. Ok (goes_at pc (with_memory (with_frames w u) m)))
+put_back w u pc (Ok m) = refl
+put_back w u pc (Err f) = refl
 
 by_left : (w : GameState) (x v : ℕ) (back : Return) (u : FrameList) → left w.frames ≡ Ok (u, back) → back.result ≡ Some v → 16 ≤ v
-    → returned w x ≡ (word_put w.memory (global_address w.memory v) x >>= λ m. Ok (goes_at back.place (with_memory (with_frames w u) m)))
+    → returned w x ≡ (word_put w.memory (global_address w.memory v) x >>= λ m. Ok (goes_at back.pc (with_memory (with_frames w u) m)))
 unfolding returned
-by_left w x v back u e result high = rw (e, result, global_stored (with_frames w u) v x high) (put_back w u back.place (word_put w.memory (global_address w.memory v) x))
+by_left w x v back u e result high = rw (e, result, global_stored (with_frames w u) v x high) (put_back w u back.pc (word_put w.memory (global_address w.memory v) x))
 
 returned_global : (w : GameState) (x v : ℕ) (t : FrameList) (back : Return) → given_back w.frames x ≡ Ok (t, back) → back.result ≡ Some v → 16 ≤ v
-    → returned w x ≡ (word_put w.memory (global_address w.memory v) x >>= λ m. Ok (goes_at back.place (with_memory (with_frames w t) m)))
+    → returned w x ≡ (word_put w.memory (global_address w.memory v) x >>= λ m. Ok (goes_at back.pc (with_memory (with_frames w t) m)))
 returned_global w x v t back h result high =
     let parts = left_is w.frames t back x h in
     let same : parts.0 ≡ t = global_same parts.0 t back.result v x result high parts.2 in
-    by_left w x v back parts.0 parts.1 result high ∙ ap (λ (u : FrameList). word_put w.memory (global_address w.memory v) x >>= λ m. Ok (goes_at back.place (with_memory (with_frames w u) m))) same
+    by_left w x v back parts.0 parts.1 result high ∙ ap (λ (u : FrameList). word_put w.memory (global_address w.memory v) x >>= λ m. Ok (goes_at back.pc (with_memory (with_frames w u) m))) same
 
 kept_is_ok : {B : Type 0} (s t : FrameList) (y : B) → within_bounds s ≡ Ok t → IsOk (kept (within_bounds s) y)
 kept_is_ok s t y h = rw h refl
 
-pub own_returns : (w : GameState) (x : ℕ) (v : Option ℕ) → GivesBack w.frames x v → ((n : ℕ) → v ≡ Some n → n < 16) → IsOk (limited_place (returned w x))
+pub own_returns : (w : GameState) (x : ℕ) (v : Option ℕ) → GivesBack w.frames x v → ((n : ℕ) → v ≡ Some n → n < 16) → IsOk (limited_pc (returned w x))
 unfolding IsOwn
-own_returns w x v g own = rw (returned_own w x g.frames g.back g.given (go v g.result own)) (kept_is_ok {B = GameState × ℕ} g.frames g.frames (with_frames w g.frames, g.back.place) g.within)
+own_returns w x v g own = rw (returned_own w x g.frames g.back g.given (go v g.result own)) (kept_is_ok {B = GameState × ℕ} g.frames g.frames (with_frames w g.frames, g.back.pc) g.within)
   where
     go : (u : Option ℕ) → g.back.result ≡ u → ((n : ℕ) → u ≡ Some n → n < 16) → IsOwn g.back.result
     go None e k = rw e tt
     go (Some n) e k = rw e (k n refl)
 
-pub global_returns : (w : GameState) (x n : ℕ) → GivesBack w.frames x (Some n) → 16 ≤ n → IsOk (word_put w.memory (global_address w.memory n) x) → IsOk (limited_place (returned w x))
+pub global_returns : (w : GameState) (x n : ℕ) → GivesBack w.frames x (Some n) → 16 ≤ n → IsOk (word_put w.memory (global_address w.memory n) x) → IsOk (limited_pc (returned w x))
 global_returns w x n g high put = rw (returned_global w x n g.frames g.back g.given g.result high) (go (word_put w.memory (global_address w.memory n) x) put)
   where
-    go : (r : Result MemoryMap Fault) → IsOk r → IsOk (limited_place (r >>= λ m. Ok (goes_at g.back.place (with_memory (with_frames w g.frames) m))))
-    go (Ok m) ok = kept_is_ok {B = GameState × ℕ} g.frames g.frames (with_memory (with_frames w g.frames) m, g.back.place) g.within
+    go : (r : Result MemoryMap Fault) → IsOk r → IsOk (limited_pc (r >>= λ m. Ok (goes_at g.back.pc (with_memory (with_frames w g.frames) m))))
+    go (Ok m) ok = kept_is_ok {B = GameState × ℕ} g.frames g.frames (with_memory (with_frames w g.frames) m, g.back.pc) g.within
     go (Err f) ok = search rules
 
-pub global_refused : (w : GameState) (x n : ℕ) (f : Fault) → GivesBack w.frames x (Some n) → 16 ≤ n → word_put w.memory (global_address w.memory n) x ≡ Err f → limited_place (returned w x) ≡ Err (refusal.Fault f)
+pub global_refused : (w : GameState) (x n : ℕ) (f : Fault) → GivesBack w.frames x (Some n) → 16 ≤ n → word_put w.memory (global_address w.memory n) x ≡ Err f → limited_pc (returned w x) ≡ Err (refusal.Fault f)
 global_refused w x n f g high put = rw (returned_global w x n g.frames g.back g.given g.result high, put) refl
 
 -- a caller that can't take a value has no such local variable
@@ -130,7 +130,7 @@ own_fails w (Some v) x f h = go (nat_lt v 16) refl
     go true e = rw (own_by w v x (v == 0) refl (grind (arith, nat_tests)), h) refl
     go false e = let ok = global_taken w.frames v x (grind (arith, nat_tests)) in absurd cc
 
-taken_fails : (w : GameState) (s : FrameList) (b : Return) (x : ℕ) (f : Fault) → (q : Result FrameList Fault) → taken s b.result x ≡ q → (q >>= λ u. Ok (with_back b u)) ≡ Err f → (stored (with_frames w s) b.result (Some x) >>= λ u. Ok (goes_at b.place u)) ≡ Err f
+taken_fails : (w : GameState) (s : FrameList) (b : Return) (x : ℕ) (f : Fault) → (q : Result FrameList Fault) → taken s b.result x ≡ q → (q >>= λ u. Ok (with_back b u)) ≡ Err f → (stored (with_frames w s) b.result (Some x) >>= λ u. Ok (goes_at b.pc u)) ≡ Err f
 taken_fails w s b x f (Ok u) d l = absurd cc
 taken_fails w s b x f (Err g) d l = let same : g ≡ f = cc in rw (own_fails (with_frames w s) b.result x g d, same) refl
 
@@ -138,11 +138,11 @@ returned_fails : (w : GameState) (x : ℕ) (f : Fault) → given_back w.frames x
 unfolding given_back returned
 returned_fails w x f h = go (left w.frames) h
   where
-    go : (r : Result (FrameList × Return) Fault) → (r >>= λ p. taken p.0 p.1.result x >>= λ u. Ok (with_back p.1 u)) ≡ Err f → (r >>= λ p. stored (with_frames w p.0) p.1.result (Some x) >>= λ u. Ok (goes_at p.1.place u)) ≡ Err f
+    go : (r : Result (FrameList × Return) Fault) → (r >>= λ p. taken p.0 p.1.result x >>= λ u. Ok (with_back p.1 u)) ≡ Err f → (r >>= λ p. stored (with_frames w p.0) p.1.result (Some x) >>= λ u. Ok (goes_at p.1.pc u)) ≡ Err f
     go (Ok p) k = taken_fails w p.0 p.1 x f (taken p.0 p.1.result x) refl k
     go (Err g) k = cc
 
-pub refused_returns : (w : GameState) (x : ℕ) (e : Refusal) → RefusesBack w.frames x e → limited_place (returned w x) ≡ Err e
+pub refused_returns : (w : GameState) (x : ℕ) (e : Refusal) → RefusesBack w.frames x e → limited_pc (returned w x) ≡ Err e
 unfolding IsOwn
 refused_returns w x (refusal.Fault f) h = rw (returned_fails w x f h) refl
 refused_returns w x (refusal.Limit l) h = rw (returned_own w x h.0 h.1 h.2 (rw h.3 (omega arith)), h.4) refl

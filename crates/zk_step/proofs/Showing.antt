@@ -82,5 +82,5 @@ quiet_by m w before after e end is other ready = silent m w e.output (prints_not
 
 pub quiet_asked : (w : GameState) (i : Instr) (vs : List ℕ) (e : Effect) (v : GameState) (n : Next) (found : MemoryMap) (u : GameState) (before after : MemoryMap) → IsPrintable before after e.output e.ending
     → limited_next (finished w i vs e.ending) ≡ Ok (v, n) → IsQuiet n (text_routed (routed found u e.output))
-quiet_asked w i vs e v (At place) found u before after ready h = tt
+quiet_asked w i vs e v (At pc) found u before after ready h = tt
 quiet_asked w i vs e v (Asks x) found u before after ready h = quiet_by found u before after e (ending.Asks x) (ends_as w i vs e.ending v (Asks x) (next_is _ (v, Asks x) h)) (λ plain. plain) ready

@@ -44,11 +44,11 @@ sixteen =
 
 -- a routine that was given two arguments, returns to address 70, and gives its result to a variable
 abbrev pub routine_with : List ℕ → List ℕ → Option ℕ → Frame
-routine_with locals words result = record { locals = locals; words = words; place = 70; result = result; supplied = 2 }
+routine_with locals words result = record { locals = locals; words = words; pc = 70; result = result; supplied = 2 }
 
 -- the routine that called it, whose own caller goes on at address 80 and takes the result into local variable 2
 abbrev pub caller_with : List ℕ → List ℕ → Frame
-caller_with locals words = record { locals = locals; words = words; place = 80; result = Some 2; supplied = 0 }
+caller_with locals words = record { locals = locals; words = words; pc = 80; result = Some 2; supplied = 0 }
 
 -- a memory, a routine and the routines that wait for it, within 5 frames and 20 words
 abbrev pub working : MemoryMap → Frame → List Frame → GameState

@@ -24,7 +24,7 @@ static_from base m = record m { static_base = base }
 
 -- the same memory, whose header has the story's own dictionary at an address
 abbrev pub with_dictionary_at : ℕ → MemoryMap → MemoryMap
-with_dictionary_at place m = record m { file = 0 ∷ 0 ∷ 0 ∷ 0 ∷ 0 ∷ 0 ∷ 0 ∷ 0 ∷ 0 ∷ place ∷ [] }
+with_dictionary_at pc m = record m { file = 0 ∷ 0 ∷ 0 ∷ 0 ∷ 0 ∷ 0 ∷ 0 ∷ 0 ∷ 0 ∷ pc ∷ [] }
 
 -- up to version 4: letters from byte 1 on, and a zero after them, over what was there; byte 0, here at 2, is 4, and
 -- there is room for three letters (section 15, `sread`)

@@ -1,4 +1,4 @@
--- A state that is back goes on at the place where it was saved (Standard, section 15, `save` and `restore_undo`; Quetzal
+-- A state that is back goes on at the address where it was saved (Standard, section 15, `save` and `restore_undo`; Quetzal
 -- 1.4, section 5).
 use Rattle.std.specs.Prelude.{ℕ, ◌+◌, true, Option, Some, None, Result, Ok, Err, nat_lt, if◌then◌else◌}
 use Rattle.zk_mem.specs.declared.fault.Fault.{Fault}
@@ -17,9 +17,9 @@ branch_taken w (Err f) = Err BadTarget
 
 -- 2 is stored where the `save` stores; a store byte outside of the story is a bad target
 abbrev pub two_stored : GameState → ℕ → Option ℕ → Result (GameState × ℕ) Fault
-two_stored w place (Some v) = gone w (Some v) (Some 2) (To (place + 1))
-two_stored w place None = Err BadTarget
+two_stored w pc (Some v) = gone w (Some v) (Some 2) (To (pc + 1))
+two_stored w pc None = Err BadTarget
 
--- the place is that of the branch in version 3, and of the store byte from version 4 on
+-- the address is that of the branch in version 3, and of the store byte from version 4 on
 unfoldable pub resumed : GameState → ℕ → Result (GameState × ℕ) Fault
-resumed w place = if nat_lt w.memory.version 4 then branch_taken w (branch_here w.memory place) else two_stored w place (cell_at w.memory place)
+resumed w pc = if nat_lt w.memory.version 4 then branch_taken w (branch_here w.memory pc) else two_stored w pc (cell_at w.memory pc)

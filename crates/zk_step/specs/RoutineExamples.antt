@@ -51,7 +51,7 @@ CallsARoutine =
     called (working (memory_of 3 (with_header 2)) (routine_with [] (44 ∷ []) None) []) (instruction opcode.Push [] (Some 1) None) 2 (7 ∷ [])
     ≡ Ok (
       working (memory_of 3 (with_header 2))
-          (record { locals = 7 ∷ 0x0304 ∷ []; words = []; place = 9; result = Some 1; supplied = 1 })
+          (record { locals = 7 ∷ 0x0304 ∷ []; words = []; pc = 9; result = Some 1; supplied = 1 })
           (routine_with [] (44 ∷ []) None ∷ []),
       9,
     )
@@ -62,7 +62,7 @@ DroppedArgumentsCount =
     called (working (memory_of 5 (with_header 1)) (routine_with [] [] None) []) (instruction opcode.Push [] None None) 1 (7 ∷ 8 ∷ 9 ∷ [])
     ≡ Ok (
       working (memory_of 5 (with_header 1))
-          (record { locals = 7 ∷ []; words = []; place = 9; result = None; supplied = 3 })
+          (record { locals = 7 ∷ []; words = []; pc = 9; result = None; supplied = 3 })
           (routine_with [] [] None ∷ []),
       5,
     )
@@ -186,7 +186,7 @@ PassesTheOperandsBehind =
     finished (working (memory_of 5 (with_header 2)) (routine_with [] [] None) []) (instruction opcode.Push [] None None) (1 ∷ 7 ∷ 8 ∷ []) (ending.Call 1 1)
     ≡ Ok (
       working (memory_of 5 (with_header 2))
-          (record { locals = 7 ∷ 0 ∷ []; words = []; place = 9; result = None; supplied = 1 })
+          (record { locals = 7 ∷ 0 ∷ []; words = []; pc = 9; result = None; supplied = 1 })
           (routine_with [] [] None ∷ []),
       At 5,
     )

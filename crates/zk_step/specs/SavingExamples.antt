@@ -138,7 +138,7 @@ RestartsBegin =
     ≡ Ok (
       record {
         memory = memory_of_3 (bytes_of_3 0b10100010 1 0x23 0b10100001 77);
-        frames = record { current = record { locals = []; words = []; place = 0; result = None; supplied = 0 }; callers = []; most_frames = 5; most_words = 20 };
+        frames = record { current = record { locals = []; words = []; pc = 0; result = None; supplied = 0 }; callers = []; most_frames = 5; most_words = 20 };
         streams = streams false [];
         windows = first_windows;
         generators = states 7 (Some 5);

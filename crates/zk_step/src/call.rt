@@ -2,7 +2,7 @@
 
 ghost use Rattle.zk_state.specs.Frames.{bounds_of};
 ghost use Rattle.std.specs.Prelude.{◌≡◌, ◌≤◌, ◌<◌, ◌^◌, Ok, Err, IfSome, MatchResult, length, slice_index_or};
-ghost use Rattle.zk_step.specs.Limited.{limited_place};
+ghost use Rattle.zk_step.specs.Limited.{limited_pc};
 ghost use Rattle.zk_step.specs.Routines.{called, initial_value, initial_values, with_arguments};
 
 use crate::game_state::GameState;
@@ -60,9 +60,9 @@ pub fn call_routine(
 ) -> Result<u32, Refusal>
     requires near { i.now.next ≤ 2 ^ 20 }
     requires few { length arguments.now ≤ 7 }
-    ensures value { MatchResult result (λ start. limited_place
+    ensures value { MatchResult result (λ start. limited_pc
         (called game.old i.now routine arguments.now) ≡ Ok (game.new, start))
-        (λ e. limited_place (called game.old i.now routine arguments.now) ≡ Err e) }
+        (λ e. limited_pc (called game.old i.now routine arguments.now) ≡ Err e) }
     ensures bounds { bounds_of game.new.frames ≡ bounds_of game.old.frames }
 {
     let header = unpack(game.memory.version(), routine);

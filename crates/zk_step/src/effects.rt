@@ -73,7 +73,7 @@ fn effect_by(
     }
 }
 
-/// What an instruction does, but for its result and the next place.
+/// What an instruction does, but for its result and the next address.
 #[tactic(auto, unfolding(crate::specs::Effects::effect_of))]
 pub fn effect(game: &mut GameState, i: &Instr, values: &Values) -> Result<Effect, Refusal>
     ensures ok { IfOk result (λ e. effect_of game.old i.now values.now ≡ Ok (game.new, e)) }

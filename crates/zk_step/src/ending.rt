@@ -2,7 +2,7 @@
 
 use zk_arrays::rectangle::Rectangle;
 
-/// How an effect ends, before the next place is known.
+/// How an effect ends, before the next address is known.
 #[derive(Clone, Copy, PartialEq, Eq, Drop)]
 pub enum Ending {
     /// Goes on, with a result, a truth, both or neither.

@@ -3,7 +3,7 @@
 ghost use Rattle.zk_state.specs.Frames.{bounds_of, within_bounds};
 ghost use Rattle.std.specs.Prelude.{◌≡◌, ◌≤◌, ◌^◌, Bool, Ok, Err, IfErr, IsOk, OnOk, MatchResult, true, length};
 ghost use Rattle.zk_step.specs.Finish.{continuation_of, continuation_after, led, gone, gone_on, finished, beside_stack, leads_away};
-ghost use Rattle.zk_step.specs.Limited.{limited_next, limited_place, next_at};
+ghost use Rattle.zk_step.specs.Limited.{limited_next, limited_pc, next_at};
 ghost use Rattle.zk_step.specs.Printing.{IsPlainEnd};
 ghost use Rattle.zk_step.specs.Routing.{with_line_start};
 ghost use Rattle.zk_step.specs.Restarts.{begun_again};
@@ -62,14 +62,14 @@ pub(crate) fn continuation_after(
 #[tactic(auto, unfolding(crate::specs::Finish::led))]
 pub(crate) fn lead(game: &mut GameState, continuation: Continuation) -> Result<u32, Refusal>
     ensures value { MatchResult result
-        (λ place. limited_place (led game.old continuation) ≡ Ok (game.new, place))
-        (λ e. limited_place (led game.old continuation) ≡ Err e) }
+        (λ pc. limited_pc (led game.old continuation) ≡ Ok (game.new, pc))
+        (λ e. limited_pc (led game.old continuation) ≡ Err e) }
     ensures bounds { bounds_of game.new.frames ≡ bounds_of game.old.frames }
 {
     match continuation {
-        Continuation::To(place) => {
+        Continuation::To(pc) => {
             game.is_bounded();
-            Ok(place)
+            Ok(pc)
         }
         Continuation::Back(value) => return_value(game, value),
         Continuation::Out => Err(Refusal::Fault(Fault::BadTarget)),
@@ -90,25 +90,25 @@ fn store_beside(game: &mut GameState, variable: Option<u8>, value: Option<u16>) 
     }
 }
 
-/// Stores a result, and goes on to a place in the story, which it tells.
+/// Stores a result, and goes on to an address in the story, which it tells.
 #[tactic(auto, unfolding(crate::specs::Finish::gone, crate::specs::Finish::led), using(crate::proofs::Ways::to_refused, crate::proofs::Ways::to_kept))]
 pub(crate) fn go_to(
     game: &mut GameState,
     variable: Option<u8>,
     value: Option<u16>,
-    place: u32,
+    pc: u32,
 ) -> Result<u32, Refusal>
-    ensures value { MatchResult result (λ at. limited_place
-        (gone game.old variable value (Continuation.To place)) ≡ Ok (game.new, at))
-        (λ e. limited_place (gone game.old variable value (Continuation.To place)) ≡ Err e) }
+    ensures value { MatchResult result (λ at. limited_pc
+        (gone game.old variable value (Continuation.To pc)) ≡ Ok (game.new, at))
+        (λ e. limited_pc (gone game.old variable value (Continuation.To pc)) ≡ Err e) }
     ensures bounds { bounds_of game.new.frames ≡ bounds_of game.old.frames }
 {
     store(game, variable, value)?;
     game.is_bounded();
-    Ok(place)
+    Ok(pc)
 }
 
-/// Stores a result, and leaves the routine or the story: the place where its caller goes on.
+/// Stores a result, and leaves the routine or the story: the address where its caller goes on.
 #[tactic(auto, using(crate::proofs::Ways::away_stored, crate::proofs::Ways::away_faults))]
 pub fn go_away(
     game: &mut GameState,
@@ -118,8 +118,8 @@ pub fn go_away(
 ) -> Result<u32, Refusal>
     requires { leads_away continuation ≡ true }
     ensures value { MatchResult result
-        (λ at. limited_place (gone game.old variable value continuation) ≡ Ok (game.new, at))
-        (λ e. limited_place (gone game.old variable value continuation) ≡ Err e) }
+        (λ at. limited_pc (gone game.old variable value continuation) ≡ Ok (game.new, at))
+        (λ e. limited_pc (gone game.old variable value continuation) ≡ Err e) }
     ensures bounds { bounds_of game.new.frames ≡ bounds_of game.old.frames }
 {
     match store_beside(game, variable, value) {
@@ -137,12 +137,12 @@ pub(crate) fn go_on(
     truth: Option<bool>,
 ) -> Result<u32, Refusal>
     ensures value { MatchResult result
-        (λ at. limited_place (gone_on game.old i.now value truth) ≡ Ok (game.new, at))
-        (λ e. limited_place (gone_on game.old i.now value truth) ≡ Err e) }
+        (λ at. limited_pc (gone_on game.old i.now value truth) ≡ Ok (game.new, at))
+        (λ e. limited_pc (gone_on game.old i.now value truth) ≡ Err e) }
     ensures bounds { bounds_of game.new.frames ≡ bounds_of game.old.frames }
 {
     match continuation_after(i.branch, i.next, truth) {
-        Continuation::To(place) => go_to(game, i.store, value, place),
+        Continuation::To(pc) => go_to(game, i.store, value, pc),
         Continuation::Back(back) => go_away(game, i.store, value, Continuation::Back(back)),
         Continuation::Out => go_away(game, i.store, value, Continuation::Out),
     }
@@ -151,10 +151,10 @@ pub(crate) fn go_on(
 /// Jumps by an offset from an instruction: where to.
 fn jump(game: &mut GameState, i: &Instr, offset: u16) -> Result<u32, Refusal>
     requires { i.now.next ≤ 2 ^ 20 }
-    ensures value { MatchResult result (λ at. limited_place (led game.old
+    ensures value { MatchResult result (λ at. limited_pc (led game.old
         (continuation_of
         (jump_target (length game.old.memory.bytes) i.now.next offset)))
-        ≡ Ok (game.new, at)) (λ e. limited_place (led game.old
+        ≡ Ok (game.new, at)) (λ e. limited_pc (led game.old
         (continuation_of
         (jump_target (length game.old.memory.bytes) i.now.next offset))) ≡ Err e) }
     ensures bounds { bounds_of game.new.frames ≡ bounds_of game.old.frames }
@@ -176,13 +176,13 @@ fn begin_again(game: &mut GameState) -> u32
     start as u32
 }
 
-/// The machine goes on at a place that was found, unless it was refused.
+/// The machine goes on at an address that was found, unless it was refused.
 #[inline(always)]
-fn next_at(place: Result<u32, Refusal>) -> Result<Next, Refusal>
-    ensures { result ≡ next_at place }
+fn next_at(pc: Result<u32, Refusal>) -> Result<Next, Refusal>
+    ensures { result ≡ next_at pc }
 {
-    match place {
-        Ok(place) => Ok(Next::At(place)),
+    match pc {
+        Ok(pc) => Ok(Next::At(pc)),
         Err(refusal) => Err(refusal),
     }
 }
@@ -218,7 +218,7 @@ pub fn finish(
 
 /// Whether an instruction that prints can be finished: the refusals are those of `finish`, and nothing
 /// changes. What is printed is shown between the two, and the screen's last line may then end anywhere.
-#[tactic(auto, unfolding(crate::specs::Finish::finished), using(crate::proofs::WithinBounds::place_ok))]
+#[tactic(auto, unfolding(crate::specs::Finish::finished), using(crate::proofs::WithinBounds::pc_ok))]
 pub fn check_finish(
     game: &GameState,
     i: &Instr,

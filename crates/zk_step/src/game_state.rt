@@ -19,7 +19,7 @@ pub enum View {
     Upper,
 }
 
-/// The parts of a machine that effects read and change. The place of the next instruction is none of
+/// The parts of a machine that effects read and change. The address of the next instruction is none of
 /// them: it is decided once an effect has ended.
 #[derive(Drop)]
 pub struct GameState {

@@ -5,7 +5,7 @@ ghost use Rattle.std.specs.Prelude.{◌≡◌, Ok, Err, MatchResult};
 ghost use Rattle.zk_step.specs.Laws.{fixed_parts};
 ghost use Rattle.zk_step.specs.StoryWords.{AreWordsOf};
 ghost use Rattle.zk_step.specs.Inputs.{reading, line_result, line_answered, result_answered, character_answered};
-ghost use Rattle.zk_step.specs.Limited.{limited_place};
+ghost use Rattle.zk_step.specs.Limited.{limited_pc};
 
 use crate::ending::{Effect, Event, Output};
 use crate::finish::go_on;
@@ -39,7 +39,7 @@ fn result_of_line(version: u8) -> Option<u16>
 }
 
 /// Answers a read by a line: its codes go to the text buffer, and its words to the parse buffer. `words` is what is known
-/// of the story's dictionary. It tells the place where the machine goes on.
+/// of the story's dictionary. It tells the address where the machine goes on.
 #[tactic(auto, unfolding(crate::specs::Inputs::line_answered))]
 pub fn answer_line(
     game: &mut GameState,
@@ -50,9 +50,9 @@ pub fn answer_line(
     line: &[u8],
 ) -> Result<u32, Refusal>
     requires words { AreWordsOf (fixed_parts game.old.memory) words.now }
-    ensures value { MatchResult result (λ at. limited_place
+    ensures value { MatchResult result (λ at. limited_pc
         (line_answered game.old i.now text parse line.now) ≡ Ok (game.new, at))
-        (λ e. limited_place (line_answered game.old i.now text parse line.now) ≡ Err e) }
+        (λ e. limited_pc (line_answered game.old i.now text parse line.now) ≡ Err e) }
     ensures bounds { bounds_of game.new.frames ≡ bounds_of game.old.frames }
 {
     match put_line(&mut game.memory, words, text, parse, line) {
@@ -64,7 +64,7 @@ pub fn answer_line(
 }
 
 /// Finishes an instruction that has waited, by a result and a truth: where it stores the one, where it branches
-/// by the other. It tells the place where the machine goes on.
+/// by the other. It tells the address where the machine goes on.
 #[tactic(auto, unfolding(crate::specs::Inputs::result_answered))]
 pub fn answer_result(
     game: &mut GameState,
@@ -73,19 +73,19 @@ pub fn answer_result(
     truth: bool,
 ) -> Result<u32, Refusal>
     ensures value { MatchResult result
-        (λ at. limited_place (result_answered game.old i.now word truth) ≡ Ok (game.new, at))
-        (λ e. limited_place (result_answered game.old i.now word truth) ≡ Err e) }
+        (λ at. limited_pc (result_answered game.old i.now word truth) ≡ Ok (game.new, at))
+        (λ e. limited_pc (result_answered game.old i.now word truth) ≡ Err e) }
     ensures bounds { bounds_of game.new.frames ≡ bounds_of game.old.frames }
 {
     go_on(game, i, Some(word), Some(truth))
 }
 
-/// Answers a read by a character, and tells the place where the machine goes on.
+/// Answers a read by a character, and tells the address where the machine goes on.
 #[tactic(auto, unfolding(crate::specs::Inputs::character_answered))]
 pub fn answer_character(game: &mut GameState, i: &Instr, code: u8) -> Result<u32, Refusal>
     ensures value { MatchResult result
-        (λ at. limited_place (character_answered game.old i.now code) ≡ Ok (game.new, at))
-        (λ e. limited_place (character_answered game.old i.now code) ≡ Err e) }
+        (λ at. limited_pc (character_answered game.old i.now code) ≡ Ok (game.new, at))
+        (λ e. limited_pc (character_answered game.old i.now code) ≡ Err e) }
     ensures bounds { bounds_of game.new.frames ≡ bounds_of game.old.frames }
 {
     go_on(game, i, Some(code as u16), None)

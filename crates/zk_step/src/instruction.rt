@@ -1,4 +1,4 @@
-// An instruction, from its operands to the next place.
+// An instruction, from its operands to the next address.
 
 ghost use Rattle.zk_state.specs.Frames.{bounds_of};
 ghost use Rattle.std.specs.Prelude.{◌≡◌, ◌≤◌, ◌^◌, Bool, Ok, Err, IfOk, IfErr, IsOk, OnOk, MatchResult};

@@ -3,7 +3,7 @@
 ghost use Rattle.zk_step.specs.Laws.{BoundsAreNotSeen, AnswersSeeNoBounds, StoriesStay, AnswersLeaveStories, EffectsEnd, EffectsStay, LinesChangeTextBuffers};
 
 /// Bounds on frames and words change nothing of what an instruction does: in a game state with other bounds
-/// it leads to the same game state, with those bounds, to the same place, and shows the same.
+/// it leads to the same game state, with those bounds, to the same address, and shows the same.
 pub fn bounds_are_not_seen()
     ensures { BoundsAreNotSeen }
 {}

@@ -2,7 +2,7 @@
 
 ghost use Rattle.zk_state.specs.Frames.{bounds_of};
 ghost use Rattle.std.specs.Prelude.{◌≡◌, ◌<◌, ℕ, Bool, Ok, Err, IfErr, IfSome, IsOk, OnOk, MatchResult};
-ghost use Rattle.zk_step.specs.Limited.{limited, limited_place};
+ghost use Rattle.zk_step.specs.Limited.{limited, limited_pc};
 ghost use Rattle.zk_step.specs.Routines.{returned, thrown, stored};
 ghost use Rattle.zk_step.specs.Routing.{with_line_start};
 
@@ -27,31 +27,31 @@ pub fn store(game: &mut GameState, variable: Option<u8>, value: Option<u16>) -> 
     }
 }
 
-/// Returns a value from the current routine to its caller, and tells the place where that goes on.
+/// Returns a value from the current routine to its caller, and tells the address where that goes on.
 #[tactic(auto, unfolding(crate::specs::Routines::returned), using(zk_state::proofs::BoundsKept::left_bounds))]
 #[inline(always)]
 pub fn return_value(game: &mut GameState, value: u16) -> Result<u32, Refusal>
     ensures value { MatchResult result
-        (λ place. limited_place (returned game.old value) ≡ Ok (game.new, place))
-        (λ e. limited_place (returned game.old value) ≡ Err e) }
+        (λ pc. limited_pc (returned game.old value) ≡ Ok (game.new, pc))
+        (λ e. limited_pc (returned game.old value) ≡ Err e) }
     ensures bounds { bounds_of game.new.frames ≡ bounds_of game.old.frames }
 {
     let back = game.frames.leave()?;
     match store(game, back.result, Some(value)) {
         Ok(()) => {
             game.is_bounded();
-            Ok(back.place)
+            Ok(back.pc)
         }
         Err(refusal) => Err(refusal),
     }
 }
 
-/// Returns a value from the frame of a number to its caller, and tells the place where that goes on.
+/// Returns a value from the frame of a number to its caller, and tells the address where that goes on.
 #[tactic(auto, unfolding(crate::specs::Routines::thrown), using(zk_state::proofs::BoundsKept::unwound_bounds))]
 pub fn throw_value(game: &mut GameState, value: u16, frame: u16) -> Result<u32, Refusal>
     ensures value { MatchResult result
-        (λ place. limited_place (thrown game.old value frame) ≡ Ok (game.new, place))
-        (λ e. limited_place (thrown game.old value frame) ≡ Err e) }
+        (λ pc. limited_pc (thrown game.old value frame) ≡ Ok (game.new, pc))
+        (λ e. limited_pc (thrown game.old value frame) ≡ Err e) }
     ensures bounds { bounds_of game.new.frames ≡ bounds_of game.old.frames }
 {
     game.frames.unwind(frame)?;
@@ -62,9 +62,9 @@ pub fn throw_value(game: &mut GameState, value: u16, frame: u16) -> Result<u32, 
 /// `return_value`.
 pub fn check_return(game: &GameState) -> Result<(), Refusal>
     ensures ok { OnOk result ((value : ℕ) (b : Bool)
-        → IsOk (limited_place (returned (with_line_start b game.now) value))) }
+        → IsOk (limited_pc (returned (with_line_start b game.now) value))) }
     ensures err { IfErr result (λ e. (value : ℕ) (b : Bool)
-        → limited_place (returned (with_line_start b game.now) value) ≡ Err e) }
+        → limited_pc (returned (with_line_start b game.now) value) ≡ Err e) }
 {
     let variable = match game.frames.check_return() {
         Ok(variable) => variable,

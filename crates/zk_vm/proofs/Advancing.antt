@@ -57,15 +57,15 @@ pub carried_fixed : (w : GameState) (i : Instr) (v : GameState) (n : Next) (t : 
 carried_fixed w i v n t h = stories_stay w i (v, (n, t)) (move_is (carried_out w i) (v, (n, t)) h)
 
 -- the step leads there
-step_is : (s : State) (i : Instr) (v : GameState) (n : Next) (t : Texts) → instr_at s.game.memory s.place ≡ Ok i → carried_out s.game i ≡ Ok (v, (n, t)) → step s ≡ led_to s i v t n
+step_is : (s : State) (i : Instr) (v : GameState) (n : Next) (t : Texts) → instr_at s.game.memory s.pc ≡ Ok i → carried_out s.game i ≡ Ok (v, (n, t)) → step s ≡ led_to s i v t n
 unfolding step
 step_is s i v n t h k = ap (fetched s) h ∙ ap (settled s i) k
 
-pub fetched_is : (s : State) (i : Instr) → instr_at s.game.memory s.place ≡ Ok i → step s ≡ settled s i (carried_out s.game i)
+pub fetched_is : (s : State) (i : Instr) → instr_at s.game.memory s.pc ≡ Ok i → step s ≡ settled s i (carried_out s.game i)
 unfolding step
 fetched_is s i h = ap (fetched s) h
 
-fault_is : (s : State) (f : Fault) → instr_at s.game.memory s.place ≡ Err f → step s ≡ Faults f
+fault_is : (s : State) (f : Fault) → instr_at s.game.memory s.pc ≡ Err f → step s ≡ Faults f
 unfolding step
 fault_is s f h = ap (fetched s) h
 
@@ -84,7 +84,7 @@ sound_moved m n i x t is runs limits free steps reads undo same told bounds =
 
 asked_moved : (s : State) (i : Instr) (w : GameState) (x : Request) → w.memory.version ≡ s.game.memory.version → asked (record s { game = w }) i w x ≡ asked s i w x
 asked_moved s i w (Answer event) e = refl
-asked_moved s i w SaveUndo e = ap (λ (v : ℕ). goes_to s (take w.memory.undo_states (state_of w.memory w.frames (if nat_lt v 4 then s.place + 1 else i.next - 1) ∷ s.undo)) (result_answered w i (kept_answer w.memory.undo_states) true)) e
+asked_moved s i w SaveUndo e = ap (λ (v : ℕ). goes_to s (take w.memory.undo_states (state_of w.memory w.frames (if nat_lt v 4 then s.pc + 1 else i.next - 1) ∷ s.undo)) (result_answered w i (kept_answer w.memory.undo_states) true)) e
 asked_moved s i w RestoreUndo e = go (gone_back s.undo w.memory w.frames)
   where
     go : (q : Option (MemoryMap × FrameList × ℕ × List WholeState)) → back_to (record s { game = w }) i w q ≡ back_to s i w q
@@ -93,7 +93,7 @@ asked_moved s i w RestoreUndo e = go (gone_back s.undo w.memory w.frames)
 asked_moved s i w Quit e = refl
 
 -- from the state after it the step leads to the same
-step_moved : (m : Inside) (i : Instr) (w : GameState) (x : Request) (t : Texts) → instr_at m.game.memory m.place ≡ Ok i → limited_move (carried_out m.game i) ≡ Ok (w, (Asks x, t)) → step (state_seen m) ≡ asked (state_seen (record m { game = w })) i w x
+step_moved : (m : Inside) (i : Instr) (w : GameState) (x : Request) (t : Texts) → instr_at m.game.memory m.pc ≡ Ok i → limited_move (carried_out m.game i) ≡ Ok (w, (Asks x, t)) → step (state_seen m) ≡ asked (state_seen (record m { game = w })) i w x
 step_moved m i w x t h told =
     let fixed = carried_fixed m.game i w (Asks x) t told in
     let undo : states_in w.memory.file m.undo ≡ states_in m.game.memory.file m.undo = same_states m.game.memory w.memory m.undo fixed in
@@ -109,7 +109,7 @@ left_goes old new w u (StopsBy stop) t put = put.1
 
 left_moved : (old new : Session) (w : GameState) (u : List WholeState) (x : Step) → IsPut (record old { state = record old.state { game = w; undo = u } }) new (verdict_of old.state x) (state_after (record old.state { game = w; undo = u }) x)
     → IsLeftAt old new (verdict_of old.state x) (state_after old.state x)
-left_moved old new w u (Goes t text) put = left_goes old new w u (goes_by old.state.place (within_bounds t.game.frames)) t put
+left_moved old new w u (Goes t text) put = left_goes old new w u (goes_by old.state.pc (within_bounds t.game.frames)) t put
 left_moved old new w u (Awaits t waiting text) put = left_goes old new w u (verdict_of old.state (Awaits t waiting text)) t put
 left_moved old new w u Quits put = put.1
 left_moved old new w u (Faults f) put = put.1
@@ -138,7 +138,7 @@ resumes_silent s i w = go (gone_back s.undo w.memory w.frames)
 
 -- an instruction has asked something of the machine, which goes on as it says from the state after it
 pub stepped_asked : {S : Type 0} (shows : S → S → List ℕ → List ℕ → Type 0) (twice : (a b c : S) (s t u v : List ℕ) → shows a b s u → shows b c t v → shows a c (s ++ t) (u ++ v)) (a b c : S) (m : Inside) (new : Session) (i : Instr) (w : GameState) (x : Request) (t : Texts) (answer : Result (Unit {0}) Halt)
-    → instr_at m.game.memory m.place ≡ Ok i → limited_move (carried_out m.game i) ≡ Ok (w, (Asks x, t)) → t ≡ no_text → shows a b t.screen t.script
+    → instr_at m.game.memory m.pc ≡ Ok i → limited_move (carried_out m.game i) ≡ Ok (w, (Asks x, t)) → t ≡ no_text → shows a b t.screen t.script
     → Settles (seen (record m { game = w })) new answer (asked (state_seen (record m { game = w })) i w x) ⊎ ((x ≡ SaveUndo) × LacksMemory (seen (record m { game = w })) new answer)
     → shows b c (text_of (state_seen m) (asked (state_seen (record m { game = w })) i w x)).screen (text_of (state_seen m) (asked (state_seen (record m { game = w })) i w x)).script
     → IsStep (seen m) new answer (λ y. shows a c y.screen y.script)
@@ -172,30 +172,30 @@ stepped_asked {S} shows twice a b c m new i w x t answer h told quiet first (inr
     let last : shows b c [] [] = subst (λ (y : Texts). shows b c y.screen y.script) silent rest in
     inr (lacks.tells, lacks.waiting, (keeping, twice a b c [] [] [] [] none last))
 
--- it goes on at a place
+-- it goes on at an address
 kept_at : (q : Result FrameList Refusal) (r s : GameState × (Next × Texts)) → kept {B = GameState × (Next × Texts)} q r ≡ Ok s → (u : FrameList) × (q ≡ Ok u)
 kept_at (Ok u) r s h = (u, refl)
 kept_at (Err e) r s h = absurd cc
 
-pub at_step : (s : State) (i : Instr) (w : GameState) (p : ℕ) (t : Texts) → instr_at s.game.memory s.place ≡ Ok i → limited_move (carried_out s.game i) ≡ Ok (w, (At p, t))
-    → (step s ≡ Goes (record s { game = w; place = p; steps = s.steps + 1 }) t) × ((u : FrameList) × (within_bounds w.frames ≡ Ok u))
+pub at_step : (s : State) (i : Instr) (w : GameState) (p : ℕ) (t : Texts) → instr_at s.game.memory s.pc ≡ Ok i → limited_move (carried_out s.game i) ≡ Ok (w, (At p, t))
+    → (step s ≡ Goes (record s { game = w; pc = p; steps = s.steps + 1 }) t) × ((u : FrameList) × (within_bounds w.frames ≡ Ok u))
 at_step s i w p t h told =
     let is = move_is (carried_out s.game i) (w, (At p, t)) told in
     let here : limited_move (Ok (w, (At p, t))) ≡ Ok (w, (At p, t)) = sym (ap limited_move is) ∙ told in
     (step_is s i w (At p) t h is, kept_at (within_bounds w.frames) (w, (At p, t)) (w, (At p, t)) here)
 
-pub stepped_on : {S : Type 0} (shows : S → S → List ℕ → List ℕ → Type 0) (a b : S) (m : Inside) (i : Instr) (w : GameState) (p : ℕ) (t : Texts) → instr_at m.game.memory m.place ≡ Ok i
-    → limited_move (carried_out m.game i) ≡ Ok (w, (At p, t)) → shows a b t.screen t.script → IsStep (seen m) (seen (record m { game = w; place = p; steps = m.steps + 1 })) (Ok tt) (λ x. shows a b x.screen x.script)
+pub stepped_on : {S : Type 0} (shows : S → S → List ℕ → List ℕ → Type 0) (a b : S) (m : Inside) (i : Instr) (w : GameState) (p : ℕ) (t : Texts) → instr_at m.game.memory m.pc ≡ Ok i
+    → limited_move (carried_out m.game i) ≡ Ok (w, (At p, t)) → shows a b t.screen t.script → IsStep (seen m) (seen (record m { game = w; pc = p; steps = m.steps + 1 })) (Ok tt) (λ x. shows a b x.screen x.script)
 stepped_on {S} shows a b m i w p t h told shown =
     let at = at_step (state_seen m) i w p t h told in
     let same = same_states m.game.memory w.memory m.undo (carried_fixed m.game i w (At p) t told) in
-    let to : State = record (state_seen m) { game = w; place = p; steps = m.steps + 1 } in
-    let verdict : goes_by m.place (within_bounds w.frames) ≡ GoesOn = ap (goes_by m.place) at.1.1 in
+    let to : State = record (state_seen m) { game = w; pc = p; steps = m.steps + 1 } in
+    let verdict : goes_by m.pc (within_bounds w.frames) ≡ GoesOn = ap (goes_by m.pc) at.1.1 in
     let text : text_within (within_bounds w.frames) t ≡ t = ap (λ (q : Result FrameList Refusal). text_within q t) at.1.1 in
-    let left : seen (record m { game = w; place = p; steps = m.steps + 1 }) ≡ record (seen m) { state = to } = ap (λ (u : List WholeState). record (seen m) { state = record to { undo = u } }) same in
-    inl (subst (λ (y : Step). StepsTo y (seen m) (seen (record m { game = w; place = p; steps = m.steps + 1 })) (Ok tt) (λ z. shows a b z.screen z.script)) (sym at.0) (record {
+    let left : seen (record m { game = w; pc = p; steps = m.steps + 1 }) ≡ record (seen m) { state = to } = ap (λ (u : List WholeState). record (seen m) { state = record to { undo = u } }) same in
+    inl (subst (λ (y : Step). StepsTo y (seen m) (seen (record m { game = w; pc = p; steps = m.steps + 1 })) (Ok tt) (λ z. shows a b z.screen z.script)) (sym at.0) (record {
       tells = sym (ap halt_by verdict);
-      left = subst (λ (v : Verdict). IsLeftAt (seen m) (seen (record m { game = w; place = p; steps = m.steps + 1 })) v to) (sym verdict) left;
+      left = subst (λ (v : Verdict). IsLeftAt (seen m) (seen (record m { game = w; pc = p; steps = m.steps + 1 })) v to) (sym verdict) left;
       shown = subst (λ (y : Texts). shows a b y.screen y.script) (sym text) shown;
     }))
 
@@ -213,24 +213,24 @@ kept_err : (q : Result FrameList Refusal) (r : GameState × (Next × Texts)) (e 
 kept_err (Ok u) r e h = absurd cc
 kept_err (Err d) r e h = cc
 
-pub err_step : (s : State) (i : Instr) (r : Result (GameState × (Next × Texts)) Fault) (e : Refusal) → limited_move r ≡ Err e → (verdict_of s (settled s i r) ≡ StopsBy (stop_by s.place e)) × (text_of s (settled s i r) ≡ no_text)
+pub err_step : (s : State) (i : Instr) (r : Result (GameState × (Next × Texts)) Fault) (e : Refusal) → limited_move r ≡ Err e → (verdict_of s (settled s i r) ≡ StopsBy (stop_by s.pc e)) × (text_of s (settled s i r) ≡ no_text)
 err_step s i (Ok (w, (At p, t))) e h =
     let over = kept_err (within_bounds w.frames) (w, (At p, t)) e h in
-    (ap (goes_by s.place) over ∙ stops_by s.place e, ap (λ (q : Result FrameList Refusal). text_within q t) over)
+    (ap (goes_by s.pc) over ∙ stops_by s.pc e, ap (λ (q : Result FrameList Refusal). text_within q t) over)
 err_step s i (Ok (w, (Asks x, t))) e h = absurd cc
-err_step s i (Err f) e h = let is : refusal.Fault f ≡ e = cc in (ap (λ (x : Refusal). StopsBy (stop_by s.place x)) is, refl)
+err_step s i (Err f) e h = let is : refusal.Fault f ≡ e = cc in (ap (λ (x : Refusal). StopsBy (stop_by s.pc x)) is, refl)
 
-pub stepped_err : {S : Type 0} (shows : S → S → List ℕ → List ℕ → Type 0) (a b : S) (m : Inside) (new : Session) (i : Instr) (e : Refusal) (answer : Result (Unit {0}) Halt) → instr_at m.game.memory m.place ≡ Ok i
-    → limited_move (carried_out m.game i) ≡ Err e → answer ≡ Err (Err (stop_by m.place e)) → new.waiting ≡ None
+pub stepped_err : {S : Type 0} (shows : S → S → List ℕ → List ℕ → Type 0) (a b : S) (m : Inside) (new : Session) (i : Instr) (e : Refusal) (answer : Result (Unit {0}) Halt) → instr_at m.game.memory m.pc ≡ Ok i
+    → limited_move (carried_out m.game i) ≡ Err e → answer ≡ Err (Err (stop_by m.pc e)) → new.waiting ≡ None
     → shows a b (text_in (limited_move (carried_out m.game i))).screen (text_in (limited_move (carried_out m.game i))).script → IsStep (seen m) new answer (λ y. shows a b y.screen y.script)
 stepped_err {S} shows a b m new i e answer h told tells free shown =
     let parts = err_step (state_seen m) i (carried_out m.game i) e told in
-    ended_by shows a b (seen m) new (settled (state_seen m) i (carried_out m.game i)) (stop_by m.place e) no_text answer (fetched_is (state_seen m) i h) parts.0 parts.1 tells free
+    ended_by shows a b (seen m) new (settled (state_seen m) i (carried_out m.game i)) (stop_by m.pc e) no_text answer (fetched_is (state_seen m) i h) parts.0 parts.1 tells free
     (subst (λ (y : Texts). shows a b y.screen y.script) (ap text_in told) shown)
 
-pub stepped_fault : {S : Type 0} (shows : S → S → List ℕ → List ℕ → Type 0) (a : S) (m : Inside) (new : Session) (f : Fault) (answer : Result (Unit {0}) Halt) → instr_at m.game.memory m.place ≡ Err f
-    → answer ≡ Err (Err (stop.Fault m.place f)) → new.waiting ≡ None → shows a a [] [] → IsStep (seen m) new answer (λ y. shows a a y.screen y.script)
-stepped_fault {S} shows a m new f answer h tells free shown = ended_by shows a a (seen m) new (Faults f) (stop.Fault m.place f) no_text answer (fault_is (state_seen m) f h) refl refl tells free shown
+pub stepped_fault : {S : Type 0} (shows : S → S → List ℕ → List ℕ → Type 0) (a : S) (m : Inside) (new : Session) (f : Fault) (answer : Result (Unit {0}) Halt) → instr_at m.game.memory m.pc ≡ Err f
+    → answer ≡ Err (Err (stop.Fault m.pc f)) → new.waiting ≡ None → shows a a [] [] → IsStep (seen m) new answer (λ y. shows a a y.screen y.script)
+stepped_fault {S} shows a m new f answer h tells free shown = ended_by shows a a (seen m) new (Faults f) (stop.Fault m.pc f) no_text answer (fault_is (state_seen m) f h) refl refl tells free shown
 
 -- ---- it waits for a read
 
@@ -265,7 +265,7 @@ not_past n x lt =
     go false = refl
 
 pub sound_waiting : (m : Inside) (v : GameState) (w : Waiting) → IsSound m → m.stopped ≡ None → m.due.items ≡ [] → m.steps < m.limits.steps → v.memory ≡ m.game.memory → bounds_of v.frames ≡ bounds_of m.game.frames
-    → w.instruction.next ≤ 1048576 → m.place < w.instruction.next → is_past_reads m.reads w.wait ≡ false → IsSound (record m { game = v; waiting = Some w })
+    → w.instruction.next ≤ 1048576 → m.pc < w.instruction.next → is_past_reads m.reads w.wait ≡ false → IsSound (record m { game = v; waiting = Some w })
 sound_waiting m v w is runs silent room memory bounds near inside past =
     let has = running m.stopped (IsOfStory m) runs is.story in
     let all = sound_now m (record m { game = v; waiting = None }) is refl refl is.steps is.reads refl bounds
@@ -277,11 +277,11 @@ sound_waiting m v w is runs silent room memory bounds near inside past =
       reads = all.reads;
       most = all.most;
       story = while_running m.stopped (IsOfStory (record m { game = v; waiting = Some w })) (λ e. stays);
-      waits = record { reads = past; steps = room; next = near; some = omega (arith, inside); place = omega (arith, near, inside); runs = runs; shown = silent };
+      waits = record { reads = past; steps = room; next = near; some = omega (arith, inside); pc = omega (arith, near, inside); runs = runs; shown = silent };
     }
 
 pub sound_viewed : (m : Inside) (v : GameState) (t : Texts) (w : Waiting) → IsSound m → m.stopped ≡ None → m.due.items ≡ [] → m.steps < m.limits.steps → viewed m.game ≡ Ok (v, t) → bounds_of v.frames ≡ bounds_of m.game.frames
-    → w.instruction.next ≤ 1048576 → m.place < w.instruction.next → m.reads < 16777216 → IsSound (record m { game = v; waiting = Some w })
+    → w.instruction.next ≤ 1048576 → m.pc < w.instruction.next → m.reads < 16777216 → IsSound (record m { game = v; waiting = Some w })
 sound_viewed m v t w is runs silent room view bounds near inside few = sound_waiting m v w is runs silent room (viewed_memory m.game v t view) bounds near inside (not_past m.reads w.wait few)
 
 -- so it is left
@@ -292,7 +292,7 @@ view_settles m v t x i read view few =
     let here : asked (state_seen m) i m.game (Answer x) ≡ Awaits (record (state_seen m) { game = v }) (record { wait = x; instruction = i }) t
     = ap (λ (b : Bool). waits_by (state_seen m) i x (if b then viewed m.game else Ok (m.game, no_text))) read ∙ ap (waits_by (state_seen m) i x) view in
     let verdict : verdict_of (state_seen m) (Awaits (record (state_seen m) { game = v }) (record { wait = x; instruction = i }) t) ≡ WaitsFor (record { wait = x; instruction = i })
-    = ap (λ (b : Bool). if b then StopsBy (stop.Limit m.place Reads) else WaitsFor (record { wait = x; instruction = i })) (not_past m.reads x few) in
+    = ap (λ (b : Bool). if b then StopsBy (stop.Limit m.pc Reads) else WaitsFor (record { wait = x; instruction = i })) (not_past m.reads x few) in
     let put : IsPut (seen m) (seen (record m { game = v; waiting = Some (record { wait = x; instruction = i }) })) (WaitsFor (record { wait = x; instruction = i })) (record (state_seen m) { game = v })
     = ap (λ (u : List WholeState). record (seen m) { state = record (state_seen m) { game = v; undo = u }; waiting = Some (record { wait = x; instruction = i }) }) (ap (λ (n : MemoryMap). states_in n.file m.undo) memory) in
     let settles : Settles (seen m) (seen (record m { game = v; waiting = Some (record { wait = x; instruction = i }) })) (Err (Ok x)) (Awaits (record (state_seen m) { game = v }) (record { wait = x; instruction = i }) t)

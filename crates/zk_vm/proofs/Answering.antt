@@ -17,7 +17,7 @@ use Rattle.zk_step.specs.Inputs.{character_answered, line_answered, result_answe
 use Rattle.zk_step.specs.Restarts.{windows_closed}
 use Rattle.zk_step.specs.Resuming.{resumed}
 use Rattle.zk_step.specs.Laws.{fixed_parts}
-use Rattle.zk_step.specs.Limited.{limited_place}
+use Rattle.zk_step.specs.Limited.{limited_pc}
 use Rattle.zk_step.proofs.Sweep.{answers_leave_stories}
 use Rattle.zk_vm.specs.declared.limits.Limits.{Limits}
 use Rattle.zk_fast.specs.declared.cache.Cache.{Cache}
@@ -27,7 +27,7 @@ use Rattle.zk_vm.specs.declared.stop.Stop.{Stop}
 use Rattle.zk_vm.specs.declared.waiting.Waiting.{Waiting}
 use Rattle.zk_vm.specs.Answers.{Answer, answered, answer_settled, limit_of, none_restored, restored_from, restored_to, transcribed, truth_word}
 use Rattle.zk_vm.specs.Answers.Answer.{Typed, GameKept, File}
-use Rattle.zk_vm.specs.Going.{verdict_by, place_by, steps_by, stopped_by, restored_by, restored_on, unrestored_by}
+use Rattle.zk_vm.specs.Going.{verdict_by, pc_by, steps_by, stopped_by, restored_by, restored_on, unrestored_by}
 use Rattle.zk_vm.specs.Halts.{CanAnswer, IsAnswerable, IsLeftAs, event_waited}
 use Rattle.zk_vm.specs.Outcome.{given}
 use Rattle.zk_vm.specs.Sound.{state_seen, IsOfStory, IsSound}
@@ -54,26 +54,26 @@ unfolding answered
 saves s w k e = rw e refl
 
 -- a machine that was answered, and waits no more
-answered_sound : (m : Inside) (v : GameState) (place steps : ℕ) (stopped : Option Stop) (led : Result ℕ Refusal) → IsSound m → m.stopped ≡ None → m.steps < m.limits.steps → IsOfStory m → bounds_of v.frames ≡ bounds_of m.game.frames
-    → steps ≡ steps_by m.steps led → stopped ≡ stopped_by m.stopped (verdict_by m.place led) → ((n : ℕ) → led ≡ Ok n → fixed_parts v.memory ≡ fixed_parts m.game.memory) → IsSound (behind (record m { waiting = None }) v place steps stopped m.undo)
-answered_sound m v place steps stopped led is runs room has bounds counts stops fixed =
-    sound_after m (behind (record m { waiting = None }) v place steps stopped m.undo) m.place led is room refl refl counts refl refl bounds stops
-    (λ n e. story_stays (behind (record m { waiting = None }) v place steps stopped m.undo) m.game has.are_of has.memory has.cache (fixed n e) bounds)
+answered_sound : (m : Inside) (v : GameState) (pc steps : ℕ) (stopped : Option Stop) (led : Result ℕ Refusal) → IsSound m → m.stopped ≡ None → m.steps < m.limits.steps → IsOfStory m → bounds_of v.frames ≡ bounds_of m.game.frames
+    → steps ≡ steps_by m.steps led → stopped ≡ stopped_by m.stopped (verdict_by m.pc led) → ((n : ℕ) → led ≡ Ok n → fixed_parts v.memory ≡ fixed_parts m.game.memory) → IsSound (behind (record m { waiting = None }) v pc steps stopped m.undo)
+answered_sound m v pc steps stopped led is runs room has bounds counts stops fixed =
+    sound_after m (behind (record m { waiting = None }) v pc steps stopped m.undo) m.pc led is room refl refl counts refl refl bounds stops
+    (λ n e. story_stays (behind (record m { waiting = None }) v pc steps stopped m.undo) m.game has.are_of has.memory has.cache (fixed n e) bounds)
 
-pub save_answered : (m : Inside) (w : Waiting) (k : Bool) (word : ℕ) (led : Result ℕ Refusal) (v : GameState) (place steps : ℕ) (stopped : Option Stop) → IsSound m → m.waiting ≡ Some w → event_waited m.waiting ≡ Some event.Save → word ≡ truth_word k
-    → Told led (limited_place (result_answered m.game w.instruction word k)) v → bounds_of v.frames ≡ bounds_of m.game.frames
-    → place ≡ place_by m.place led → steps ≡ steps_by m.steps led → stopped ≡ stopped_by m.stopped (verdict_by m.place led)
-    → IsSound (behind (record m { waiting = None }) v place steps stopped m.undo)
-    × IsLeftAs (seen (behind (record m { waiting = None }) v place steps stopped m.undo)) (given (seen m) (GameKept k)) (given (seen m) (GameKept k)).stopped
-save_answered m w k word led v place steps stopped is waits saving value told bounds at counts stops =
+pub save_answered : (m : Inside) (w : Waiting) (k : Bool) (word : ℕ) (led : Result ℕ Refusal) (v : GameState) (pc steps : ℕ) (stopped : Option Stop) → IsSound m → m.waiting ≡ Some w → event_waited m.waiting ≡ Some event.Save → word ≡ truth_word k
+    → Told led (limited_pc (result_answered m.game w.instruction word k)) v → bounds_of v.frames ≡ bounds_of m.game.frames
+    → pc ≡ pc_by m.pc led → steps ≡ steps_by m.steps led → stopped ≡ stopped_by m.stopped (verdict_by m.pc led)
+    → IsSound (behind (record m { waiting = None }) v pc steps stopped m.undo)
+    × IsLeftAs (seen (behind (record m { waiting = None }) v pc steps stopped m.undo)) (given (seen m) (GameKept k)) (given (seen m) (GameKept k)).stopped
+save_answered m w k word led v pc steps stopped is waits saving value told bounds at counts stops =
     let can = answerable m w is waits in
     let has = running m.stopped (IsOfStory m) can.runs is.story in
     let fixed : (n : ℕ) → result_answered m.game w.instruction word k ≡ Ok (v, n) → fixed_parts v.memory ≡ fixed_parts m.game.memory
     = (λ n e. answers_leave_stories.result m.game w.instruction word k (v, n) e) in
     let here = saves (state_seen m) w k (awaits m.waiting w event.Save waits saving) in
     let word_is = rw (← value) at here in (
-      answered_sound m v place steps stopped led is can.runs can.steps has bounds counts stops (told_on led (result_answered m.game w.instruction word k) v told fixed),
-      file_answered (seen m) w (GameKept k) (states_in v.memory.file m.undo) (result_answered m.game w.instruction word k) led v place steps stopped waits can.runs word_is told at counts stops (λ n e. same_states m.game.memory v.memory m.undo (fixed n e)),
+      answered_sound m v pc steps stopped led is can.runs can.steps has bounds counts stops (told_on led (result_answered m.game w.instruction word k) v told fixed),
+      file_answered (seen m) w (GameKept k) (states_in v.memory.file m.undo) (result_answered m.game w.instruction word k) led v pc steps stopped waits can.runs word_is told at counts stops (λ n e. same_states m.game.memory v.memory m.undo (fixed n e)),
     )
 
 -- ---- a saved game that is restored
@@ -83,9 +83,9 @@ unfolding answered
 restores s w file e = rw e refl
 
 -- what is restored has the story's parts
-fit_fixed : (q : Result FrameList RestoreError) (w : WholeState) (m n : MemoryMap) (g : FrameList) (p : ℕ) → loaded_by {B = MemoryMap × FrameList × ℕ} q (λ frames. Ok (memory_back w m, frames, w.place)) ≡ Ok (n, g, p) → fixed_parts n ≡ fixed_parts m
+fit_fixed : (q : Result FrameList RestoreError) (w : WholeState) (m n : MemoryMap) (g : FrameList) (p : ℕ) → loaded_by {B = MemoryMap × FrameList × ℕ} q (λ frames. Ok (memory_back w m, frames, w.pc)) ≡ Ok (n, g, p) → fixed_parts n ≡ fixed_parts m
 fit_fixed (Ok f) w m n g p h =
-    let same : ◌≡◌ {A = MemoryMap × FrameList × ℕ} (memory_back w m, f, w.place) (n, g, p) = cc in
+    let same : ◌≡◌ {A = MemoryMap × FrameList × ℕ} (memory_back w m, f, w.pc) (n, g, p) = cc in
     sym (ap (λ (q : MemoryMap × FrameList × ℕ). fixed_parts q.0) same) ∙ back_fixed w m
 fit_fixed (Err e) w m n g p h = absurd cc
 
@@ -115,48 +115,48 @@ restored_stays w i (Ok (m, f, p)) led v same told =
     told_on led (resumed (windows_closed (record w { memory = m; frames = f })) p) v told (λ n e. answers_leave_stories.back (windows_closed (record w { memory = m; frames = f })) p (v, n) e ∙ ap fixed_parts (renewed_memory (record w { memory = m; frames = f })) ∙ same m f p refl)
 restored_stays w i (Err e) led v same told = none_stays w i (limit_of e) led v told
 
-none_left : (m : Inside) (w : Waiting) (a : Answer) (l : Option Limit) (led : Result ℕ Refusal) (v : GameState) (place steps : ℕ) (stopped : Option Stop) → m.waiting ≡ Some w → m.stopped ≡ None
-    → answered (state_seen m) w a ≡ none_restored (state_seen m) w.instruction l → Told led (unrestored_by m.game w.instruction l) v → place ≡ place_by m.place led → steps ≡ steps_by m.steps led → stopped ≡ stopped_by m.stopped (verdict_by m.place led)
-    → IsLeftAs (seen (behind (record m { waiting = None }) v place steps stopped m.undo)) (given (seen m) a) (given (seen m) a).stopped
-none_left m w a None led v place steps stopped waits runs is told at counts stops =
-    file_answered (seen m) w a (states_in v.memory.file m.undo) (result_answered m.game w.instruction 0 false) led v place steps stopped waits runs is told at counts stops (λ x e. same_states m.game.memory v.memory m.undo (answers_leave_stories.result m.game w.instruction 0 false (v, x) e))
-none_left m w a (Some l) led v place steps stopped waits runs is told at counts stops = limit_answered (seen m) w a l (states_in v.memory.file m.undo) led v place steps stopped waits runs is told at counts stops
+none_left : (m : Inside) (w : Waiting) (a : Answer) (l : Option Limit) (led : Result ℕ Refusal) (v : GameState) (pc steps : ℕ) (stopped : Option Stop) → m.waiting ≡ Some w → m.stopped ≡ None
+    → answered (state_seen m) w a ≡ none_restored (state_seen m) w.instruction l → Told led (unrestored_by m.game w.instruction l) v → pc ≡ pc_by m.pc led → steps ≡ steps_by m.steps led → stopped ≡ stopped_by m.stopped (verdict_by m.pc led)
+    → IsLeftAs (seen (behind (record m { waiting = None }) v pc steps stopped m.undo)) (given (seen m) a) (given (seen m) a).stopped
+none_left m w a None led v pc steps stopped waits runs is told at counts stops =
+    file_answered (seen m) w a (states_in v.memory.file m.undo) (result_answered m.game w.instruction 0 false) led v pc steps stopped waits runs is told at counts stops (λ x e. same_states m.game.memory v.memory m.undo (answers_leave_stories.result m.game w.instruction 0 false (v, x) e))
+none_left m w a (Some l) led v pc steps stopped waits runs is told at counts stops = limit_answered (seen m) w a l (states_in v.memory.file m.undo) led v pc steps stopped waits runs is told at counts stops
 
-restored_left : (m : Inside) (w : Waiting) (a : Answer) (q : Result (MemoryMap × FrameList × ℕ) RestoreError) (led : Result ℕ Refusal) (v : GameState) (place steps : ℕ) (stopped : Option Stop) → m.waiting ≡ Some w → m.stopped ≡ None
-    → answered (state_seen m) w a ≡ restored_to (state_seen m) w.instruction q → Told led (restored_by m.game w.instruction q) v → place ≡ place_by m.place led → steps ≡ steps_by m.steps led → stopped ≡ stopped_by m.stopped (verdict_by m.place led)
+restored_left : (m : Inside) (w : Waiting) (a : Answer) (q : Result (MemoryMap × FrameList × ℕ) RestoreError) (led : Result ℕ Refusal) (v : GameState) (pc steps : ℕ) (stopped : Option Stop) → m.waiting ≡ Some w → m.stopped ≡ None
+    → answered (state_seen m) w a ≡ restored_to (state_seen m) w.instruction q → Told led (restored_by m.game w.instruction q) v → pc ≡ pc_by m.pc led → steps ≡ steps_by m.steps led → stopped ≡ stopped_by m.stopped (verdict_by m.pc led)
     → ((n : MemoryMap) (g : FrameList) (p : ℕ) → q ≡ Ok (n, g, p) → fixed_parts n ≡ fixed_parts m.game.memory)
-    → IsLeftAs (seen (behind (record m { waiting = None }) v place steps stopped m.undo)) (given (seen m) a) (given (seen m) a).stopped
-restored_left m w a (Ok (n, f, p)) led v place steps stopped waits runs is told at counts stops fixed =
-    file_answered (seen m) w a (states_in v.memory.file m.undo) (resumed (windows_closed (record m.game { memory = n; frames = f })) p) led v place steps stopped waits runs is told at counts stops (λ x e. same_states m.game.memory v.memory m.undo (answers_leave_stories.back (windows_closed (record m.game { memory = n; frames = f })) p (v, x) e ∙ ap fixed_parts (renewed_memory (record m.game { memory = n; frames = f })) ∙ fixed n f p refl))
-restored_left m w a (Err e) led v place steps stopped waits runs is told at counts stops fixed = none_left m w a (limit_of e) led v place steps stopped waits runs is told at counts stops
+    → IsLeftAs (seen (behind (record m { waiting = None }) v pc steps stopped m.undo)) (given (seen m) a) (given (seen m) a).stopped
+restored_left m w a (Ok (n, f, p)) led v pc steps stopped waits runs is told at counts stops fixed =
+    file_answered (seen m) w a (states_in v.memory.file m.undo) (resumed (windows_closed (record m.game { memory = n; frames = f })) p) led v pc steps stopped waits runs is told at counts stops (λ x e. same_states m.game.memory v.memory m.undo (answers_leave_stories.back (windows_closed (record m.game { memory = n; frames = f })) p (v, x) e ∙ ap fixed_parts (renewed_memory (record m.game { memory = n; frames = f })) ∙ fixed n f p refl))
+restored_left m w a (Err e) led v pc steps stopped waits runs is told at counts stops fixed = none_left m w a (limit_of e) led v pc steps stopped waits runs is told at counts stops
 
-pub file_restored : (m : Inside) (w : Waiting) (file : List ℕ) (led : Result ℕ Refusal) (v : GameState) (place steps : ℕ) (stopped : Option Stop) → IsSound m → m.waiting ≡ Some w → event_waited m.waiting ≡ Some event.Restore
+pub file_restored : (m : Inside) (w : Waiting) (file : List ℕ) (led : Result ℕ Refusal) (v : GameState) (pc steps : ℕ) (stopped : Option Stop) → IsSound m → m.waiting ≡ Some w → event_waited m.waiting ≡ Some event.Restore
     → Told led (restored_on m.game w.instruction file) v → bounds_of v.frames ≡ bounds_of m.game.frames
-    → place ≡ place_by m.place led → steps ≡ steps_by m.steps led → stopped ≡ stopped_by m.stopped (verdict_by m.place led)
-    → IsSound (behind (record m { waiting = None }) v place steps stopped m.undo)
-    × IsLeftAs (seen (behind (record m { waiting = None }) v place steps stopped m.undo)) (given (seen m) (File (Some file))) (given (seen m) (File (Some file))).stopped
-file_restored m w file led v place steps stopped is waits restoring told bounds at counts stops =
+    → pc ≡ pc_by m.pc led → steps ≡ steps_by m.steps led → stopped ≡ stopped_by m.stopped (verdict_by m.pc led)
+    → IsSound (behind (record m { waiting = None }) v pc steps stopped m.undo)
+    × IsLeftAs (seen (behind (record m { waiting = None }) v pc steps stopped m.undo)) (given (seen m) (File (Some file))) (given (seen m) (File (Some file))).stopped
+file_restored m w file led v pc steps stopped is waits restoring told bounds at counts stops =
     let can = answerable m w is waits in
     let has = running m.stopped (IsOfStory m) can.runs is.story in
     let same : (n : MemoryMap) (g : FrameList) (p : ℕ) → restored file m.game.memory m.game.frames ≡ Ok (n, g, p) → fixed_parts n ≡ fixed_parts m.game.memory
     = (λ n g p e. restored_fixed file m.game.memory n m.game.frames g p e) in
     let fixed = restored_stays m.game w.instruction (restored file m.game.memory m.game.frames) led v same told in
     let here = restores (state_seen m) w (Some file) (awaits m.waiting w event.Restore waits restoring) in (
-      answered_sound m v place steps stopped led is can.runs can.steps has bounds counts stops fixed,
-      restored_left m w (File (Some file)) (restored file m.game.memory m.game.frames) led v place steps stopped waits can.runs here told at counts stops same,
+      answered_sound m v pc steps stopped led is can.runs can.steps has bounds counts stops fixed,
+      restored_left m w (File (Some file)) (restored file m.game.memory m.game.frames) led v pc steps stopped waits can.runs here told at counts stops same,
     )
 
-pub no_file_restored : (m : Inside) (w : Waiting) (led : Result ℕ Refusal) (v : GameState) (place steps : ℕ) (stopped : Option Stop) → IsSound m → m.waiting ≡ Some w → event_waited m.waiting ≡ Some event.Restore
-    → Told led (limited_place (result_answered m.game w.instruction 0 false)) v → bounds_of v.frames ≡ bounds_of m.game.frames
-    → place ≡ place_by m.place led → steps ≡ steps_by m.steps led → stopped ≡ stopped_by m.stopped (verdict_by m.place led)
-    → IsSound (behind (record m { waiting = None }) v place steps stopped m.undo)
-    × IsLeftAs (seen (behind (record m { waiting = None }) v place steps stopped m.undo)) (given (seen m) (File None)) (given (seen m) (File None)).stopped
-no_file_restored m w led v place steps stopped is waits restoring told bounds at counts stops =
+pub no_file_restored : (m : Inside) (w : Waiting) (led : Result ℕ Refusal) (v : GameState) (pc steps : ℕ) (stopped : Option Stop) → IsSound m → m.waiting ≡ Some w → event_waited m.waiting ≡ Some event.Restore
+    → Told led (limited_pc (result_answered m.game w.instruction 0 false)) v → bounds_of v.frames ≡ bounds_of m.game.frames
+    → pc ≡ pc_by m.pc led → steps ≡ steps_by m.steps led → stopped ≡ stopped_by m.stopped (verdict_by m.pc led)
+    → IsSound (behind (record m { waiting = None }) v pc steps stopped m.undo)
+    × IsLeftAs (seen (behind (record m { waiting = None }) v pc steps stopped m.undo)) (given (seen m) (File None)) (given (seen m) (File None)).stopped
+no_file_restored m w led v pc steps stopped is waits restoring told bounds at counts stops =
     let can = answerable m w is waits in
     let has = running m.stopped (IsOfStory m) can.runs is.story in
     let here = restores (state_seen m) w None (awaits m.waiting w event.Restore waits restoring) in (
-      answered_sound m v place steps stopped led is can.runs can.steps has bounds counts stops (none_stays m.game w.instruction None led v told),
-      none_left m w (File None) None led v place steps stopped waits can.runs here told at counts stops,
+      answered_sound m v pc steps stopped led is can.runs can.steps has bounds counts stops (none_stays m.game w.instruction None led v told),
+      none_left m w (File None) None led v pc steps stopped waits can.runs here told at counts stops,
     )
 
 -- ---- reads
@@ -167,7 +167,7 @@ few_reads n x read past =
     grind (arith, nat_tests, here)
 
 pub read_sound : (m n : Inside) (w : Waiting) (led : Result ℕ Refusal) → IsSound m → m.waiting ≡ Some w → is_read w.wait ≡ true → n.limits ≡ m.limits → n.waiting ≡ None → n.steps ≡ 0 → n.reads ≡ m.reads + 1 → n.undo ≡ m.undo → n.cache ≡ m.cache
-    → bounds_of n.game.frames ≡ bounds_of m.game.frames → n.stopped ≡ stopped_by m.stopped (verdict_by m.place led) → ((x : ℕ) → led ≡ Ok x → fixed_parts n.game.memory ≡ fixed_parts m.game.memory) → IsSound n
+    → bounds_of n.game.frames ≡ bounds_of m.game.frames → n.stopped ≡ stopped_by m.stopped (verdict_by m.pc led) → ((x : ℕ) → led ≡ Ok x → fixed_parts n.game.memory ≡ fixed_parts m.game.memory) → IsSound n
 read_sound m n w led is waits read limits free steps reads undo same bounds stops fixed =
     let can = answerable m w is waits in
     let has = running m.stopped (IsOfStory m) can.runs is.story in
@@ -175,7 +175,7 @@ read_sound m n w led is waits read limits free steps reads undo same bounds stop
     let are = subst (λ (u : UndoStates). AreOf m.game.memory m.game.frames u) (sym undo) has.are_of in
     let cache = subst (λ (k : Cache). IsCacheOf (fixed_parts m.game.memory) k) (sym same) has.cache in
     sound_now m n is limits free (omega (arith, steps)) (omega (arith, reads, few)) (ap (λ (u : UndoStates). u.most) undo) bounds
-    (going_led n.stopped m.stopped m.place led (IsOfStory n) stops (λ x e. story_stays n m.game are (has.memory ∙ ap (λ (l : Limits). l.undo) (sym limits)) cache (fixed x e) bounds))
+    (going_led n.stopped m.stopped m.pc led (IsOfStory n) stops (λ x e. story_stays n m.game are (has.memory ∙ ap (λ (l : Limits). l.undo) (sym limits)) cache (fixed x e) bounds))
 
 reads_char : (s : State) (w : Waiting) (code : ℕ) → w.wait ≡ event.Char → answered s w (Typed (code ∷ [])) ≡ answer_settled s [] (character_answered s.game w.instruction code)
 unfolding answered
@@ -186,44 +186,44 @@ reads_line : (s : State) (w : Waiting) (text parse : ℕ) (codes : List ℕ) →
 unfolding answered
 reads_line s w text parse codes e = rw e refl
 
-pub char_fixed : (m : Inside) (w : Waiting) (code : ℕ) (led : Result ℕ Refusal) (v : GameState) → Told led (limited_place (character_answered m.game w.instruction code)) v → (n : ℕ) → led ≡ Ok n → fixed_parts v.memory ≡ fixed_parts m.game.memory
+pub char_fixed : (m : Inside) (w : Waiting) (code : ℕ) (led : Result ℕ Refusal) (v : GameState) → Told led (limited_pc (character_answered m.game w.instruction code)) v → (n : ℕ) → led ≡ Ok n → fixed_parts v.memory ≡ fixed_parts m.game.memory
 char_fixed m w code led v told = told_on led (character_answered m.game w.instruction code) v told (λ n e. answers_leave_stories.character m.game w.instruction code (v, n) e)
 
-pub line_fixed : (m : Inside) (w : Waiting) (text parse : ℕ) (codes : List ℕ) (led : Result ℕ Refusal) (v : GameState) → Told led (limited_place (line_answered m.game w.instruction text parse codes)) v
+pub line_fixed : (m : Inside) (w : Waiting) (text parse : ℕ) (codes : List ℕ) (led : Result ℕ Refusal) (v : GameState) → Told led (limited_pc (line_answered m.game w.instruction text parse codes)) v
     → (n : ℕ) → led ≡ Ok n → fixed_parts v.memory ≡ fixed_parts m.game.memory
 line_fixed m w text parse codes led v told = told_on led (line_answered m.game w.instruction text parse codes) v told (λ n e. answers_leave_stories.line m.game w.instruction text parse codes (v, n) e)
 
-pub char_answered : (m : Inside) (w : Waiting) (code : ℕ) (due : List ℕ) (led : Result ℕ Refusal) (v : GameState) (place : ℕ) (stopped : Option Stop) → IsSound m → m.waiting ≡ Some w → event_waited m.waiting ≡ Some event.Char → due ≡ []
-    → Told led (limited_place (character_answered m.game w.instruction code)) v → place ≡ place_by m.place led → stopped ≡ stopped_by m.stopped (verdict_by m.place led)
-    → IsLeftAs (reading (seen m) v place due (states_in v.memory.file m.undo) stopped) (given (seen m) (Typed (code ∷ []))) (given (seen m) (Typed (code ∷ []))).stopped
-char_answered m w code due led v place stopped is waits reading_char none told at stops =
+pub char_answered : (m : Inside) (w : Waiting) (code : ℕ) (due : List ℕ) (led : Result ℕ Refusal) (v : GameState) (pc : ℕ) (stopped : Option Stop) → IsSound m → m.waiting ≡ Some w → event_waited m.waiting ≡ Some event.Char → due ≡ []
+    → Told led (limited_pc (character_answered m.game w.instruction code)) v → pc ≡ pc_by m.pc led → stopped ≡ stopped_by m.stopped (verdict_by m.pc led)
+    → IsLeftAs (reading (seen m) v pc due (states_in v.memory.file m.undo) stopped) (given (seen m) (Typed (code ∷ []))) (given (seen m) (Typed (code ∷ []))).stopped
+char_answered m w code due led v pc stopped is waits reading_char none told at stops =
     let can = answerable m w is waits in
     let here = reads_char (state_seen m) w code (awaits m.waiting w event.Char waits reading_char) in
     let done : answered (state_seen m) w (Typed (code ∷ [])) ≡ answer_settled (state_seen m) due (character_answered m.game w.instruction code) = rw none here in
-    read_answered (seen m) w (Typed (code ∷ [])) due (states_in v.memory.file m.undo) (character_answered m.game w.instruction code) led v place stopped waits can.runs done told at stops
+    read_answered (seen m) w (Typed (code ∷ [])) due (states_in v.memory.file m.undo) (character_answered m.game w.instruction code) led v pc stopped waits can.runs done told at stops
     (λ n e. same_states m.game.memory v.memory m.undo (answers_leave_stories.character m.game w.instruction code (v, n) e))
 
-pub line_typed : (m : Inside) (w : Waiting) (text parse : ℕ) (codes due : List ℕ) (led : Result ℕ Refusal) (v : GameState) (place : ℕ) (stopped : Option Stop) → IsSound m → m.waiting ≡ Some w → w.wait ≡ event.Line text parse
+pub line_typed : (m : Inside) (w : Waiting) (text parse : ℕ) (codes due : List ℕ) (led : Result ℕ Refusal) (v : GameState) (pc : ℕ) (stopped : Option Stop) → IsSound m → m.waiting ≡ Some w → w.wait ≡ event.Line text parse
     → due ≡ transcribed m.game (event.Line text parse) codes
-    → Told led (limited_place (line_answered m.game w.instruction text parse codes)) v → place ≡ place_by m.place led → stopped ≡ stopped_by m.stopped (verdict_by m.place led)
-    → IsLeftAs (reading (seen m) v place due (states_in v.memory.file m.undo) stopped) (given (seen m) (Typed codes)) (given (seen m) (Typed codes)).stopped
-line_typed m w text parse codes due led v place stopped is waits line transcript told at stops =
+    → Told led (limited_pc (line_answered m.game w.instruction text parse codes)) v → pc ≡ pc_by m.pc led → stopped ≡ stopped_by m.stopped (verdict_by m.pc led)
+    → IsLeftAs (reading (seen m) v pc due (states_in v.memory.file m.undo) stopped) (given (seen m) (Typed codes)) (given (seen m) (Typed codes)).stopped
+line_typed m w text parse codes due led v pc stopped is waits line transcript told at stops =
     let can = answerable m w is waits in
     let here = reads_line (state_seen m) w text parse codes line in
     let done : answered (state_seen m) w (Typed codes) ≡ answer_settled (state_seen m) due (line_answered m.game w.instruction text parse codes) = rw transcript here in
-    read_answered (seen m) w (Typed codes) due (states_in v.memory.file m.undo) (line_answered m.game w.instruction text parse codes) led v place stopped waits can.runs done told at stops
+    read_answered (seen m) w (Typed codes) due (states_in v.memory.file m.undo) (line_answered m.game w.instruction text parse codes) led v pc stopped waits can.runs done told at stops
     (λ n e. same_states m.game.memory v.memory m.undo (answers_leave_stories.line m.game w.instruction text parse codes (v, n) e))
 
 -- a file that is refused, but for a limit, is none
-pub refused_on : (w : GameState) (i : Instr) (file : List ℕ) (e : RestoreError) → restored file w.memory w.frames ≡ Err e → limit_of e ≡ None → restored_on w i file ≡ limited_place (result_answered w i 0 false)
+pub refused_on : (w : GameState) (i : Instr) (file : List ℕ) (e : RestoreError) → restored file w.memory w.frames ≡ Err e → limit_of e ≡ None → restored_on w i file ≡ limited_pc (result_answered w i 0 false)
 refused_on w i file e h none = ap (restored_by w i) h ∙ ap (unrestored_by w i) none
 
 pub limit_on : (w : GameState) (i : Instr) (file : List ℕ) (e : RestoreError) (l : Limit) → restored file w.memory w.frames ≡ Err e → limit_of e ≡ Some l → restored_on w i file ≡ Err (refusal.Limit l)
 limit_on w i file e l h some = ap (restored_by w i) h ∙ ap (unrestored_by w i) some
 
 pub refused_told : (w : GameState) (i : Instr) (file : List ℕ) (e : RestoreError) (n : MemoryMap) (g : FrameList) (led : Result ℕ Refusal) (v : GameState) → restored file w.memory w.frames ≡ Err e → n ≡ w.memory → g ≡ w.frames → limit_of e ≡ None
-    → Told led (limited_place (result_answered (record w { memory = n; frames = g }) i 0 false)) v → Told led (restored_on w i file) v
+    → Told led (limited_pc (result_answered (record w { memory = n; frames = g }) i 0 false)) v → Told led (restored_on w i file) v
 refused_told w i file e n g led v h memory frames none told =
     let both : ◌≡◌ {A = MemoryMap × FrameList} (n, g) (w.memory, w.frames) = cc in
-    let here : Told led (limited_place (result_answered w i 0 false)) v = subst (λ (p : MemoryMap × FrameList). Told led (limited_place (result_answered (record w { memory = p.0; frames = p.1 }) i 0 false)) v) both told in
+    let here : Told led (limited_pc (result_answered w i 0 false)) v = subst (λ (p : MemoryMap × FrameList). Told led (limited_pc (result_answered (record w { memory = p.0; frames = p.1 }) i 0 false)) v) both told in
     subst (λ (r : Result (GameState × ℕ) Refusal). Told led r v) (sym (refused_on w i file e h none)) here

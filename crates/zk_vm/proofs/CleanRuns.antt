@@ -28,7 +28,7 @@ use Rattle.zk_vm.specs.declared.waiting.Waiting.{Waiting}
 use Rattle.zk_vm.specs.Answers.{Answer, file_of}
 use Rattle.zk_vm.specs.Inside.{EachOfRun, IsInside, IsKeptInside, IsRead, StaysClean, CleanStays, found_by_variable, goes_by_variable, is_loaded, is_restore, loads_file, never, never_ends}
 use Rattle.zk_vm.specs.Outcome.{begun}
-use Rattle.zk_vm.specs.Step.{State, saved_place}
+use Rattle.zk_vm.specs.Step.{State, saved_pc}
 use Rattle.zk_vm.proofs.Loaded.{loaded_keeps}
 use Rattle.zk_vm.proofs.StepFaults.{answer_is_later, step_is_later}
 use Rattle.zk_vm.proofs.Staying.{FilesInto, Inside, KeptIn, Knows, each_of_run}
@@ -56,7 +56,7 @@ unfolding begun
 begins story k P seed l view is first = record {
   memory = fresh_keeps story l.undo is;
   story = fresh_story story k l.undo;
-  place = first;
+  pc = first;
   returns = tt;
   undo = All-nil (KeptIn (fresh story k) P);
 }
@@ -64,26 +64,26 @@ begins story k P seed l view is first = record {
 -- ---- anywhere
 
 module _ (m : MemoryMap) where
-  resumes_anywhere : (place : ℕ) → ResumesInto Anywhere m.version place
-  resumes_anywhere place = record { branch = λ b a early. leads_anywhere _; store = λ late. tt }
+  resumes_anywhere : (pc : ℕ) → ResumesInto Anywhere m.version pc
+  resumes_anywhere pc = record { branch = λ b a early. leads_anywhere _; store = λ late. tt }
 
   known_anywhere : (s : State) (i : Instr) → Knows m Anywhere s i
   known_anywhere s i = record {
     ends = λ u v vs e taken by keeps story. ends_anywhere v.memory i e;
     on = λ on truth. leads_anywhere _;
-    kept = λ by. (resumes_anywhere (saved_place s i), tt);
+    kept = λ by. (resumes_anywhere (saved_pc s i), tt);
   }
 
   files_anywhere : (s : State) (w : Waiting) (a : Answer) → Inside m Anywhere s → FilesInto m Anywhere s w a
-  files_anywhere s w a h file n f place restore there e =
-      let k = loaded_keeps file s.game.memory s.game.frames n f place h.memory e in
+  files_anywhere s w a h file n f pc restore there e =
+      let k = loaded_keeps file s.game.memory s.game.frames n f pc h.memory e in
       let story = h.story in
       let back = k.1 in
       record {
         memory = k.0;
         story = record { version = back.version ∙ story.version; base = back.base ∙ story.base; file = back.file ∙ story.file };
-        returns = return_anywhere f.current.place f.callers;
-        resumes = resumes_anywhere place;
+        returns = return_anywhere f.current.pc f.callers;
+        resumes = resumes_anywhere pc;
       }
 
   all_anywhere : (At : State → Type 0) → ((s : State) → Inside m Anywhere s → At s) → (l : Limits) (answers : List Answer) (s : State) → Inside m Anywhere s → EachOfRun At never never_ends l answers s
@@ -95,30 +95,30 @@ same_instr : (i j : Instr) → ◌≡◌ {A = Result Instr Fault} (Ok i) (Ok j) 
 same_instr i j e = cc
 
 module _ (m : MemoryMap) (P : ℕ → Type 0) (clean : IsClean m P) (keeps : KeepsStory m) where
-  there : (s : State) → Inside m P s → (i : Instr) × IsInstruction m s.place i i.next × (instr_at s.game.memory s.place ≡ Ok i)
-  there s h = let d = clean.decodes s.place h.place in (d.0, d.1, read_inside m P clean keeps s.place d.0 h.place d.1 s.game.memory h.memory h.story)
+  there : (s : State) → Inside m P s → (i : Instr) × IsInstruction m s.pc i i.next × (instr_at s.game.memory s.pc ≡ Ok i)
+  there s h = let d = clean.decodes s.pc h.pc in (d.0, d.1, read_inside m P clean keeps s.pc d.0 h.pc d.1 s.game.memory h.memory h.story)
 
-  kept_place : (s : State) (i : Instr) → IsOneStory m s.game.memory → IsInstruction m s.place i i.next → 5 ≤ m.version → saved_place s i + 1 ≡ i.next
-  kept_place s i story stands late =
+  kept_pc : (s : State) (i : Instr) → IsOneStory m s.game.memory → IsInstruction m s.pc i i.next → 5 ≤ m.version → saved_pc s i + 1 ≡ i.next
+  kept_pc s i story stands late =
       let version = story.version in
       let test : nat_lt s.game.memory.version 4 ≡ false = grind (arith, nat_tests) in
-      let some = (instruction_ends m s.place i i.next stands).0 in
+      let some = (instruction_ends m s.pc i i.next stands).0 in
       rw test (omega (arith, some))
 
-  knows : (s : State) → Inside m P s → (i : Instr) → IsInstruction m s.place i i.next → leads_by_variable i ≡ false → Knows m P s i
+  knows : (s : State) → Inside m P s → (i : Instr) → IsInstruction m s.pc i i.next → leads_by_variable i ≡ false → Knows m P s i
   unfolding goes_on
   knows s h i stands known = record {
-    ends = λ u v vs e taken by k story. ends_inside m P clean keeps s.place i h.place stands v.memory k story known s.game u vs taken e by;
-    on = goes_inside m P clean keeps s.place i h.place stands;
+    ends = λ u v vs e taken by k story. ends_inside m P clean keeps s.pc i h.pc stands v.memory k story known s.game u vs taken e by;
+    on = goes_inside m P clean keeps s.pc i h.pc stands;
     kept = λ by.
-        (let late = saved_from_five m s.place i i.next stands by in
-        let on = next_inside m P clean keeps s.place i h.place stands (ap goes_on by) in
-        let after : P (saved_place s i + 1) = subst P (sym (kept_place s i h.story stands late)) on in
+        (let late = saved_from_five m s.pc i i.next stands by in
+        let on = next_inside m P clean keeps s.pc i h.pc stands (ap goes_on by) in
+        let after : P (saved_pc s i + 1) = subst P (sym (kept_pc s i h.story stands late)) on in
         let old : nat_lt m.version 4 ≡ false = grind (arith, nat_tests) in
         (record { branch = λ b a early. absurd cc; store = λ k. after }, after));
   }
 
-  known : (s : State) → Inside m P s → goes_by_variable s ≡ false → (i : Instr) → instr_at s.game.memory s.place ≡ Ok i → Knows m P s i
+  known : (s : State) → Inside m P s → goes_by_variable s ≡ false → (i : Instr) → instr_at s.game.memory s.pc ≡ Ok i → Knows m P s i
   unfolding goes_by_variable
   known s h more i e =
       let t = there s h in
@@ -137,24 +137,24 @@ module _ (m : MemoryMap) (P : ℕ → Type 0) (clean : IsClean m P) (keeps : Kee
 
   no_files : (s : State) (w : Waiting) (a : Answer) → Inside m P s → loads_file s w a ≡ false → FilesInto m P s w a
   unfolding loads_file
-  no_files s w a h more file n f place restore there e = absurd (both (is_restore w.wait) (is_loaded s (file_of a)) more restore (loaded_so s (file_of a) file (n, f, place) there e))
+  no_files s w a h more file n f pc restore there e = absurd (both (is_restore w.wait) (is_loaded s (file_of a)) more restore (loaded_so s (file_of a) file (n, f, pc) there e))
 
   kept_seen : (us : List WholeState) → All (KeptIn m P) us → All (IsKeptInside P) us
   kept_seen [] h = All-nil (IsKeptInside P)
   kept_seen (u ∷ us) h =
       let k = All-head (KeptIn m P) u us h in
-      All-cons (IsKeptInside P) u us (record { frames = k.frames; place = k.after }) (kept_seen us (All-tail (KeptIn m P) u us h))
+      All-cons (IsKeptInside P) u us (record { frames = k.frames; pc = k.after }) (kept_seen us (All-tail (KeptIn m P) u us h))
 
   seen : (s : State) → Inside m P s → IsInside P s
-  seen s h = record { place = h.place; frames = h.returns; undo = kept_seen s.undo h.undo }
+  seen s h = record { pc = h.pc; frames = h.returns; undo = kept_seen s.undo h.undo }
 
   pub run_inside : (l : Limits) (answers : List Answer) (s : State) → Inside m P s → EachOfRun (IsInside P) goes_by_variable loads_file l answers s
   run_inside = each_of_run m P (IsInside P) goes_by_variable loads_file seen known no_files
 
   is_read : (s : State) → Inside m Anywhere s → IsRead P s
   is_read s h inside f e =
-      let d = clean.decodes s.place inside in
-      step_is_later s d.0 f (read_inside m P clean keeps s.place d.0 inside d.1 s.game.memory h.memory h.story) e
+      let d = clean.decodes s.pc inside in
+      step_is_later s d.0 f (read_inside m P clean keeps s.pc d.0 inside d.1 s.game.memory h.memory h.story) e
 
 -- ---- the laws
 

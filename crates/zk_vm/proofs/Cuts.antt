@@ -63,17 +63,17 @@ limits_cut_runs answers s runs = record {
   steps = λ more stop end text lead.
       let m = given_all answers s in
       let g = step_limit_cuts_there (m.limits.steps - m.state.steps) (record m.state { due = [] }) end text lead in
-      outcome_cut answers more stop (LimitAt end.place Steps) s text runs (ap (λ (x : Segment). x.end) g) (ap (λ (x : Segment). x.text) g);
+      outcome_cut answers more stop (LimitAt end.pc Steps) s text runs (ap (λ (x : Segment). x.end) g) (ap (λ (x : Segment). x.text) g);
   step = λ more stop n end text l few lead passes.
       let m = given_all answers s in
       let k : ℕ = m.limits.steps - m.state.steps - (n + 1) in
       let all : m.limits.steps - m.state.steps ≡ n + suc k = omega (arith, few) in
       let g = limits_cut_there n k (record m.state { due = [] }) end text l lead passes in
       let here : steps_left (told_due m) ≡ segment (n + suc k) (record m.state { due = [] }) = ap (λ (x : ℕ). segment x (record m.state { due = [] })) all in
-      outcome_cut answers more stop (LimitAt end.place l) s text runs (ap (λ (x : Segment). x.end) here ∙ g.0) (ap (λ (x : Segment). x.text) here ∙ g.1);
+      outcome_cut answers more stop (LimitAt end.pc l) s text runs (ap (λ (x : Segment). x.end) here ∙ g.0) (ap (λ (x : Segment). x.text) here ∙ g.1);
   answer = λ a more stop w l waits passes.
       let m = given_all answers s in
-      let cut = LimitAt (ran m).state.place l in
+      let cut = LimitAt (ran m).state.pc l in
       let stops = passes_stops l (ran m).state (answered (ran m).state w a) passes in
       let given_is = stops_given (ran m) a w cut waits stops.0 in
       outcome_at answers (a ∷ more) stop s runs

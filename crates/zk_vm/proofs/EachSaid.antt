@@ -48,7 +48,7 @@ none_free s i None = free_by _ (result_answered s.game i 0 false) (λ x. tt)
 none_free s i (Some l) = tt
 
 restored_free : (s : State) (i : Instr) (r : Result (MemoryMap × FrameList × ℕ) RestoreError) → NoWait (restored_to s i r)
-restored_free s i (Ok (m, f, place)) = free_by _ (back (windows_closed (record s.game { memory = m; frames = f })) place) (λ x. tt)
+restored_free s i (Ok (m, f, pc)) = free_by _ (back (windows_closed (record s.game { memory = m; frames = f })) pc) (λ x. tt)
 restored_free s i (Err e) = none_free s i (limit_of e)
 
 file_free : (s : State) (i : Instr) (o : Option (List ℕ)) → NoWait (restored_from s i o)
@@ -121,14 +121,14 @@ module _ (At : State → Type 0) (is_last : State → Bool) (ends : State → Wa
   unfolding ran segment_of
   ran_rest l answers a s w k none h = rw h (segment_rest l answers a s.stopped s w k.limits k.each none h)
 
-  goes_said : (l : Limits) (answers : List Answer) (s : Session) (place : ℕ) (t : State) (r : Result FrameList Refusal) → Onward (goes_by place r) (EachOfRun At is_last ends l answers t) (λ v. Unit {0}) → (resumed s (goes_by place r) t).stopped ≡ None → EachOfRun At is_last ends l answers (resumed s (goes_by place r) t).state
-  goes_said l answers s place t (Ok u) on k = on
-  goes_said l answers s place t (Err (refusal.Limit m)) on k = absurd cc
-  goes_said l answers s place t (Err (refusal.Fault f)) on k = absurd cc
+  goes_said : (l : Limits) (answers : List Answer) (s : Session) (pc : ℕ) (t : State) (r : Result FrameList Refusal) → Onward (goes_by pc r) (EachOfRun At is_last ends l answers t) (λ v. Unit {0}) → (resumed s (goes_by pc r) t).stopped ≡ None → EachOfRun At is_last ends l answers (resumed s (goes_by pc r) t).state
+  goes_said l answers s pc t (Ok u) on k = on
+  goes_said l answers s pc t (Err (refusal.Limit m)) on k = absurd cc
+  goes_said l answers s pc t (Err (refusal.Fault f)) on k = absurd cc
 
   resumed_said : (l : Limits) (answers : List Answer) (s : Session) (x : Step) → NoWait x → Onward (verdict_of s.state x) (EachOfRun At is_last ends l answers (state_after s.state x)) (λ v. Unit {0}) → (resumed s (verdict_of s.state x) (state_after s.state x)).stopped ≡ None
       → EachOfRun At is_last ends l answers (resumed s (verdict_of s.state x) (state_after s.state x)).state
-  resumed_said l answers s (Goes t text) free on k = goes_said l answers s s.state.place t (within_bounds t.game.frames) on k
+  resumed_said l answers s (Goes t text) free on k = goes_said l answers s s.state.pc t (within_bounds t.game.frames) on k
   resumed_said l answers s (Waits t v text) free on k = absurd free
   resumed_said l answers s Quits free on k = absurd cc
   resumed_said l answers s (Faults f) free on k = absurd cc
@@ -196,19 +196,19 @@ module _ (P : ℕ → Type 0) where
   IsReadBy None = Unit {0}
   IsReadBy (Some stop) = IsReadStop stop
 
-  goes_read : (place : ℕ) (r : Result FrameList Refusal) → ((f : Fault) → r ≡ Err (refusal.Fault f) → ⊥) → IsReadOn (goes_by place r)
-  goes_read place (Ok u) h = tt
-  goes_read place (Err (refusal.Limit m)) h = tt
-  goes_read place (Err (refusal.Fault f)) h = absurd (h f refl)
+  goes_read : (pc : ℕ) (r : Result FrameList Refusal) → ((f : Fault) → r ≡ Err (refusal.Fault f) → ⊥) → IsReadOn (goes_by pc r)
+  goes_read pc (Ok u) h = tt
+  goes_read pc (Err (refusal.Limit m)) h = tt
+  goes_read pc (Err (refusal.Fault f)) h = absurd (h f refl)
 
-  waits_read : (b : Bool) (place : ℕ) (w : Waiting) → IsReadOn (if b then StopsBy (LimitAt place Reads) else WaitsFor w)
-  waits_read true place w = tt
-  waits_read false place w = tt
+  waits_read : (b : Bool) (pc : ℕ) (w : Waiting) → IsReadOn (if b then StopsBy (LimitAt pc Reads) else WaitsFor w)
+  waits_read true pc w = tt
+  waits_read false pc w = tt
 
   -- a step that is no fault of reading stops by none
-  step_read : (s : State) (x : Step) → (P s.place → (f : Fault) → x ≡ Faults f → is_of_reading f ≡ false) → IsReadOn (verdict_of s x)
-  step_read s (Goes t text) h = goes_read s.place (within_bounds t.game.frames) (within_no_fault t.game.frames)
-  step_read s (Waits t w text) h = waits_read (is_past_reads s.reads w.wait) s.place w
+  step_read : (s : State) (x : Step) → (P s.pc → (f : Fault) → x ≡ Faults f → is_of_reading f ≡ false) → IsReadOn (verdict_of s x)
+  step_read s (Goes t text) h = goes_read s.pc (within_bounds t.game.frames) (within_no_fault t.game.frames)
+  step_read s (Waits t w text) h = waits_read (is_past_reads s.reads w.wait) s.pc w
   step_read s Quits h = tt
   step_read s (Faults f) h = λ inside. h inside f refl
   step_read s (Exceeds l) h = tt

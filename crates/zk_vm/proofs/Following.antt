@@ -110,10 +110,10 @@ follows_end {S} shows first now last old s new h on runs room stepped =
     run_halts shows first now last s.limits.steps s.state.steps old s new h room on.left runs on.silent room on.end on.state on.text on.comes stepped
 
 -- it ends where no step is left
-pub follows_limit : {S : Type 0} (shows : S → S → List ℕ → List ℕ → Type 0) (first now : S) (old s : Session) (place : ℕ) → Follows shows first now old s → s.limits.steps ≤ s.state.steps → place ≡ s.state.place → s.waiting ≡ None → shows now now [] []
-    → IsHalted old s (Err (stops.Limit place Steps)) (λ t. shows first now t.screen t.script)
-follows_limit {S} shows first now old s place on few at free silence =
-    run_out shows first now s.limits.steps s.state.steps old s place few at free on.end on.text silence
+pub follows_limit : {S : Type 0} (shows : S → S → List ℕ → List ℕ → Type 0) (first now : S) (old s : Session) (pc : ℕ) → Follows shows first now old s → s.limits.steps ≤ s.state.steps → pc ≡ s.state.pc → s.waiting ≡ None → shows now now [] []
+    → IsHalted old s (Err (stops.Limit pc Steps)) (λ t. shows first now t.screen t.script)
+follows_limit {S} shows first now old s pc on few at free silence =
+    run_out shows first now s.limits.steps s.state.steps old s pc few at free on.end on.text silence
 
 -- ---- a screen that fails
 

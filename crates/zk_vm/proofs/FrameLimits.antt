@@ -101,8 +101,8 @@ unfolding gone_back
 back_same f m s i w [] = ap (goes_to (state_in f m s) s.undo) (answers_see_no_bounds.result f m w i 0 false) ∙ goes_to_same f m s s.undo (result_answered w i 0 false)
 back_same f m s i w (x ∷ ws) =
     let v : GameState = record w { memory = memory_back x w.memory; frames = with_frames w.frames x.frames } in
-    ap (λ (g : FrameList). goes_to (state_in f m s) ws (resumed (record w { memory = memory_back x w.memory; frames = g }) x.place)) (frames_same f m w.frames x.frames)
-    ∙ ap (goes_to (state_in f m s) ws) (answers_see_no_bounds.back f m v x.place) ∙ goes_to_same f m s ws (resumed v x.place)
+    ap (λ (g : FrameList). goes_to (state_in f m s) ws (resumed (record w { memory = memory_back x w.memory; frames = g }) x.pc)) (frames_same f m w.frames x.frames)
+    ∙ ap (goes_to (state_in f m s) ws) (answers_see_no_bounds.back f m v x.pc) ∙ goes_to_same f m s ws (resumed v x.pc)
 
 asked_same : (f m : ℕ) (s : State) (i : Instr) (w : GameState) (x : Request) → asked (state_in f m s) i (rebounded f m w) x ≡ step_in f m (asked s i w x)
 unfolding step_in
@@ -114,7 +114,7 @@ asked_same f m s i w Quit = refl
 
 led_same : (f m : ℕ) (s : State) (i : Instr) (w : GameState) (text : Texts) (n : Next) → led_to (state_in f m s) i (rebounded f m w) text n ≡ step_in f m (led_to s i w text n)
 unfolding step_in
-led_same f m s i w text (At place) = refl
+led_same f m s i w text (At pc) = refl
 led_same f m s i w text (Asks x) = asked_same f m s i w x
 
 settled_same : (f m : ℕ) (s : State) (i : Instr) (r : Result (GameState × (Next × Texts)) Fault) → settled (state_in f m s) i (moved_in f m r) ≡ step_in f m (settled s i r)
@@ -127,7 +127,7 @@ fetched_same f m s (Err e) = refl
 
 pub step_same : (f m : ℕ) (s : State) → step (state_in f m s) ≡ step_in f m (step s)
 unfolding step
-step_same f m s = fetched_same f m s (instr_at s.game.memory s.place)
+step_same f m s = fetched_same f m s (instr_at s.game.memory s.pc)
 
 -- frames that pass the test are within their bounds
 pub within_is : (s t : FrameList) → within_bounds s ≡ Ok t → (length (frames_of s) ≤ s.most_frames) × (total_of s ≤ s.most_words)
@@ -184,13 +184,13 @@ no_fault s g e = go (over_is s (refusal.Fault g) e)
     go (inl d) = absurd cc
     go (inr d) = absurd cc
 
-pub by_limit : (place : ℕ) (j : Limit) → ((refusal.Limit j ≡ refusal.Limit Frames) ⊎ (refusal.Limit j ≡ refusal.Limit Words)) → IsNoFrameLimit (Err (LimitAt place j)) → ⊥
-by_limit place Frames d own = own
-by_limit place Words d own = own
-by_limit place Steps (inl d) own = absurd cc
-by_limit place Steps (inr d) own = absurd cc
-by_limit place Reads (inl d) own = absurd cc
-by_limit place Reads (inr d) own = absurd cc
+pub by_limit : (pc : ℕ) (j : Limit) → ((refusal.Limit j ≡ refusal.Limit Frames) ⊎ (refusal.Limit j ≡ refusal.Limit Words)) → IsNoFrameLimit (Err (LimitAt pc j)) → ⊥
+by_limit pc Frames d own = own
+by_limit pc Words d own = own
+by_limit pc Steps (inl d) own = absurd cc
+by_limit pc Steps (inr d) own = absurd cc
+by_limit pc Reads (inl d) own = absurd cc
+by_limit pc Reads (inr d) own = absurd cc
 
 -- what becomes of a step, with other bounds: the same, and the same text
 pub verdict_same : (f m : ℕ) (s : State) (x : Step)
@@ -200,14 +200,14 @@ pub verdict_same : (f m : ℕ) (s : State) (x : Step)
 unfolding step_in
 verdict_same f m s (Goes t text) bounds rest own = go (within_bounds t.game.frames) refl own
   where
-    go : (r : Result FrameList Refusal) → within_bounds t.game.frames ≡ r → IsNoFrameLimit (continued (goes_by s.place r) t (text_within r text) rest).end
-        → (goes_by s.place (within_bounds (with_bounds f m t.game.frames)) ≡ goes_by s.place r) × (text_within (within_bounds (with_bounds f m t.game.frames)) text ≡ text_within r text) × (state_in f m t ≡ state_in f m t)
+    go : (r : Result FrameList Refusal) → within_bounds t.game.frames ≡ r → IsNoFrameLimit (continued (goes_by s.pc r) t (text_within r text) rest).end
+        → (goes_by s.pc (within_bounds (with_bounds f m t.game.frames)) ≡ goes_by s.pc r) × (text_within (within_bounds (with_bounds f m t.game.frames)) text ≡ text_within r text) × (state_in f m t ≡ state_in f m t)
     go (Ok u) e k =
         let least = bounds t text refl in
         let more = within_more t.game.frames u f m least.0 least.1 e in
         (rw more refl, rw more refl, refl)
     go (Err (refusal.Fault g)) e k = absurd (no_fault t.game.frames g e)
-    go (Err (refusal.Limit l)) e k = absurd (by_limit s.place l (over_is t.game.frames (refusal.Limit l) e) k)
+    go (Err (refusal.Limit l)) e k = absurd (by_limit s.pc l (over_is t.game.frames (refusal.Limit l) e) k)
 verdict_same f m s (Waits t waiting text) bounds rest own = (refl, refl, refl)
 verdict_same f m s Quits bounds rest own = (refl, refl, refl)
 verdict_same f m s (Faults e) bounds rest own = (refl, refl, refl)
@@ -221,13 +221,13 @@ same_here f m s (WaitsFor w) t text few more same own = refl
 same_here f m s (StopsBy stop) t text few more same own = refl
 
 -- a step that goes on leads to a state
-past_or_waits : (b : Bool) (place : ℕ) (waiting : Waiting) → (if b then StopsBy (LimitAt place Reads) else WaitsFor waiting) ≡ GoesOn → ⊥
-past_or_waits true place waiting h = absurd cc
-past_or_waits false place waiting h = absurd cc
+past_or_waits : (b : Bool) (pc : ℕ) (waiting : Waiting) → (if b then StopsBy (LimitAt pc Reads) else WaitsFor waiting) ≡ GoesOn → ⊥
+past_or_waits true pc waiting h = absurd cc
+past_or_waits false pc waiting h = absurd cc
 
 pub goes_on_to : (s : State) (x : Step) → verdict_of s x ≡ GoesOn → (t : State) × ((text : Texts) × (x ≡ Goes t text))
 goes_on_to s (Goes t text) h = (t, (text, refl))
-goes_on_to s (Waits t waiting text) h = absurd (past_or_waits (is_past_reads s.reads waiting.wait) s.place waiting h)
+goes_on_to s (Waits t waiting text) h = absurd (past_or_waits (is_past_reads s.reads waiting.wait) s.pc waiting h)
 goes_on_to s Quits h = absurd cc
 goes_on_to s (Faults e) h = absurd cc
 goes_on_to s (Exceeds l) h = absurd cc
@@ -250,7 +250,7 @@ frame_limits_only_cut (suc n) f m s few short own =
     (same_here f m s (verdict_of s (step s)) (state_after s (step s)) (text_of s (step s)) (segment n (state_after s (step s))) (segment n (state_in f m (state_after s (step s)))) more own)
 
 -- what passes a limit stops a run there, and shows nothing
-pub passes_stops : (l : Limit) (s : State) (x : Step) → Passes l s x → (verdict_of s x ≡ StopsBy (LimitAt s.place l)) × (text_of s x ≡ no_text)
+pub passes_stops : (l : Limit) (s : State) (x : Step) → Passes l s x → (verdict_of s x ≡ StopsBy (LimitAt s.pc l)) × (text_of s x ≡ no_text)
 passes_stops l s (Goes t text) h = rw h (refl, refl)
 passes_stops l s (Waits t waiting text) h = rw (h.1, h.0) (refl, refl)
 passes_stops l s Quits h = absurd h
@@ -287,7 +287,7 @@ goes_counts : (s : State) (undo : List WholeState) (r : Result (GameState × ℕ
     → (length s.undo ≤ s.game.memory.undo_states → length undo ≤ s.game.memory.undo_states) → CountsOn s (goes_to s undo r)
 goes_counts s undo r most few = step_all (CountsOn s) _ r (λ x e t more h. counted x e t more (sym (goes_same _ t no_text more h))) (λ f e t more h. absurd cc)
   where
-    counted : (x : GameState × ℕ) → r ≡ Ok x → (t : State) (more : Texts) → t ≡ record s { game = x.0; place = x.1; steps = s.steps + 1; undo = undo } → Counts s t
+    counted : (x : GameState × ℕ) → r ≡ Ok x → (t : State) (more : Texts) → t ≡ record s { game = x.0; pc = x.1; steps = s.steps + 1; undo = undo } → Counts s t
     counted x e t more same = record {
       steps = ap (λ (u : State). u.steps) same;
       reads = ap (λ (u : State). u.reads) same;
@@ -300,7 +300,7 @@ unfolding gone_back
 back_counts s i w [] most few = goes_counts s s.undo (result_answered w i 0 false) (λ x e. same_most w.memory x.0.memory (answers_leave_stories.result w i 0 false x e) ∙ most) (λ k. k)
 back_counts s i w (v ∷ ws) most few =
     let u : GameState = record w { memory = memory_back v w.memory; frames = with_frames w.frames v.frames } in
-    goes_counts s ws (resumed u v.place) (λ x e. same_most u.memory x.0.memory (answers_leave_stories.back u v.place x e) ∙ same_most w.memory u.memory (back_fixed v w.memory) ∙ most) (λ k. omega (arith, k, few))
+    goes_counts s ws (resumed u v.pc) (λ x e. same_most u.memory x.0.memory (answers_leave_stories.back u v.pc x e) ∙ same_most w.memory u.memory (back_fixed v w.memory) ∙ most) (λ k. omega (arith, k, few))
 
 asked_counts : (s : State) (i : Instr) (w : GameState) (x : Request) → w.memory.undo_states ≡ s.game.memory.undo_states → CountsOn s (asked s i w x)
 asked_counts s i w (Answer event) most = step_all (CountsOn s) _ (view_before event w) (λ v e t more h. absurd cc) (λ f e t more h. absurd cc)
@@ -311,7 +311,7 @@ asked_counts s i w RestoreUndo most = back_counts s i w s.undo most (omega arith
 asked_counts s i w Quit most = λ t more h. absurd cc
 
 led_counts : (s : State) (i : Instr) (w : GameState) (text : Texts) (n : Next) → w.memory.undo_states ≡ s.game.memory.undo_states → CountsOn s (led_to s i w text n)
-led_counts s i w text (At place) most = λ t more h.
+led_counts s i w text (At pc) most = λ t more h.
     let same = sym (goes_same _ t text more h) in
     record {
       steps = ap (λ (u : State). u.steps) same;
@@ -326,19 +326,19 @@ settled_counts s i = step_all (CountsOn s) _ (carried_out s.game i) (λ r e. led
 
 pub counts : (s t : State) (text : Texts) → step s ≡ Goes t text → Counts s t
 unfolding step
-counts s t text = step_all (CountsOn s) _ (instr_at s.game.memory s.place) (λ i e. settled_counts s i) (λ f e t more h. absurd cc) t text
+counts s t text = step_all (CountsOn s) _ (instr_at s.game.memory s.pc) (λ i e. settled_counts s i) (λ f e t more h. absurd cc) t text
 
 -- a step that goes on leads to a state within the bounds
-goes_within : (place : ℕ) (r : Result FrameList Refusal) → goes_by place r ≡ GoesOn → (u : FrameList) × (r ≡ Ok u)
-goes_within place (Ok u) h = (u, refl)
-goes_within place (Err (refusal.Limit l)) h = absurd cc
-goes_within place (Err (refusal.Fault e)) h = absurd cc
+goes_within : (pc : ℕ) (r : Result FrameList Refusal) → goes_by pc r ≡ GoesOn → (u : FrameList) × (r ≡ Ok u)
+goes_within pc (Ok u) h = (u, refl)
+goes_within pc (Err (refusal.Limit l)) h = absurd cc
+goes_within pc (Err (refusal.Fault e)) h = absurd cc
 
 pub after_goes : (l : Limits) (s t : State) (text : Texts) → step s ≡ Goes t text → bounds_of s.game.frames ≡ (l.frames, l.words) → s.game.memory.undo_states ≡ l.undo → s.steps + 1 ≤ l.steps → s.reads ≤ most_reads → length s.undo ≤ l.undo
-    → goes_by s.place (within_bounds t.game.frames) ≡ GoesOn → IsWithin l t × (bounds_of t.game.frames ≡ (l.frames, l.words)) × (t.game.memory.undo_states ≡ l.undo) × (t.steps ≡ s.steps + 1)
+    → goes_by s.pc (within_bounds t.game.frames) ≡ GoesOn → IsWithin l t × (bounds_of t.game.frames ≡ (l.frames, l.words)) × (t.game.memory.undo_states ≡ l.undo) × (t.steps ≡ s.steps + 1)
 unfolding bounds_of
 after_goes l s t text e b most few read kept h =
-    let within = goes_within s.place (within_bounds t.game.frames) h in
+    let within = goes_within s.pc (within_bounds t.game.frames) h in
     let most_of = within_is t.game.frames within.0 within.1 in
     let same = keeps s t text e ∙ b in
     let more = counts s t text e in

@@ -95,7 +95,7 @@ KeepsAsMany s r = (x : GameState × ℕ) → r ≡ Ok x → x.0.memory.undo_stat
 settled_on : (s : State) (due : List ℕ) (r : Result (GameState × ℕ) Fault) → KeepsAsMany s r → AnswersOn true s (answer_settled s due r)
 settled_on s due r most = step_all (AnswersOn true s) _ r (λ x e t text h. so x e t (goes_same _ t no_text text h)) (λ f e t text h. absurd cc)
   where
-    so : (x : GameState × ℕ) → r ≡ Ok x → (t : State) → record s { game = x.0; place = x.1; steps = 0; reads = s.reads + 1; due = due } ≡ t → AnswersSo true s t
+    so : (x : GameState × ℕ) → r ≡ Ok x → (t : State) → record s { game = x.0; pc = x.1; steps = 0; reads = s.reads + 1; due = due } ≡ t → AnswersSo true s t
     so x e t same =
         let none : 0 ≡ t.steps = ap (λ (u : State). u.steps) same in
         let one : s.reads + 1 ≡ t.reads = ap (λ (u : State). u.reads) same in
@@ -104,7 +104,7 @@ settled_on s due r most = step_all (AnswersOn true s) _ r (λ x e t text h. so x
 goes_on : (s : State) (r : Result (GameState × ℕ) Fault) → KeepsAsMany s r → AnswersOn false s (goes_to s s.undo r)
 goes_on s r most = step_all (AnswersOn false s) _ r (λ x e t text h. so x e t (goes_same _ t no_text text h)) (λ f e t text h. absurd cc)
   where
-    so : (x : GameState × ℕ) → r ≡ Ok x → (t : State) → record s { game = x.0; place = x.1; steps = s.steps + 1; undo = s.undo } ≡ t → AnswersSo false s t
+    so : (x : GameState × ℕ) → r ≡ Ok x → (t : State) → record s { game = x.0; pc = x.1; steps = s.steps + 1; undo = s.undo } ≡ t → AnswersSo false s t
     so x e t same =
         let one : s.steps + 1 ≡ t.steps = ap (λ (u : State). u.steps) same in
         let none : s.reads ≡ t.reads = ap (λ (u : State). u.reads) same in
@@ -139,17 +139,17 @@ pub answered_so : (s t : State) (w : Waiting) (a : Answer) (text : Texts) → an
 unfolding answered
 answered_so s t w a text h = by_on s w.instruction w.wait a t text h
 
-few_goes : (s : Session) (place : ℕ) (r : Result FrameList Refusal) (t : State) → t.steps ≤ s.limits.steps → (resumed s (goes_by place r) t).stopped ≡ None → (resumed s (goes_by place r) t).state.steps ≤ (resumed s (goes_by place r) t).limits.steps
-few_goes s place (Ok u) t e h = e
-few_goes s place (Err (refusal.Limit l)) t e h = absurd cc
-few_goes s place (Err (refusal.Fault f)) t e h = absurd cc
+few_goes : (s : Session) (pc : ℕ) (r : Result FrameList Refusal) (t : State) → t.steps ≤ s.limits.steps → (resumed s (goes_by pc r) t).stopped ≡ None → (resumed s (goes_by pc r) t).state.steps ≤ (resumed s (goes_by pc r) t).limits.steps
+few_goes s pc (Ok u) t e h = e
+few_goes s pc (Err (refusal.Limit l)) t e h = absurd cc
+few_goes s pc (Err (refusal.Fault f)) t e h = absurd cc
 
 few_step : (s : Session) (x : Step) → s.state.steps ≤ s.limits.steps → ((t : State) (text : Texts) → x ≡ Goes t text → t.steps ≤ s.limits.steps) → (resumed s (verdict_of s.state x) (state_after s.state x)).stopped ≡ None
     → (resumed s (verdict_of s.state x) (state_after s.state x)).state.steps ≤ (resumed s (verdict_of s.state x) (state_after s.state x)).limits.steps
-few_step s (Goes t text) few goes h = few_goes s s.state.place (within_bounds t.game.frames) t (goes t text refl) h
+few_step s (Goes t text) few goes h = few_goes s s.state.pc (within_bounds t.game.frames) t (goes t text refl) h
 few_step s (Waits t w text) few goes h = go (is_past_reads s.state.reads w.wait) h
   where
-    go : (b : Bool) → (resumed s (if b then StopsBy (LimitAt s.state.place Reads) else WaitsFor w) t).stopped ≡ None → (resumed s (if b then StopsBy (LimitAt s.state.place Reads) else WaitsFor w) t).state.steps ≤ (resumed s (if b then StopsBy (LimitAt s.state.place Reads) else WaitsFor w) t).limits.steps
+    go : (b : Bool) → (resumed s (if b then StopsBy (LimitAt s.state.pc Reads) else WaitsFor w) t).stopped ≡ None → (resumed s (if b then StopsBy (LimitAt s.state.pc Reads) else WaitsFor w) t).state.steps ≤ (resumed s (if b then StopsBy (LimitAt s.state.pc Reads) else WaitsFor w) t).limits.steps
     go true k = absurd cc
     go false k = few
 few_step s Quits few goes h = absurd cc

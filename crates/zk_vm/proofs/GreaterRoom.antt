@@ -99,7 +99,7 @@ restored_in f m (Ok (n, g, p)) = Ok (n, with_bounds f m g, p)
 restored_in f m (Err e) = Err e
 
 abbrev placed : WholeState → MemoryMap → Result FrameList RestoreError → Result (MemoryMap × FrameList × ℕ) RestoreError
-placed w n r = loaded_by {B = MemoryMap × FrameList × ℕ} r (λ frames. Ok (memory_back w n, frames, w.place))
+placed w n r = loaded_by {B = MemoryMap × FrameList × ℕ} r (λ frames. Ok (memory_back w n, frames, w.pc))
 
 same_bounded : (g u : FrameList) → within_bounds g ≡ Ok u → g ≡ u
 unfolding within_bounds
@@ -230,8 +230,8 @@ stop_free (StopsBy stop) s t w text h = h stop refl
 
 exceeds_free : (s : Session) (w : Waiting) (a : Answer) → ((stop : Stop) → (given_to (Some w) s a).stopped ≡ Some stop → IsNoFrameStop stop) → (l : Limit) → answered s.state w a ≡ Exceeds l → IsNoFrameStop (LimitAt 0 l)
 exceeds_free s w a free l e =
-    let stopped : (given_to (Some w) s a).stopped ≡ Some (LimitAt s.state.place l) = ap (λ (x : Step). (resumed s (verdict_of s.state x) (state_after s.state x)).stopped) e in
-    anywhere l s.state.place (free (LimitAt s.state.place l) stopped)
+    let stopped : (given_to (Some w) s a).stopped ≡ Some (LimitAt s.state.pc l) = ap (λ (x : Step). (resumed s (verdict_of s.state x) (state_after s.state x)).stopped) e in
+    anywhere l s.state.pc (free (LimitAt s.state.pc l) stopped)
   where
     anywhere : (l : Limit) (p : ℕ) → IsNoFrameStop (LimitAt p l) → IsNoFrameStop (LimitAt 0 l)
     anywhere Frames p h = h

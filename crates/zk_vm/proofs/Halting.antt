@@ -74,12 +74,12 @@ run_halts {S} shows first now last n i old mid new h lt same runs silent room en
     inr (is, keeps.1, (all.0, all.1.0, all.1.1 last keeps.2.1))
 
 -- no step is left
-pub run_out : {S : Type 0} (shows : S → S → List ℕ → List ℕ → Type 0) (first now : S) (n i : ℕ) (old mid : Session) (place : ℕ) → n ≤ i → place ≡ mid.state.place → mid.waiting ≡ None
+pub run_out : {S : Type 0} (shows : S → S → List ℕ → List ℕ → Type 0) (first now : S) (n i : ℕ) (old mid : Session) (pc : ℕ) → n ≤ i → pc ≡ mid.state.pc → mid.waiting ≡ None
     → (segment (n - i) mid.state).end ≡ (steps_left old).end → ShowsRest shows first now (segment (n - i) mid.state).text (steps_left old).text → shows now now [] []
-    → IsHalted old mid (Err (stops.Limit place Steps)) (λ t. shows first now t.screen t.script)
-run_out {S} shows first now n i old mid place few at free end text none =
+    → IsHalted old mid (Err (stops.Limit pc Steps)) (λ t. shows first now t.screen t.script)
+run_out {S} shows first now n i old mid pc few at free end text none =
     let e = run_limit n i mid.state few in
-    let ends : (steps_left old).end ≡ Err (stops.Limit mid.state.place Steps) = sym end ∙ ap (λ (g : Segment). g.end) e in
+    let ends : (steps_left old).end ≡ Err (stops.Limit mid.state.pc Steps) = sym end ∙ ap (λ (g : Segment). g.end) e in
     inl (
       ap (λ (p : ℕ). let h : Halt = Err (stops.Limit p Steps) in h) at ∙ sym (ap event_of ends),
       subst (λ (r : Result Waiting Stop). IsLeftBy old mid r (steps_left old).state) (sym ends) free,

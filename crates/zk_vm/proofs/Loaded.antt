@@ -84,7 +84,7 @@ HasLength m w = length w.dynamic ≡ m.static_base
 
 -- the parts of loading, the last first
 abbrev with_frames : Parts → List ℕ → List Frame → Result WholeState RestoreError
-with_frames parts dynamic frames = Ok (record { dynamic = dynamic; frames = reverse frames; place = number_of (bytes_behind 10 3 parts.story) })
+with_frames parts dynamic frames = Ok (record { dynamic = dynamic; frames = reverse frames; pc = number_of (bytes_behind 10 3 parts.story) })
 
 abbrev with_dynamic : Parts → List ℕ → Result WholeState RestoreError
 with_dynamic parts dynamic = loaded_by (or_refuse BadStack (frames_read parts.stack)) (with_frames parts dynamic)
@@ -120,7 +120,7 @@ KeepsIt m r = KeepsStory r.0 × IsOneStory m r.0
 restored_keeps : (file : List ℕ) (m : MemoryMap) (f : FrameList) → KeepsStory m → Yields (KeepsIt m) (restored file m f)
 unfolding restored put_in_place
 restored_keeps file m f h =
-    yields_by (loaded m file) (λ w. put_in_place w m f) (λ w e. yields_by (frames_fit (within_bounds (frames.with_frames f w.frames))) (λ g. Ok (memory_back w m, g, w.place)) (λ g fit. yields (memory_keeps w m h (value_of (loaded m file) w (loaded_length m file h.inside) e), back_story w m)))
+    yields_by (loaded m file) (λ w. put_in_place w m f) (λ w e. yields_by (frames_fit (within_bounds (frames.with_frames f w.frames))) (λ g. Ok (memory_back w m, g, w.pc)) (λ g fit. yields (memory_keeps w m h (value_of (loaded m file) w (loaded_length m file h.inside) e), back_story w m)))
 
-pub loaded_keeps : (file : List ℕ) (m : MemoryMap) (f : FrameList) (n : MemoryMap) (g : FrameList) (place : ℕ) → KeepsStory m → restored file m f ≡ Ok (n, g, place) → KeepsStory n × IsOneStory m n
-loaded_keeps file m f n g place h e = value_of (restored file m f) (n, g, place) (restored_keeps file m f h) e
+pub loaded_keeps : (file : List ℕ) (m : MemoryMap) (f : FrameList) (n : MemoryMap) (g : FrameList) (pc : ℕ) → KeepsStory m → restored file m f ≡ Ok (n, g, pc) → KeepsStory n × IsOneStory m n
+loaded_keeps file m f n g pc h e = value_of (restored file m f) (n, g, pc) (restored_keeps file m f h) e

@@ -93,20 +93,20 @@ settled_so s i = step_all (WaitsOn s) _ (carried_out s.game i) (λ r e. led_so s
 
 pub step_waits : (s t : State) (w : Waiting) (text : Texts) → step s ≡ Waits t w text → WaitsSo s t
 unfolding step
-step_waits s t w text = step_all (WaitsOn s) _ (instr_at s.game.memory s.place) (λ i e. settled_so s i) (λ f e t w text h. absurd cc) t w text
+step_waits s t w text = step_all (WaitsOn s) _ (instr_at s.game.memory s.pc) (λ i e. settled_so s i) (λ f e t w text h. absurd cc) t w text
 
 continued_few : (s : State) (x : Step) (n : ℕ) (rest : Segment) (w : Waiting) → ((t : State) (text : Texts) → x ≡ Goes t text → t.steps ≡ s.steps + 1) → ((t : State) (v : Waiting) (text : Texts) → x ≡ Waits t v text → t.steps ≡ s.steps)
     → (rest.end ≡ Ok w → rest.state.steps < (state_after s x).steps + n) → (continued (verdict_of s x) (state_after s x) (text_of s x) rest).end ≡ Ok w → (continued (verdict_of s x) (state_after s x) (text_of s x) rest).state.steps < s.steps + suc n
 continued_few s (Goes t text) n rest w counted waited few h = go (within_bounds t.game.frames) h
   where
-    go : (q : Result FrameList Refusal) → (continued (goes_by s.place q) t (text_within q text) rest).end ≡ Ok w → (continued (goes_by s.place q) t (text_within q text) rest).state.steps < s.steps + suc n
+    go : (q : Result FrameList Refusal) → (continued (goes_by s.pc q) t (text_within q text) rest).end ≡ Ok w → (continued (goes_by s.pc q) t (text_within q text) rest).state.steps < s.steps + suc n
     go (Ok u) k = let less = few k in let one = counted t text refl in omega (arith, less, one)
     go (Err (refusal.Limit l)) k = absurd cc
     go (Err (refusal.Fault f)) k = absurd cc
 continued_few s (Waits t v text) n rest w counted waited few h = go (is_past_reads s.reads v.wait) h
   where
-    go : (b : Bool) → (continued (if b then StopsBy (Limit s.place Reads) else WaitsFor v) t (if b then no_text else text) rest).end ≡ Ok w
-        → (continued (if b then StopsBy (Limit s.place Reads) else WaitsFor v) t (if b then no_text else text) rest).state.steps < s.steps + suc n
+    go : (b : Bool) → (continued (if b then StopsBy (Limit s.pc Reads) else WaitsFor v) t (if b then no_text else text) rest).end ≡ Ok w
+        → (continued (if b then StopsBy (Limit s.pc Reads) else WaitsFor v) t (if b then no_text else text) rest).state.steps < s.steps + suc n
     go true k = absurd cc
     go false k = let same = waited t v text refl in omega (arith, same)
 continued_few s Quits n rest w counted waited few h = absurd cc

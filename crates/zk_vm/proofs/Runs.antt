@@ -45,7 +45,7 @@ run_ends n i old mid new h lt same e left =
     let more : n - i ≡ suc (n - (i + 1)) = omega arith in
     rw more (ends_by old mid new h same (verdict_of mid.state (step mid.state)) (state_after mid.state (step mid.state)) (text_of mid.state (step mid.state)) (segment (n - (i + 1)) (state_after mid.state (step mid.state))) e left)
 
-pub run_limit : (n i : ℕ) (s : State) → n ≤ i → segment (n - i) s ≡ record { end = Err (Limit s.place Steps); state = s; text = no_text }
+pub run_limit : (n i : ℕ) (s : State) → n ≤ i → segment (n - i) s ≡ record { end = Err (Limit s.pc Steps); state = s; text = no_text }
 unfolding segment
 run_limit n i s h = let e : n - i ≡ zero = omega arith in rw e refl
 

@@ -71,14 +71,14 @@ few_by steps most (Ok p) lt = omega arith
 few_by steps most (Err e) lt = omega arith
 
 -- where a run goes on, an instruction was finished
-pub going_led : (x before : Option Stop) (place : ℕ) (led : Result ℕ Refusal) (P : Type 0) → x ≡ stopped_by before (verdict_by place led) → ((n : ℕ) → led ≡ Ok n → P) → x ≡ None → P
-going_led x before place (Ok n) P e h none = h n refl
-going_led x before place (Err r) P e h none = absurd cc
+pub going_led : (x before : Option Stop) (pc : ℕ) (led : Result ℕ Refusal) (P : Type 0) → x ≡ stopped_by before (verdict_by pc led) → ((n : ℕ) → led ≡ Ok n → P) → x ≡ None → P
+going_led x before pc (Ok n) P e h none = h n refl
+going_led x before pc (Err r) P e h none = absurd cc
 
-pub sound_after : (m n : Inside) (place : ℕ) (led : Result ℕ Refusal) → IsSound m → m.steps < m.limits.steps → n.limits ≡ m.limits → n.waiting ≡ None → n.steps ≡ steps_by m.steps led → n.reads ≡ m.reads
-    → n.undo.most ≡ m.undo.most → bounds_of n.game.frames ≡ bounds_of m.game.frames → n.stopped ≡ stopped_by m.stopped (verdict_by place led) → ((x : ℕ) → led ≡ Ok x → IsOfStory n) → IsSound n
-sound_after m n place led is room limits free steps reads most bounds stopped undo =
-    sound_now m n is limits free (rw steps (few_by m.steps m.limits.steps led room)) (rw reads is.reads) most bounds (going_led n.stopped m.stopped place led (IsOfStory n) stopped undo)
+pub sound_after : (m n : Inside) (pc : ℕ) (led : Result ℕ Refusal) → IsSound m → m.steps < m.limits.steps → n.limits ≡ m.limits → n.waiting ≡ None → n.steps ≡ steps_by m.steps led → n.reads ≡ m.reads
+    → n.undo.most ≡ m.undo.most → bounds_of n.game.frames ≡ bounds_of m.game.frames → n.stopped ≡ stopped_by m.stopped (verdict_by pc led) → ((x : ℕ) → led ≡ Ok x → IsOfStory n) → IsSound n
+sound_after m n pc led is room limits free steps reads most bounds stopped undo =
+    sound_now m n is limits free (rw steps (few_by m.steps m.limits.steps led room)) (rw reads is.reads) most bounds (going_led n.stopped m.stopped pc led (IsOfStory n) stopped undo)
 
 -- ---- what a machine is within
 

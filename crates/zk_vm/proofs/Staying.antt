@@ -1,4 +1,4 @@
--- Runs stay inside a set of places: what is known of each instruction makes each step stay, and so each answer and each run.
+-- Runs stay inside a set of addresses: what is known of each instruction makes each step stay, and so each answer and each run.
 use Rattle.std.proofs.Common.{◌≡◌, ◌∙◌, ◌≤◌, ◌+◌, ◌-◌, ℕ, zero, suc, Bool, true, false, List, [], ◌∷◌, ◌++◌, length, drop, Option, Some, None, Result, Ok, Err, refl, ap, sym, subst, arith}
 use Rattle.std.specs.Prelude.{All, if◌then◌else◌}
 use Rattle.std.proofs.lemmas.List.{length-append, length-drop, length-take-le}
@@ -44,7 +44,7 @@ use Rattle.zk_vm.specs.declared.limits.Limits.{Limits}
 use Rattle.zk_vm.specs.declared.waiting.Waiting.{Waiting}
 use Rattle.zk_vm.specs.Answers.{Answer, answer_settled, answered, answered_by, codes_of, file_of, first_code, is_kept, limit_of, none_restored, restored_from, restored_to, transcribed, truth_word}
 use Rattle.zk_vm.specs.Inside.{EachOfRun, EachStep, FramesReturn, Onward, is_restore}
-use Rattle.zk_vm.specs.Step.{State, Step, asked, back_to, goes_by, goes_to, is_past_reads, is_read, kept_answer, led_to, saved_place, settled as step_settled, state_after, step, verdict_of, view_before, waits_by, with_kept}
+use Rattle.zk_vm.specs.Step.{State, Step, asked, back_to, goes_by, goes_to, is_past_reads, is_read, kept_answer, led_to, saved_pc, settled as step_settled, state_after, step, verdict_of, view_before, waits_by, with_kept}
 use Rattle.zk_vm.specs.Step.Step.{Goes, Waits, Quits, Faults, Exceeds}
 use Rattle.zk_vm.specs.Step.Verdict.{WaitsFor, StopsBy}
 use Rattle.zk_step.specs.View.{lines_shown, rows_shown, status_shown, viewed, viewed_by}
@@ -100,15 +100,15 @@ module _ (m : MemoryMap) (P : ℕ → Type 0) where
   pub record KeptIn (u : WholeState) : Type 0 where
     pub dynamic : length u.dynamic ≡ m.static_base
     pub frames : FramesReturn P u.frames
-    pub resumes : ResumesInto P m.version u.place
-    pub after : P (u.place + 1)
+    pub resumes : ResumesInto P m.version u.pc
+    pub after : P (u.pc + 1)
 
-  -- memory keeps the story, and all places are inside
+  -- memory keeps the story, and all addresses are inside
   pub record Inside (s : State) : Type 0 where
     pub memory : KeepsStory s.game.memory
     pub story : IsOneStory m s.game.memory
-    pub place : P s.place
-    pub returns : ReturnInto P s.game.frames.current.place s.game.frames.callers
+    pub pc : P s.pc
+    pub returns : ReturnInto P s.game.frames.current.pc s.game.frames.callers
     pub undo : All KeptIn s.undo
 
   -- where a step leads is inside, and an instruction that waits goes on inside
@@ -117,24 +117,24 @@ module _ (m : MemoryMap) (P : ℕ → Type 0) where
   StepsInto (Waits t w text) = Inside t × GoesOnInto P w.instruction
   StepsInto _ = Unit {0}
 
-  -- what is known of the instruction at a state's place: where it may lead, and where a state that it keeps goes on
+  -- what is known of the instruction at a state's program counter: where it may lead, and where a state that it keeps goes on
   pub record Knows (s : State) (i : Instr) : Type 0 where
     pub ends : (u v : GameState) (vs : List ℕ) (e : Ending) → operands_read s.game i.operands ≡ Ok (u, vs) → EndsBy i.opcode vs e → KeepsStory v.memory → IsOneStory m v.memory → EndsInto P v.memory i e
     pub on : goes_on i.opcode ≡ true → GoesOnInto P i
-    pub kept : i.opcode ≡ opcode.Saving SaveUndo → ResumesInto P m.version (saved_place s i) × P (saved_place s i + 1)
+    pub kept : i.opcode ≡ opcode.Saving SaveUndo → ResumesInto P m.version (saved_pc s i) × P (saved_pc s i + 1)
 
   -- of the same story
   story_after : (a b : MemoryMap) → IsOneStory m a → fixed_parts b ≡ fixed_parts a → IsOneStory m b
   story_after a b h e = record { version = same_version a b e ∙ h.version; base = same_base a b e ∙ h.base; file = same_file a b e ∙ h.file }
 
-  made : (v : GameState) (t : State) → IsOneStory m v.memory → StaysInside P v t.game → P t.place → All KeptIn t.undo → Inside t
-  made v t story k place undo = record { memory = k.inside.memory; story = story_after v.memory t.game.memory story k.parts; place = place; returns = k.inside.returns; undo = undo }
+  made : (v : GameState) (t : State) → IsOneStory m v.memory → StaysInside P v t.game → P t.pc → All KeptIn t.undo → Inside t
+  made v t story k pc undo = record { memory = k.inside.memory; story = story_after v.memory t.game.memory story k.parts; pc = pc; returns = k.inside.returns; undo = undo }
 
-  abbrev PlaceInto : GameState → GameState × ℕ → Type 0
-  PlaceInto v x = StaysInside P v x.0 × P x.1
+  abbrev PcInto : GameState → GameState × ℕ → Type 0
+  PcInto v x = StaysInside P v x.0 × P x.1
 
-  goes_to_inside : (s : State) (us : List WholeState) (v : GameState) (r : Result (GameState × ℕ) Fault) → IsOneStory m v.memory → All KeptIn us → ((x : GameState × ℕ) → r ≡ Ok x → PlaceInto v x) → StepsInto (goes_to s us r)
-  goes_to_inside s us v r story all f = step_all StepsInto _ r (λ x e. let k = f x e in made v (record s { game = x.0; place = x.1; steps = s.steps + 1; undo = us }) story k.0 k.1 all) (λ g e. tt)
+  goes_to_inside : (s : State) (us : List WholeState) (v : GameState) (r : Result (GameState × ℕ) Fault) → IsOneStory m v.memory → All KeptIn us → ((x : GameState × ℕ) → r ≡ Ok x → PcInto v x) → StepsInto (goes_to s us r)
+  goes_to_inside s us v r story all f = step_all StepsInto _ r (λ x e. let k = f x e in made v (record s { game = x.0; pc = x.1; steps = s.steps + 1; undo = us }) story k.0 k.1 all) (λ g e. tt)
 
   in_game : (s : State) → Inside s → sweep.IsInside P s.game
   in_game s h = record { memory = h.memory; returns = h.returns }
@@ -149,11 +149,11 @@ module _ (m : MemoryMap) (P : ℕ → Type 0) where
           let stays : StaysInside P s.game v.0 = record {
             inside = record {
               memory = subst KeepsStory (sym same.memory) k.inside.memory;
-              returns = subst (λ (f : FrameList). ReturnInto P f.current.place f.callers) (sym same.frames) k.inside.returns;
+              returns = subst (λ (f : FrameList). ReturnInto P f.current.pc f.callers) (sym same.frames) k.inside.returns;
             };
             parts = ap fixed_parts same.memory ∙ k.parts;
           } in
-          made s.game (record s { game = v.0 }) h.story stays h.place h.undo
+          made s.game (record s { game = v.0 }) h.story stays h.pc h.undo
 
   kept_inside : (s : State) (i : Instr) (w : GameState) → Inside s → Knows s i → StaysInside P s.game w → i.opcode ≡ opcode.Saving SaveUndo → All KeptIn (with_kept s i w)
   kept_inside s i w h knows k by =
@@ -161,15 +161,15 @@ module _ (m : MemoryMap) (P : ℕ → Type 0) where
       let base = story.base in
       let keeps = k.inside.memory in
       let long : w.memory.static_base ≤ length w.memory.bytes = omega (arith, keeps.inside, keeps.size) in
-      let kept : KeptIn (state_of w.memory w.frames (saved_place s i)) = record {
+      let kept : KeptIn (state_of w.memory w.frames (saved_pc s i)) = record {
         dynamic = length-take-le w.memory.static_base w.memory.bytes long ∙ base;
         frames = k.inside.returns;
         resumes = (knows.kept by).0;
         after = (knows.kept by).1;
       } in
-      All-take KeptIn w.memory.undo_states (state_of w.memory w.frames (saved_place s i) ∷ s.undo) (All-cons KeptIn (state_of w.memory w.frames (saved_place s i)) s.undo kept h.undo)
+      All-take KeptIn w.memory.undo_states (state_of w.memory w.frames (saved_pc s i) ∷ s.undo) (All-cons KeptIn (state_of w.memory w.frames (saved_pc s i)) s.undo kept h.undo)
 
-  frames_put : (f : FrameList) (fs : List Frame) → ReturnInto P f.current.place f.callers → FramesReturn P fs → ReturnInto P (with_frames f fs).current.place (with_frames f fs).callers
+  frames_put : (f : FrameList) (fs : List Frame) → ReturnInto P f.current.pc f.callers → FramesReturn P fs → ReturnInto P (with_frames f fs).current.pc (with_frames f fs).callers
   frames_put f [] h k = h
   frames_put f (x ∷ xs) h k = k
 
@@ -178,15 +178,15 @@ module _ (m : MemoryMap) (P : ℕ → Type 0) where
   back_story u n h = record { version = h.version; base = h.base; file = h.file }
 
   -- what was put back goes on
-  put_back : (s : State) (us : List WholeState) (n : MemoryMap) (f : FrameList) (w : GameState) (place : ℕ) → KeepsStory n → IsOneStory m n → ReturnInto P f.current.place f.callers → ResumesInto P m.version place → w.memory ≡ n → w.frames ≡ f → All KeptIn us → StepsInto (goes_to s us (resumed w place))
-  put_back s us n f w place keeps story returns into same frames all =
+  put_back : (s : State) (us : List WholeState) (n : MemoryMap) (f : FrameList) (w : GameState) (pc : ℕ) → KeepsStory n → IsOneStory m n → ReturnInto P f.current.pc f.callers → ResumesInto P m.version pc → w.memory ≡ n → w.frames ≡ f → All KeptIn us → StepsInto (goes_to s us (resumed w pc))
+  put_back s us n f w pc keeps story returns into same frames all =
       let inside : sweep.IsInside P w = record {
         memory = subst KeepsStory (sym same) keeps;
-        returns = subst (λ (g : FrameList). ReturnInto P g.current.place g.callers) (sym frames) returns;
+        returns = subst (λ (g : FrameList). ReturnInto P g.current.pc g.callers) (sym frames) returns;
       } in
       let here : IsOneStory m w.memory = subst (IsOneStory m) (sym same) story in
       let version = here.version in
-      goes_to_inside s us w (resumed w place) here all (λ x e. back_inside P w inside place x (subst (λ (v : ℕ). ResumesInto P v place) (sym version) into) e)
+      goes_to_inside s us w (resumed w pc) here all (λ x e. back_inside P w inside pc x (subst (λ (v : ℕ). ResumesInto P v pc) (sym version) into) e)
 
   back_to_inside : (s : State) (i : Instr) (w : GameState) (us : List WholeState) → Inside s → StaysInside P s.game w → GoesOnInto P i → All KeptIn us → StepsInto (back_to s i w (gone_back us w.memory w.frames))
   unfolding gone_back
@@ -196,7 +196,7 @@ module _ (m : MemoryMap) (P : ℕ → Type 0) where
       let kept = All-head KeptIn u us all in
       let story = story_after s.game.memory w.memory h.story k.parts in
       let base = story.base in
-      put_back s us (memory_back u w.memory) (with_frames w.frames u.frames) (record w { memory = memory_back u w.memory; frames = with_frames w.frames u.frames }) u.place
+      put_back s us (memory_back u w.memory) (with_frames w.frames u.frames) (record w { memory = memory_back u w.memory; frames = with_frames w.frames u.frames }) u.pc
       (memory_keeps u w.memory k.inside.memory (kept.dynamic ∙ sym base)) (back_story u w.memory story) (frames_put w.frames u.frames k.inside.returns kept.frames) kept.resumes refl refl (All-tail KeptIn u us all)
 
   by_opcode : (o q : Opcode) → goes_on q ≡ true → o ≡ q → goes_on o ≡ true
@@ -212,7 +212,7 @@ module _ (m : MemoryMap) (P : ℕ → Type 0) where
   asked_inside s i w request.Quit h knows k by = tt
 
   led_inside : (s : State) (i : Instr) (w : GameState) (n : Next) (text : Texts) → Inside s → Knows s i → carried_out s.game i ≡ Ok (w, (n, text)) → StaysInside P s.game w → GoesInto P n → StepsInto (led_to s i w text n)
-  led_inside s i w (next.At place) text h knows e k into = made s.game (record s { game = w; place = place; steps = s.steps + 1 }) h.story k into h.undo
+  led_inside s i w (next.At pc) text h knows e k into = made s.game (record s { game = w; pc = pc; steps = s.steps + 1 }) h.story k into h.undo
   led_inside s i w (next.Asks x) text h knows e k into = asked_inside s i w x h knows k (asks s.game i w x text e).by
 
   settled_inside : (s : State) (i : Instr) → Inside s → Knows s i → StepsInto (step_settled s i (carried_out s.game i))
@@ -220,25 +220,25 @@ module _ (m : MemoryMap) (P : ℕ → Type 0) where
       let k = carried_inside P s.game (in_game s h) i r (λ u v vs x taken by l. knows.ends u v vs x taken by l.inside.memory (story_after s.game.memory v.memory h.story l.parts)) e in
       led_inside s i r.0 r.1.0 r.1.1 h knows e k.0 k.1) (λ f e. tt)
 
-  step_inside : (s : State) → Inside s → ((i : Instr) → instr_at s.game.memory s.place ≡ Ok i → Knows s i) → StepsInto (step s)
+  step_inside : (s : State) → Inside s → ((i : Instr) → instr_at s.game.memory s.pc ≡ Ok i → Knows s i) → StepsInto (step s)
   unfolding step
-  step_inside s h knows = step_all StepsInto _ (instr_at s.game.memory s.place) (λ i e. settled_inside s i h (knows i e)) (λ f e. tt)
+  step_inside s h knows = step_all StepsInto _ (instr_at s.game.memory s.pc) (λ i e. settled_inside s i h (knows i e)) (λ f e. tt)
 
   -- ---- what an answer leads to
 
   -- a saved game that is restored is the story's, and goes on inside
-  pub record BackIn (n : MemoryMap) (f : FrameList) (place : ℕ) : Type 0 where
+  pub record BackIn (n : MemoryMap) (f : FrameList) (pc : ℕ) : Type 0 where
     pub memory : KeepsStory n
     pub story : IsOneStory m n
-    pub returns : ReturnInto P f.current.place f.callers
-    pub resumes : ResumesInto P m.version place
+    pub returns : ReturnInto P f.current.pc f.callers
+    pub resumes : ResumesInto P m.version pc
 
   -- so it is where an answer restores one
   abbrev pub FilesInto : State → Waiting → Answer → Type 0
-  FilesInto s w a = (file : List ℕ) (n : MemoryMap) (f : FrameList) (place : ℕ) → is_restore w.wait ≡ true → file_of a ≡ Some file → restored file s.game.memory s.game.frames ≡ Ok (n, f, place) → BackIn n f place
+  FilesInto s w a = (file : List ℕ) (n : MemoryMap) (f : FrameList) (pc : ℕ) → is_restore w.wait ≡ true → file_of a ≡ Some file → restored file s.game.memory s.game.frames ≡ Ok (n, f, pc) → BackIn n f pc
 
-  answer_inside : (s : State) (due : List ℕ) (r : Result (GameState × ℕ) Fault) → Inside s → ((x : GameState × ℕ) → r ≡ Ok x → PlaceInto s.game x) → StepsInto (answer_settled s due r)
-  answer_inside s due r h f = step_all StepsInto _ r (λ x e. let k = f x e in made s.game (record s { game = x.0; place = x.1; steps = 0; reads = s.reads + 1; due = due }) h.story k.0 k.1 h.undo) (λ g e. tt)
+  answer_inside : (s : State) (due : List ℕ) (r : Result (GameState × ℕ) Fault) → Inside s → ((x : GameState × ℕ) → r ≡ Ok x → PcInto s.game x) → StepsInto (answer_settled s due r)
+  answer_inside s due r h f = step_all StepsInto _ r (λ x e. let k = f x e in made s.game (record s { game = x.0; pc = x.1; steps = 0; reads = s.reads + 1; due = due }) h.story k.0 k.1 h.undo) (λ g e. tt)
 
   result_to : (s : State) (i : Instr) (x : ℕ) (truth : Bool) → Inside s → GoesOnInto P i → StepsInto (goes_to s s.undo (result_answered s.game i x truth))
   result_to s i x truth h on = goes_to_inside s s.undo s.game (result_answered s.game i x truth) h.story h.undo (λ r e. result_inside P s.game (in_game s h) i x truth r on e)
@@ -247,23 +247,23 @@ module _ (m : MemoryMap) (P : ℕ → Type 0) where
   none_inside s i None h on = result_to s i 0 false h on
   none_inside s i (Some l) h on = tt
 
-  restored_inside : (s : State) (i : Instr) (r : Result (MemoryMap × FrameList × ℕ) RestoreError) → Inside s → GoesOnInto P i → ((n : MemoryMap) (f : FrameList) (place : ℕ) → r ≡ Ok (n, f, place) → BackIn n f place) → StepsInto (restored_to s i r)
+  restored_inside : (s : State) (i : Instr) (r : Result (MemoryMap × FrameList × ℕ) RestoreError) → Inside s → GoesOnInto P i → ((n : MemoryMap) (f : FrameList) (pc : ℕ) → r ≡ Ok (n, f, pc) → BackIn n f pc) → StepsInto (restored_to s i r)
   unfolding windows_closed
-  restored_inside s i (Ok (n, f, place)) h on back =
-      let b = back n f place refl in
-      put_back s s.undo n f (windows_closed (record s.game { memory = n; frames = f })) place b.memory b.story b.returns b.resumes refl refl h.undo
+  restored_inside s i (Ok (n, f, pc)) h on back =
+      let b = back n f pc refl in
+      put_back s s.undo n f (windows_closed (record s.game { memory = n; frames = f })) pc b.memory b.story b.returns b.resumes refl refl h.undo
   restored_inside s i (Err e) h on back = none_inside s i (limit_of e) h on
 
-  from_inside : (s : State) (i : Instr) (o : Option (List ℕ)) → Inside s → GoesOnInto P i → ((file : List ℕ) (n : MemoryMap) (f : FrameList) (place : ℕ) → o ≡ Some file → restored file s.game.memory s.game.frames ≡ Ok (n, f, place) → BackIn n f place) → StepsInto (restored_from s i o)
+  from_inside : (s : State) (i : Instr) (o : Option (List ℕ)) → Inside s → GoesOnInto P i → ((file : List ℕ) (n : MemoryMap) (f : FrameList) (pc : ℕ) → o ≡ Some file → restored file s.game.memory s.game.frames ≡ Ok (n, f, pc) → BackIn n f pc) → StepsInto (restored_from s i o)
   from_inside s i None h on back = none_inside s i None h on
-  from_inside s i (Some file) h on back = restored_inside s i (restored file s.game.memory s.game.frames) h on (λ n f place e. back file n f place refl e)
+  from_inside s i (Some file) h on back = restored_inside s i (restored file s.game.memory s.game.frames) h on (λ n f pc e. back file n f pc refl e)
 
   by_inside : (s : State) (i : Instr) (x : Event) (a : Answer) → Inside s → GoesOnInto P i → FilesInto s (record { wait = x; instruction = i }) a → StepsInto (answered_by s i x a)
   by_inside s i (event.Line text parse) a h on files =
       answer_inside s (transcribed s.game (event.Line text parse) (codes_of a)) (line_answered s.game i text parse (codes_of a)) h (λ r e. line_inside P s.game (in_game s h) i text parse (codes_of a) r on e)
   by_inside s i event.Char a h on files = answer_inside s [] (character_answered s.game i (first_code (codes_of a))) h (λ r e. character_inside P s.game (in_game s h) i (first_code (codes_of a)) r on e)
   by_inside s i event.Save a h on files = result_to s i (truth_word (is_kept a)) (is_kept a) h on
-  by_inside s i event.Restore a h on files = from_inside s i (file_of a) h on (λ file n f place there e. files file n f place refl there e)
+  by_inside s i event.Restore a h on files = from_inside s i (file_of a) h on (λ file n f pc there e. files file n f pc refl there e)
 
   answered_inside : (s : State) (w : Waiting) (a : Answer) → Inside s → GoesOnInto P w.instruction → FilesInto s w a → StepsInto (answered s w a)
   unfolding answered
@@ -271,24 +271,24 @@ module _ (m : MemoryMap) (P : ℕ → Type 0) where
 
   -- ---- each step of a run
 
-  goes_onward : (place : ℕ) (r : Result FrameList Refusal) (A : Type 0) (B : Waiting → Type 0) → A → Onward (goes_by place r) A B
-  goes_onward place (Ok f) A B h = h
-  goes_onward place (Err (refusal.Limit l)) A B h = tt
-  goes_onward place (Err (refusal.Fault f)) A B h = tt
+  goes_onward : (pc : ℕ) (r : Result FrameList Refusal) (A : Type 0) (B : Waiting → Type 0) → A → Onward (goes_by pc r) A B
+  goes_onward pc (Ok f) A B h = h
+  goes_onward pc (Err (refusal.Limit l)) A B h = tt
+  goes_onward pc (Err (refusal.Fault f)) A B h = tt
 
   waits_onward : (b : Bool) (stop : _) (w : Waiting) (A : Type 0) (B : Waiting → Type 0) → B w → Onward (if b then StopsBy stop else WaitsFor w) A B
   waits_onward true stop w A B h = tt
   waits_onward false stop w A B h = h
 
   onward : (s : State) (x : Step) (A : State → Type 0) (B : State → Waiting → Type 0) → StepsInto x → ((t : State) → Inside t → A t) → ((t : State) (w : Waiting) → Inside t → GoesOnInto P w.instruction → B t w) → Onward (verdict_of s x) (A (state_after s x)) (B (state_after s x))
-  onward s (Goes t text) A B h a b = goes_onward s.place (within_bounds t.game.frames) (A t) (B t) (a t h)
+  onward s (Goes t text) A B h a b = goes_onward s.pc (within_bounds t.game.frames) (A t) (B t) (a t h)
   onward s (Waits t w text) A B h a b = waits_onward (is_past_reads s.reads w.wait) _ w (A t) (B t) (b t w h.0 h.1)
   onward s Quits A B h a b = tt
   onward s (Faults f) A B h a b = tt
   onward s (Exceeds l) A B h a b = tt
 
   module _ (At : State → Type 0) (is_last : State → Bool) (ends : State → Waiting → Answer → Bool) (at : (s : State) → Inside s → At s)
-      (known : (s : State) → Inside s → is_last s ≡ false → (i : Instr) → instr_at s.game.memory s.place ≡ Ok i → Knows s i)
+      (known : (s : State) → Inside s → is_last s ≡ false → (i : Instr) → instr_at s.game.memory s.pc ≡ Ok i → Knows s i)
       (files : (s : State) (w : Waiting) (a : Answer) → Inside s → ends s w a ≡ false → FilesInto s w a) where
     each_step : (Rest : State → Waiting → Type 0) (left : ℕ) (s : State) → Inside s → ((t : State) (w : Waiting) → Inside t → GoesOnInto P w.instruction → Rest t w) → EachStep At is_last Rest left s
     each_step Rest zero s h rest = tt
@@ -296,7 +296,7 @@ module _ (m : MemoryMap) (P : ℕ → Type 0) where
         (at s h, λ more. onward s (step s) (EachStep At is_last Rest left) Rest (step_inside s h (known s h more)) (λ t k. each_step Rest left t k rest) rest)
 
     shown_all : (s : State) → Inside s → Inside (record s { due = [] })
-    shown_all s h = record { memory = h.memory; story = h.story; place = h.place; returns = h.returns; undo = h.undo }
+    shown_all s h = record { memory = h.memory; story = h.story; pc = h.pc; returns = h.returns; undo = h.undo }
 
     pub each_of_run : (l : Limits) (answers : List Answer) (s : State) → Inside s → EachOfRun At is_last ends l answers s
     each_of_run l [] s h = each_step (λ t w. Unit {0}) (l.steps - s.steps) (record s { due = [] }) (shown_all s h) (λ t w k on. tt)

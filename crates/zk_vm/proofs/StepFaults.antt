@@ -53,10 +53,10 @@ by_later {A} next (Err f) (Later.fault h) on = h
 
 back_later : (s : State) (i : Instr) (w : GameState) (o : Option (MemoryMap × FrameList × ℕ × List WholeState)) → IsLater (back_to s i w o)
 back_later s i w None = by_later _ _ (result_answered_later w i 0 false) (λ x. tt)
-back_later s i w (Some (m, f, place, others)) = by_later _ _ (resumed_later (record w { memory = m; frames = f }) place) (λ x. tt)
+back_later s i w (Some (m, f, pc, others)) = by_later _ _ (resumed_later (record w { memory = m; frames = f }) pc) (λ x. tt)
 
 led_later : (s : State) (i : Instr) (w : GameState) (text : Texts) (n : Next) → IsLater (led_to s i w text n)
-led_later s i w text (At place) = tt
+led_later s i w text (At pc) = tt
 led_later s i w text (Asks (Answer event)) = by_later _ _ (before_later event w) (λ x. tt)
 led_later s i w text (Asks SaveUndo) = by_later _ _ (result_answered_later w i (kept_answer w.memory.undo_states) true) (λ x. tt)
 led_later s i w text (Asks RestoreUndo) = back_later s i w (gone_back s.undo w.memory w.frames)
@@ -65,7 +65,7 @@ led_later s i w text (Asks Quit) = tt
 settled_later : (s : State) (i : Instr) (r : Result (GameState × (Next × Texts)) Fault) → Later r → IsLater (settled s i r)
 settled_later s i r h = by_later _ r h (λ x. led_later s i x.0 x.1.1 x.1.0)
 
-pub step_is_later : (s : State) (i : Instr) (f : Fault) → instr_at s.game.memory s.place ≡ Ok i → step s ≡ Faults f → is_of_reading f ≡ false
+pub step_is_later : (s : State) (i : Instr) (f : Fault) → instr_at s.game.memory s.pc ≡ Ok i → step s ≡ Faults f → is_of_reading f ≡ false
 unfolding step
 step_is_later s i f e h = subst IsLater (sym (ap (fetched s) e) ∙ h) (settled_later s i (carried_out s.game i) (carried_out_later s.game i))
 
@@ -76,7 +76,7 @@ none_later s i None = by_later _ _ (result_answered_later s.game i 0 false) (λ 
 none_later s i (Some l) = tt
 
 restored_later : (s : State) (i : Instr) (r : Result (MemoryMap × FrameList × ℕ) RestoreError) → IsLater (restored_to s i r)
-restored_later s i (Ok (m, f, place)) = by_later _ _ (resumed_later (windows_closed (record s.game { memory = m; frames = f })) place) (λ x. tt)
+restored_later s i (Ok (m, f, pc)) = by_later _ _ (resumed_later (windows_closed (record s.game { memory = m; frames = f })) pc) (λ x. tt)
 restored_later s i (Err e) = none_later s i (limit_of e)
 
 file_later : (s : State) (i : Instr) (o : Option (List ℕ)) → IsLater (restored_from s i o)

@@ -42,7 +42,7 @@ stays l (suc n) s end text h few lead =
     let rest : Leads n to.0 end lead.0 = subst (λ (u : State). Leads n u end lead.0) there lead.2 in
     stays l n to.0 end lead.0 next.0 (omega (arith, next.1)) rest
   where
-    goes_holds : (l : Limits) (s t : State) (text : Texts) → Holds l s → s.steps + 1 ≤ l.steps → step s ≡ Goes t text → goes_by s.place (within_bounds t.game.frames) ≡ GoesOn → Holds l t × (t.steps ≡ s.steps + 1)
+    goes_holds : (l : Limits) (s t : State) (text : Texts) → Holds l s → s.steps + 1 ≤ l.steps → step s ≡ Goes t text → goes_by s.pc (within_bounds t.game.frames) ≡ GoesOn → Holds l t × (t.steps ≡ s.steps + 1)
     goes_holds l s t text h few e goes =
         let next = after_goes l s t text e h.bounds h.most few h.within.reads h.within.undo goes in
         (record { bounds = next.1; most = next.2; within = next.0 }, next.3)
@@ -53,13 +53,13 @@ stays l (suc n) s end text h few lead =
 waits_on : (s : State) (x : Step) (w : Waiting) → verdict_of s x ≡ WaitsFor w → (t : State) × ((text : Texts) × ((x ≡ Waits t w text) × (is_past_reads s.reads w.wait ≡ false)))
 waits_on s (Goes t text) w h = absurd (no_wait (within_bounds t.game.frames) h)
   where
-    no_wait : (q : Result FrameList Refusal) → goes_by s.place q ≡ WaitsFor w → ⊥
+    no_wait : (q : Result FrameList Refusal) → goes_by s.pc q ≡ WaitsFor w → ⊥
     no_wait (Ok u) k = absurd cc
     no_wait (Err (refusal.Limit m)) k = absurd cc
     no_wait (Err (refusal.Fault f)) k = absurd cc
 waits_on s (Waits t v text) w h = go (is_past_reads s.reads v.wait) refl h
   where
-    go : (b : Bool) → is_past_reads s.reads v.wait ≡ b → (if b then StopsBy (Limit s.place Reads) else WaitsFor v) ≡ WaitsFor w → (u : State) × ((more : Texts) × ((Waits t v text ≡ Waits u w more) × (is_past_reads s.reads w.wait ≡ false)))
+    go : (b : Bool) → is_past_reads s.reads v.wait ≡ b → (if b then StopsBy (Limit s.pc Reads) else WaitsFor v) ≡ WaitsFor w → (u : State) × ((more : Texts) × ((Waits t v text ≡ Waits u w more) × (is_past_reads s.reads w.wait ≡ false)))
     go true e k = absurd cc
     go false e k = let same : v ≡ w = cc in (t, (text, (ap (λ (x : Waiting). Waits t x text) same, ap (λ (x : Waiting). is_past_reads s.reads x.wait) (sym same) ∙ e)))
 waits_on s Quits w h = absurd cc
@@ -176,13 +176,13 @@ resumed_holds : (l : Limits) (s : Session) (w : Waiting) (a : Answer) (x : Step)
     → Holds l (resumed s (verdict_of s.state x) (state_after s.state x)).state
 resumed_holds l s w a (Goes t text) e h room runs = go (within_bounds t.game.frames) refl runs
   where
-    go : (q : Result FrameList Refusal) → within_bounds t.game.frames ≡ q → (resumed s (goes_by s.state.place q) t).stopped ≡ None → Holds l (resumed s (goes_by s.state.place q) t).state
+    go : (q : Result FrameList Refusal) → within_bounds t.game.frames ≡ q → (resumed s (goes_by s.state.pc q) t).stopped ≡ None → Holds l (resumed s (goes_by s.state.pc q) t).state
     go (Ok u) inside k = goes_holds l s.state t w a text h room e u inside
     go (Err (refusal.Limit m)) inside k = absurd cc
     go (Err (refusal.Fault f)) inside k = absurd cc
 resumed_holds l s w a (Waits t v text) e h room runs = go (is_past_reads s.state.reads v.wait) runs
   where
-    go : (b : Bool) → (resumed s (if b then StopsBy (Limit s.state.place Reads) else WaitsFor v) t).stopped ≡ None → Holds l (resumed s (if b then StopsBy (Limit s.state.place Reads) else WaitsFor v) t).state
+    go : (b : Bool) → (resumed s (if b then StopsBy (Limit s.state.pc Reads) else WaitsFor v) t).stopped ≡ None → Holds l (resumed s (if b then StopsBy (Limit s.state.pc Reads) else WaitsFor v) t).state
     go true k = absurd cc
     go false k = h.holds
 resumed_holds l s w a Quits e h room runs = absurd cc

@@ -72,7 +72,7 @@ transcribed w _ codes = []
 
 -- the read is answered: no steps were made since, and the transcript is to get what was typed
 abbrev pub answer_settled : State → List ℕ → Result (GameState × ℕ) Fault → Step
-answer_settled s due = step_by (λ found. Goes (record s { game = found.0; place = found.1; steps = 0; reads = s.reads + 1; due = due }) no_text)
+answer_settled s due = step_by (λ found. Goes (record s { game = found.0; pc = found.1; steps = 0; reads = s.reads + 1; due = due }) no_text)
 
 -- ---- saved games
 
@@ -93,7 +93,7 @@ none_restored s i (Some l) = Exceeds l
 
 -- a saved game is back, and goes on where it was saved
 abbrev pub restored_to : State → Instr → Result (MemoryMap × FrameList × ℕ) RestoreError → Step
-restored_to s i (Ok (m, f, place)) = goes_to s s.undo (resumed (windows_closed (record s.game { memory = m; frames = f })) place)
+restored_to s i (Ok (m, f, pc)) = goes_to s s.undo (resumed (windows_closed (record s.game { memory = m; frames = f })) pc)
 restored_to s i (Err e) = none_restored s i (limit_of e)
 
 abbrev pub restored_from : State → Instr → Option (List ℕ) → Step

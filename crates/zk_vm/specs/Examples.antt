@@ -84,7 +84,7 @@ BranchesLead =
 -- a story begins at its first instruction, with no step made, in one frame (section 5.5)
 abbrev pub BeginsAtTheFirstInstruction : Type 0
 BeginsAtTheFirstInstruction =
-    ((starts prints_and_quits (limits_of 3 4 10)).state.place ≡ 64)
+    ((starts prints_and_quits (limits_of 3 4 10)).state.pc ≡ 64)
     × ((starts prints_and_quits (limits_of 3 4 10)).state.steps ≡ 0)
     × ((starts prints_and_quits (limits_of 3 4 10)).state.game.frames ≡ first_frames 3 4)
     × ((starts prints_and_quits (limits_of 3 4 10)).stopped ≡ None)
@@ -144,7 +144,7 @@ abbrev pub MachinesWait : Type 0
 MachinesWait =
     (event_waited (ran (starts echoes (limits_of 1 1 10))).waiting ≡ Some event.Char)
     × (event_waited (ran (starts (story_of (0xe4 ∷ 0x7f ∷ 64 ∷ 0 ∷ [])) (limits_of 1 1 10))).waiting ≡ Some (event.Line 64 0))
-    × ((given (ran (starts echoes (limits_of 1 1 10))) (Typed (codes "a"))).state.place ≡ 68)
+    × ((given (ran (starts echoes (limits_of 1 1 10))) (Typed (codes "a"))).state.pc ≡ 68)
     × ((given (ran (starts echoes (limits_of 1 1 10))) (Typed (codes "a"))).state.reads ≡ 1)
     × ((given (ran (starts echoes (limits_of 1 1 10))) (Typed (codes "a"))).waiting ≡ None)
 

@@ -10,7 +10,7 @@ use Rattle.zk_save.specs.declared.restore.RestoreError.{RestoreError}
 use Rattle.zk_save.specs.Loading.{restored}
 use Rattle.zk_step.specs.declared.game_state.GameState.{GameState}
 use Rattle.zk_step.specs.Inputs.{result_answered}
-use Rattle.zk_step.specs.Limited.{limited_place}
+use Rattle.zk_step.specs.Limited.{limited_pc}
 use Rattle.zk_step.specs.Restarts.{windows_closed}
 use Rattle.zk_step.specs.Resuming.{resumed}
 use Rattle.zk_step.specs.Routing.{Texts}
@@ -23,20 +23,20 @@ use Rattle.zk_vm.specs.Outcome.{Segment, Session, segment}
 use Rattle.zk_vm.specs.Step.{State, Step, Verdict, verdict_of, state_after}
 use Rattle.zk_vm.specs.Step.Verdict.{GoesOn, WaitsFor, StopsBy}
 
--- the stop of an instruction at a place that is refused
+-- the stop of an instruction at an address that is refused
 abbrev pub stop_by : ℕ → Refusal → Stop
-stop_by place (refusal.Fault f) = stop.Fault place f
-stop_by place (refusal.Limit l) = stop.Limit place l
+stop_by pc (refusal.Fault f) = stop.Fault pc f
+stop_by pc (refusal.Limit l) = stop.Limit pc l
 
 -- what becomes of a run where an instruction leads that was finished
 abbrev pub verdict_by : ℕ → Result ℕ Refusal → Verdict
-verdict_by place (Ok next) = GoesOn
-verdict_by place (Err r) = StopsBy (stop_by place r)
+verdict_by pc (Ok next) = GoesOn
+verdict_by pc (Err r) = StopsBy (stop_by pc r)
 
--- the place where it leads, the old one where the run does not go on
-abbrev pub place_by : ℕ → Result ℕ Refusal → ℕ
-place_by place (Ok next) = next
-place_by place (Err r) = place
+-- the address where it leads, the old one where the run does not go on
+abbrev pub pc_by : ℕ → Result ℕ Refusal → ℕ
+pc_by pc (Ok next) = next
+pc_by pc (Err r) = pc
 
 -- the steps that were made then
 abbrev pub steps_by : ℕ → Result ℕ Refusal → ℕ
@@ -68,12 +68,12 @@ pub record LacksMemory (old new : Session) (answer : Result (Unit {0}) Halt) : T
 
 -- where an instruction leads that restores nothing
 abbrev pub unrestored_by : GameState → Instr → Option Limit → Result (GameState × ℕ) Refusal
-unrestored_by w i None = limited_place (result_answered w i 0 false)
+unrestored_by w i None = limited_pc (result_answered w i 0 false)
 unrestored_by w i (Some l) = Err (refusal.Limit l)
 
 -- where an instruction leads that restores, by what was loaded
 abbrev pub restored_by : GameState → Instr → Result (MemoryMap × FrameList × ℕ) RestoreError → Result (GameState × ℕ) Refusal
-restored_by w i (Ok (m, f, place)) = limited_place (resumed (windows_closed (record w { memory = m; frames = f })) place)
+restored_by w i (Ok (m, f, pc)) = limited_pc (resumed (windows_closed (record w { memory = m; frames = f })) pc)
 restored_by w i (Err e) = unrestored_by w i (limit_of e)
 
 -- where an instruction leads that restores a file
@@ -95,22 +95,22 @@ IsHalted old new answer Shown =
 
 -- a state after so many of them
 abbrev pub after_steps : State → ℕ → GameState → ℕ → State
-after_steps s n w place = record s { game = w; place = place; steps = s.steps + n }
+after_steps s n w pc = record s { game = w; pc = pc; steps = s.steps + n }
 
 -- a machine has made some steps by instructions that show nothing, and goes on
 pub record GoesAhead (old new : Session) : Type 0 where
   pub steps : ℕ
-  pub quiet_steps : QuietSteps steps old.state.game old.state.place new.state.game new.state.place
-  pub there : new ≡ record old { state = after_steps old.state steps new.state.game new.state.place }
+  pub quiet_steps : QuietSteps steps old.state.game old.state.pc new.state.game new.state.pc
+  pub there : new ≡ record old { state = after_steps old.state steps new.state.game new.state.pc }
 
 -- the instruction after them is refused
 pub record StopsAhead (old new : Session) (answer : Halt) : Type 0 where
   pub steps : ℕ
-  pub place : ℕ
+  pub pc : ℕ
   pub refusal : Refusal
   pub few : steps < old.limits.steps - old.state.steps
-  pub refused : IsRefusedAfter steps old.state.game old.state.place place refusal
-  pub tells : answer ≡ Err (stop_by place refusal)
+  pub refused : IsRefusedAfter steps old.state.game old.state.pc pc refusal
+  pub tells : answer ≡ Err (stop_by pc refusal)
   pub free : new.waiting ≡ None
 
 abbrev pub IsAhead : Session → Session → Result (Unit {0}) Halt → Type 0

@@ -64,7 +64,7 @@ pub record IsAnswerable (s : State) (l : Limits) (stopped : Option Stop) (w : Wa
   pub steps : s.steps < l.steps
   pub next : w.instruction.next ≤ 2 ^ 20
   pub some : 1 ≤ w.instruction.next
-  pub place : s.place < 2 ^ 20
+  pub pc : s.pc < 2 ^ 20
   pub runs : stopped ≡ None
   pub shown : s.due ≡ []
 
@@ -74,11 +74,11 @@ CanAnswer s l stopped (Some w) = IsAnswerable s l stopped w
 
 -- ---- want of memory
 
--- the instruction at a state's place would be carried out, and keep a state, where there may be one; its operands were
+-- the instruction at a state's program counter would be carried out, and keep a state, where there may be one; its operands were
 -- taken, and nothing else has changed
 pub record IsKeeping (s taken : State) : Type 0 where
   pub instruction : Instr
-  pub fetched : instr_at s.game.memory s.place ≡ Ok instruction
+  pub fetched : instr_at s.game.memory s.pc ≡ Ok instruction
   pub keeps : instruction.opcode ≡ Saving SaveUndo
   pub some : 0 < s.game.memory.undo_states
   pub game : GameState

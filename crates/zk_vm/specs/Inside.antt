@@ -30,17 +30,17 @@ use Rattle.zk_vm.specs.Step.Verdict.{GoesOn, WaitsFor, StopsBy}
 -- of some frames, newest first, all but the oldest return into a set
 abbrev pub FramesReturn : (ℕ → Type 0) → List Frame → Type 0
 FramesReturn P [] = Unit {0}
-FramesReturn P (f ∷ fs) = ReturnInto P f.place fs
+FramesReturn P (f ∷ fs) = ReturnInto P f.pc fs
 
--- a state that can be gone back to goes on inside a set, after the store byte at its place (section 15, `restore_undo`)
+-- a state that can be gone back to goes on inside a set, after the store byte at its address (section 15, `restore_undo`)
 pub record IsKeptInside (P : ℕ → Type 0) (kept : WholeState) : Type 0 where
   pub frames : FramesReturn P kept.frames
-  pub place : P (kept.place + 1)
+  pub pc : P (kept.pc + 1)
 
--- a state of play is inside a set: its place, the places that its routines return to, and the states to go back to
+-- a state of play is inside a set: its program counter, the addresses that its routines return to, and the states to go back to
 pub record IsInside (P : ℕ → Type 0) (s : State) : Type 0 where
-  pub place : P s.place
-  pub frames : ReturnInto P s.game.frames.current.place s.game.frames.callers
+  pub pc : P s.pc
+  pub frames : ReturnInto P s.game.frames.current.pc s.game.frames.callers
   pub undo : All (IsKeptInside P) s.undo
 
 -- ---- what nothing is said after
@@ -49,9 +49,9 @@ abbrev pub found_by_variable : Result Instr Fault → Bool
 found_by_variable (Ok i) = leads_by_variable i
 found_by_variable (Err f) = false
 
--- the instruction at a state's place calls or jumps by a variable
+-- the instruction at a state's program counter calls or jumps by a variable
 unfoldable pub goes_by_variable : State → Bool
-goes_by_variable s = found_by_variable (instr_at s.game.memory s.place)
+goes_by_variable s = found_by_variable (instr_at s.game.memory s.pc)
 
 abbrev pub is_restore : Event → Bool
 is_restore Restore = true
@@ -97,9 +97,9 @@ never_ends s w a = false
 
 -- ---- laws
 
--- the step from a state, where its place is in a set, is no fault of reading
+-- the step from a state, where its program counter is in a set, is no fault of reading
 abbrev pub IsRead : (ℕ → Type 0) → State → Type 0
-IsRead P s = P s.place → (f : Fault) → step s ≡ Faults f → is_of_reading f ≡ false
+IsRead P s = P s.pc → (f : Fault) → step s ≡ Faults f → is_of_reading f ≡ false
 
 -- where a set is clean for a story, its runs stay inside up to a call or jump by a variable and up to a saved game; no step
 -- at an address of it is ever a fault of reading, and no answer is; and memory always keeps the story

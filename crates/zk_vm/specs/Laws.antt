@@ -54,7 +54,7 @@ StepLimitOnlyCuts = (n k : ℕ) (s : State) → IsNoStepLimit (segment n s).end 
 
 -- where so many steps lead on as the limit says, the run stops there, by the limit on steps
 abbrev pub StepLimitCutsThere : Type 0
-StepLimitCutsThere = (n : ℕ) (s end : State) (text : Texts) → Leads n s end text → segment n s ≡ record { end = Err (LimitAt end.place Steps); state = end; text = text }
+StepLimitCutsThere = (n : ℕ) (s end : State) (text : Texts) → Leads n s end text → segment n s ≡ record { end = Err (LimitAt end.pc Steps); state = end; text = text }
 
 -- the state with other bounds on frames and words
 abbrev pub state_in : ℕ → ℕ → State → State
@@ -92,7 +92,7 @@ Passes l old _ = ⊥
 -- step
 abbrev pub LimitsCutThere : Type 0
 LimitsCutThere = (n k : ℕ) (s end : State) (text : Texts) (l : Limit) → Leads n s end text → Passes l end (step end)
-    → ((segment (n + suc k) s).end ≡ Err (LimitAt end.place l)) × ((segment (n + suc k) s).text ≡ text)
+    → ((segment (n + suc k) s).end ≡ Err (LimitAt end.pc l)) × ((segment (n + suc k) s).text ≡ text)
 
 -- ---- over all answers
 
@@ -119,13 +119,13 @@ FrameLimitsOnlyCutRuns = (answers : List Answer) (end : Stop) (f w : ℕ) (s : S
 pub record LimitsCut (answers : List Answer) (s : Session) : Type 0 where
   pub steps : (more : List Answer) (stop : Stop) (end : State) (text : Texts)
       → Leads ((given_all answers s).limits.steps - (given_all answers s).state.steps) (record (given_all answers s).state { due = [] }) end text
-      → outcome (answers ++ more) stop s ≡ record { stop = LimitAt end.place Steps; text = text_joined (shown_up_to answers s) (text_joined (on_script (given_all answers s).state.due) text) }
+      → outcome (answers ++ more) stop s ≡ record { stop = LimitAt end.pc Steps; text = text_joined (shown_up_to answers s) (text_joined (on_script (given_all answers s).state.due) text) }
   pub step : (more : List Answer) (stop : Stop) (n : ℕ) (end : State) (text : Texts) (l : Limit) → n < (given_all answers s).limits.steps - (given_all answers s).state.steps
       → Leads n (record (given_all answers s).state { due = [] }) end text → Passes l end (step end)
-      → outcome (answers ++ more) stop s ≡ record { stop = LimitAt end.place l; text = text_joined (shown_up_to answers s) (text_joined (on_script (given_all answers s).state.due) text) }
+      → outcome (answers ++ more) stop s ≡ record { stop = LimitAt end.pc l; text = text_joined (shown_up_to answers s) (text_joined (on_script (given_all answers s).state.due) text) }
   pub answer : (a : Answer) (more : List Answer) (stop : Stop) (w : Waiting) (l : Limit) → (ran (given_all answers s)).waiting ≡ Some w
       → Passes l (ran (given_all answers s)).state (answered (ran (given_all answers s)).state w a)
-      → outcome (answers ++ a ∷ more) stop s ≡ record { stop = LimitAt (ran (given_all answers s)).state.place l; text = text_joined (shown_up_to answers s) (segment_of (given_all answers s)).text }
+      → outcome (answers ++ a ∷ more) stop s ≡ record { stop = LimitAt (ran (given_all answers s)).state.pc l; text = text_joined (shown_up_to answers s) (segment_of (given_all answers s)).text }
 
 -- of each machine that has not stopped before
 abbrev pub LimitsCutRuns : Type 0

@@ -22,7 +22,7 @@ use Rattle.zk_vm.specs.Answers.Answer.{Typed, GameKept, File}
 use Rattle.zk_vm.specs.Answers.{limit_of}
 use Rattle.zk_vm.specs.Halts.{event_of, event_waited, ComesToKeep, IsLeftAs, IsRun, ShowsUpTo}
 use Rattle.zk_vm.specs.Outcome.{Outcome, Session, outcome, segment_of, ran, given, given_all, shown_up_to}
-use Rattle.zk_vm.specs.Step.{is_read, saved_place}
+use Rattle.zk_vm.specs.Step.{is_read, saved_pc}
 
 -- ---- answers
 
@@ -33,7 +33,7 @@ codes_read s line = line_codes (own_characters s.state.game.memory) line
 -- the saved game of a machine that waits for it to be kept
 abbrev pub image_by : Session → Option Waiting → List ℕ
 image_by s None = []
-image_by s (Some w) = saved s.state.game.memory s.state.game.frames (saved_place s.state w.instruction)
+image_by s (Some w) = saved s.state.game.memory s.state.game.frames (saved_pc s.state w.instruction)
 
 -- the same by what the machine waits for
 abbrev pub image_of : Session → List ℕ

@@ -12,7 +12,7 @@ use Rattle.zk_vm.specs.Step.{State}
 abbrev pub state_seen : Inside → State
 state_seen m = record {
   game = m.game;
-  place = m.place;
+  pc = m.pc;
   steps = m.steps;
   reads = m.reads;
   due = m.due.items;

@@ -31,7 +31,7 @@ use Rattle.zk_step.specs.View.{viewed}
 -- the states that can be gone back to, the newest first
 pub record State : Type 0 where
   pub game : GameState
-  pub place : ℕ
+  pub pc : ℕ
   pub steps : ℕ
   pub reads : ℕ
   pub due : List ℕ
@@ -72,16 +72,16 @@ view_before event w = if is_read event then viewed w else Ok (w, no_text)
 
 -- where an instruction leads that is finished in silence, with these states to go back to
 abbrev pub goes_to : State → List WholeState → Result (GameState × ℕ) Fault → Step
-goes_to s undo = step_by (λ found. Goes (record s { game = found.0; place = found.1; steps = s.steps + 1; undo = undo }) no_text)
+goes_to s undo = step_by (λ found. Goes (record s { game = found.0; pc = found.1; steps = s.steps + 1; undo = undo }) no_text)
 
 -- where the run goes on from a state that an instruction saves: its branch in version 3, its store byte from version 4
 -- on (Quetzal 1.4, section 5)
-abbrev pub saved_place : State → Instr → ℕ
-saved_place s i = if nat_lt s.game.memory.version 4 then s.place + 1 else i.next - 1
+abbrev pub saved_pc : State → Instr → ℕ
+saved_pc s i = if nat_lt s.game.memory.version 4 then s.pc + 1 else i.next - 1
 
 -- the state is kept in front of the others, of which the newest stay
 abbrev pub with_kept : State → Instr → GameState → List WholeState
-with_kept s i w = take w.memory.undo_states (state_of w.memory w.frames (saved_place s i) ∷ s.undo)
+with_kept s i w = take w.memory.undo_states (state_of w.memory w.frames (saved_pc s i) ∷ s.undo)
 
 -- the answer of an instruction that keeps the state: 1, or -1 where none is ever kept
 abbrev pub kept_answer : ℕ → ℕ
@@ -90,7 +90,7 @@ kept_answer most = if most == 0 then 65535 else 1
 -- the newest state is back, with the others left, and goes on where it was saved; where there is none the answer is 0
 abbrev pub back_to : State → Instr → GameState → Option (MemoryMap × FrameList × ℕ × List WholeState) → Step
 back_to s i w None = goes_to s s.undo (result_answered w i 0 false)
-back_to s i w (Some (m, f, place, others)) = goes_to s others (resumed (record w { memory = m; frames = f }) place)
+back_to s i w (Some (m, f, pc, others)) = goes_to s others (resumed (record w { memory = m; frames = f }) pc)
 
 -- what becomes of an instruction that asks something of the machine; it has printed nothing
 abbrev pub asked : State → Instr → GameState → Request → Step
@@ -101,7 +101,7 @@ asked s i w request.Quit = Quits
 
 -- what an instruction that was carried out leads to
 abbrev pub led_to : State → Instr → GameState → Texts → Next → Step
-led_to s i w text (next.At place) = Goes (record s { game = w; place = place; steps = s.steps + 1 }) text
+led_to s i w text (next.At pc) = Goes (record s { game = w; pc = pc; steps = s.steps + 1 }) text
 led_to s i w text (next.Asks request) = asked s i w request
 
 -- the step that an instruction makes
@@ -112,9 +112,9 @@ settled s i = step_by (λ done. led_to s i done.0 done.1.1 done.1.0)
 abbrev pub fetched : State → Result Instr Fault → Step
 fetched s = step_by (λ i. settled s i (carried_out s.game i))
 
--- the step from a state: the instruction at its place is carried out
+-- the step from a state: the instruction at its program counter is carried out
 unfoldable pub step : State → Step
-step s = fetched s (instr_at s.game.memory s.place)
+step s = fetched s (instr_at s.game.memory s.pc)
 
 -- the state after a step, the state before it where the step is the last
 abbrev pub state_after : State → Step → State
@@ -130,11 +130,11 @@ pub data Verdict : Type 0 where
   WaitsFor : (waiting : Waiting) → Verdict
   StopsBy : (stop : Stop) → Verdict
 
--- a step at a place goes on, unless its next state has too many frames or words
+-- a step at an address goes on, unless its next state has too many frames or words
 abbrev pub goes_by : ℕ → Result FrameList Refusal → Verdict
-goes_by place (Ok s) = GoesOn
-goes_by place (Err (refusal.Limit l)) = StopsBy (stop.Limit place l)
-goes_by place (Err (refusal.Fault f)) = StopsBy (stop.Fault place f)
+goes_by pc (Ok s) = GoesOn
+goes_by pc (Err (refusal.Limit l)) = StopsBy (stop.Limit pc l)
+goes_by pc (Err (refusal.Fault f)) = StopsBy (stop.Fault pc f)
 
 -- so many reads are answered in a run
 abbrev pub most_reads : ℕ
@@ -144,16 +144,16 @@ most_reads = 16777216
 abbrev pub is_past_reads : ℕ → Event → Bool
 is_past_reads reads event = is_read event && nat_le most_reads reads
 
--- what becomes of a run at a step from a place, after so many reads
+-- what becomes of a run at a step from an address, after so many reads
 abbrev pub verdict_at : ℕ → ℕ → Step → Verdict
-verdict_at place reads (Goes s text) = goes_by place (within_bounds s.game.frames)
-verdict_at place reads (Waits s waiting text) = if is_past_reads reads waiting.wait then StopsBy (stop.Limit place Reads) else WaitsFor waiting
-verdict_at place reads Quits = StopsBy stop.Quit
-verdict_at place reads (Faults f) = StopsBy (stop.Fault place f)
-verdict_at place reads (Exceeds l) = StopsBy (stop.Limit place l)
+verdict_at pc reads (Goes s text) = goes_by pc (within_bounds s.game.frames)
+verdict_at pc reads (Waits s waiting text) = if is_past_reads reads waiting.wait then StopsBy (stop.Limit pc Reads) else WaitsFor waiting
+verdict_at pc reads Quits = StopsBy stop.Quit
+verdict_at pc reads (Faults f) = StopsBy (stop.Fault pc f)
+verdict_at pc reads (Exceeds l) = StopsBy (stop.Limit pc l)
 
 abbrev pub verdict_of : State → Step → Verdict
-verdict_of old x = verdict_at old.place old.reads x
+verdict_of old x = verdict_at old.pc old.reads x
 
 -- a text, unless frames or words are too many
 abbrev pub text_within : Result FrameList Refusal → Texts → Texts

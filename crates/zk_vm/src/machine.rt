@@ -8,7 +8,7 @@ ghost use Rattle.zk_code.specs.Reading.{instr_at};
 ghost use Rattle.zk_vm.specs.Bounds.{AreInRange};
 ghost use Rattle.zk_vm.specs.Answers.{limit_of, truth_word};
 ghost use Rattle.zk_vm.specs.Answers.Answer.{Typed, GameKept, File};
-ghost use Rattle.zk_vm.specs.Going.{IsAhead, stop_by, verdict_by, place_by, steps_by, stopped_by, restored_on, Settles, LacksMemory, IsHalted};
+ghost use Rattle.zk_vm.specs.Going.{IsAhead, stop_by, verdict_by, pc_by, steps_by, stopped_by, restored_on, Settles, LacksMemory, IsHalted};
 ghost use Rattle.zk_vm.specs.Halts.{ComesToKeep, IsLeftAs, IsLeftBy, IsRun, IsStep, IsCutOff, LeadsOn, IsLine, ShowsLast, StopsAtOnce, event_waited, halt_by};
 ghost use Rattle.zk_vm.specs.Laws.{IsWithin};
 ghost use Rattle.zk_vm.specs.Outcome.{begun, first_game, given, segment, with_stop};
@@ -54,7 +54,7 @@ pub const MOST_READS: u32 = 16_777_216;
 #[derive(Drop)]
 pub struct Machine {
     game: GameState,
-    place: u32,
+    pc: u32,
     steps: u32,
     reads: u32,
     limits: Limits,
@@ -135,14 +135,14 @@ impl Machine {
         requires { AreInRange limits }
         ensures { IfOk result (λ m. m ≡ begun story seed limits view) }
     {
-        let place = story.header().first_instruction as u32;
+        let pc = story.header().first_instruction as u32;
         let game = fresh_game(alloc, story, seed, limits, view)?;
         let undo = Undo::new(alloc, limits.undo)?;
         let cache = Cache::new(alloc, &game.memory)?;
         let codes = Codes::new(alloc)?;
         Ok(Machine {
             game,
-            place,
+            pc,
             steps: 0,
             reads: 0,
             limits,
@@ -166,15 +166,15 @@ impl Machine {
         self.game.frames.is_bounded();
     }
 
-    /// Carries out an instruction that was fetched from the machine's place.
+    /// Carries out an instruction that was fetched from the machine's program counter.
     fn advance<S: Screen>(&mut self, i: Instr, screen: &mut S) -> Result<(), Halt>
         requires room { self.old.state.steps < self.old.limits.steps }
         requires free { self.old.waiting ≡ None }
         requires runs { self.old.stopped ≡ None }
         requires silent { self.old.state.due ≡ [] }
         requires near { i.next ≤ 2 ^ 20 }
-        requires inside { self.old.state.place < i.next }
-        requires fetched { instr_at self.old.state.game.memory self.old.state.place ≡ Ok i }
+        requires inside { self.old.state.pc < i.next }
+        requires fetched { instr_at self.old.state.game.memory self.old.state.pc ≡ Ok i }
         ensures step { IsStep self.old self.new result
             (λ t. S.shows screen.old screen.new t.screen t.script) }
         ensures counted { OnOk result (self.new.state.steps ≡ self.old.state.steps + 1) }
@@ -184,13 +184,13 @@ impl Machine {
         ensures limits { self.new.limits ≡ self.old.limits }
     {
         match carry_out(&mut self.game, &i, &mut self.codes, screen) {
-            Ok(Next::At(place)) => {
-                self.place = place;
+            Ok(Next::At(pc)) => {
+                self.pc = pc;
                 self.steps += 1;
                 Ok(())
             }
             Ok(Next::Asks(request)) => self.meet(request, i, screen),
-            Err(refusal) => halt(&mut self.stopped, stop_at(self.place, refusal)),
+            Err(refusal) => halt(&mut self.stopped, stop_at(self.pc, refusal)),
         }
     }
 
@@ -201,7 +201,7 @@ impl Machine {
         requires runs { self.old.stopped ≡ None }
         requires silent { self.old.state.due ≡ [] }
         requires near { i.next ≤ 2 ^ 20 }
-        requires inside { self.old.state.place < i.next }
+        requires inside { self.old.state.pc < i.next }
         ensures step { Settles self.old self.new result
             (asked self.old.state i self.old.state.game request)
             ⊎ ((request ≡ Request.SaveUndo) × LacksMemory self.old self.new result) }
@@ -229,7 +229,7 @@ impl Machine {
         requires free { self.old.waiting ≡ None }
         requires runs { self.old.stopped ≡ None }
         requires near { i.now.next ≤ 2 ^ 20 }
-        requires inside { self.old.state.place < i.now.next }
+        requires inside { self.old.state.pc < i.now.next }
         ensures step { Settles self.old self.new result
             (asked self.old.state i.now self.old.state.game Request.SaveUndo)
             ⊎ LacksMemory self.old self.new result }
@@ -242,15 +242,15 @@ impl Machine {
         if self.limits.undo == 0 {
             self.undo.len();
             let led = answer_result(&mut self.game, i, 0xffff, true);
-            return go_on(&mut self.place, &mut self.steps, &mut self.stopped, led);
+            return go_on(&mut self.pc, &mut self.steps, &mut self.stopped, led);
         }
-        let place = place_of_save(self.game.memory.version(), self.place, i.next);
-        match self.undo.put(&self.game.memory, &self.game.frames, place) {
+        let pc = pc_of_save(self.game.memory.version(), self.pc, i.next);
+        match self.undo.put(&self.game.memory, &self.game.frames, pc) {
             Ok(()) => {}
             Err(_) => return halt(&mut self.stopped, Stop::Memory),
         }
         let led = answer_result(&mut self.game, i, 1, true);
-        go_on(&mut self.place, &mut self.steps, &mut self.stopped, led)
+        go_on(&mut self.pc, &mut self.steps, &mut self.stopped, led)
     }
 
     /// Goes back to the newest state that is kept, and on where it was saved; without one `restore_undo`
@@ -268,13 +268,13 @@ impl Machine {
         ensures limits { self.new.limits ≡ self.old.limits }
     {
         match self.undo.take(&mut self.game.memory, &mut self.game.frames) {
-            Some(place) => {
-                let led = resume(&mut self.game, place);
-                go_on(&mut self.place, &mut self.steps, &mut self.stopped, led)
+            Some(pc) => {
+                let led = resume(&mut self.game, pc);
+                go_on(&mut self.pc, &mut self.steps, &mut self.stopped, led)
             }
             None => {
                 let led = answer_result(&mut self.game, i, 0, false);
-                go_on(&mut self.place, &mut self.steps, &mut self.stopped, led)
+                go_on(&mut self.pc, &mut self.steps, &mut self.stopped, led)
             }
         }
     }
@@ -291,7 +291,7 @@ impl Machine {
         requires runs { self.old.stopped ≡ None }
         requires silent { self.old.state.due ≡ [] }
         requires near { instruction.next ≤ 2 ^ 20 }
-        requires inside { self.old.state.place < instruction.next }
+        requires inside { self.old.state.pc < instruction.next }
         ensures step { Settles self.old self.new result
             (asked self.old.state instruction self.old.state.game (Request.Answer event)) }
         ensures text { S.shows screen.old screen.new (text_of self.old.state
@@ -326,7 +326,7 @@ impl Machine {
         requires runs { self.old.stopped ≡ None }
         requires silent { self.old.state.due ≡ [] }
         requires near { instruction.next ≤ 2 ^ 20 }
-        requires inside { self.old.state.place < instruction.next }
+        requires inside { self.old.state.pc < instruction.next }
         requires read { is_read event ≡ true }
         ensures step { Settles self.old self.new result
             (asked self.old.state instruction self.old.state.game (Request.Answer event)) }
@@ -342,10 +342,10 @@ impl Machine {
     {
         match check_view(&self.game) {
             Ok(()) => {}
-            Err(fault) => return halt(&mut self.stopped, Stop::Fault(self.place, fault)),
+            Err(fault) => return halt(&mut self.stopped, Stop::Fault(self.pc, fault)),
         }
         if self.reads >= MOST_READS {
-            return halt(&mut self.stopped, Stop::Limit(self.place, Limit::Reads));
+            return halt(&mut self.stopped, Stop::Limit(self.pc, Limit::Reads));
         }
         show_view(&mut self.game, screen);
         self.waiting = Some(Waiting {
@@ -369,9 +369,9 @@ impl Machine {
         ensures more { self.old.state.steps ≤ self.new.state.steps }
         ensures limits { self.new.limits ≡ self.old.limits }
     {
-        match decode(&self.game.memory, self.place) {
+        match decode(&self.game.memory, self.pc) {
             Ok(i) => self.advance(i, screen),
-            Err(fault) => halt(&mut self.stopped, Stop::Fault(self.place, fault)),
+            Err(fault) => halt(&mut self.stopped, Stop::Fault(self.pc, fault)),
         }
     }
 
@@ -385,12 +385,12 @@ impl Machine {
         ensures limits { self.new.limits ≡ self.old.limits }
     {
         let most = self.limits.steps - self.steps;
-        let batch = run_ahead(&mut self.game, &mut self.cache, self.place, most);
-        self.place = batch.place;
+        let batch = run_ahead(&mut self.game, &mut self.cache, self.pc, most);
+        self.pc = batch.pc;
         self.steps += batch.made;
         match batch.refused {
             None => Ok(()),
-            Some(refusal) => halt(&mut self.stopped, stop_at(batch.place, refusal)),
+            Some(refusal) => halt(&mut self.stopped, stop_at(batch.pc, refusal)),
         }
     }
 
@@ -414,7 +414,7 @@ impl Machine {
                 Err(halt) => return halt,
             }
             if self.steps >= self.limits.steps {
-                return out_of_steps(self.place);
+                return out_of_steps(self.pc);
             }
             match self.step(screen) {
                 Ok(()) => {}
@@ -424,7 +424,7 @@ impl Machine {
                 return Err(Stop::Write);
             }
         }
-        out_of_steps(self.place)
+        out_of_steps(self.pc)
     }
 
     /// Runs the story up to the next event, a read or a saved game, or its stop, and answers the same stop
@@ -509,7 +509,7 @@ impl Machine {
             let i = &waiting.instruction;
             let answered = answer_line(&mut self.game, &words, i, text, parse, codes);
             count_read(&mut self.reads, &mut self.steps);
-            follow(&mut self.place, &mut self.stopped, answered);
+            follow(&mut self.pc, &mut self.stopped, answered);
             self.is_within();
         }
     }
@@ -533,7 +533,7 @@ impl Machine {
         self.due.clear();
         let answered = answer_character(&mut self.game, &waiting.instruction, code);
         count_read(&mut self.reads, &mut self.steps);
-        follow(&mut self.place, &mut self.stopped, answered);
+        follow(&mut self.pc, &mut self.stopped, answered);
         self.is_within();
     }
 
@@ -550,8 +550,8 @@ impl Machine {
             Some(waiting) => waiting.instruction.next,
             None => 1,
         };
-        let place = place_of_save(self.game.memory.version(), self.place, next);
-        save(alloc, &self.game.memory, &self.game.frames, place)
+        let pc = pc_of_save(self.game.memory.version(), self.pc, next);
+        save(alloc, &self.game.memory, &self.game.frames, pc)
     }
 
     /// Answers whether the saved game was kept (Z-Machine Standards Document 1.1, section 15, `save`). A fault
@@ -572,12 +572,7 @@ impl Machine {
         };
         let word = truth_word(kept);
         let answered = answer_result(&mut self.game, &waiting.instruction, word, kept);
-        let _ = go_on(
-            &mut self.place,
-            &mut self.steps,
-            &mut self.stopped,
-            answered,
-        );
+        let _ = go_on(&mut self.pc, &mut self.steps, &mut self.stopped, answered);
         self.is_within();
     }
 
@@ -601,22 +596,12 @@ impl Machine {
         match file {
             Some(file) => {
                 let answered = restore_from(&mut self.game, &waiting.instruction, file);
-                let _ = go_on(
-                    &mut self.place,
-                    &mut self.steps,
-                    &mut self.stopped,
-                    answered,
-                );
+                let _ = go_on(&mut self.pc, &mut self.steps, &mut self.stopped, answered);
                 self.is_within();
             }
             None => {
                 let answered = answer_result(&mut self.game, &waiting.instruction, 0, false);
-                let _ = go_on(
-                    &mut self.place,
-                    &mut self.steps,
-                    &mut self.stopped,
-                    answered,
-                );
+                let _ = go_on(&mut self.pc, &mut self.steps, &mut self.stopped, answered);
                 self.is_within();
             }
         }
@@ -668,31 +653,31 @@ fn truth_word(truth: bool) -> u16
     if truth { 1 } else { 0 }
 }
 
-/// Where a run goes on from a state that is saved at a place, by an instruction with `next` after it: its branch
+/// Where a run goes on from a state that is saved at an address, by an instruction with `next` after it: its branch
 /// in version 3, its store byte from version 4 on (Quetzal 1.4, section 5).
-fn place_of_save(version: u8, place: u32, next: u32) -> u32
-    requires place { place < 2 ^ 20 }
+fn pc_of_save(version: u8, pc: u32, next: u32) -> u32
+    requires pc { pc < 2 ^ 20 }
     requires next { 1 ≤ next }
-    ensures { result ≡ (if nat_lt version 4 then place + 1 else next - 1) }
+    ensures { result ≡ (if nat_lt version 4 then pc + 1 else next - 1) }
 {
-    if version < 4 { place + 1 } else { next - 1 }
+    if version < 4 { pc + 1 } else { next - 1 }
 }
 
-/// The stop of an instruction at a place that is refused.
-fn stop_at(place: u32, refusal: Refusal) -> Stop
-    ensures { result ≡ stop_by place refusal }
+/// The stop of an instruction at an address that is refused.
+fn stop_at(pc: u32, refusal: Refusal) -> Stop
+    ensures { result ≡ stop_by pc refusal }
 {
     match refusal {
-        Refusal::Fault(fault) => Stop::Fault(place, fault),
-        Refusal::Limit(limit) => Stop::Limit(place, limit),
+        Refusal::Fault(fault) => Stop::Fault(pc, fault),
+        Refusal::Limit(limit) => Stop::Limit(pc, limit),
     }
 }
 
 /// The stop of a machine that has no step left.
-fn out_of_steps(place: u32) -> Halt
-    ensures { result ≡ Err (Stop.Limit place Limit.Steps) }
+fn out_of_steps(pc: u32) -> Halt
+    ensures { result ≡ Err (Stop.Limit pc Limit.Steps) }
 {
-    Err(Stop::Limit(place, Limit::Steps))
+    Err(Stop::Limit(pc, Limit::Steps))
 }
 
 /// Stops a machine.
@@ -706,25 +691,25 @@ fn halt(stopped: &mut Option<Stop>, stop: Stop) -> Result<(), Halt>
 
 /// Goes on by one step where an instruction leads that was finished in silence, or stops.
 fn go_on(
-    place: &mut u32,
+    pc: &mut u32,
     steps: &mut u32,
     stopped: &mut Option<Stop>,
     led: Result<u32, Refusal>,
 ) -> Result<(), Halt>
     requires { steps.old + 1 < 2 ^ 32 }
-    ensures value { result ≡ halt_by (verdict_by place.old led) }
-    ensures place { place.new ≡ place_by place.old led }
+    ensures value { result ≡ halt_by (verdict_by pc.old led) }
+    ensures pc { pc.new ≡ pc_by pc.old led }
     ensures steps { steps.new ≡ steps_by steps.old led }
     ensures more { steps.old ≤ steps.new }
-    ensures stopped { stopped.new ≡ stopped_by stopped.old (verdict_by place.old led) }
+    ensures stopped { stopped.new ≡ stopped_by stopped.old (verdict_by pc.old led) }
 {
     match led {
         Ok(next) => {
-            *place = next;
+            *pc = next;
             *steps += 1;
             Ok(())
         }
-        Err(refusal) => halt(stopped, stop_at(*place, refusal)),
+        Err(refusal) => halt(stopped, stop_at(*pc, refusal)),
     }
 }
 
@@ -739,13 +724,13 @@ fn count_read(reads: &mut u32, steps: &mut u32)
 }
 
 /// Goes on where the answer to a read leads, or stops.
-fn follow(place: &mut u32, stopped: &mut Option<Stop>, answered: Result<u32, Refusal>)
-    ensures place { place.new ≡ place_by place.old answered }
-    ensures stopped { stopped.new ≡ stopped_by stopped.old (verdict_by place.old answered) }
+fn follow(pc: &mut u32, stopped: &mut Option<Stop>, answered: Result<u32, Refusal>)
+    ensures pc { pc.new ≡ pc_by pc.old answered }
+    ensures stopped { stopped.new ≡ stopped_by stopped.old (verdict_by pc.old answered) }
 {
     match answered {
-        Ok(next) => *place = next,
-        Err(refusal) => *stopped = Some(stop_at(*place, refusal)),
+        Ok(next) => *pc = next,
+        Err(refusal) => *stopped = Some(stop_at(*pc, refusal)),
     }
 }
 
@@ -772,9 +757,9 @@ fn restore_from(game: &mut GameState, i: &Instr, file: &[u8]) -> Result<u32, Ref
     ensures bounds { bounds_of game.new.frames ≡ bounds_of game.old.frames }
 {
     match restore(file, &mut game.memory, &mut game.frames) {
-        Ok(place) => {
+        Ok(pc) => {
             game.close_windows();
-            resume(game, place)
+            resume(game, pc)
         }
         Err(error) => match limit_in(error) {
             Some(limit) => Err(Refusal::Limit(limit)),

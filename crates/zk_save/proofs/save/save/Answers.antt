@@ -22,12 +22,12 @@ returns-clause-value c =
     let d : List ℕ = c.in_ok-stack.stack.items in
     let items : c.put_chunk-2.new.out.items ≡ codes "IFZS" ++ chunk_bytes (record { name = codes "IFhd"; content = a }) ++ chunk_bytes part ++ chunk_bytes (record { name = codes "Stks"; content = d }) = search rules in
     let file : c.put_chunk-3.new.out.items ≡ chunk_bytes (record { name = codes "FORM"; content = c.put_chunk-2.new.out.items }) = search rules in
-    let story : a ≡ story_content m.file c.args.place = c.in_ok-story.ensures.value in
+    let story : a ≡ story_content m.file c.args.pc = c.in_ok-story.ensures.value in
     let stack : d ≡ stack_content (reverse (frames_of c.args.frames.now)) = c.in_ok-stack.ensures.value in
     file
     ∙ ap (λ (l : List ℕ). chunk_bytes (record { name = codes "FORM"; content = l })) (items ∙ inner_is a part d)
     ∙ ap (λ (l : List ℕ). form_bytes (three l part d)) story
-    ∙ ap (λ (l : List ℕ). form_bytes (three (story_content m.file c.args.place) part l)) stack
+    ∙ ap (λ (l : List ℕ). form_bytes (three (story_content m.file c.args.pc) part l)) stack
 
 pub returns-clause-len : goal.returns-clause-len
 unfolding form_bytes

@@ -11,7 +11,7 @@ loop-k-preserved c =
     record {
       so_far = rw c.push.ensures.items (sym step ∙ c.loop-k.invariant.so_far);
       many = grind (arith, common_steps);
-      place = omega arith;
+      pc = omega arith;
     }
 
 pub returns : goal.returns

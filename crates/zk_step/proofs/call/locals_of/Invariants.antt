@@ -6,5 +6,5 @@ abbrev pub invariant-loop-k : goal.invariant-loop-k
 invariant-loop-k l = record {
   so_far : l.locals.items ++ with_arguments (initial_values l.memory l.at (l.count - l.k)) (drop l.k l.arguments) ≡ with_arguments (initial_values l.memory l.values l.count) l.arguments;
   many : length l.locals.items ≡ l.k;
-  place : l.at ≡ l.values + 2 * l.k;
+  pc : l.at ≡ l.values + 2 * l.k;
 }

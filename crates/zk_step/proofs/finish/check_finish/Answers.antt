@@ -2,7 +2,7 @@ use Rattle.std.proofs.Common.{rules}
 use Rattle.zk_step.specs.Routing.{with_line_start}
 use Rattle.zk_step.proofs.Plain.{plain_by}
 use Rattle.zk_step.proofs.Steps.{goes_on_next}
-use Rattle.zk_step.proofs.WithinBounds.{place_refused}
+use Rattle.zk_step.proofs.WithinBounds.{pc_refused}
 use Rattle.zk_step.specs.Finish.{finished}
 use Rattle.zk_step.proofs.finish.check_finish.Goals as goal
 
@@ -16,4 +16,4 @@ returns-in_default c =
 
 pub returns-in-Err-clause-err : goal.returns-in-Err-clause-err
 unfolding finished
-returns-in-Err-clause-err c = λ b. rw c.in-Return.is (place_refused _ _ (c.in-Err.ensures.err c.in-Return.field-0 b))
+returns-in-Err-clause-err c = λ b. rw c.in-Return.is (pc_refused _ _ (c.in-Err.ensures.err c.in-Return.field-0 b))

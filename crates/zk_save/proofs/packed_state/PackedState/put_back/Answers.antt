@@ -20,7 +20,7 @@ returns-clause-state c =
     let turned : c.turn.new.memory ≡ with_bytes c.reset.new.self (xored c.reset.new.self.bytes ds) = c.turn.ensures.turned ds given base in
     let memory = turned_again m c.reset.new.self c.turn.new.memory c.settle.new.self c.flags-flags.result ds le c.flags-flags.ensures c.reset.ensures turned c.settle.ensures in
     let frames = ap (λ (x : KeptState). x.frames) c.self.view_is in
-    λ others. goes_back m.file k m c.settle.new.self c.args.frames.now c.put_back.new.self c.self.inside.place others memory (rw frames at c.put_back.ensures) (ap (λ (x : KeptState). x.place) c.self.view_is)
+    λ others. goes_back m.file k m c.settle.new.self c.args.frames.now c.put_back.new.self c.self.inside.pc others memory (rw frames at c.put_back.ensures) (ap (λ (x : KeptState). x.pc) c.self.view_is)
 
 pub returns-clause-base : goal.returns-clause-base
 returns-clause-base c = settled_base c.turn.new.memory c.settle.new.self c.flags-flags.result c.settle.ensures ∙ c.turn.ensures.base ∙ ap (λ (x : MemoryMap). x.static_base) c.reset.ensures

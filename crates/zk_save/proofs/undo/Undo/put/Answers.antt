@@ -17,7 +17,7 @@ unfolding states_in
 returns-clause-ok c =
     let fits = rw c.in-Some.is at c.self.invariant.fits in
     rw (← c.self.view_is, c.in-Some.is, c.push_back.ensures.items, fits.0, ring_put c.in-Some.ring.items c.in_ok-kept.kept c.self.inside.most)
-    (states_put c.args.memory.now.file c.self.inside.most c.in_ok-kept.kept (state_of c.args.memory.now c.args.frames.now c.args.place) (reverse c.in-Some.ring.items) c.in_ok-kept.ensures.state)
+    (states_put c.args.memory.now.file c.self.inside.most c.in_ok-kept.kept (state_of c.args.memory.now c.args.frames.now c.args.pc) (reverse c.in-Some.ring.items) c.in_ok-kept.ensures.state)
 
 pub returns-clause-are_of : goal.returns-clause-are_of
 unfolding AreOf

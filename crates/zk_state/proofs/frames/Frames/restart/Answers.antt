@@ -16,7 +16,7 @@ invariant_of-self c =
       size = i.size;
       frames = omega (arith, i.frames);
       frame_room = i.frame_room;
-      current = record { short = omega arith; supplied = omega arith; place = omega arith };
+      current = record { short = omega arith; supplied = omega arith; pc = omega arith };
       callers = All-nil IsRecord;
       first = first_alone [] refl;
       few_frames = i.few_frames;

@@ -22,7 +22,7 @@ pub returns-in-Ok-At-clause-step : goal.returns-in-Ok-At-clause-step
 returns-in-Ok-At-clause-step g c =
     let fetched = rw (← c.self.view_is) at c.requires.fetched in
     let value = rw c.in-Ok-At.field-0-is at c.in-Ok-At.ensures.value in
-    rw (← c.self.view_is) (stepped_on g.S.Screen.shows _ _ c.self.inside c.args.i c.carry_out.new.game c.in-Ok-At.place _ fetched value c.in-Ok-At.ensures.text)
+    rw (← c.self.view_is) (stepped_on g.S.Screen.shows _ _ c.self.inside c.args.i c.carry_out.new.game c.in-Ok-At.pc _ fetched value c.in-Ok-At.ensures.text)
 
 pub returns-in-Ok-Asks-clause-step : goal.returns-in-Ok-Asks-clause-step
 returns-in-Ok-Asks-clause-step g c =

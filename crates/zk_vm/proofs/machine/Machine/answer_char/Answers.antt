@@ -15,6 +15,6 @@ pub returns-clause-left : goal.returns-clause-left
 returns-clause-left c =
     let waits = sym c.in-Some.ensures.value in
     let asked = rw (← c.self.view_is) at c.requires.waits in
-    let left = char_answered c.self.inside c.in-Some.waiting c.args.code c.clear.new.self.items c.answer_character-answered.result c.answer_character-answered.new.game c.follow.new.place c.follow.new.stopped c.self.invariant waits asked c.clear.ensures
-    c.answer_character-answered.ensures.value c.follow.ensures.place c.follow.ensures.stopped in
+    let left = char_answered c.self.inside c.in-Some.waiting c.args.code c.clear.new.self.items c.answer_character-answered.result c.answer_character-answered.new.game c.follow.new.pc c.follow.new.stopped c.self.invariant waits asked c.clear.ensures
+    c.answer_character-answered.ensures.value c.follow.ensures.pc c.follow.ensures.stopped in
     rw (c.in-Some.ensures.after, c.count_read.ensures.reads, c.count_read.ensures.steps, ← c.self.view_is) left

@@ -12,6 +12,6 @@ invariant_of-self-in-Line c =
 pub returns-in-Line-clause-left : goal.returns-in-Line-clause-left
 returns-in-Line-clause-left c =
     let waits = sym c.in-Some.ensures.value in
-    let left = line_typed c.self.inside c.in-Some.waiting c.in-Line.text c.in-Line.parse c.args.codes.now c.transcribe-self-inside.result.items c.answer_line-answered.result c.answer_line-answered.new.game c.follow.new.place c.follow.new.stopped c.self.invariant waits c.in-Line.is
-    c.transcribe-self-inside.ensures c.answer_line-answered.ensures.value c.follow.ensures.place c.follow.ensures.stopped in
+    let left = line_typed c.self.inside c.in-Some.waiting c.in-Line.text c.in-Line.parse c.args.codes.now c.transcribe-self-inside.result.items c.answer_line-answered.result c.answer_line-answered.new.game c.follow.new.pc c.follow.new.stopped c.self.invariant waits c.in-Line.is
+    c.transcribe-self-inside.ensures c.answer_line-answered.ensures.value c.follow.ensures.pc c.follow.ensures.stopped in
     rw (c.in-Some.ensures.after, c.count_read.ensures.reads, c.count_read.ensures.steps, ← c.self.view_is) left

@@ -13,7 +13,7 @@ invariant_of-self c =
 pub returns-in-None-clause-ahead : goal.returns-in-None-clause-ahead
 returns-in-None-clause-ahead c =
     let quiet_steps = rw c.in-None.is at c.run_ahead-batch.ensures.goes in
-    rw (← c.self.view_is) (seen_ahead c.self.inside c.run_ahead-batch.result.made c.run_ahead-batch.new.game c.run_ahead-batch.result.place quiet_steps)
+    rw (← c.self.view_is) (seen_ahead c.self.inside c.run_ahead-batch.result.made c.run_ahead-batch.new.game c.run_ahead-batch.result.pc quiet_steps)
 
 pub returns-in-Some-clause-ahead : goal.returns-in-Some-clause-ahead
 returns-in-Some-clause-ahead c =
@@ -21,4 +21,4 @@ returns-in-Some-clause-ahead c =
     let refused = rw c.in-Some.is at c.run_ahead-batch.ensures.goes in
     let room = rw c.in-Some.is at c.run_ahead-batch.ensures.room in
     let tells = rw c.stop_at.ensures at c.halt.ensures.value in
-    rw (← c.self.view_is) (seen_stop _ _ _ c.run_ahead-batch.result.made c.run_ahead-batch.result.place c.in-Some.refusal tells room refused free)
+    rw (← c.self.view_is) (seen_stop _ _ _ c.run_ahead-batch.result.made c.run_ahead-batch.result.pc c.in-Some.refusal tells room refused free)

@@ -5,7 +5,7 @@ use Rattle.zk_vm.proofs.machine.Machine.step.Goals as goal
 
 pub advance-requires-clause-inside : goal.advance-requires-clause-inside
 advance-requires-clause-inside g c =
-    let ends = ends_inside c.self.inside.game.memory c.self.inside.place c.in-Ok.i c.in-Ok.i.next c.in-Ok.ensures.found in
+    let ends = ends_inside c.self.inside.game.memory c.self.inside.pc c.in-Ok.i c.in-Ok.i.next c.in-Ok.ensures.found in
     rw (← c.self.view_is) ends.0
 
 pub returns-in-Err-clause-step : goal.returns-in-Err-clause-step

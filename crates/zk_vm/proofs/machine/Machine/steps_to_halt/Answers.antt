@@ -35,7 +35,7 @@ returns-then-self-clause-run g c =
     let out : mid.limits.steps ≤ mid.state.steps = omega (arith, steps, most, c.if-self.true) in
     let on = follows_ahead g.S.Screen.shows _ _ _ _ mid c.loop-i.invariant.on runs c.in-Ok.ensures.ahead few in
     let free = ap (λ (m : Session). m.waiting) on.left ∙ c.requires.free in
-    rw c.out_of_steps.ensures (inl (follows_limit g.S.Screen.shows _ _ _ _ _ on out (ap (λ (m : Session). m.state.place) c.self-in-loop-i.view_is) free (g.met.S.Screen.nothing _)))
+    rw c.out_of_steps.ensures (inl (follows_limit g.S.Screen.shows _ _ _ _ _ on out (ap (λ (m : Session). m.state.pc) c.self-in-loop-i.view_is) free (g.met.S.Screen.nothing _)))
 
 pub returns-in-Err-step-clause-run : goal.returns-in-Err-step-clause-run
 returns-in-Err-step-clause-run g c =
@@ -54,7 +54,7 @@ returns-clause-run g c =
     let free = ap (λ (m : Session). m.waiting) c.loop-i.invariant.on.left ∙ c.requires.free in
     let most = ap (λ (m : Session). m.limits.steps) c.loop-i.invariant.on.left in
     let out : c.loop-i.self.limits.steps ≤ c.loop-i.self.state.steps = omega (arith, most, c.loop-i-test.false, c.loop-i.invariant.count, c.loop-i.invariant.limit) in
-    rw c.out_of_steps-2.ensures (inl (follows_limit g.S.Screen.shows _ _ _ _ _ c.loop-i.invariant.on out (ap (λ (m : Session). m.state.place) c.self-2.view_is) free (g.met.S.Screen.nothing _)))
+    rw c.out_of_steps-2.ensures (inl (follows_limit g.S.Screen.shows _ _ _ _ _ c.loop-i.invariant.on out (ap (λ (m : Session). m.state.pc) c.self-2.view_is) free (g.met.S.Screen.nothing _)))
 
 pub loop-i-init : goal.loop-i-init
 loop-i-init g c = record {
