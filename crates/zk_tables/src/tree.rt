@@ -9,7 +9,8 @@ ghost use Rattle.zk_tables.specs.Tree.{naming_of, unlinked_where, removed, linke
 use crate::chain::{count_chain, find_naming};
 use crate::layout::{count_entries, entry};
 use crate::links::{
-    LinkPlace, Links, check_writes, child_link, parent_link, read_link, sibling_link, write_link,
+    LinkPlace, WalkCount, check_writes, child_link, parent_link, read_link, sibling_link,
+    write_link,
 };
 use zk_mem::fault::Fault;
 use zk_mem::memory::Memory;
