@@ -7,11 +7,11 @@ ghost use Rattle.zk_command.specs.LastLine.{IsExplained, TookExplained, TookWord
 ghost use Rattle.zk_command.specs.Status.{exit_status};
 
 use crate::about::About;
+use crate::arguments::NO_TEXT;
 use crate::exit::Exit;
 use crate::reason::Reason;
 use crate::shown::Shown;
 use crate::watched::Notes;
-use crate::words::NO_TEXT;
 use itoa::Buffer;
 use std::alloc::{AllocError, Global};
 use std::io::{self, ErrorKind};
