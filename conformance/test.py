@@ -1,7 +1,7 @@
 #!/usr/bin/env python3
 """Runs the tests of all libraries, those of conformance/tests too, in a copy of the repository, and proves nothing.
 
-usage: conformance/test
+usage: conformance/test.py
 
 They are compiled with checks by `rt try --test`: each that fails is told, and the status is then 1.
 """

@@ -1,7 +1,7 @@
 #!/usr/bin/env python3
-"""Plays a story by the library for C, with the words that `conformance/run` gives a command.
+"""Plays a story by the library for C, with the words that `conformance/run.py` gives a command.
 
-usage: conformance/run conformance/embedded LIBRARY
+usage: conformance/run.py conformance/embedded.py LIBRARY
 
 LIBRARY is the shared object that `examples/embed/make` makes. examples/embed/play.py plays; what is here are the options
 of `zkit play`, of which the example has none.

@@ -1,7 +1,7 @@
 #!/usr/bin/env python3
 """Measures what it takes to prove each crate from nothing, and prints the table of docs/PROVING.md, or writes it there.
 
-usage: docs/gate-times [--write] [--jobs N]
+usage: docs/gate_times.py [--write] [--jobs N]
 
 Each crate is checked in a copy of the repository over nothing that was kept, by one job. How long a function takes is read
 off the files that the check leaves, by the times at which they were written.
@@ -21,7 +21,7 @@ import threading
 
 TOP = pathlib.Path(__file__).resolve().parent.parent
 PAGE = TOP / "docs/PROVING.md"
-BEGIN, END = "<!-- the table of docs/gate-times begins -->\n", "<!-- the table of docs/gate-times ends -->\n"
+BEGIN, END = "<!-- the table of docs/gate_times.py begins -->\n", "<!-- the table of docs/gate_times.py ends -->\n"
 DEAREST = 3
 
 
@@ -113,7 +113,7 @@ def table(rows):
 
 
 def main():
-    words = argparse.ArgumentParser(prog="docs/gate-times", description=__doc__.split("\n")[0])
+    words = argparse.ArgumentParser(prog="docs/gate_times.py", description=__doc__.split("\n")[0])
     words.add_argument("--write", action="store_true", help="write the table into docs/PROVING.md")
     words.add_argument("--jobs", type=int, default=1, help="how many crates are checked side by side")
     options = words.parse_args()

@@ -1,9 +1,9 @@
 #!/usr/bin/env python3
 """Runs the program with each of its allocations refused in turn, and tells which runs come as README.md says.
 
-usage: conformance/failures [-v] COMMAND
+usage: conformance/failures.py [-v] COMMAND
 
-COMMAND is the program itself, which is built already and no script, as `conformance/failures crates/zkit/out/zkit`.
+COMMAND is the program itself, which is built already and no script, as `conformance/failures.py crates/zkit/out/zkit`.
 README.md ("Refused memory") says what may come of a refused allocation. It takes a C compiler.
 """
 

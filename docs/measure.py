@@ -1,7 +1,7 @@
 #!/usr/bin/env python3
 """Measures how fast zkit plays stories beside two other interpreters, and prints one table.
 
-usage: docs/measure [--rounds N] [--count] [--zkit PATH] [--dfrotz PATH] [--bocfel PATH] [STORY | STORY:LINES]...
+usage: docs/measure.py [--rounds N] [--count] [--zkit PATH] [--dfrotz PATH] [--bocfel PATH] [STORY | STORY:LINES]...
 
 The others are dfrotz 2.55 and bocfel 2.5:
 
@@ -33,7 +33,7 @@ OPTIONS = {"zkit": "play --steps 1000000000", "dfrotz": "-q -m -w 80 -s 1", "boc
 
 
 def fail(text):
-    sys.exit(f"docs/measure: {text}")
+    sys.exit(f"docs/measure.py: {text}")
 
 
 def command_of(name, given):
@@ -83,7 +83,7 @@ def ratio(times):
 
 
 def main():
-    words = argparse.ArgumentParser(prog="docs/measure", description=__doc__.split("\n")[0])
+    words = argparse.ArgumentParser(prog="docs/measure.py", description=__doc__.split("\n")[0])
     words.add_argument("--rounds", type=int, default=9, metavar="N", help="how often each program plays each story; 9")
     words.add_argument("--count", action="store_true", help="count instructions of the processor too, by valgrind")
     for name in OPTIONS:

@@ -1,7 +1,7 @@
 #!/usr/bin/env python3
 """Plays the rows of this folder with an interpreter, and tells which of them agree.
 
-usage: conformance/run [-v] [--screen-only] [--only WORDS] COMMAND...
+usage: conformance/run.py [-v] [--screen-only] [--only WORDS] COMMAND...
 
 Each row is played by `COMMAND STORY`, for each of its versions. README.md describes the rows.
 """
@@ -297,7 +297,7 @@ def table_line(name, count):
 
 
 def main():
-    words = argparse.ArgumentParser(prog="conformance/run", description=__doc__.split("\n")[0])
+    words = argparse.ArgumentParser(prog="conformance/run.py", description=__doc__.split("\n")[0])
     words.add_argument("-v", action="store_true", help="name each row that differs")
     words.add_argument(
         "--screen-only",

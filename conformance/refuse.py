@@ -1,7 +1,7 @@
 #!/usr/bin/env python3
 """Asks the prover whether it refuses the wrong bodies and wrong definitions of conformance/refused.
 
-usage: conformance/refuse [--changed BASE] [--sample N] [--into FOLDER] [CRATE...]
+usage: conformance/refuse.py [--changed BASE] [--sample N] [--into FOLDER] [CRATE...]
 
 Each edit is given back to its crate as a must-fail edit, in a copy of the repository, and `rt must-fail` tries it there.
 README.md describes the edits and what a try may come to.
@@ -143,7 +143,7 @@ def tried(folder, crates):
 
 
 def main():
-    words = argparse.ArgumentParser(prog="conformance/refuse", description=__doc__.split("\n")[0])
+    words = argparse.ArgumentParser(prog="conformance/refuse.py", description=__doc__.split("\n")[0])
     words.add_argument("crates", nargs="*", metavar="CRATE", help="only edits of these crates")
     words.add_argument("--changed", metavar="BASE", help="only edits of crates that were changed since a commit, and of those above whose clauses were")
     words.add_argument("--sample", type=int, metavar="N", help="only so many, chosen by the commit")

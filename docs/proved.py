@@ -1,7 +1,7 @@
 #!/usr/bin/env python3
 """Looks whether what docs/PROVED.md cites is there: each call and clause, each law and definition, each file.
 
-usage: docs/proved
+usage: docs/proved.py
 
 A row of a table of promises cites, in its second column, in parts that semicolons divide:
 
@@ -18,25 +18,16 @@ A row of the table of what callers have to meet cites calls likewise, each with 
 that have one; and each public function with such a clause stands there.
 """
 
-import importlib.machinery
-import importlib.util
 import re
 import sys
 from pathlib import Path
+
+import definitions
 
 TOP = Path(__file__).resolve().parent.parent
 PAGE = TOP / "docs" / "PROVED.md"
 PROMISES = ["Promise", "Carried by", "Files"]
 DUTIES = ["Call", "What it asks for", "Files"]
-
-
-def load_definitions():
-    """The script docs/definitions, which reads specs and sources."""
-    sys.dont_write_bytecode = True
-    loader = importlib.machinery.SourceFileLoader("definitions", str(TOP / "docs" / "definitions"))
-    module = importlib.util.module_from_spec(importlib.util.spec_from_loader("definitions", loader))
-    loader.exec_module(module)
-    return module
 
 
 def rows_of(text):
@@ -60,7 +51,7 @@ def names_in(text):
 class Book:
     """What is there: functions and definitions by their files, and the texts of the files."""
 
-    def __init__(self, definitions):
+    def __init__(self):
         self.functions = {}
         self.specs = {}
         self.texts = {}
@@ -216,7 +207,7 @@ def look_at_duty(row, called):
 
 
 def main():
-    book = Book(load_definitions())
+    book = Book()
     complaints = []
     listed = []
     count = 0

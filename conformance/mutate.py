@@ -1,7 +1,7 @@
 #!/usr/bin/env python3
 """Makes mutants of the code, one after another, and tells which of them no row and no test refuses.
 
-usage: conformance/mutate [-v] [--only WORDS]... [--first WORDS] [--jobs N] [--seconds N]
+usage: conformance/mutate.py [-v] [--only WORDS]... [--first WORDS] [--jobs N] [--seconds N]
 
 The edits are those of crates/*/must-fail and of conformance/refused that change code, and those of conformance/mutants.
 README.md describes them.
@@ -10,8 +10,6 @@ README.md describes them.
 import argparse
 import concurrent.futures
 import functools
-import importlib.machinery
-import importlib.util
 import os
 import pathlib
 import re
@@ -21,6 +19,9 @@ import subprocess
 import sys
 import tempfile
 import time
+
+import run
+import test
 
 FOLDER = pathlib.Path(__file__).resolve().parent
 TOP = FOLDER.parent
@@ -49,15 +50,6 @@ TURNING_C = """static unsigned number;
 void turn_to(unsigned wanted) { number = wanted; }
 unsigned turned(void) { return number; }
 """
-
-
-def script(name):
-    """A script beside this one: `run`, which reads the rows, or `test`, which adds the tests that are not proved."""
-    sys.dont_write_bytecode = True
-    loader = importlib.machinery.SourceFileLoader(f"conformance_{name}", str(FOLDER / name))
-    module = importlib.util.module_from_spec(importlib.util.spec_from_loader(loader.name, loader))
-    loader.exec_module(module)
-    return module
 
 
 class BadEdit(Exception):
@@ -417,7 +409,7 @@ def write_copy(folder, edits):
         path = folder / "crates" / name
         path.parent.mkdir(parents=True)
         path.write_text(text, encoding="utf-8")
-    script("test").add_tests(folder / "crates")
+    test.add_tests(folder / "crates")
     name, long, short = SHORTER
     path = folder / "crates" / name
     path.write_text(path.read_text(encoding="utf-8").replace(long, short), encoding="utf-8")
@@ -520,7 +512,7 @@ def part(content):
     return len(content).to_bytes(4, "big") + content
 
 
-def bundled(run, row, version):
+def bundled(row, version):
     """A row as the player reads it."""
     status = run.STATUS[row.end.split()[0]]
     line = b"" if status == 0 else f"zkit: {row.end}\n".encode()
@@ -540,14 +532,13 @@ def limits_for(row):
     return (0, 0) if row.end.startswith("limit") else (WORDS, STEPS)
 
 
-def is_slow(run, row, version):
+def is_slow(row, version):
     """Whether a row takes long: it ends at a limit, or its story goes on past address 65535."""
     return row.end.startswith("limit") or len(run.story(row, version)) > 0x10000
 
 
 def write_bundles(folder, first):
     """Writes the files `rows` and `slow`, which the player reads; rows whose place has some words come first."""
-    run = script("run")
     bundles = {"rows": [], "slow": []}
     rows = [row for path in sorted(FOLDER.glob("*.rows")) for row in run.read_rows(path)]
     rows.sort(key=lambda row: first not in f"{row.place} {row.name}")
@@ -556,8 +547,8 @@ def write_bundles(folder, first):
         for row in rows:
             # One version is enough of a row that ends at a limit.
             if version == row.versions[0] or version in row.versions and not row.end.startswith("limit"):
-                name = "slow" if is_slow(run, row, version) else "rows"
-                bundles[name].append(bundled(run, row, version))
+                name = "slow" if is_slow(row, version) else "rows"
+                bundles[name].append(bundled(row, version))
     for name, rows in bundles.items():
         (folder / name).write_bytes(b"".join(rows))
 
@@ -739,7 +730,7 @@ def stop(message):
 def main():
     for number in (signal.SIGINT, signal.SIGTERM):
         signal.signal(number, lambda it, _: end_all(128 + it))
-    words = argparse.ArgumentParser(prog="conformance/mutate", description=__doc__.split("\n")[0])
+    words = argparse.ArgumentParser(prog="conformance/mutate.py", description=__doc__.split("\n")[0])
     words.add_argument("-v", action="store_true", help="name for each edit what refuses it")
     words.add_argument("--only", action="append", help="try only edits whose name or file has these words, or others")
     words.add_argument("--first", default="", help="play the rows first whose file or name has these words, or `tests`")

@@ -1,9 +1,9 @@
 #!/usr/bin/env python3
 """Tells what zkit says of a part of the Standard: its definitions, what carries and guards them, and the rows.
 
-usage: docs/definitions QUERY..    prints what there is on each query, and fails where there is nothing
-       docs/definitions            writes docs/DEFINITIONS.md, the table of all sections
-       docs/definitions --check    writes nothing, and fails where the page is not what it would write
+usage: docs/definitions.py QUERY..    prints what there is on each query, and fails where there is nothing
+       docs/definitions.py            writes docs/DEFINITIONS.md, the table of all sections
+       docs/definitions.py --check    writes nothing, and fails where the page is not what it would write
 
 A query is one of these:
 
@@ -62,13 +62,13 @@ HEAD = """\
 # Definitions
 
 What zkit has on each section of the Z-Machine Standards Document 1.1, and of Quetzal 1.4: the definitions that its
-contracts cite, their examples, and rows of conformance. `docs/definitions` wrote this page from `crates/*/specs`,
+contracts cite, their examples, and rows of conformance. `docs/definitions.py` wrote this page from `crates/*/specs`,
 `crates/*/src` and `conformance/*.rows`: change those, run it, and leave the page alone. It also prints the rest:
 
 ```
-docs/definitions 12.4           what there is on a section, with those inside it; 12 is a chapter
-docs/definitions print_paddr    on an opcode
-docs/definitions dictionary     on a word of a definition's name or meaning
+docs/definitions.py 12.4           what there is on a section, with those inside it; 12 is a chapter
+docs/definitions.py print_paddr    on an opcode
+docs/definitions.py dictionary     on a word of a definition's name or meaning
 ```
 
 Of each definition it prints the kind, the meaning, the file and the line, the public functions that carry it, the
@@ -1001,7 +1001,7 @@ def print_answers(queries):
         print("\n\n".join("\n".join(answer_lines(found)) for found in answers if found))
     for query, found in zip(queries, answers):
         if not found:
-            print(f"docs/definitions: there is nothing on {query}", file=sys.stderr)
+            print(f"docs/definitions.py: there is nothing on {query}", file=sys.stderr)
     return 0 if all(answers) else 1
 
 
@@ -1015,7 +1015,7 @@ def check_page():
     """Fails where the page is not what it would be."""
     if PAGE.exists() and PAGE.read_text("utf-8") == page(read_book()):
         return 0
-    print("docs/DEFINITIONS.md is not what docs/definitions writes: run it", file=sys.stderr)
+    print("docs/DEFINITIONS.md is not what docs/definitions.py writes: run it", file=sys.stderr)
     return 1
 
 

@@ -1,9 +1,9 @@
 #!/usr/bin/env python3
 """Runs the program on words and files, and tells which cases come as docs/manual/playing.md says.
 
-usage: conformance/program [-v] COMMAND...
+usage: conformance/program.py [-v] COMMAND...
 
-COMMAND is the program with nothing after it, as `conformance/program crates/zkit/out/zkit`. Each case below has
+COMMAND is the program with nothing after it, as `conformance/program.py crates/zkit/out/zkit`. Each case below has
 the words, what standard output shows, the last line of standard error and the status.
 """
 
