@@ -3,13 +3,17 @@
 
 usage: conformance/run.py conformance/embedded.py LIBRARY
 
-LIBRARY is the shared object that `examples/embed/make` makes. examples/embed/play.py plays; what is here are the options
-of `zkit play`, of which the example has none.
+LIBRARY is the shared object that `examples/embed/make` makes. examples/embed/play.py plays; what is here are the
+options of `zkit play`, of which the example has none.
 """
 
+from __future__ import annotations
+
 import argparse
+import ctypes
 import pathlib
 import sys
+from collections.abc import Iterator
 
 TOP = pathlib.Path(__file__).resolve().parent.parent
 sys.dont_write_bytecode = True
@@ -21,30 +25,32 @@ import play  # noqa: E402: it stands in the folder that was just named
 class Game(play.Game):
     """A story whose saved game is kept in a file, if one is named, and whose transcript is collected."""
 
-    def __init__(self, library, story, settings, save):
+    def __init__(self, library: ctypes.CDLL, story: bytes, settings: dict[str, int], save: pathlib.Path | None) -> None:
         super().__init__(library, story, settings)
         self.save = save
         self.script = b""
 
-    def turn(self):
+    def turn(self) -> int:
         asked = super().turn()
         self.script += self.text("transcript")
         return asked
 
-    def keep(self):
+    def keep(self) -> None:
         if self.save is None:
             self.call("saved", 0)
             return
         super().keep()
-        self.save.write_bytes(self.saved)
+        if self.saved is not None:
+            self.save.write_bytes(self.saved)
 
-    def answer(self, asked, lines):
+    def answer(self, asked: int, lines: Iterator[bytes]) -> bool:
         if asked == play.RESTORE and self.save and self.save.exists():
             self.saved = self.save.read_bytes()
         return super().answer(asked, lines)
 
 
-def main():
+def main() -> int:
+    """Plays the story that the command line names, and answers the status."""
     parser = argparse.ArgumentParser(description=__doc__, formatter_class=argparse.RawDescriptionHelpFormatter)
     parser.add_argument("library")
     for name, value in play.SETTINGS.items():

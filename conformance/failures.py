@@ -7,6 +7,8 @@ COMMAND is the program itself, which is built already and no script, as `conform
 README.md ("Refused memory") says what may come of a refused allocation. It takes a C compiler.
 """
 
+from __future__ import annotations
+
 import collections
 import concurrent.futures
 import os
@@ -16,6 +18,8 @@ import shutil
 import subprocess
 import sys
 import tempfile
+from collections.abc import Iterator, Sequence
+from typing import NamedTuple
 
 SECONDS = 20
 EXAMPLES = pathlib.Path(__file__).resolve().parent.parent / "examples"
@@ -24,7 +28,8 @@ MOST = 1_000
 # So many at both ends of such a run are taken all the same.
 ENDS = 50
 
-# Counts the allocations from `main` on, refuses the one whose number REFUSED says, and leaves their count in the file ASKED.
+# Counts the allocations from `main` on, refuses the one whose number REFUSED says, and leaves their count in the file
+# ASKED.
 PRELOADED = """
 #define _GNU_SOURCE
 #include <dlfcn.h>
@@ -74,7 +79,8 @@ int __libc_start_main(main_function *main, int count, char **words, void (*begin
     const char *number = getenv("REFUSED");
     refused = number ? atol(number) : 0;
     real_main = main;
-    return ((start_function *)dlsym(RTLD_NEXT, "__libc_start_main"))(counted_main, count, words, begin, end, unload, stack);
+    start_function *start = dlsym(RTLD_NEXT, "__libc_start_main");
+    return start(counted_main, count, words, begin, end, unload, stack);
 }
 
 __attribute__((destructor)) static void tell(void) {
@@ -91,11 +97,6 @@ OLD_SCRIPT = b"an old transcript"
 NO_MEMORY = b"zkit: out of memory\n"
 NOT_SAVED = re.compile(rb"(?<=: the game was not saved: ).*")
 
-# What is run: its words, `story` among them; what is typed; the saved game that is there before; the status with memory.
-Plan = collections.namedtuple("Plan", "name words story typed old status", defaults=(b"", None, 0))
-# What came of a run: how many allocations it asked for, then all that can be seen of it.
-Came = collections.namedtuple("Came", "asked status shown told kept said story names")
-
 # Restores a game, saves another, and restores that; the input ends there.
 RESTORED = b"restore\ninventory\ndrop letter\nsave\ntake letter\nrestore\ninventory\n"
 # A story of version 5 that keeps a state by `save_undo`, shows the answer and ends.
@@ -106,14 +107,46 @@ SECTIONS = ("--header", "--map", "--abbreviations", "--dictionary", "--objects",
 LISTINGS = ("info", *(f"info {section}" for section in SECTIONS), f"info {' '.join(SECTIONS)}", "disasm", "check")
 
 
-def game(version):
+class Plan(NamedTuple):
+    """What is run: its words, `story` among them, and what is there and typed; the status is that with memory."""
+
+    name: str
+    words: str
+    story: bytes
+    typed: bytes = b""
+    old: bytes | None = None  # the saved game that is there before
+    status: int = 0
+
+
+class Came(NamedTuple):
+    """What came of a run: how many allocations it asked for, then all that can be seen of it."""
+
+    asked: int
+    status: int | str
+    shown: bytes
+    told: bytes
+    kept: bytes | None
+    said: bytes | None
+    story: bytes | None
+    names: list[str]
+
+
+class Checked(NamedTuple):
+    """What came of the refused allocations of a run: how many ways it came in, what differs, how many were left out."""
+
+    ways: collections.Counter[str]
+    differ: list[str]
+    left_out: int
+
+
+def game(version: int) -> bytes:
     """The game of the examples, with its transcript turned on by Flags 2."""
     story = bytearray((EXAMPLES / f"lighthouse.z{version}").read_bytes())
     story[0x11] |= 1
     return bytes(story)
 
 
-def plans_of(version):
+def plans_of(version: int) -> Iterator[Plan]:
     """What is run with the game in a version."""
     name, story = f"lighthouse.z{version}", game(version)
     saves, old = ((EXAMPLES / path).read_bytes() for path in ("lighthouse.saves", f"{name}.dfrotz"))
@@ -127,7 +160,7 @@ def plans_of(version):
         yield Plan(f"{name}: {words}", f"{words} story", story)
 
 
-def plans():
+def plans() -> Iterator[Plan]:
     """All that is run."""
     yield Plan("help", "play --help", b"")
     yield Plan("no story", "play story", b"", status=1)
@@ -136,12 +169,12 @@ def plans():
         yield from plans_of(version)
 
 
-def content(path):
+def content(path: pathlib.Path) -> bytes | None:
     """What a file holds, if it is there."""
     return path.read_bytes() if path.exists() else None
 
 
-def run(command, library, plan, number, saves=True):
+def run(command: pathlib.Path, library: pathlib.Path, plan: Plan, number: int, saves: bool = True) -> Came:
     """Runs the program in a folder of its own, with the allocation of a number refused, if there is one."""
     with tempfile.TemporaryDirectory() as place:
         folder = pathlib.Path(place)
@@ -151,30 +184,40 @@ def run(command, library, plan, number, saves=True):
         for name, held in before.items():
             if held is not None:
                 (folder / name).write_bytes(held)
-        options = {"input": plan.typed, "capture_output": True, "cwd": folder, "timeout": SECONDS, "check": False}
-        options["env"] = {"LD_PRELOAD": str(library), "REFUSED": str(number), "ASKED": "asked"}
         try:
-            done = subprocess.run([command, *plan.words.split()], **options)
+            done = subprocess.run(
+                [command, *plan.words.split()],
+                input=plan.typed,
+                capture_output=True,
+                cwd=folder,
+                timeout=SECONDS,
+                env={"LD_PRELOAD": str(library), "REFUSED": str(number), "ASKED": "asked"},
+                check=False,
+            )
         except subprocess.TimeoutExpired:
             return Came(0, f"none within {SECONDS} s", b"", b"", None, None, None, [])
         asked = int.from_bytes(content(folder / "asked") or b"", sys.byteorder)
         names = sorted(path.name for path in folder.iterdir() if path.name != "asked" and not path.is_dir())
-        files = (content(folder / name) for name in ("kept", "said", "story"))
-        return Came(asked, done.returncode, done.stdout, done.stderr, *files, names)
+        kept, said, story = (content(folder / name) for name in ("kept", "said", "story"))
+        return Came(asked, done.returncode, done.stdout, done.stderr, kept, said, story, names)
 
 
-def seen(came, **changed):
-    """All that can be seen of a run, perhaps with something changed."""
-    return came._replace(asked=0, **changed)
+def seen(came: Came) -> Came:
+    """All that can be seen of a run."""
+    return came._replace(asked=0)
 
 
-def is_unsaved(came, unsaved):
+def is_unsaved(came: Came, unsaved: Came) -> bool:
     """Whether a run came as one whose save was refused, but for the reason."""
-    told = NOT_SAVED.sub(b"out of memory", unsaved.told)
-    return seen(came) == seen(unsaved, told=told)
+    return seen(came) == seen(unsaved)._replace(told=NOT_SAVED.sub(b"out of memory", unsaved.told))
 
 
-def is_cut_off(plan, came, whole):
+def begins(whole: bytes | None, part: bytes | None) -> bool:
+    """Whether a file begins as another, where both are there."""
+    return whole is not None and part is not None and whole.startswith(part)
+
+
+def is_cut_off(plan: Plan, came: Came, whole: Came) -> bool:
     """Whether a run ended for want of memory, with a first part of all that it shows and no file harmed."""
     return (
         came.status == 5
@@ -182,13 +225,13 @@ def is_cut_off(plan, came, whole):
         and whole.told.startswith(came.told[: -len(NO_MEMORY)])
         and whole.shown.startswith(came.shown)
         and came.kept in (plan.old, whole.kept)
-        and (came.said == OLD_SCRIPT or whole.said.startswith(came.said))
+        and (came.said == OLD_SCRIPT or begins(whole.said, came.said))
         and came.story == plan.story
         and set(came.names) <= set(whole.names)
     )
 
 
-def outcome(plan, came, whole, unsaved):
+def outcome(plan: Plan, came: Came, whole: Came, unsaved: Came) -> str | None:
     """What came of a run with a refused allocation, in words, or nothing where it may not be."""
     if seen(came) == seen(whole):
         return "changed nothing"
@@ -198,12 +241,12 @@ def outcome(plan, came, whole, unsaved):
         return "refused the save"
     # There was no memory for the line in words.
     last = whole.told.splitlines(keepends=True)[-1:]
-    if whole.status not in (0, 5) and seen(came) == seen(whole, told=b"".join(last)):
+    if whole.status not in (0, 5) and seen(came) == seen(whole)._replace(told=b"".join(last)):
         return "left out the words"
     return None
 
 
-def numbers(count):
+def numbers(count: int) -> Sequence[int]:
     """The allocations that are refused: all, or of very many the first, the last and some between."""
     if count <= MOST:
         return range(1, count + 1)
@@ -211,13 +254,13 @@ def numbers(count):
     return [*range(1, ENDS + 1), *between, *range(count - ENDS + 1, count + 1)]
 
 
-def unlike(came, whole):
+def unlike(came: Came, whole: Came) -> str:
     """What of a run is unlike the one with memory, in words."""
     parts = (name for name in Came._fields[1:] if getattr(came, name) != getattr(whole, name))
     return f"status {came.status}, {came.told[-200:]!r}, unlike in {', '.join(parts)}"
 
 
-def wrong_from_the_start(plan, whole, unsaved):
+def wrong_from_the_start(plan: Plan, whole: Came, unsaved: Came) -> str | None:
     """What is wrong with the runs to compare with, if something is."""
     if whole.status != plan.status or not whole.asked:
         return f"with memory: status {whole.status}, {whole.asked} allocations, {whole.told[-200:]!r}"
@@ -226,13 +269,16 @@ def wrong_from_the_start(plan, whole, unsaved):
     return None
 
 
-def check_plan(pool, command, library, plan):
-    """Refuses each allocation of a run: how many ways it came in, what differs, and how many were left out."""
+def check_plan(
+    pool: concurrent.futures.Executor, command: pathlib.Path, library: pathlib.Path, plan: Plan
+) -> Checked:
+    """Refuses each allocation of a run."""
     whole, unsaved = pool.map(lambda saves: run(command, library, plan, 0, saves), (True, False))
     wrong = wrong_from_the_start(plan, whole, unsaved)
     if wrong:
-        return collections.Counter(), [wrong], 0
-    ways, differ, chosen = collections.Counter(), [], numbers(whole.asked)
+        return Checked(collections.Counter(), [wrong], 0)
+    ways: collections.Counter[str] = collections.Counter()
+    differ, chosen = [], numbers(whole.asked)
     jobs = [(number, pool.submit(run, command, library, plan, number)) for number in chosen]
     for number, job in jobs:
         came = job.result()
@@ -242,12 +288,12 @@ def check_plan(pool, command, library, plan):
             differ.append(f"allocation {number} refused: {unlike(came, whole)}")
     if not ways["ended the run"]:
         differ.append("no refused allocation ended the run")
-    return ways, differ, whole.asked - len(chosen)
+    return Checked(ways, differ, whole.asked - len(chosen))
 
 
-def check_all(command, library, verbose):
+def check_all(command: pathlib.Path, library: pathlib.Path, verbose: bool) -> collections.Counter[str]:
     """Runs all plans, prints what differs, and answers how much was run, refused, left out and differed."""
-    counts = collections.Counter()
+    counts: collections.Counter[str] = collections.Counter()
     with concurrent.futures.ThreadPoolExecutor(os.cpu_count()) as pool:
         for plan in plans():
             ways, differ, left_out = check_plan(pool, command, library, plan)
@@ -259,7 +305,7 @@ def check_all(command, library, verbose):
     return counts
 
 
-def compile_preloaded(compiler, folder):
+def compile_preloaded(compiler: str, folder: pathlib.Path) -> pathlib.Path:
     """Compiles what is loaded before the program, and answers its path."""
     code, library = folder / "refusing.c", folder / "refusing.so"
     code.write_text(PRELOADED)
@@ -267,7 +313,8 @@ def compile_preloaded(compiler, folder):
     return library
 
 
-def main():
+def main() -> None:
+    """Refuses each allocation of each run, and tells how that went."""
     words = sys.argv[1:]
     verbose = words[:1] == ["-v"]
     if len(words) != 1 + verbose:
@@ -275,7 +322,7 @@ def main():
     command = pathlib.Path(words[-1]).resolve()
     if not (content(command) or b"").startswith(b"\x7fELF"):
         sys.exit(f"{words[-1]}: no program that was built; dist/find prints where it is")
-    compiler = next(filter(None, map(shutil.which, ("cc", "gcc", "clang"))), None)
+    compiler = shutil.which("cc") or shutil.which("gcc") or shutil.which("clang")
     if not compiler:
         print("left out, as there is no C compiler: the runs with refused memory")
         return

@@ -7,9 +7,10 @@ COMMAND is the program with nothing after it, as `conformance/program.py crates/
 the words, what standard output shows, the last line of standard error and the status.
 """
 
+from __future__ import annotations
+
 import fcntl
 import os
-import pathlib
 import re
 import resource
 import select
@@ -17,16 +18,34 @@ import shutil
 import subprocess
 import sys
 import tempfile
+from collections.abc import Callable, Iterable, Iterator
+from pathlib import Path
+from typing import IO, Optional, Union
+
+# The words of a run: a text, or one by one where they have spaces or are no text.
+Words = Union[str, list[Union[str, bytes]]]
+# What is wanted of a run: the status, standard output and the last line of standard error.
+Wanted = tuple[int, Optional[str], Optional[str]]
+# The same, and what a file holds.
+WantedFile = tuple[int, Optional[str], Optional[str], Optional[bytes]]
+# The status, standard output and what a file holds.
+WantedScript = tuple[int, str, bytes]
+# What a story shows before each read, with the line that is typed, if one is.
+Turns = Iterable[tuple[bytes, Optional[bytes]]]
+# The name of a case, with what differs, if something does.
+Result = tuple[Words, Optional[str]]
+# The status, standard output and standard error of a run.
+Ended = tuple[int, bytes, bytes]
 
 SECONDS = 20
-EXAMPLES = pathlib.Path(__file__).resolve().parent.parent / "examples"
+EXAMPLES = Path(__file__).resolve().parent.parent / "examples"
 # What a case does not look at.
 ANY = None
 # What the file is called that a saved game is written in.
 BESIDE = re.compile(r"\.zkit-[0-9a-f]{16}")
 
 
-def story(code, version=3, length=0, bytes_at=None, **header):
+def story(code: str, version: int = 3, length: int = 0, bytes_at: dict[int, int] | None = None, **header: int) -> bytes:
     """A story with its code at address 40: hexadecimal digits, and words of the header and bytes by their addresses."""
     image = bytearray(64)
     image[0] = version
@@ -34,7 +53,7 @@ def story(code, version=3, length=0, bytes_at=None, **header):
     words = {"x04": 0x40, "x06": 0x40, "x0e": 0x40, **header}
     for name, value in words.items():
         at = int(name[1:], 16)
-        image[at : at + 2] = value.to_bytes(2, "big")
+        image[at:at + 2] = value.to_bytes(2, "big")
     image += bytes.fromhex(code)
     image += bytes(max(0, length - len(image)))
     for at, byte in (bytes_at or {}).items():
@@ -42,12 +61,12 @@ def story(code, version=3, length=0, bytes_at=None, **header):
     return bytes(image)
 
 
-def prints(text):
+def prints(text: str) -> bytes:
     """A story that prints a text of ASCII, character by character (`print_char`, 13 for a new line), and quits."""
     return story("".join(f"E57F{13 if c == chr(10) else ord(c):02X}" for c in text) + "BA")
 
 
-def saves_between(before, behind):
+def saves_between(before: str, behind: str) -> bytes:
     """A story that prints a text, saves, whatever comes of it, prints another and quits."""
     code = ["".join(f"E57F{13 if c == chr(10) else ord(c):02X}" for c in text) for text in (before, behind)]
     return story("B5C2".join(code) + "BA")
@@ -105,20 +124,20 @@ VERIFIES = story("BD C4 BB BB BB BA")
 VERIFIES_RIGHT = story("BD C4 BB BB BB BA", x1c=0x046C)
 
 
-def saved_game(checksum="02 31", frames="", memory="00 00 20 00 2F 01 01"):
-    """The game that SAVES_ON saves, with a checksum, perhaps with frames above the first, and with packed memory of an odd length."""
-    frames = bytes.fromhex("00" * 8 + frames)
+def saved_game(checksum: str = "02 31", frames: str = "", memory: str = "00 00 20 00 2F 01 01") -> bytes:
+    """The game that SAVES_ON saves, with a checksum, frames above the first, and packed memory of an odd length."""
+    stack = bytes.fromhex("00" * 8 + frames)
     packed = bytes.fromhex(memory)
     chunks = bytes.fromhex("49 46 68 64 00 00 00 0D 00 00 30 30 30 30 30 30" + checksum + "00 00 41 00")
     chunks += b"CMem" + len(packed).to_bytes(4, "big") + packed + b"\0"
-    chunks += b"Stks" + len(frames).to_bytes(4, "big") + frames
+    chunks += b"Stks" + len(stack).to_bytes(4, "big") + stack
     return b"FORM" + (4 + len(chunks)).to_bytes(4, "big") + b"IFZS" + chunks
 
 
 # The game that SAVES_4 saves: Flags 1, the interpreter, the screen and the Standard's number differ from the file.
 SAVED_4 = saved_game("03 14", memory="00 00 10 00 1B 06 41 FF 50 00 0F 01 01")
 
-# What `info` shows of `hello.z3`: what its header says, where its parts begin, and the sections of which it has nothing.
+# What `info` shows of `hello.z3`: what its header says, where its parts begin, and the sections that are empty.
 HEADER = """[header]
 version 3
 release 0
@@ -147,6 +166,10 @@ MAP = """[map]
 00040 start
 """
 EMPTY = "[abbreviations]\n[dictionary]\n[objects]\n"
+# How the listings begin of stories that call a routine at 48.
+CALLING = "00040 call_1s #0012 -> sp\n00044 print_num sp\n00047 quit\n"
+# What `check` shows where the checksum is another.
+CHECKSUM = "C1 0001c checksum\n"
 # Five objects of version 3 from 7E on, whose property tables stand at AB: 2 and 3 are children of 1.
 FAMILY = story(
     "",
@@ -157,7 +180,8 @@ FAMILY = story(
 )
 TREE = '[tree]\n1 ""\n  2 ""\n  3 ""\n4 ""\n5 ""\n'
 
-# Refuses the call of the system with the number that REFUSED says, of those that a save makes, and makes a file `refused`.
+# Refuses the call of the system with the number that REFUSED says, of those that a save makes, and makes a file
+# `refused`.
 REFUSING = """
 #define _GNU_SOURCE
 #include <dlfcn.h>
@@ -197,17 +221,20 @@ int flock(int file, int how) { return refuses() ? -1 : REALLY(flock)(file, how);
 int fchmod(int file, mode_t mode) { return refuses() ? -1 : REALLY(fchmod)(file, mode); }
 int stat(const char *path, struct stat *found) { return refuses() ? -1 : REALLY(stat)(path, found); }
 int lstat(const char *path, struct stat *found) { return refuses() ? -1 : REALLY(lstat)(path, found); }
-ssize_t readlink(const char *path, char *text, size_t size) { return refuses() ? -1 : REALLY(readlink)(path, text, size); }
+ssize_t readlink(const char *path, char *text, size_t size) {
+    return refuses() ? -1 : REALLY(readlink)(path, text, size);
+}
 char *realpath(const char *path, char *real) { return refuses() ? 0 : REALLY(realpath)(path, real); }
 """
 # A frame of a routine without local variables, which returns to 42.
 FRAME = "00 00 42 00 00 00 00 00"
+GAME_WITH_FRAME = saved_game("02 32", FRAME)
 
 # A name with characters that would be no text on a terminal.
 CONTROLS = "a\tb\x1b[2J\x9b.z3"
 
 # The files of the cases.
-FILES = {
+FILES: dict[str, bytes] = {
     "hello.z3": HELLO,
     "saves-between.z3": saves_between("the quick brown foxe", " jumps over the lazy dog\n"),
     "saves-in-word.z3": saves_between("the quick br", "own foxe jumps\n"),
@@ -289,23 +316,35 @@ FILES = {
 }
 
 # What a usage error says last is clap's.
-USAGE = (1, "", ANY)
-NO_TEXT = (1, "", "zkit: the words after the program's name are no text")
-HI = (0, "hi\n", "")
-REFUSED = {n: (1, "", f"zkit: refused {n}") for n in range(1, 6)}
-UNREAD = (4, "", "zkit: read failed")
-STEPS = (3, "", "zkit: limit 3 at 00040")
+USAGE: Wanted = (1, "", ANY)
+NO_TEXT: Wanted = (1, "", "zkit: the words after the program's name are no text")
+HI: Wanted = (0, "hi\n", "")
+REFUSED: dict[int, Wanted] = {n: (1, "", f"zkit: refused {n}") for n in range(1, 6)}
+UNREAD: Wanted = (4, "", "zkit: read failed")
+STEPS: Wanted = (3, "", "zkit: limit 3 at 00040")
 NO_SAVE = "zkit: the story saves or restores a game, and has no file for it: --save FILE names one"
 NO_SCRIPT = "zkit: the story writes a transcript, and has no file for it: --script FILE names one"
+MISSING = "there is no such file or folder"
+NO_FILE = "it is a device, a pipe or a folder"
 
 
-def at_limit(number, address):
+def not_saved(name: str, why: str) -> str:
+    """The last line on standard error where a game is not saved."""
+    return f"zkit: {name}: the game was not saved: {why}"
+
+
+def no_game(why: str, name: str = "kept") -> str:
+    """The last line on standard error where a file is not restored."""
+    return f"zkit: {name}: no saved game: {why}"
+
+
+def at_limit(number: int, address: int) -> Wanted:
     """What comes of a story that shows nothing and goes past a limit."""
     return 3, "", f"zkit: limit {number} at {address:05x}"
 
 
 # The words, and then the status, standard output and the last line of standard error.
-CASES = [
+CASES: list[tuple[Words, Wanted]] = [
     # the command line
     ("", USAGE),
     ("play", USAGE),
@@ -418,14 +457,14 @@ CASES = [
     ("play saves.z4", (0, "0", NO_SAVE)),
     ("play restores.z4", (0, "0", NO_SAVE)),
     ("play restores.z5", (0, "0", NO_SAVE)),
-    # without a folder to write it to, in the place of a folder, a pipe or a device, and in the place of what can't be read
-    ("play --save missing/kept saves.z3", (0, "\n\n\n", "zkit: missing/kept: the game was not saved: there is no such file or folder")),
-    (["play", "--save", "missing/\x07", "saves.z3"], (0, "\n\n\n", "zkit: missing/?: the game was not saved: there is no such file or folder")),
-    ("play --save folder saves.z3", (0, "\n\n\n", "zkit: folder: the game was not saved: it is a device, a pipe or a folder")),
-    ("play --save pipe saves.z3", (0, "\n\n\n", "zkit: pipe: the game was not saved: it is a device, a pipe or a folder")),
-    ("play --save /dev/null saves.z3", (0, "\n\n\n", "zkit: /dev/null: the game was not saved: it is a device, a pipe or a folder")),
-    ("play --save folder restores.z3", (0, "\n\n\n", "zkit: folder: no saved game: it is a device, a pipe or a folder")),
-    ("play --save pipe restores.z3", (0, "\n\n\n", "zkit: pipe: no saved game: it is a device, a pipe or a folder")),
+    # without a folder to write it to, in the place of a folder, a pipe or a device, and of what can't be read
+    ("play --save missing/kept saves.z3", (0, "\n\n\n", not_saved("missing/kept", MISSING))),
+    (["play", "--save", "missing/\x07", "saves.z3"], (0, "\n\n\n", not_saved("missing/?", MISSING))),
+    ("play --save folder saves.z3", (0, "\n\n\n", not_saved("folder", NO_FILE))),
+    ("play --save pipe saves.z3", (0, "\n\n\n", not_saved("pipe", NO_FILE))),
+    ("play --save /dev/null saves.z3", (0, "\n\n\n", not_saved("/dev/null", NO_FILE))),
+    ("play --save folder restores.z3", (0, "\n\n\n", no_game(NO_FILE, "folder"))),
+    ("play --save pipe restores.z3", (0, "\n\n\n", no_game(NO_FILE, "pipe"))),
     ("play --save unreadable restores.z3", (0, "\n\n\n", ANY)),
     # in the place of the story, by its name, by another path and by a link
     ("play --save saves.z3 saves.z3", USAGE),
@@ -495,7 +534,10 @@ CASES = [
     ("info --tree hello.z3", (0, "[tree]\n", "")),
     ("info --tree family.z3", (0, TREE, "")),
     # the sections come in their order, whatever the words' order is
-    ("info --tree --objects --dictionary hello.z3 --abbreviations --map --header", (0, HEADER + MAP + EMPTY + "[tree]\n", "")),
+    (
+        "info --tree --objects --dictionary hello.z3 --abbreviations --map --header",
+        (0, HEADER + MAP + EMPTY + "[tree]\n", ""),
+    ),
     ("info --ifid hello.z3", (0, "[ifid]\nZCODE-0-000000\n", "")),
     ("info --ifid named.z5", (0, "[ifid]\n1974A053-7DB0-4103-93A1-767C1382C0B7\n", "")),
     ("info --ifid lost_boys.z3", (0, "[ifid]\nZCODE-88-840726\n", "")),
@@ -503,14 +545,26 @@ CASES = [
     ("info --ifid --ifid hello.z3", USAGE),
     # several stories, each after its path; the status is the greatest
     ("info hello.z3 hello.z3", (0, f"hello.z3:\n{HEADER}hello.z3:\n{HEADER}", "")),
-    ("info hello.z3 --ifid nineties.z5", (0, "hello.z3:\n[ifid]\nZCODE-0-000000\nnineties.z5:\n[ifid]\nZCODE-16-951024-4DE6\n", "")),
-    ("info --tree missing hello.z3 empty", (4, "missing: read failed\nhello.z3:\n[tree]\nempty: refused 1\n", "zkit: refused 1")),
+    (
+        "info hello.z3 --ifid nineties.z5",
+        (0, "hello.z3:\n[ifid]\nZCODE-0-000000\nnineties.z5:\n[ifid]\nZCODE-16-951024-4DE6\n", ""),
+    ),
+    (
+        "info --tree missing hello.z3 empty",
+        (4, "missing: read failed\nhello.z3:\n[tree]\nempty: refused 1\n", "zkit: refused 1"),
+    ),
     ("info --tree version.6 hello.z3", (1, "version.6: refused 2\nhello.z3:\n[tree]\n", "zkit: refused 2")),
     # a path that is no UTF-8 is left out, and what would show on a terminal as something else is shown as `?`
-    (["check", b"old\xff.z3", "verifies_right.z3"], (4, "old?.z3: read failed\nverifies_right.z3:\n", "zkit: read failed")),
+    (
+        ["check", b"old\xff.z3", "verifies_right.z3"],
+        (4, "old?.z3: read failed\nverifies_right.z3:\n", "zkit: read failed"),
+    ),
     (["check", b"old\xff.z3"], UNREAD),
     (["check", CONTROLS, "missing\x1b[2J"], (4, "a?b?[2J?.z3:\nmissing?[2J: read failed\n", "zkit: read failed")),
-    (["info", "--tree", "missing\r", "hello.z3"], (4, "missing?: read failed\nhello.z3:\n[tree]\n", "zkit: read failed")),
+    (
+        ["info", "--tree", "missing\r", "hello.z3"],
+        (4, "missing?: read failed\nhello.z3:\n[tree]\n", "zkit: read failed"),
+    ),
     ("info -- --steps", (0, HEADER, "")),
     ("info missing", UNREAD),
     ("info folder", UNREAD),
@@ -525,11 +579,14 @@ CASES = [
     ("disasm --map hello.z3", USAGE),
     ("disasm --help", (0, ANY, "")),
     ("disasm hello.z3", (0, '00040 print "hi"\n00043 new_line\n00044 quit\n', "")),
-    ("disasm calls.z3", (0, "00040 call #0023 -> sp\n00045 quit\n00047 call #0023 -> sp\n0004c rtrue\nroutine 00046 locals 0\n", "")),
-    ("disasm throws_back.z5", (0, "00040 call_1s #0012 -> sp\n00044 print_num sp\n00047 quit\n00049 catch -> sp\n0004b throw #09 sp\nroutine 00048 locals 0\n", "")),
+    (
+        "disasm calls.z3",
+        (0, "00040 call #0023 -> sp\n00045 quit\n00047 call #0023 -> sp\n0004c rtrue\nroutine 00046 locals 0\n", ""),
+    ),
+    ("disasm throws_back.z5", (0, f"{CALLING}00049 catch -> sp\n0004b throw #09 sp\nroutine 00048 locals 0\n", "")),
     ("disasm loop.z3", (0, "00040 jump 00040\n", "")),
     ("disasm saves.z4", (0, "00040 save -> sp\n00042 print_num sp\n00045 quit\n", "")),
-    ("disasm begins_as_9.z4", (0, "00040 call_1s #0012 -> sp\n00044 print_num sp\n00047 quit\n0004b ret l1\nroutine 00048 locals 1\n", "")),
+    ("disasm begins_as_9.z4", (0, f"{CALLING}0004b ret l1\nroutine 00048 locals 1\n", "")),
     ("disasm undoes.z4", (0, "00040 ?\n", "")),
     ("disasm missing", UNREAD),
     ("disasm empty", REFUSED[1]),
@@ -538,12 +595,15 @@ CASES = [
     ("check", USAGE),
     ("check --map hello.z3", USAGE),
     ("check --help", (0, ANY, "")),
-    ("check hello.z3", (6, "C1 0001c checksum\n", "")),
-    ("check loop.z3", (6, "C1 0001c checksum\n", "")),
-    ("check undoes.z4", (6, "C1 0001c checksum\nC10 00040 undecodable code\n", "")),
+    ("check hello.z3", (6, CHECKSUM, "")),
+    ("check loop.z3", (6, CHECKSUM, "")),
+    ("check undoes.z4", (6, f"{CHECKSUM}C10 00040 undecodable code\n", "")),
     *((f"check {EXAMPLES}/lighthouse.z{version}", (0, "", "")) for version in (3, 4, 5, 8)),
-    ("check longest.z8", (6, "C1 0001c checksum\n", "")),
-    ("check hello.z3 verifies_right.z3 undoes.z4", (6, "hello.z3:\nC1 0001c checksum\nverifies_right.z3:\nundoes.z4:\nC1 0001c checksum\nC10 00040 undecodable code\n", "")),
+    ("check longest.z8", (6, CHECKSUM, "")),
+    (
+        "check hello.z3 verifies_right.z3 undoes.z4",
+        (6, f"hello.z3:\n{CHECKSUM}verifies_right.z3:\nundoes.z4:\n{CHECKSUM}C10 00040 undecodable code\n", ""),
+    ),
     ("check verifies_right.z3 verifies_right.z3", (0, "verifies_right.z3:\nverifies_right.z3:\n", "")),
     ("check missing hello.z3", (6, "missing: read failed\nhello.z3:\nC1 0001c checksum\n", "zkit: read failed")),
     ("check missing", UNREAD),
@@ -555,7 +615,7 @@ CASES = [
 ]
 
 # Words, standard input, and then the status, standard output and the last line of standard error.
-TYPED = [
+TYPED: list[tuple[str, bytes, Wanted]] = [
     # the input ends
     ("play echoes.z3", b"", (0, "", "")),
     ("play echoes.z3", b"go\nup\n", (0, "gu", "")),
@@ -598,7 +658,7 @@ TYPED = [
 
 # A story for `play --script said`, what that file holds before, where it is there, and then the status, standard output
 # and what the file holds.
-SCRIPTS = [
+SCRIPTS: list[tuple[str, bytes | None, WantedScript]] = [
     ("says.z3", None, (0, "hihi", b"hi")),
     ("says.z3", b"an old transcript", (0, "hihi", b"hi")),
     ("hello.z3", b"an old transcript", (0, "hi\n", b"")),
@@ -609,20 +669,15 @@ SCRIPTS = [
     ("said", SAYS, (1, "", SAYS)),
 ]
 
-NO_GAME = "zkit: kept: no saved game: there is no such file or folder"
-
-
-def no_game(why):
-    """The last line on standard error where a file is not restored."""
-    return f"zkit: kept: no saved game: {why}"
-
-
+NO_GAME = no_game(MISSING)
 CUT_OFF = no_game("the saved game is cut off")
 ANOTHER = no_game("the saved game is of another story")
+BAD_MEMORY = no_game("the memory of the saved game is bad")
+TOO_LONG = no_game("it is longer than a saved game may be")
 
-# Words behind `play --save kept`, what that file holds before, where it is there, and then the status, standard output, the
-# last line of standard error and what the file holds.
-KEPT = [
+# Words behind `play --save kept`, what that file holds before, where it is there, and then the status, standard output,
+# the last line of standard error and what the file holds.
+KEPT: list[tuple[str, bytes | None, WantedFile]] = [
     ("saves_on.z3", None, (0, "", "", saved_game())),
     ("saves_on.z3", b"an old game", (0, "", "", saved_game())),
     ("saves.z4", None, (0, "1", "", SAVED_4)),
@@ -630,24 +685,24 @@ KEPT = [
     ("restores.z3", b"an old game", (0, "\n\n\n", CUT_OFF, b"an old game")),
     ("restores.z3", b"no game, but a note", (0, "\n\n\n", no_game("the file is no saved game"), ANY)),
     ("restores.z3", saved_game()[:-1], (0, "\n\n\n", CUT_OFF, ANY)),
-    ("restores_on.z3", saved_game("02 32", memory="01 01 00"), (0, "", no_game("the memory of the saved game is bad"), ANY)),
+    ("restores_on.z3", saved_game("02 32", memory="01 01 00"), (0, "", BAD_MEMORY, ANY)),
     ("restores_on.z3", saved_game("02 32", "00 00"), (0, "", no_game("the frames of the saved game are bad"), ANY)),
     ("restores.z3", None, (0, "\n\n\n", NO_GAME, None)),
     ("restores.z5", None, (0, "0", NO_GAME, None)),
     ("restores.z5", b"an old game", (0, "0", CUT_OFF, b"an old game")),
     # a game of another story, whose sum is another
     ("--frames 1 restores_on.z3", saved_game("02 31", FRAME), (0, "", ANOTHER, ANY)),
-    ("--frames 2 restores_on.z3", saved_game("02 32", FRAME), (0, "", "", ANY)),
-    ("--frames 1 restores_on.z3", saved_game("02 32", FRAME), (3, "", "zkit: limit 1 at 00040", ANY)),
+    ("--frames 2 restores_on.z3", GAME_WITH_FRAME, (0, "", "", ANY)),
+    ("--frames 1 restores_on.z3", GAME_WITH_FRAME, (3, "", "zkit: limit 1 at 00040", ANY)),
     ("--frames 2 restores_on.z3", saved_game("00 00", FRAME), (0, "", "", ANY)),
     ("--frames 1 restores_on.z3", saved_game("00 00", FRAME), (3, "", "zkit: limit 1 at 00040", ANY)),
     # the longest file, and one byte more; what stands behind the form does not count
-    ("--frames 1 restores_on.z3", saved_game("02 32", FRAME).ljust(2_097_152, b"x"), (3, "", "zkit: limit 1 at 00040", ANY)),
-    ("--frames 1 restores_on.z3", saved_game("02 32", FRAME).ljust(2_097_153, b"x"), (0, "", "zkit: kept: no saved game: it is longer than a saved game may be", ANY)),
+    ("--frames 1 restores_on.z3", GAME_WITH_FRAME.ljust(2_097_152, b"x"), (3, "", "zkit: limit 1 at 00040", ANY)),
+    ("--frames 1 restores_on.z3", GAME_WITH_FRAME.ljust(2_097_153, b"x"), (0, "", TOO_LONG, ANY)),
 ]
 
 # Words, and what standard error says in its line before the last.
-TOLD = [
+TOLD: list[tuple[Words, str]] = [
     ("play divides.z3", "zkit: division by zero"),
     ("play calls_past.z3", "zkit: the story calls address 1fffe, which is past its end"),
     ("play calls_none.z3", "zkit: the story calls address 00046, where no routine begins"),
@@ -678,9 +733,9 @@ TOLD = [
     (["play", "--script", "missing/\x07", "hello.z3"], "zkit: missing/?: there is no such file or folder"),
 ]
 
-# Words behind `play --script said`, what is closed when the program starts, and then the status, standard output, the last
-# line of standard error, and what the transcript holds.
-CLOSED = [
+# Words behind `play --script said`, what is closed when the program starts, and then the status, standard output, the
+# last line of standard error, and what the transcript holds.
+CLOSED: list[tuple[str, str, WantedFile]] = [
     ("says.z3", ">&-", (4, "", "zkit: write failed", ANY)),
     ("hello.z3", ">&-", (4, "", "zkit: write failed", b"")),
     ("hello.z3", "<&- >&-", (4, "", "zkit: write failed", b"")),
@@ -694,38 +749,83 @@ CLOSED = [
 ]
 
 # The options of `play` that take numbers, and from where to where these lie.
-RANGES = [("frames", 1, 65535), ("words", 0, 65535), ("undo", 0, 64), ("steps", 1, 1000000000), ("seed", 0, 2**64 - 1), ("width", 20, 255)]
+RANGES = [
+    ("frames", 1, 65535),
+    ("words", 0, 65535),
+    ("undo", 0, 64),
+    ("steps", 1, 1000000000),
+    ("seed", 0, 2**64 - 1),
+    ("width", 20, 255),
+]
 
 # Words, and what the help has to name.
-HELPED = [
+HELPED: list[tuple[str, list[str]]] = [
     ("--help", ["play", "info", "disasm", "Example"]),
-    ("info --help", ["--header", "--map", "--abbreviations", "--dictionary", "--objects", "--tree", "--ifid", "STORY", "Example"]),
+    (
+        "info --help",
+        ["--header", "--map", "--abbreviations", "--dictionary", "--objects", "--tree", "--ifid", "STORY", "Example"],
+    ),
     ("disasm --help", ["STORY", "Example"]),
     ("check --help", ["STORY", "zkit info --objects", "zkit disasm", "works out", "Example"]),
-    ("play --help", ["--frames", "1024", "1 to 65535", "--words", "16384", "0 to 65535", "--steps", "10000000", "1 to 1000000000", "--seed", "18446744073709551615", "--undo", "16", "0 to 64", "--save", "--script", "FILE", "--upper", "--width", "20 to 255", "--echo", "STORY", "Example"]),
+    (
+        "play --help",
+        ["--frames", "1024", "1 to 65535", "--words", "16384", "0 to 65535", "--steps", "10000000", "1 to 1000000000"]
+        + ["--seed", "18446744073709551615", "--undo", "16", "0 to 64", "--save", "--script", "FILE", "--upper"]
+        + ["--width", "20 to 255", "--echo", "STORY", "Example"],
+    ),
 ]
 
 
-def run(command, words, folder, typed=b"", **streams):
+def run(
+    command: list[str],
+    words: Words,
+    folder: Path,
+    typed: bytes = b"",
+    stdout: int | IO[bytes] = subprocess.PIPE,
+    env: dict[str, str] | None = None,
+    preexec_fn: Callable[[], None] | None = None,
+    restore_signals: bool = True,
+    user: int | None = None,
+    group: int | None = None,
+    extra_groups: list[int] | None = None,
+) -> tuple[int, str, str]:
     """Runs the program in the folder of the files, and answers status, standard output and standard error."""
-    words = words.split() if isinstance(words, str) else words
-    options = {"input": typed, "stdout": subprocess.PIPE, "stderr": subprocess.PIPE, **streams}
-    done = subprocess.run(command + words, cwd=folder, timeout=SECONDS, check=False, **options)
-    shown = None if done.stdout is None else done.stdout.decode("utf-8", "replace")
-    return done.returncode, shown, done.stderr.decode("utf-8", "replace")
+    parts: list[str | bytes] = [*words.split()] if isinstance(words, str) else words
+    done = subprocess.run(
+        [*command, *parts],
+        cwd=folder,
+        input=typed,
+        stdout=stdout,
+        stderr=subprocess.PIPE,
+        timeout=SECONDS,
+        check=False,
+        env=env,
+        preexec_fn=preexec_fn,
+        restore_signals=restore_signals,
+        user=user,
+        group=group,
+        extra_groups=extra_groups,
+    )
+    return done.returncode, (done.stdout or b"").decode("utf-8", "replace"), done.stderr.decode("utf-8", "replace")
 
 
-def last_line(text):
+def ended(command: list[str], words: list[str], folder: Path, typed: bytes = b"") -> Ended:
+    """Runs the program in a folder, and answers what it shows in bytes."""
+    done = subprocess.run(command + words, input=typed, capture_output=True, cwd=folder, timeout=SECONDS, check=False)
+    return done.returncode, done.stdout, done.stderr
+
+
+def last_line(text: str) -> str:
     """The last line of a text, or nothing."""
     return text.splitlines()[-1] if text else ""
 
 
-def agrees(wanted, came):
+def agrees(wanted: Iterable[object], came: Iterable[object]) -> bool:
     """Whether a case came as wanted."""
     return all(want is ANY or want == part for want, part in zip(wanted, came))
 
 
-def check_case(command, words, wanted, folder, typed=b""):
+def check_case(command: list[str], words: Words, wanted: Wanted, folder: Path, typed: bytes = b"") -> str | None:
     """Runs a case, and answers what differs, if something does."""
     status, shown, told = run(command, words, folder, typed)
     came = (status, shown, last_line(told))
@@ -736,7 +836,7 @@ def check_case(command, words, wanted, folder, typed=b""):
     return None
 
 
-def check_told(command, words, line, folder):
+def check_told(command: list[str], words: Words, line: str, folder: Path) -> str | None:
     """Looks at the line before the last, which begins on a line of its own."""
     _, shown, told = run(command, words, folder)
     apart = "\n" if shown and not shown.endswith("\n") else ""
@@ -745,14 +845,14 @@ def check_told(command, words, line, folder):
     return None if agree else f"wanted {line!r}, came {lines}"
 
 
-def check_helped(command, words, names, folder):
+def check_helped(command: list[str], words: str, names: list[str], folder: Path) -> str | None:
     """Looks for what the help has to name."""
     shown = run(command, words, folder)[1]
     missing = [name for name in names if name not in shown]
     return f"no word on {missing} in {shown!r}" if missing else None
 
 
-def check_script(command, name, before, wanted, folder):
+def check_script(command: list[str], name: str, before: bytes | None, wanted: WantedScript, folder: Path) -> str | None:
     """Plays a story with a transcript, and looks at its file, which goes again."""
     said = folder / "said"
     if before is not None:
@@ -763,12 +863,12 @@ def check_script(command, name, before, wanted, folder):
     return None if came == wanted else f"wanted {wanted}, came {came}"
 
 
-def left_beside(folder):
+def left_beside(folder: Path) -> list[str]:
     """The names of what saves into `kept` have left beside it."""
     return sorted(path.name for path in folder.iterdir() if path.name.startswith((".zkit-", "kept")))
 
 
-def check_closed(command, name, closed, wanted, folder):
+def check_closed(command: list[str], name: str, closed: str, wanted: WantedFile, folder: Path) -> str | None:
     """Plays a story with a transcript where standard input, output or errors is closed: no file takes its place."""
     said = folder / "said"
     shell = ["sh", "-c", f'exec "$0" "$@" {closed}', *command]
@@ -778,7 +878,7 @@ def check_closed(command, name, closed, wanted, folder):
     return None if agrees(wanted, came) else f"wanted {wanted}, came {came}"
 
 
-def check_kept(command, words, before, wanted, folder):
+def check_kept(command: list[str], words: str, before: bytes | None, wanted: WantedFile, folder: Path) -> str | None:
     """Plays a story with a saved game, and looks at its file, which goes again with what stands beside it."""
     kept = folder / "kept"
     if before is not None:
@@ -792,17 +892,17 @@ def check_kept(command, words, before, wanted, folder):
     return None if agrees(wanted, came) else f"wanted {wanted}, came {came}"
 
 
-def without_room():
+def without_room() -> None:
     """Lets the program write files of 10 bytes at most, as on a device that is full."""
     resource.setrlimit(resource.RLIMIT_FSIZE, (10, 10))
 
 
-def check_full(command, folder):
+def check_full(command: list[str], folder: Path) -> str | None:
     """A save for which there is no room leaves the one before, and tells the story so."""
     kept = folder / "kept"
     kept.write_bytes(b"an old game")
-    options = {"preexec_fn": without_room, "restore_signals": False}
-    status, shown, _ = run(command, "play --save kept saves.z3", folder, **options)
+    words = "play --save kept saves.z3"
+    status, shown, _ = run(command, words, folder, preexec_fn=without_room, restore_signals=False)
     came = (status, shown, kept.read_bytes())
     kept.unlink()
     wanted = (0, "\n\n\n", b"an old game")
@@ -812,12 +912,12 @@ def check_full(command, folder):
     return None if came == wanted else f"wanted {wanted}, came {came}"
 
 
-def keeps(command, folder):
+def keeps(command: list[str], folder: Path) -> bool:
     """Whether a save into `kept` shows no failure."""
     return run(command, "play --save kept saves_on.z3", folder) == (0, "", "")
 
 
-def check_link(command, folder):
+def check_link(command: list[str], folder: Path) -> str | None:
     """A save replaces the file behind a link, which stays."""
     (folder / "behind").write_bytes(b"an old game")
     (folder / "kept").symlink_to("behind")
@@ -827,7 +927,7 @@ def check_link(command, folder):
     return None if came == (True, True, saved_game()) else f"came {came}"
 
 
-def check_link_to_nothing(command, folder):
+def check_link_to_nothing(command: list[str], folder: Path) -> str | None:
     """A save makes the file that a link names."""
     (folder / "kept").symlink_to("behind")
     came = (keeps(command, folder), (folder / "kept").is_symlink(), (folder / "behind").read_bytes())
@@ -836,7 +936,7 @@ def check_link_to_nothing(command, folder):
     return None if came == (True, True, saved_game()) else f"came {came}"
 
 
-def check_mode(command, folder):
+def check_mode(command: list[str], folder: Path) -> str | None:
     """A new game may be read by those who could read the old one."""
     kept = folder / "kept"
     kept.write_bytes(b"an old game")
@@ -846,25 +946,25 @@ def check_mode(command, folder):
     return None if came == (True, 0o600, saved_game()) else f"came {came}"
 
 
-def killed_save(command, folder):
+def killed_save(command: list[str], folder: Path) -> list[Path]:
     """Has a save into `kept` killed while it writes, and answers what it leaves beside that."""
     run(command, "play --save kept saves_on.z3", folder, preexec_fn=without_room)
     return [folder / name for name in left_beside(folder) if name != "kept"]
 
 
-def check_killed(command, folder):
+def check_killed(command: list[str], folder: Path) -> str | None:
     """What a save leaves that was killed is its owner's alone, has a name of its form, and goes with the next save."""
     kept = folder / "kept"
     kept.write_bytes(b"an old game")
     left = killed_save(command, folder)
-    came = [[(BESIDE.fullmatch(path.name) is not None, path.stat().st_mode & 0o777) for path in left], kept.read_bytes()]
-    came += [keeps(command, folder), kept.read_bytes(), left_beside(folder)]
+    formed = [(BESIDE.fullmatch(path.name) is not None, path.stat().st_mode & 0o777) for path in left]
+    came = [formed, kept.read_bytes(), keeps(command, folder), kept.read_bytes(), left_beside(folder)]
     kept.unlink()
     wanted = [[(True, 0o600)], b"an old game", True, saved_game(), ["kept"]]
     return None if came == wanted else f"came {came}"
 
 
-def check_link_beside(command, folder):
+def check_link_beside(command: list[str], folder: Path) -> str | None:
     """A link that stands where a save writes is taken away, and the file behind it stays."""
     kept, behind = folder / "kept", folder / "behind"
     behind.write_bytes(b"a note")
@@ -878,8 +978,11 @@ def check_link_beside(command, folder):
     return None if came == wanted else f"came {came}"
 
 
-def check_busy(command, folder):
-    """A save fails while another play is saving to the same file, and leaves what that writes; one to another file does not."""
+def check_busy(command: list[str], folder: Path) -> str | None:
+    """A save fails while another play is saving to the same file, and leaves what that writes.
+
+    One to another file does not.
+    """
     (beside,) = killed_save(command, folder)
     with open(beside, "rb") as held:
         fcntl.flock(held, fcntl.LOCK_EX)
@@ -888,20 +991,21 @@ def check_busy(command, folder):
         came = (told, beside.exists(), others, left_beside(folder))
     beside.unlink()
     (folder / "kept2").unlink()
-    wanted = ("zkit: kept: the game was not saved: another play is saving to it\n", True, (0, "", ""), [beside.name, "kept2"])
+    busy = not_saved("kept", "another play is saving to it") + "\n"
+    wanted = (busy, True, (0, "", ""), [beside.name, "kept2"])
     return None if came == wanted else f"came {came}"
 
 
-def check_long_name(command, folder):
+def check_long_name(command: list[str], folder: Path) -> str | None:
     """A file is saved to whose name is as long as may be, twice."""
     name = "k" * 255
-    words = ["play", "--save", name, "saves_on.z3"]
+    words: Words = ["play", "--save", name, "saves_on.z3"]
     came = [run(command, words, folder), run(command, words, folder), (folder / name).read_bytes(), left_beside(folder)]
     (folder / name).unlink()
     return None if came == [(0, "", ""), (0, "", ""), saved_game(), []] else f"came {came}"
 
 
-def check_hard_link(command, folder):
+def check_hard_link(command: list[str], folder: Path) -> str | None:
     """Another name of the old game's file keeps the old game."""
     kept, other = folder / "kept", folder / "other"
     kept.write_bytes(b"an old game")
@@ -912,7 +1016,7 @@ def check_hard_link(command, folder):
     return None if came == (True, saved_game(), b"an old game") else f"came {came}"
 
 
-def check_owner(command, folder):
+def check_owner(command: list[str], folder: Path) -> str | None:
     """A new game has the owner, the group and the rights of the old one. Who may not give files away can't see this."""
     kept = folder / "kept"
     kept.write_bytes(b"an old game")
@@ -923,8 +1027,8 @@ def check_owner(command, folder):
     return None if came == (True, 1, 2, 0o640) else f"came {came}"
 
 
-def check_other_owner(command, folder):
-    """A player who may not keep the owner and the group is told so, and gives nobody rights in the new game who had none."""
+def check_other_owner(command: list[str], folder: Path) -> str | None:
+    """A player who may not keep the owner and the group is told so, and gives nobody rights who had none."""
     place = folder / "open"
     place.mkdir()
     place.chmod(0o777)
@@ -933,21 +1037,21 @@ def check_other_owner(command, folder):
     kept.write_bytes(b"an old game")
     kept.chmod(0o756)
     os.chown(kept, 1, 2)
-    player = {"user": 3, "group": 4, "extra_groups": []}
+    words = "play --save open/kept saves_on.z3"
     try:
-        came = run(command, "play --save open/kept saves_on.z3", folder, **player)
+        ran = run(command, words, folder, user=3, group=4, extra_groups=[])
     except PermissionError:
         return None
     finally:
         found = kept.stat()
         shutil.rmtree(place)
-    came += (found.st_uid, found.st_gid, found.st_mode & 0o777)
+    came = (*ran, found.st_uid, found.st_gid, found.st_mode & 0o777)
     told = "zkit: open/kept: the game was saved, but the file has another owner or group than before\n"
     wanted = (0, "", told, 3, 4, 0o744)
     return None if came == wanted else f"came {came}"
 
 
-def check_unwritable(command, folder):
+def check_unwritable(command: list[str], folder: Path) -> str | None:
     """A game that its owner may not write is not replaced; who may write to every file can't see this."""
     kept = folder / "kept"
     kept.write_bytes(b"an old game")
@@ -956,17 +1060,17 @@ def check_unwritable(command, folder):
     told = run(command, "play --save kept saves_on.z3", folder)[2]
     came = kept.read_bytes()
     kept.unlink()
-    wanted = "zkit: kept: the game was not saved: there is no permission for it\n"
-    return None if free or (told, came) == (wanted, b"an old game") else f"came {told!r}, {came}"
+    wanted = not_saved("kept", "there is no permission for it") + "\n"
+    return None if free or (told, came) == (wanted, b"an old game") else f"came {told!r}, {came!r}"
 
 
-def check_usage(command, folder):
+def check_usage(command: list[str], folder: Path) -> str | None:
     """A number out of its range shows the usage of its own command."""
     told = run(command, "play --frames 0 hello.z3", folder)[2]
     return None if "Usage: zkit play [OPTIONS] <STORY>" in told else f"came {told!r}"
 
 
-def check_ranges(command, folder):
+def check_ranges(command: list[str], folder: Path) -> Iterator[Result]:
     """A number out of its range is told of with that range."""
     for option, least, most in RANGES:
         told = run(command, f"play --{option} {most + 1} hello.z3", folder)[2]
@@ -974,14 +1078,14 @@ def check_ranges(command, folder):
         yield f"play --{option} {most + 1}", None if told.startswith(line + "\n") else f"came {told!r}"
 
 
-def check_long_line(command, folder):
+def check_long_line(command: list[str], folder: Path) -> str | None:
     """What is wrong with the input is said on a line of its own."""
     told = run(command, "play reads.z5", folder, b"a" * 65_536)[2]
     wanted = "\nzkit: standard input: a line of it has more than 65535 bytes\nzkit: read failed\n"
     return None if told == wanted else f"came {told!r}"
 
 
-def check_place(command, folder):
+def check_place(command: list[str], folder: Path) -> str | None:
     """A saved game that goes on out of the story is told of."""
     game = bytearray(saved_game("00 00"))
     game[30:33] = b"\xff\xff\xff"
@@ -992,62 +1096,61 @@ def check_place(command, folder):
     return None if told == wanted else f"came {told!r}"
 
 
-def check_once(command, folder):
+def check_once(command: list[str], folder: Path) -> str | None:
     """A missing option is told once."""
     told = run(command, "play saves_twice.z3", folder)[2]
     return None if told == NO_SAVE + "\n" else f"came {told!r}"
 
 
-def check_screens(command, folder):
+def check_screens(command: list[str], folder: Path) -> Iterator[Result]:
     """Screens that fail: one that is full, and a pipe that nobody reads."""
-    failed = (4, "zkit: write failed")
+    failed = "zkit: write failed"
     why = "zkit: the screen: No space left on device (os error 28)\n"
     with open("/dev/full", "wb") as full:
-        status, _, told = run(command, "play hello.z3", folder, stdout=full)
-        yield "play hello.z3 >/dev/full", None if (status, told) == (4, why + "zkit: write failed\n") else f"came {status} {told!r}"
-        for words in ("disasm hello.z3", "info hello.z3"):
+        for words in ("play hello.z3", "disasm hello.z3", "info hello.z3", "--help"):
             status, _, told = run(command, words, folder, stdout=full)
-            yield f"{words} >/dev/full", None if (status, last_line(told)) == failed else f"came {status} {told!r}"
-        status, _, told = run(command, "--help", folder, stdout=full)
-        yield "--help >/dev/full", None if (status, told) == (4, why + "zkit: write failed\n") else f"came {status} {told!r}"
+            agree = told == f"{why}{failed}\n" if words in ("play hello.z3", "--help") else last_line(told) == failed
+            yield f"{words} >/dev/full", None if status == 4 and agree else f"came {status} {told!r}"
         # The status stays where the last line can't be written.
         done = subprocess.run(command + ["play", "empty"], cwd=folder, stderr=full, timeout=SECONDS, check=False)
         yield "play empty 2>/dev/full", None if done.returncode == 1 else f"came {done.returncode}"
-    reader, writer = os.pipe()
-    os.close(reader)
-    status, _, told = run(command, "play lines.z3", folder, stdout=writer)
-    os.close(writer)
-    yield "play lines.z3 into a closed pipe", None if (status, last_line(told)) == failed else f"came {status} {told!r}"
-    # nothing is run after the write that fails: the story has no end, and the limit on instructions is far
-    reader, writer = os.pipe()
-    os.close(reader)
-    status, _, told = run(command, "play --steps 1000000000 endless.z3", folder, stdout=writer)
-    os.close(writer)
-    yield "play endless.z3 into a closed pipe", None if (status, last_line(told)) == failed else f"came {status} {told!r}"
-    reader, writer = os.pipe()
-    os.close(reader)
-    status, _, told = run(command, "disasm lines.z3", folder, stdout=writer)
-    os.close(writer)
-    yield "disasm lines.z3 into a closed pipe", None if (status, last_line(told)) == failed else f"came {status} {told!r}"
+    # nothing is run after the write that fails: endless.z3 has no end, and the limit on instructions is far
+    for name, words in (
+        ("play lines.z3", "play lines.z3"),
+        ("play endless.z3", "play --steps 1000000000 endless.z3"),
+        ("disasm lines.z3", "disasm lines.z3"),
+    ):
+        reader, writer = os.pipe()
+        os.close(reader)
+        status, _, told = run(command, words, folder, stdout=writer)
+        os.close(writer)
+        agree = status == 4 and last_line(told) == failed
+        yield f"{name} into a closed pipe", None if agree else f"came {status} {told!r}"
 
 
-def shown_next(program, length):
+def shown_next(stream: IO[bytes], length: int) -> bytes:
     """The next bytes that a program shows, fewer where it ends or takes too long."""
     shown = b""
-    while len(shown) < length and select.select([program.stdout], [], [], SECONDS)[0]:
-        more = os.read(program.stdout.fileno(), length - len(shown))
+    while len(shown) < length and select.select([stream], [], [], SECONDS)[0]:
+        more = os.read(stream.fileno(), length - len(shown))
         if not more:
             break
         shown += more
     return shown
 
 
-def check_prompt(command, folder, words, turns):
+def check_prompt(command: list[str], folder: Path, words: str, turns: Turns) -> str | None:
     """What a story shows before a read is on the screen before the line is typed: each turn has that and the line."""
-    pipes = {"stdin": subprocess.PIPE, "stdout": subprocess.PIPE, "stderr": subprocess.DEVNULL}
-    with subprocess.Popen(command + words.split() + ["reads.z5"], cwd=folder, **pipes) as program:
+    with subprocess.Popen(
+        command + words.split() + ["reads.z5"],
+        cwd=folder,
+        stdin=subprocess.PIPE,
+        stdout=subprocess.PIPE,
+        stderr=subprocess.DEVNULL,
+    ) as program:
+        assert program.stdin and program.stdout
         for wanted, line in turns:
-            came = shown_next(program, len(wanted))
+            came = shown_next(program.stdout, len(wanted))
             if came != wanted:
                 program.kill()
                 return f"wanted {wanted!r} before {line!r}, came {came!r}"
@@ -1057,94 +1160,88 @@ def check_prompt(command, folder, words, turns):
     return None
 
 
-def check_examples(command):
-    """Plays the stories of the examples, the game by its walkthrough, and compares what they show with the stored texts."""
+def check_examples(command: list[str]) -> Iterator[Result]:
+    """Plays the stories of the examples, the game by its walkthrough, and compares with the stored texts."""
     walkthrough = (EXAMPLES / "lighthouse.walkthrough").read_bytes()
     plays = [(f"lighthouse.z{version}", walkthrough) for version in (3, 4, 5, 8)] + [("streams.z5", b"")]
     for name, typed in plays:
-        options = {"input": typed, "stdout": subprocess.PIPE, "stderr": subprocess.PIPE}
-        done = subprocess.run(command + ["play", name], cwd=EXAMPLES, timeout=SECONDS, check=False, **options)
         wanted = (0, (EXAMPLES / f"{name}.txt").read_bytes(), b"")
-        came = (done.returncode, done.stdout, done.stderr)
-        yield f"play examples/{name}", first_difference(wanted, came)
+        yield f"play examples/{name}", first_difference(wanted, ended(command, ["play", name], EXAMPLES, typed))
 
 
-def check_width(command):
+def check_width(command: list[str]) -> str | None:
     """Plays the game in 40 columns, and compares it with the stored text."""
-    pipes = {"input": (EXAMPLES / "lighthouse.walkthrough").read_bytes(), "stdout": subprocess.PIPE, "stderr": subprocess.PIPE}
-    words = command + ["play", "--width", "40", "lighthouse.z5"]
-    done = subprocess.run(words, cwd=EXAMPLES, timeout=SECONDS, check=False, **pipes)
+    walkthrough = (EXAMPLES / "lighthouse.walkthrough").read_bytes()
     wanted = (0, (EXAMPLES / "lighthouse.z5.40.txt").read_bytes(), b"")
-    return first_difference(wanted, (done.returncode, done.stdout, done.stderr))
+    words = ["play", "--width", "40", "lighthouse.z5"]
+    return first_difference(wanted, ended(command, words, EXAMPLES, walkthrough))
 
 
-def check_echo(command):
-    """Plays the game with its commands shown: without them, each taken out where the text goes on with it, it is the stored text."""
+def check_echo(command: list[str]) -> str | None:
+    """Plays the game with its commands shown: without them it is the stored text.
+
+    Each is taken out where the text goes on with it.
+    """
     walkthrough = (EXAMPLES / "lighthouse.walkthrough").read_bytes()
     plain = (EXAMPLES / "lighthouse.z5.txt").read_bytes()
-    pipes = {"input": walkthrough, "stdout": subprocess.PIPE, "stderr": subprocess.PIPE}
-    done = subprocess.run(command + ["play", "--echo", "lighthouse.z5"], cwd=EXAMPLES, timeout=SECONDS, check=False, **pipes)
-    shown = done.stdout
+    status, shown, told = ended(command, ["play", "--echo", "lighthouse.z5"], EXAMPLES, walkthrough)
     for line in walkthrough.splitlines(keepends=True):
         same = len(os.path.commonprefix([shown, plain]))
         at = shown.rfind(line, 0, same + len(line))
         if at < 0:
             return f"{line!r} is not shown"
-        shown = shown[:at] + shown[at + len(line) :]
-    return first_difference((0, plain, b""), (done.returncode, shown, done.stderr))
+        shown = shown[:at] + shown[at + len(line):]
+    return first_difference((0, plain, b""), (status, shown, told))
 
 
-def check_listing(command):
+def check_listing(command: list[str]) -> str | None:
     """Lists the tables of the game, and compares them with the stored listing."""
     options = ["--header", "--map", "--abbreviations", "--dictionary", "--objects", "--tree"]
-    pipes = {"stdout": subprocess.PIPE, "stderr": subprocess.PIPE}
-    words = command + ["info", *options, "lighthouse.z5"]
-    done = subprocess.run(words, cwd=EXAMPLES, timeout=SECONDS, check=False, **pipes)
     wanted = (0, (EXAMPLES / "lighthouse.z5.info.txt").read_bytes(), b"")
-    return first_difference(wanted, (done.returncode, done.stdout, done.stderr))
+    return first_difference(wanted, ended(command, ["info", *options, "lighthouse.z5"], EXAMPLES))
 
 
-def check_refusals(command, folder):
+def check_refusals(command: list[str], folder: Path) -> str | None:
     """A save in which any call of the system is refused leaves the old game or the new one, whole."""
     code, library, kept = folder / "refusing.c", folder / "refusing.so", folder / "kept"
     code.write_text(REFUSING)
     subprocess.run(["cc", "-shared", "-fPIC", "-O", "-o", library, code, "-ldl"], check=True)
     for number in range(1, 100):
         kept.write_bytes(b"an old game")
-        options = {"env": {"LD_PRELOAD": str(library), "REFUSED": str(number)}}
-        status, _, _ = run(command, "play --save kept saves_on.z3", folder, **options)
+        env = {"LD_PRELOAD": str(library), "REFUSED": str(number)}
+        status, _, _ = run(command, "play --save kept saves_on.z3", folder, env=env)
         held = kept.read_bytes()
         for name in left_beside(folder):
             (folder / name).unlink()
         if held not in (b"an old game", saved_game()):
             return f"call {number} refused: {held!r}"
         if not (folder / "refused").exists():
-            return None if number > 8 and (status, held) == (0, saved_game()) else f"{number - 1} calls, status {status}"
+            whole = number > 8 and (status, held) == (0, saved_game())
+            return None if whole else f"{number - 1} calls, status {status}"
         (folder / "refused").unlink()
     return "a save has no end"
 
 
-def check_game_saves(command, folder):
+def check_game_saves(command: list[str], folder: Path) -> Iterator[Result]:
     """Saves, restores and undoes in the game, and restores the games that dfrotz has saved."""
     typed = (EXAMPLES / "lighthouse.saves").read_bytes()
     kept = folder / "kept"
     for version in (3, 4, 5, 8):
         story = str(EXAMPLES / f"lighthouse.z{version}")
-        options = {"stdout": subprocess.PIPE, "stderr": subprocess.PIPE, "cwd": folder, "timeout": SECONDS}
-        words = command + ["play", "--save", "kept", story]
-        done = subprocess.run(words, input=typed, check=False, **options)
+        words = ["play", "--save", "kept", story]
+        came = ended(command, words, folder, typed)
         kept.unlink(missing_ok=True)
         wanted = (0, (EXAMPLES / f"lighthouse.z{version}.saves.txt").read_bytes(), b"")
-        yield f"saves of lighthouse.z{version}", first_difference(wanted, (done.returncode, done.stdout, done.stderr))
+        yield f"saves of lighthouse.z{version}", first_difference(wanted, came)
         kept.write_bytes((EXAMPLES / f"lighthouse.z{version}.dfrotz").read_bytes())
-        done = subprocess.run(words, input=b"restore\ninventory\nlook\n", check=False, **options)
+        _, shown_there, _ = ended(command, words, folder, b"restore\ninventory\nlook\n")
         kept.unlink()
-        shown = done.stdout.decode("utf-8", "replace")
+        shown = shown_there.decode("utf-8", "replace")
         there = ">You have with you:\n  a letter\n  a postbag\n\n>Shore Path\n" in shown
         yield f"lighthouse.z{version}, saved by dfrotz", None if there else f"came {shown!r}"
 
 
-def first_difference(wanted, came):
+def first_difference(wanted: Ended, came: Ended) -> str | None:
     """Where the second of two endings differs from the first, if it does: its line, or its status and last line."""
     if wanted == came:
         return None
@@ -1154,7 +1251,7 @@ def first_difference(wanted, came):
     return f"differs from line {place}" if place else f"{len(came[1])} bytes, status {came[0]}, {told!r}"
 
 
-def write_files(folder):
+def write_files(folder: Path) -> None:
     """Writes the files of the cases."""
     for name, content in FILES.items():
         (folder / name).write_bytes(content)
@@ -1164,50 +1261,70 @@ def write_files(folder):
     (folder / "unreadable").chmod(0)
 
 
-def results(command, folder):
-    """The name of each case, with what differs, if something does."""
+# What a save into `kept` is tried with.
+SAVES_INTO_KEPT = (
+    ("where kept is a link", check_link),
+    ("where kept is a link to nothing", check_link_to_nothing),
+    ("where kept is its owner's alone", check_mode),
+    ("where another name leads to kept", check_hard_link),
+    ("killed while it writes", check_killed),
+    ("where a link stands beside kept", check_link_beside),
+    ("while another play saves", check_busy),
+)
+
+
+def unseen(words: Words, folder: Path) -> bool:
+    """Whether a case can't be seen by who may read every file."""
+    return words == "play unreadable" and os.access(folder / "unreadable", os.R_OK)
+
+
+def results_of_tables(command: list[str], folder: Path) -> Iterator[Result]:
+    """The cases that the tables have."""
     for words, wanted in CASES:
-        if words == "play unreadable" and os.access(folder / "unreadable", os.R_OK):
-            # Who may read every file can't see this case.
-            continue
-        yield words, check_case(command, words, wanted, folder)
+        if not unseen(words, folder):
+            yield words, check_case(command, words, wanted, folder)
     for words, typed, wanted in TYPED:
-        yield f"{words} <{typed[:9]} ({len(typed)} bytes)", check_case(command, words, wanted, folder, typed)
+        yield f"{words} <{typed[:9]!r} ({len(typed)} bytes)", check_case(command, words, wanted, folder, typed)
     for words, line in TOLD:
-        if words == "play unreadable" and os.access(folder / "unreadable", os.R_OK):
-            continue
-        yield words, check_told(command, words, line, folder)
+        if not unseen(words, folder):
+            yield words, check_told(command, words, line, folder)
     for words, names in HELPED:
         yield words, check_helped(command, words, names, folder)
-    for name, before, wanted in SCRIPTS:
-        yield f"play --script said {name} over {before}", check_script(command, name, before, wanted, folder)
-    for name, closed, wanted in CLOSED:
-        yield f"play --script said {name} {closed}", check_closed(command, name, closed, wanted, folder)
-    for words, before, wanted in KEPT:
+    for name, before, wanted_script in SCRIPTS:
+        yield f"play --script said {name} over {before!r}", check_script(command, name, before, wanted_script, folder)
+    for name, closed, wanted_file in CLOSED:
+        yield f"play --script said {name} {closed}", check_closed(command, name, closed, wanted_file, folder)
+    for name, before, wanted_file in KEPT:
         size = None if before is None else len(before)
-        yield f"play --save kept {words} over {size} bytes", check_kept(command, words, before, wanted, folder)
+        yield f"play --save kept {name} over {size} bytes", check_kept(command, name, before, wanted_file, folder)
+
+
+def results_of_saves(command: list[str], folder: Path) -> Iterator[Result]:
+    """The cases of a file for the saved game that is there, or can't be written."""
     yield "play --save kept saves.z3, without room for it", check_full(command, folder)
-    yield "play --save kept saves_on.z3, where kept is a link", check_link(command, folder)
-    yield "play --save kept saves_on.z3, where kept is a link to nothing", check_link_to_nothing(command, folder)
-    yield "play --save kept saves_on.z3, where kept is its owner's alone", check_mode(command, folder)
-    yield "play --save kept saves_on.z3, where another name leads to kept", check_hard_link(command, folder)
-    yield "play --save kept saves_on.z3, killed while it writes", check_killed(command, folder)
-    yield "play --save kept saves_on.z3, where a link stands beside kept", check_link_beside(command, folder)
-    yield "play --save kept saves_on.z3, while another play saves", check_busy(command, folder)
+    for what, check in SAVES_INTO_KEPT:
+        yield f"play --save kept saves_on.z3, {what}", check(command, folder)
     yield "play --save with a name of 255 bytes", check_long_name(command, folder)
     if os.geteuid() == 0:
         yield "play --save kept saves_on.z3, where kept is another's", check_owner(command, folder)
         yield "play --save open/kept saves_on.z3, by who may not give it away", check_other_owner(command, folder)
     yield "play --save kept saves_on.z3, where kept may not be written", check_unwritable(command, folder)
+
+
+def results(command: list[str], folder: Path) -> Iterator[Result]:
+    """All cases."""
+    yield from results_of_tables(command, folder)
+    yield from results_of_saves(command, folder)
     yield "play --frames 0 hello.z3, with its own usage", check_usage(command, folder)
     yield from check_ranges(command, folder)
     yield "play reads.z5, with a line that is too long", check_long_line(command, folder)
     yield "play --save kept restores_on.z3, which goes on out of the story", check_place(command, folder)
     yield "play saves_twice.z3, which has no file", check_once(command, folder)
     yield from check_screens(command, folder)
-    yield "play reads.z5, line by line", check_prompt(command, folder, "play", ((b">", b"go\n"), (b"g>", b"up\n"), (b"u", None)))
-    shown = ((b">", b"go\n"), (b"go\ng>", b"up\n"), (b"up\nu", None))
-    yield "play --echo reads.z5, line by line", check_prompt(command, folder, "play --echo", shown)
+    plain = ((b">", b"go\n"), (b"g>", b"up\n"), (b"u", None))
+    yield "play reads.z5, line by line", check_prompt(command, folder, "play", plain)
+    echoed = ((b">", b"go\n"), (b"go\ng>", b"up\n"), (b"up\nu", None))
+    yield "play --echo reads.z5, line by line", check_prompt(command, folder, "play --echo", echoed)
     yield from check_examples(command)
     yield "play --width 40 examples/lighthouse.z5", check_width(command)
     yield "play --echo examples/lighthouse.z5", check_echo(command)
@@ -1217,7 +1334,8 @@ def results(command, folder):
         yield "play --save kept saves_on.z3, with each call of the system refused", check_refusals(command, folder)
 
 
-def main():
+def main() -> None:
+    """Runs all cases, and tells how many agree."""
     words = sys.argv[1:]
     verbose = words[:1] == ["-v"]
     command = words[1:] if verbose else words
@@ -1227,7 +1345,7 @@ def main():
     command[0] = os.path.abspath(command[0])
     agree = differ = 0
     with tempfile.TemporaryDirectory() as place:
-        folder = pathlib.Path(place)
+        folder = Path(place)
         write_files(folder)
         for name, difference in results(command, folder):
             if difference:

@@ -3,9 +3,11 @@
 
 usage: conformance/refuse.py [--changed BASE] [--sample N] [--into FOLDER] [CRATE...]
 
-Each edit is given back to its crate as a must-fail edit, in a copy of the repository, and `rt must-fail` tries it there.
-README.md describes the edits and what a try may come to.
+Each edit is given back to its crate as a must-fail edit, in a copy of the repository, and `rt must-fail` tries it
+there. README.md describes the edits and what a try may come to.
 """
+
+from __future__ import annotations
 
 import argparse
 import functools
@@ -16,6 +18,7 @@ import shutil
 import subprocess
 import sys
 import tempfile
+from collections.abc import Iterable
 
 FOLDER = pathlib.Path(__file__).resolve().parent
 TOP = FOLDER.parent
@@ -33,14 +36,23 @@ VERDICTS = (
 WELL = ("refused", "refused by a limit alone")
 
 
-def git(*words):
+class Options:
+    """What the command line says."""
+
+    crates: list[str]
+    changed: str | None
+    sample: int | None
+    into: pathlib.Path | None
+
+
+def git(*words: str) -> str:
     """What a command of git prints."""
     return subprocess.run(["git", "-C", str(TOP), *words], check=True, stdout=subprocess.PIPE, text=True).stdout
 
 
-def crates_above():
+def crates_above() -> dict[str, list[str]]:
     """For each crate the crates of the repository that stand on it, from crates.txt."""
-    on = {}
+    on: dict[str, list[str]] = {}
     for line in (TOP / "crates.txt").read_text(encoding="utf-8").splitlines():
         name, found, below = line.partition("#")[0].partition(":")
         if found:
@@ -48,15 +60,17 @@ def crates_above():
     return {name: [it for it, below in on.items() if name in below] for name in on}
 
 
-def changed_since(base):
+def changed_since(base: str) -> set[str]:
     """The crates whose files were changed since a commit, and those above a changed definition whose contracts or
     definitions name its crate's."""
-    changed, redefined = set(), set()
+    changed: set[str] = set()
+    redefined: set[str] = set()
     for path in git("diff", "--name-only", base, "--", "crates").splitlines():
         parts = pathlib.PurePath(path).parts
         if len(parts) > 3 and parts[2] in PARTS:
             changed.add(parts[1])
-            redefined |= {parts[1]} if parts[2] == "specs" else set()
+            if parts[2] == "specs":
+                redefined.add(parts[1])
     for name in redefined:
         for above in crates_above().get(name, []):
             files = [it for part in ("src", "specs") for it in (TOP / "crates" / above / part).rglob("*")]
@@ -65,7 +79,7 @@ def changed_since(base):
     return changed
 
 
-def applies(path):
+def applies(path: pathlib.Path) -> bool:
     """Whether each text that an edit takes away stands once in its file."""
     file = ""
     for line in path.read_text(encoding="utf-8").splitlines():
@@ -78,25 +92,29 @@ def applies(path):
     return True
 
 
-def is_of_a_definition(path):
+def is_of_a_definition(path: pathlib.Path) -> bool:
     """Whether an edit turns a definition too."""
-    return bool(re.search(r"^file: specs/", path.read_text(encoding="utf-8"), re.M)) or "with_its_definition" in path.stem or "with_their_definition" in path.stem
+    if re.search(r"with_(its|their)_definition", path.stem):
+        return True
+    return bool(re.search(r"^file: specs/", path.read_text(encoding="utf-8"), re.M))
 
 
 @functools.cache
-def commit():
+def commit() -> str:
     """The commit, or nothing in a copy that has no history."""
     return subprocess.run(["git", "-C", str(TOP), "rev-parse", "HEAD"], capture_output=True, text=True).stdout.strip()
 
 
-def order_of(*words):
+def order_of(*words: str) -> str:
     """A number that stands for some words, another one for each commit."""
     return hashlib.sha256(" ".join([commit(), *words]).encode()).hexdigest()
 
 
-def sample_of(edits, number):
-    """So many of the edits, chosen by the commit, one of them of a definition: of a crate that has must-fail edits, so that the
-    gate proves it once more in any case, and of another one."""
+def sample_of(edits: list[pathlib.Path], number: int) -> list[pathlib.Path]:
+    """So many of the edits, chosen by the commit, one of them of a definition.
+
+    They are of a crate that has must-fail edits, so that the gate proves it once more in any case, and of another one.
+    """
     crates = sorted({it.parent.name for it in edits}, key=order_of)
     tried = [it for it in crates if (TOP / "crates" / it / "must-fail").is_dir()]
     others = [it for it in crates if it not in tried]
@@ -106,7 +124,7 @@ def sample_of(edits, number):
     return (first + [it for it in edits if it not in first])[:number]
 
 
-def lay(edits, top):
+def lay(edits: Iterable[pathlib.Path], top: pathlib.Path) -> list[pathlib.Path]:
     """Copies edits to where the must-fail edits of their crates stand, and answers where they lie now."""
     laid = []
     for path in edits:
@@ -117,7 +135,7 @@ def lay(edits, top):
     return laid
 
 
-def copy_of(folder):
+def copy_of(folder: pathlib.Path) -> None:
     """A copy of what proofs read, without must-fail edits."""
     shutil.copytree(TOP / "crates", folder / "crates", ignore=shutil.ignore_patterns("out", "must-fail"))
     for name in ("crates.txt", "HANDLES"):
@@ -125,16 +143,24 @@ def copy_of(folder):
     (folder / ".git").mkdir()
 
 
-def verdict_of(line):
+def verdict_of(line: str) -> str | None:
+    """What a line says of an edit, if it does."""
     return next((name for words, name in VERDICTS if words in line), None)
 
 
-def tried(folder, crates):
+def tried(folder: pathlib.Path, crates: list[str]) -> dict[str, int]:
     """Has the prover try what lies in a copy, prints what it says of each edit, and counts the verdicts."""
-    counts = {}
-    words = ["rt", "must-fail", *crates]
-    with subprocess.Popen(words, cwd=folder, stdin=subprocess.DEVNULL, stdout=subprocess.PIPE, stderr=subprocess.STDOUT, text=True, errors="replace") as ran:
-        for line in ran.stdout:
+    counts: dict[str, int] = {}
+    with subprocess.Popen(
+        ["rt", "must-fail", *crates],
+        cwd=folder,
+        stdin=subprocess.DEVNULL,
+        stdout=subprocess.PIPE,
+        stderr=subprocess.STDOUT,
+        text=True,
+        errors="replace",
+    ) as ran:
+        for line in ran.stdout or ():
             verdict = verdict_of(line)
             if verdict:
                 counts[verdict] = counts.get(verdict, 0) + 1
@@ -142,13 +168,37 @@ def tried(folder, crates):
     return counts
 
 
-def main():
+def read_options() -> Options:
+    """What the command line says."""
     words = argparse.ArgumentParser(prog="conformance/refuse.py", description=__doc__.split("\n")[0])
     words.add_argument("crates", nargs="*", metavar="CRATE", help="only edits of these crates")
-    words.add_argument("--changed", metavar="BASE", help="only edits of crates that were changed since a commit, and of those above whose clauses were")
+    words.add_argument(
+        "--changed",
+        metavar="BASE",
+        help="only edits of crates that were changed since a commit, and of those above whose clauses were",
+    )
     words.add_argument("--sample", type=int, metavar="N", help="only so many, chosen by the commit")
-    words.add_argument("--into", type=pathlib.Path, metavar="FOLDER", help="try nothing: lay them into the repository there, and print where they lie")
-    options = words.parse_args()
+    words.add_argument(
+        "--into",
+        type=pathlib.Path,
+        metavar="FOLDER",
+        help="try nothing: lay them into the repository there, and print where they lie",
+    )
+    return words.parse_args(namespace=Options())
+
+
+def try_in_a_copy(edits: list[pathlib.Path]) -> dict[str, int]:
+    """Has the prover try edits in a copy of the repository, and counts the verdicts."""
+    with tempfile.TemporaryDirectory(prefix="refuse-") as name:
+        folder = pathlib.Path(name)
+        copy_of(folder)
+        lay(edits, folder)
+        return tried(folder, sorted({it.parent.name for it in edits}))
+
+
+def main() -> int:
+    """Tries the edits that are asked for, and answers 0 where each is refused."""
+    options = read_options()
     edits = sorted((FOLDER / "refused").glob("*/*.edit"))
     for path in [*edits, *TOP.glob("crates/*/must-fail/*.edit")]:
         if not applies(path):
@@ -161,13 +211,7 @@ def main():
     if options.into:
         print("\n".join(str(it) for it in lay(edits, options.into)))
         return 0
-    counts = {}
-    if edits:
-        with tempfile.TemporaryDirectory(prefix="refuse-") as name:
-            folder = pathlib.Path(name)
-            copy_of(folder)
-            lay(edits, folder)
-            counts = tried(folder, sorted({it.parent.name for it in edits}))
+    counts = try_in_a_copy(edits) if edits else {}
     print(f"{len(edits)} edits: {', '.join(f'{number} {name}' for name, number in counts.items()) or 'none tried'}")
     return 0 if sum(counts.get(it, 0) for it in WELL) == len(edits) else 1
 

@@ -6,6 +6,8 @@ usage: conformance/run.py [-v] [--screen-only] [--only WORDS] COMMAND...
 Each row is played by `COMMAND STORY`, for each of its versions. README.md describes the rows.
 """
 
+from __future__ import annotations
+
 import argparse
 import collections
 import concurrent.futures
@@ -16,6 +18,9 @@ import shutil
 import subprocess
 import sys
 import tempfile
+from collections.abc import Iterable
+from dataclasses import dataclass, field
+from typing import NamedTuple
 
 SECONDS = 20
 FOLDER = pathlib.Path(__file__).resolve().parent
@@ -55,45 +60,80 @@ STATUS_LINE = re.compile(r"^.*Score: \d+ +Moves: \d+\n(\n|$)", re.M)
 STATUS = {"quit": 0, "input": 0, "refused": 1, "fault": 2, "limit": 3, "read": 4}
 
 
+@dataclass
 class Row:
     """One row, with the file and line that it stands at."""
 
-    def __init__(self, name, place):
-        self.name = name
-        self.place = place
-        self.section = ""
-        self.choice = False
-        self.versions = []
-        self.fields = dict(DEFAULTS)
-        self.names_static = False  # it gives the static base itself
-        self.size = None  # in bytes, where the row gives it
-        self.memory = []  # pairs of an address and tokens
-        self.input = b""  # what stands on standard input
-        self.upper = False  # the status line and the upper window are shown
-        self.save = False  # there is a file for the saved game
-        self.undo = None  # how many states there are to go back to, where the row says it
-        self.screen = None
-        self.script = None  # what the transcript gets, where the row says it
-        self.end = None
+    name: str
+    place: str
+    section: str = ""
+    choice: bool = False
+    versions: list[int] = field(default_factory=list)
+    fields: dict[str, int] = field(default_factory=lambda: dict(DEFAULTS))
+    names_static: bool = False  # it gives the static base itself
+    size: int | None = None  # in bytes, where the row gives it
+    memory: list[tuple[int, list[str]]] = field(default_factory=list)  # addresses, each with tokens
+    input: bytes = b""  # what stands on standard input
+    upper: bool = False  # the status line and the upper window are shown
+    save: bool = False  # there is a file for the saved game
+    undo: int | None = None  # how many states there are to go back to, where the row says it
+    screen: str = ""
+    has_screen: bool = False
+    script: str | None = None  # what the transcript gets, where the row says it
+    end: str = ""
+
+
+class Options:
+    """What the command line says."""
+
+    v: bool
+    screen_only: bool
+    writable_code: bool
+    only: str
+    command: list[str]
+
+
+class Seen(NamedTuple):
+    """What is seen of a play: the screen, the transcript where the row looks at it, and the end in words."""
+
+    screen: str
+    script: str | None
+    end: str
+
+    def __str__(self) -> str:
+        texts = self.screen if self.script is None else (self.screen, self.script)
+        return f"{texts!r} {self.end}"
+
+
+class Played(NamedTuple):
+    """What came of a row: `agrees`, `differs`, `crashed` or `hung`, and what was wanted and came."""
+
+    result: str
+    what: str
+
+
+# How many rows of each chapter came to what.
+Counts = dict[str, collections.Counter[str]]
 
 
 class BadRow(Exception):
     """A row that is not written as README.md says."""
 
 
-def unquote(text):
+def unquote(text: str) -> bytes:
     """The bytes of a text in double quotes: UTF-8, with a new line as \\n and any byte as \\x and two digits."""
     if len(text) < 2 or text[0] != '"' or text[-1] != '"':
         raise BadRow("a screen, a transcript or an input is a text in double quotes")
     signs = {"n": b"\n", '"': b'"', "\\": b"\\"}
-    parts = re.split(r"(\\x[0-9A-Fa-f]{2}|\\.)", text[1:-1])
-    for i in range(1, len(parts), 2):
-        sign = parts[i][1:]
-        parts[i] = bytes.fromhex(sign[1:]) if len(sign) == 3 else signs[sign]
-    return b"".join(part if isinstance(part, bytes) else part.encode() for part in parts)
+    plain, *others = re.split(r"\\(x[0-9A-Fa-f]{2}|.)", text[1:-1])
+    made = plain.encode()
+    for sign, plain in zip(others[::2], others[1::2]):
+        made += bytes.fromhex(sign[1:]) if len(sign) == 3 else signs[sign]
+        made += plain.encode()
+    return made
 
 
-def read_line(row, word, rest):
+def read_line(row: Row, word: str, rest: str) -> None:
     """Takes a line of a row: its first word, and the others."""
     if word == "section":
         row.section = rest
@@ -119,10 +159,10 @@ def read_line(row, word, rest):
         address, _, bytes_there = rest.partition(":")
         row.memory.append((int(address, 16), bytes_there.split()))
     elif word == "input":
-        text, times = re.fullmatch(r"(.*?)(?: times (\d+))?", rest).groups()
-        row.input += unquote(text) * int(times or 1)
+        text, *times = re.split(r" times (?=\d+$)", rest)
+        row.input += unquote(text) * int(times[0] if times else 1)
     elif word == "screen":
-        row.screen = unquote(rest).decode()
+        row.screen, row.has_screen = unquote(rest).decode(), True
     elif word == "script":
         row.script = unquote(rest).decode()
     elif word == "end":
@@ -133,9 +173,9 @@ def read_line(row, word, rest):
         raise BadRow(f"no line may begin with {word}")
 
 
-def read_rows(path):
+def read_rows(path: pathlib.Path) -> list[Row]:
     """The rows of a file."""
-    rows = []
+    rows: list[Row] = []
     for number, line in enumerate(path.read_text(encoding="utf-8").splitlines(), 1):
         place = f"{path.name}:{number}"
         stripped = line.strip()
@@ -154,19 +194,24 @@ def read_rows(path):
         except (BadRow, ValueError, KeyError, IndexError) as error:
             sys.exit(f"{place}: {error}")
     for row in rows:
-        if not row.versions or row.screen is None or not row.end or not row.section:
-            sys.exit(f"{row.place}: section, versions, screen and end are needed")
-        if not END.fullmatch(row.end):
-            sys.exit(f"{row.place}: a row does not end with {row.end}")
-        try:
-            for version in row.versions:
-                story(row, version)
-        except (BadRow, ValueError, KeyError) as error:
-            sys.exit(f"{row.place}: {error}")
+        look_at(row)
     return rows
 
 
-def token_bytes(token, version):
+def look_at(row: Row) -> None:
+    """Ends the script where a row that was read lacks something, or has no story."""
+    if not row.versions or not row.has_screen or not row.end or not row.section:
+        sys.exit(f"{row.place}: section, versions, screen and end are needed")
+    if not END.fullmatch(row.end):
+        sys.exit(f"{row.place}: a row does not end with {row.end}")
+    try:
+        for version in row.versions:
+            story(row, version)
+    except (BadRow, ValueError, KeyError) as error:
+        sys.exit(f"{row.place}: {error}")
+
+
+def token_bytes(token: str, version: int) -> bytes:
     """The bytes that a token stands for."""
     if token.startswith("<"):  # <0900>: the packed address of 0900
         packed, rest = divmod(int(token[1:-1], 16), PACKED[version])
@@ -181,13 +226,13 @@ def token_bytes(token, version):
     return bytes.fromhex(token)
 
 
-def story(row, version, writable_code=False):
-    """The bytes of a row's story; where code is to be writable, all of it is dynamic memory, unless the row says else."""
+def story(row: Row, version: int, writable_code: bool = False) -> bytes:
+    """The bytes of a row's story; writable code has it all in dynamic memory, unless the row says else."""
     image = bytearray(LEAST_LENGTH)
     image[0] = version
     image[0x12:0x18] = b"000000"
     for name, value in row.fields.items():
-        image[FIELDS[name] : FIELDS[name] + 2] = value.to_bytes(2, "big")
+        image[FIELDS[name]:FIELDS[name] + 2] = value.to_bytes(2, "big")
     for address, tokens in row.memory:
         content = b"".join(token_bytes(token, version) for token in tokens)
         end = address + len(content)
@@ -195,24 +240,21 @@ def story(row, version, writable_code=False):
             image.extend(bytes(end + -end % 8 - len(image)))
         image[address:end] = content
     if row.size is not None:
-        image = image[: row.size].ljust(row.size, b"\0")
+        image = image[:row.size].ljust(row.size, b"\0")
     if writable_code and not row.names_static:
-        field = FIELDS["static"]
-        image[field : field + 2] = min(len(image), 0xFFFF).to_bytes(2, "big")
+        static = FIELDS["static"]
+        image[static:static + 2] = min(len(image), 0xFFFF).to_bytes(2, "big")
     return bytes(image)
 
 
-def tidy(text):
+def tidy(text: str) -> str:
     """A screen without what terminals add: spaces at a line's end, empty lines at both ends, status lines."""
     lines = "\n".join(line.rstrip() for line in text.split("\n"))
     return STATUS_LINE.sub("", lines).strip("\n")
 
 
-def play(row, version, options, folder):
-    """Plays a row: `agrees`, `differs`, `crashed` or `hung`, and what was wanted and came."""
-    path = os.path.join(folder, f"{row.place.replace(':', '-')}.z{version}")
-    with open(path, "wb") as file:
-        file.write(story(row, version, options.writable_code))
+def words_for(row: Row, path: str) -> list[str]:
+    """The options of zkit's that a row asks for, with its files beside the story."""
     words = ["--upper"] * row.upper
     if row.script is not None:
         words += ["--script", path + ".script"]
@@ -220,9 +262,17 @@ def play(row, version, options, folder):
         words += ["--save", path + ".save"]
     if row.undo is not None:
         words += ["--undo", str(row.undo)]
+    return words
+
+
+def play(row: Row, version: int, options: Options, folder: str) -> Played:
+    """Plays a row, and answers what came of it."""
+    path = os.path.join(folder, f"{row.place.replace(':', '-')}.z{version}")
+    with open(path, "wb") as file:
+        file.write(story(row, version, options.writable_code))
     try:
         done = subprocess.run(
-            options.command + words + [path],
+            options.command + words_for(row, path) + [path],
             input=row.input,
             stdout=subprocess.PIPE,
             stderr=subprocess.PIPE,
@@ -230,37 +280,36 @@ def play(row, version, options, folder):
             check=False,
         )
     except subprocess.TimeoutExpired:
-        return "hung", f"no end within {SECONDS} s"
+        return Played("hung", f"no end within {SECONDS} s")
     finally:
         os.remove(path)
         if row.save and os.path.exists(path + ".save"):
             os.remove(path + ".save")
     if done.returncode < 0:
-        return "crashed", f"ended by signal {-done.returncode}"
-    came = done.stdout.decode("utf-8", "replace")
-    wanted = row.screen
-    if row.script is not None:
-        came = (came, script_of(path))
-        wanted = (wanted, row.script)
-    if options.screen_only:
-        came, wanted = tidy(came), tidy(wanted)
-        end_came = end_wanted = ""
+        return Played("crashed", f"ended by signal {-done.returncode}")
+    script = None if row.script is None else script_of(path)
+    return judged(row, done, script, options.screen_only)
+
+
+def judged(row: Row, done: subprocess.CompletedProcess[bytes], script: str | None, screen_only: bool) -> Played:
+    """What came of a row by a play that has ended, with what its transcript got."""
+    screen = done.stdout.decode("utf-8", "replace")
+    if screen_only:
+        came, wanted = Seen(tidy(screen), None, ""), Seen(tidy(row.screen), None, "")
     else:
         errors = done.stderr.decode("utf-8", "replace").splitlines()
         # Other lines are in words.
         last = errors[-1] if errors and LAST_LINE.fullmatch(errors[-1]) else ""
         if done.returncode not in range(7):
-            return "crashed", f"status {done.returncode}, {last}"
-        end_came = f"status {done.returncode}, {last or 'no last line'}"
+            return Played("crashed", f"status {done.returncode}, {last}")
+        came = Seen(screen, script, f"status {done.returncode}, {last or 'no last line'}")
         status = STATUS[row.end.split()[0]]
         line = "no last line" if status == 0 else f"zkit: {row.end}"
-        end_wanted = f"status {status}, {line}"
-    if (came, end_came) == (wanted, end_wanted):
-        return "agrees", ""
-    return "differs", f"wanted {wanted!r} {end_wanted}\n        came   {came!r} {end_came}"
+        wanted = Seen(row.screen, row.script, f"status {status}, {line}")
+    return Played("agrees", "") if came == wanted else Played("differs", f"wanted {wanted}\n        came   {came}")
 
 
-def script_of(path):
+def script_of(path: str) -> str:
     """What the transcript of a story got; its file goes again."""
     with open(path + ".script", encoding="utf-8", errors="replace") as file:
         script = file.read()
@@ -268,12 +317,12 @@ def script_of(path):
     return script
 
 
-def is_plain(row):
+def is_plain(row: Row) -> bool:
     """Whether a row asks for no option of zkit's and ends by itself."""
     return row.end == "quit" and not row.upper and not row.save and row.undo is None and row.script is None
 
 
-def worst(results):
+def worst(results: Iterable[str]) -> str:
     """What is said of a row whose versions had these results."""
     for result in ("crashed", "hung", "differs"):
         if result in results:
@@ -281,22 +330,24 @@ def worst(results):
     return "agrees"
 
 
-def table(title, counts):
+def table(title: str, counts: Counts) -> None:
     """Prints the rows of each chapter by their results."""
     print(f"{title:24}  agree  differ  crashed  hung")
-    total = collections.Counter()
+    total: collections.Counter[str] = collections.Counter()
     for chapter, count in counts.items():
         total.update(count)
         print(table_line(chapter, count))
     print(table_line("all", total))
 
 
-def table_line(name, count):
+def table_line(name: str, count: collections.Counter[str]) -> str:
+    """A line of a table."""
     numbers = [count[result] for result in ("agrees", "differs", "crashed", "hung")]
     return "{:24}  {:5}  {:6}  {:7}  {:4}".format(name, *numbers)
 
 
-def main():
+def read_options() -> Options:
+    """What the command line says."""
     words = argparse.ArgumentParser(prog="conformance/run.py", description=__doc__.split("\n")[0])
     words.add_argument("-v", action="store_true", help="name each row that differs")
     words.add_argument(
@@ -311,43 +362,51 @@ def main():
     )
     words.add_argument("--only", default="", help="play only rows whose name or file has these words")
     words.add_argument("command", nargs=argparse.REMAINDER, metavar="COMMAND", help="the interpreter")
-    options = words.parse_args()
+    options = words.parse_args(namespace=Options())
     if not options.command:
         words.error("the interpreter's command is missing")
     if not shutil.which(options.command[0]):
         words.error(f"there is no program {options.command[0]}")
+    return options
 
-    plain, choices = {}, {}
-    left_out = 0
-    jobs = []
+
+def play_all(rows: list[tuple[str, Row]], options: Options) -> tuple[Counts, Counts]:
+    """Plays rows, each with its chapter, names those that differ where that is asked for, and counts them.
+
+    Those by the Standard are counted apart from those on choices.
+    """
+    plain: Counts = {}
+    choices: Counts = {}
     with tempfile.TemporaryDirectory() as folder, concurrent.futures.ThreadPoolExecutor(4) as pool:
-        for path in sorted(FOLDER.glob("*.rows")):
-            for row in read_rows(path):
-                if options.only not in f"{path.stem} {row.name}":
-                    continue
-                if options.screen_only and not is_plain(row):
-                    left_out += 1
-                    continue
-                plays = [(v, pool.submit(play, row, v, options, folder)) for v in row.versions]
-                jobs.append((path.stem, row, plays))
-        for chapter, row, plays in jobs:
+        jobs = [[(it, pool.submit(play, row, it, options, folder)) for it in row.versions] for _, row in rows]
+        for (chapter, row), plays in zip(rows, jobs):
             results = []
             for version, job in plays:
-                result, what = job.result()
-                results.append(result)
-                if options.v and result != "agrees":
-                    print(f"{row.place} {row.name} (version {version}): {result}\n        {what}")
+                played = job.result()
+                results.append(played.result)
+                if options.v and played.result != "agrees":
+                    print(f"{row.place} {row.name} (version {version}): {played.result}\n        {played.what}")
             counts = choices if row.choice else plain
             counts.setdefault(chapter, collections.Counter())[worst(results)] += 1
+    return plain, choices
 
+
+def main() -> None:
+    """Plays the rows that are asked for, and tells how many agree."""
+    options = read_options()
+    rows = [(path.stem, row) for path in sorted(FOLDER.glob("*.rows")) for row in read_rows(path)]
+    named = [(chapter, row) for chapter, row in rows if options.only in f"{chapter} {row.name}"]
+    chosen = [(chapter, row) for chapter, row in named if is_plain(row) or not options.screen_only]
+    plain, choices = play_all(chosen, options)
     table("by the Standard", plain)
     print()
     table("choices of zkit", choices)
+    left_out = len(named) - len(chosen)
     if left_out:
         print(f"\n{left_out} rows that do not end with quit, or ask for an option of zkit's, were left out")
     # Another interpreter may choose as it likes.
-    judged = [plain] if options.screen_only else [plain, choices]
-    bad = any(set(count) - {"agrees"} for counts in judged for count in counts.values())
+    counted = [plain] if options.screen_only else [plain, choices]
+    bad = any(set(count) - {"agrees"} for counts in counted for count in counts.values())
     sys.exit(1 if bad else 0)
 
 

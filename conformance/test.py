@@ -7,7 +7,6 @@ They are compiled with checks by `rt try --test`: each that fails is told, and t
 """
 
 import pathlib
-import re
 import shutil
 import subprocess
 import sys
@@ -17,15 +16,18 @@ FOLDER = pathlib.Path(__file__).resolve().parent
 TOP = FOLDER.parent
 SECONDS = 300
 # What is made shorter in a copy: how far a check looks for texts, as the stories of the tests are short.
-SHORTER = ("zk_inspect/src/texts.rt", ("TEXTS_END: u32 = 524_289", "TEXTS_END: u32 = 66_001"), ("ABBREVIATIONS_END: u32 = 131_071", "ABBREVIATIONS_END: u32 = 66_001"))
+TEXTS = "zk_inspect/src/texts.rt"
+SHORTER = (
+    ("TEXTS_END: u32 = 524_289", "TEXTS_END: u32 = 66_001"),
+    ("ABBREVIATIONS_END: u32 = 131_071", "ABBREVIATIONS_END: u32 = 66_001"),
+)
 
 
-def add_tests(crates):
+def add_tests(crates: pathlib.Path) -> None:
     """Adds the tests that are not proved to the tests in a copy of the crates, each file as a module."""
-    name, *pairs = SHORTER
-    path = crates / name
+    path = crates / TEXTS
     text = path.read_text(encoding="utf-8")
-    for long, short in pairs:
+    for long, short in SHORTER:
         text = text.replace(long, short)
     path.write_text(text, encoding="utf-8")
     source = crates / "zk_tests/src"
@@ -38,7 +40,8 @@ def add_tests(crates):
         root.write("".join(modules))
 
 
-def main():
+def main() -> int:
+    """Runs the tests in a copy, and answers their status."""
     with tempfile.TemporaryDirectory(prefix="test-") as name:
         folder = pathlib.Path(name)
         shutil.copytree(TOP / "crates", folder / "crates", ignore=shutil.ignore_patterns("out"))
@@ -46,9 +49,15 @@ def main():
             shutil.copyfile(TOP / file, folder / file)
         (folder / ".git").mkdir()
         add_tests(folder / "crates")
-        words = ["rt", "try", "--test", "--steps", "1", "--seconds", str(SECONDS)]
-        how = {"stdin": subprocess.DEVNULL, "stdout": subprocess.PIPE, "stderr": subprocess.STDOUT}
-        ran = subprocess.run(words, cwd=folder / "crates/zk_tests", text=True, errors="replace", **how)
+        ran = subprocess.run(
+            ["rt", "try", "--test", "--steps", "1", "--seconds", str(SECONDS)],
+            cwd=folder / "crates/zk_tests",
+            stdin=subprocess.DEVNULL,
+            stdout=subprocess.PIPE,
+            stderr=subprocess.STDOUT,
+            text=True,
+            errors="replace",
+        )
     print("\n".join(it for it in ran.stdout.splitlines() if not it.endswith("... ok")))
     return ran.returncode
 

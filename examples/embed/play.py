@@ -1,14 +1,17 @@
 #!/usr/bin/env python3
-"""Plays a story by a shared object of the library: the lines of standard input answer it, its text goes to standard output.
+"""Plays a story by a shared object of the library: lines of standard input answer it, standard output has its text.
 
 usage: play.py LIBRARY STORY <LINES
 
 The last saved game is kept in memory. The status is that of `zkit play`.
 """
 
+from __future__ import annotations
+
 import ctypes
 import pathlib
 import sys
+from collections.abc import Callable, Iterator
 
 STOPPED, LINE, CHARACTER, SAVE, RESTORE = range(5)
 QUIT, FAULT, LIMIT, OUT_OF_MEMORY = 1, 2, 3, 5
@@ -26,19 +29,19 @@ class Handle(ctypes.Structure):
     _fields_ = [("at", ctypes.c_void_p), ("is_open", ctypes.c_ubyte)]
 
 
-def load(path):
+def load(path: str) -> ctypes.CDLL:
     """The library, with the types of its functions."""
     library = ctypes.CDLL(path)
     game, number, size = ctypes.POINTER(Handle), ctypes.c_uint32, ctypes.c_size_t
-    content = [ctypes.c_char_p, size]
-    for name, result, others in (
-        ("open", number, content + [ctypes.c_uint64] + 5 * [number]),
+    content: list[type] = [ctypes.c_char_p, size]
+    functions: list[tuple[str, type | None, list[type]]] = [
+        ("open", number, [*content, ctypes.c_uint64, *5 * [number]]),
         ("turn", number, []),
         ("text", size, content),
         ("transcript", size, content),
         ("line", number, content),
         ("character", number, [number]),
-        ("image", number, content + [ctypes.POINTER(size)]),
+        ("image", number, [*content, ctypes.POINTER(size)]),
         ("saved", number, [number]),
         ("restore", number, content),
         ("restore_none", number, []),
@@ -46,26 +49,28 @@ def load(path):
         ("reason", number, []),
         ("address", number, []),
         ("close", None, []),
-    ):
+    ]
+    for name, result, others in functions:
         function = getattr(library, "zkit_" + name)
-        function.restype, function.argtypes = result, [game] + others
+        function.restype, function.argtypes = result, [game, *others]
     return library
 
 
 class Game:
     """A story that is played."""
 
-    def __init__(self, library, story, settings):
+    def __init__(self, library: ctypes.CDLL, story: bytes, settings: dict[str, int]) -> None:
         self.library = library
         self.handle = Handle()
-        self.saved = None
+        self.saved: bytes | None = None
         self.refused = self.call("open", story, len(story), *settings.values())
 
-    def call(self, name, *words):
+    def call(self, name: str, *words: object) -> int:
         """Calls a function of the library on the handle."""
-        return getattr(self.library, "zkit_" + name)(ctypes.byref(self.handle), *words)
+        function: Callable[..., int] = getattr(self.library, "zkit_" + name)
+        return function(ctypes.byref(self.handle), *words)
 
-    def text(self, call="text"):
+    def text(self, call: str = "text") -> bytes:
         """The text that was shown and not taken yet, or that of the transcript."""
         parts = []
         buffer = ctypes.create_string_buffer(4096)
@@ -73,7 +78,7 @@ class Game:
             parts.append(buffer.raw[:count])
         return b"".join(parts)
 
-    def keep(self):
+    def keep(self) -> None:
         """Keeps the saved game that waits for it."""
         length = ctypes.c_size_t()
         self.call("image", b"", 0, ctypes.byref(length))
@@ -83,14 +88,14 @@ class Game:
             self.saved = buffer.raw
         self.call("saved", kept)
 
-    def answer(self, asked, lines):
+    def answer(self, asked: int, lines: Iterator[bytes]) -> bool:
         """Answers what the story asks for, and says whether there was an answer."""
         if asked == SAVE:
             self.keep()
-        elif asked == RESTORE and self.saved is None:
-            self.call("restore_none")
-        elif asked == RESTORE:
+        elif asked == RESTORE and self.saved is not None:
             self.call("restore", self.saved, len(self.saved))
+        elif asked == RESTORE:
+            self.call("restore_none")
         else:
             line = next(lines, None)
             if line is None:
@@ -105,7 +110,7 @@ class Game:
                 self.call("character", ord((line.decode(errors="replace") or "\n")[0]))
         return True
 
-    def play(self, lines):
+    def play(self, lines: Iterator[bytes]) -> int:
         """Plays the story up to its stop, or as far as there are lines, and answers the status of `zkit play`."""
         try:
             while asked := self.turn():
@@ -116,14 +121,14 @@ class Game:
             return 4
         return self.report()
 
-    def turn(self):
+    def turn(self) -> int:
         """Runs the story on, shows its text, and answers what it asks for."""
         asked = self.call("turn")
         sys.stdout.buffer.write(self.text())
         sys.stdout.buffer.flush()
         return asked
 
-    def report(self):
+    def report(self) -> int:
         """Tells why the story has stopped, as `zkit play` does, and answers the status."""
         status = self.call("status")
         if status in (FAULT, LIMIT):
@@ -134,7 +139,8 @@ class Game:
         return 0 if status == QUIT else status
 
 
-def main():
+def main() -> int:
+    """Plays the story that the command line names, and answers the status."""
     if len(sys.argv) != 3:
         sys.exit(__doc__)
     game = Game(load(sys.argv[1]), pathlib.Path(sys.argv[2]).read_bytes(), SETTINGS)
