@@ -19,14 +19,18 @@ The script reads text, not meaning: names are looked up by the imports of a file
 none of them. So it is an index, and the prover alone says what is true.
 """
 
+from __future__ import annotations
+
 import re
 import shutil
 import signal
 import sys
 import textwrap
-from collections import Counter, namedtuple
+from collections import Counter
+from collections.abc import Iterable, Iterator, Sequence
 from dataclasses import dataclass, field
 from pathlib import Path
+from typing import NamedTuple
 
 TOP = Path(__file__).resolve().parent.parent
 PAGE = TOP / "docs" / "DEFINITIONS.md"
@@ -99,6 +103,33 @@ The sections with believed definitions that no row of conformance names, neither
 """
 
 
+# What tells definitions apart: a crate, a spec file of it, and a name.
+Key = tuple[str, str, str]
+# What a text imports by names: a definition for each, or a spec file, as a crate and a name in it.
+Names = dict[str, Key]
+Aliases = dict[str, tuple[str, str]]
+# The numbers of a section: those of `12.4` are 12 and 4.
+Numbers = tuple[int, ...]
+
+
+class Section(NamedTuple):
+    """A section, or some that follow each other: the numbers of the first and the last."""
+
+    standard: str  # the standard that has them, "" for the Z-Machine's
+    first: Numbers
+    last: Numbers
+    label: str  # how they are written
+    words: tuple[str, ...]  # opcodes of chapter 15
+
+
+class Equation(NamedTuple):
+    """An equation of a definition, or its signature: the text, its left side, and the definitions that it cites."""
+
+    text: str
+    left: str
+    cites: set[Key]
+
+
 @dataclass(eq=False)
 class Definition:
     """A definition of a spec file. Its sections are those of its comment, where that has some, or of its file's."""
@@ -110,19 +141,23 @@ class Definition:
     name: str
     comment: str
     text: str
-    sections: list
+    sections: list[Section]
     has_own: bool
-    constructors: list = field(default_factory=list)
-    equations: list = field(default_factory=list)
-    variants: set = field(default_factory=set)  # of opcodes, that its file imports and it names
-    cites: set = field(default_factory=set)
+    constructors: list[str] = field(default_factory=list)
+    equations: list[Equation] = field(default_factory=list)
+    variants: set[str] = field(default_factory=set)  # of opcodes, that its file imports and it names
+    cites: set[Key] = field(default_factory=set)
     kind: str = "helper"
-    calls: list = field(default_factory=list)
-    examples: list = field(default_factory=list)
-    edits: list = field(default_factory=list)
+    calls: list[str] = field(default_factory=list)
+    examples: list[str] = field(default_factory=list)
+    edits: list[str] = field(default_factory=list)
 
-    def key(self):
+    def key(self) -> Key:
+        """What tells it apart from others."""
         return (self.crate, self.file, self.name)
+
+
+Definitions = dict[Key, Definition]
 
 
 @dataclass(eq=False)
@@ -138,48 +173,97 @@ class Function:
     is_ghost: bool
     public: bool
     text: str
-    clauses: list = field(default_factory=list)  # the word and the name of each, "" where it has none
-    cites: set = field(default_factory=set)
-    proves: set = field(default_factory=set)
+    clauses: list[tuple[str, str]] = field(default_factory=list)  # the word and the name of each, "" where it has none
+    cites: set[Key] = field(default_factory=set)
+    proves: set[Key] = field(default_factory=set)
 
 
-# An equation of a definition, or its signature: the text, its left side, and the definitions that it cites.
-Equation = namedtuple("Equation", "text left cites")
+class Block(NamedTuple):
+    """An `impl` or `trait` block of a source file: where it begins and ends, and its type or trait."""
 
-# A source file: its text, the same with comments and strings blanked, what it imports, and what may be named
-# from outside.
-Source = namedtuple("Source", "crate file raw text module is_public private_types names aliases blocks")
+    start: int
+    end: int
+    owner: str
+    implements: str  # the trait that it implements, or ""
+    is_trait: bool
 
-# An `impl` or `trait` block of a source file: where it begins and ends, its type or trait, the trait that it
-# implements, and whether it is a trait.
-Block = namedtuple("Block", "start end owner implements is_trait")
 
-# A crate's edit: its name, the source file, and the texts that it replaces there.
-Edit = namedtuple("Edit", "crate name file olds")
+class Source(NamedTuple):
+    """A source file: its text, the same with comments and strings blanked, and what it imports."""
 
-# A section, or some that follow each other: the standard that has them, the numbers of the first and the last, how
-# they are written, and the opcodes of chapter 15.
-Section = namedtuple("Section", "standard first last label words")
+    crate: str
+    file: Path
+    raw: str
+    text: str
+    module: list[str]
+    is_public: bool  # it can be named from outside
+    private_types: set[str]
+    names: Names
+    aliases: Aliases
+    blocks: list[Block]
 
-# A row of conformance: its name, its file and line, the sections that it names, each as numbers and a word behind
-# them, and the opcodes that its comments have.
-Row = namedtuple("Row", "name file line places uses")
 
-# An opcode's line of their table: its name, the variant that stands for it, and the line in words.
-Opcode = namedtuple("Opcode", "name variant said")
+class Clause(NamedTuple):
+    """A clause of a contract: its word, its name, or "" where it has none, and its text."""
 
-# What a query finds: a line on it, definitions by headings, each with lines of it that are shown, and rows by
-# headings, each with the sections that it is found by.
-Answer = namedtuple("Answer", "title definitions rows")
+    word: str
+    name: str
+    text: str
 
-# All that queries and the page are answered from.
-Book = namedtuple("Book", "definitions rows opcodes")
+
+class Edit(NamedTuple):
+    """A crate's edit: its name, the source file, and the texts that it replaces there."""
+
+    crate: str
+    name: str
+    file: Path
+    olds: list[str]
+
+
+class Row(NamedTuple):
+    """A row of conformance, with its file and line."""
+
+    name: str
+    file: str
+    line: int
+    places: list[tuple[Numbers, str]]  # the sections that it names, each with a word behind its numbers
+    uses: set[str]  # the opcodes that its comments have
+
+
+class Opcode(NamedTuple):
+    """An opcode's line of their table: its name, the variant that stands for it, and the line in words."""
+
+    name: str
+    variant: str
+    said: str
+
+
+# A definition that a query finds, with lines of it that are shown.
+Entry = tuple[Definition, list[str]]
+# Rows that a query finds, each with the sections that it is found by.
+Found = list[tuple[str, Row]]
+
+
+class Answer(NamedTuple):
+    """What a query finds: a line on it, and definitions and rows by headings."""
+
+    title: str
+    definitions: list[tuple[str, list[Entry]]]
+    rows: list[tuple[str, Found]]
+
+
+class Book(NamedTuple):
+    """All that queries and the page are answered from."""
+
+    definitions: list[Definition]
+    rows: list[Row]
+    opcodes: list[Opcode]
 
 
 # ---- crates and files
 
 
-def crate_names():
+def crate_names() -> list[str]:
     """The crates, in the order of crates.txt, and others behind them."""
     lines = (TOP / "crates.txt").read_text("utf-8").splitlines()
     listed = [line.split(":")[0].split()[0] for line in lines if ":" in line and not line.startswith("#")]
@@ -190,15 +274,15 @@ def crate_names():
 # ---- the words of specs and contracts
 
 
-def without_comments(text):
+def without_comments(text: str) -> str:
     """The text without `--` comments."""
     return re.sub(r"(^|\s)--(\s.*)?$", r"\1", text, flags=re.M)
 
 
-def imports(text, definitions):
+def imports(text: str, definitions: Definitions) -> tuple[Names, Aliases]:
     """What the imports of a text name: a definition's key for each name, and a spec file for each alias."""
-    names = {}
-    aliases = {}
+    names: Names = {}
+    aliases: Aliases = {}
     pattern = r"^\s*(?:ghost )?use Rattle\.(\w+)\.specs\.([\w.]+?)(?:\.\{([^}]*)\}| as (\w+))"
     for crate, path, listed, alias in re.findall(pattern, text, re.M):
         file, *inner = path.split(".")
@@ -212,9 +296,9 @@ def imports(text, definitions):
     return names, aliases
 
 
-def bound_names(text):
+def bound_names(text: str) -> set[str]:
     """The names that binders of a text take: lambdas, typed binders, steps of `do`, fields."""
-    bound = set()
+    bound: set[str] = set()
     for names in re.findall(r"λ\s*([^.]*)\.(?:\s|$)", text):
         bound.update(re.findall(r"[^\s(),]+", names))
     for names in re.findall(r"[({]\s*([^(){}:]+?)\s+:\s", text):
@@ -224,12 +308,12 @@ def bound_names(text):
     return bound
 
 
-def cited(text, names, aliases, bound=()):
+def cited(text: str, names: Names, aliases: Aliases, bound: Iterable[str] = ()) -> set[Key]:
     """The keys of the definitions that a text cites."""
     text = without_comments(text)
     bound = bound_names(text) | set(bound)
     words = re.findall(r"[^\s(){}\[\];,]+", text)
-    keys = set()
+    keys: set[Key] = set()
     for word, following in zip(words, words[1:] + [""]):
         first, _, rest = word.partition(".")
         if first in aliases:
@@ -242,7 +326,7 @@ def cited(text, names, aliases, bound=()):
     return keys
 
 
-def uses_operator(words, name):
+def uses_operator(words: list[str], name: str) -> bool:
     """Whether an operator stands among words. The steps of a `do` are joined by `>>=`."""
     parts = [part for part in name.split("◌") if part]
     return all(part in words for part in parts) or (parts == [">>="] and "do" in words)
@@ -258,12 +342,12 @@ CITATION = re.compile(
 )
 
 
-def numbers_of(text):
+def numbers_of(text: str) -> Numbers:
     """A section's numbers: those of `12.4` are 12 and 4."""
     return tuple(int(part) for part in text.split("."))
 
 
-def sections_of(comment):
+def sections_of(comment: str) -> list[Section]:
     """The sections that a comment cites."""
     sections = []
     for found in CITATION.finditer(comment):
@@ -282,22 +366,22 @@ def sections_of(comment):
     return sections
 
 
-def written(numbers):
+def written(numbers: Numbers) -> str:
     """How a section's numbers are written."""
     return ".".join(str(number) for number in numbers)
 
 
-def lies_in(section, numbers):
+def lies_in(section: Section, numbers: Numbers) -> bool:
     """Whether a section lies in the one of these numbers. Some that follow each other do where one of them does."""
     return section.first[:len(numbers)] <= numbers <= section.last[:len(numbers)]
 
 
-def sections_in(definition, standard, numbers):
+def sections_in(definition: Definition, standard: str, numbers: Numbers) -> list[Section]:
     """The sections of a definition that lie in the one of these numbers, in order."""
     return sorted(it for it in definition.sections if it.standard == standard and lies_in(it, numbers))
 
 
-def meaning_of(definition):
+def meaning_of(definition: Definition) -> str:
     """The first sentence of a definition's comment, without its sections."""
     brackets = re.compile(r"\s*\(([^()]*)\)")
     text = brackets.sub(lambda found: "" if CITATION.match(found[1]) else found[0], definition.comment)
@@ -310,7 +394,7 @@ def meaning_of(definition):
 # ---- specs
 
 
-def comment_above(lines, at):
+def comment_above(lines: list[str], at: int) -> str:
     """The comment lines right above a line, joined."""
     start = at
     while start > 0 and lines[start - 1].startswith("--"):
@@ -318,7 +402,7 @@ def comment_above(lines, at):
     return " ".join(line[2:].strip() for line in lines[start:at])
 
 
-def read_spec(crate, path):
+def read_spec(crate: str, path: Path) -> list[Definition]:
     """The definitions of a spec file."""
     lines = path.read_text("utf-8").splitlines()
     head = next((at for at, line in enumerate(lines) if not line.startswith("--")), len(lines))
@@ -342,13 +426,13 @@ def read_spec(crate, path):
     return definitions
 
 
-def read_specs(crates):
+def read_specs(crates: Iterable[str]) -> list[tuple[Path, list[Definition]]]:
     """The spec files of crates, in order, each with its definitions."""
     paths = [(crate, path) for crate in crates for path in sorted((TOP / "crates" / crate / "specs").glob("*.antt"))]
     return [(path, read_spec(crate, path)) for crate, path in paths]
 
 
-def link_definitions(specs, definitions):
+def link_definitions(specs: list[tuple[Path, list[Definition]]], definitions: Definitions) -> None:
     """Says of each definition which others its equations cite, and which variants of opcodes they name."""
     opcodes = r"^use Rattle\.zk_code\.specs\.declared\.opcode\.\w+\.TheVariants\.\{([^}]*)\}"
     for path, own in specs:
@@ -367,7 +451,7 @@ def link_definitions(specs, definitions):
             definition.variants = variants & words_of(without_comments(definition.text))
 
 
-def equations(definition):
+def equations(definition: Definition) -> Iterator[tuple[str, str]]:
     """The signature of a definition and each of its equations, each with its left side."""
     pieces = re.split(r"\n(?=\S)", definition.text)
     yield pieces[0], ""
@@ -375,7 +459,7 @@ def equations(definition):
         yield piece, re.split(r"\s=\s", piece, maxsplit=1)[0]
 
 
-def words_of(text):
+def words_of(text: str) -> set[str]:
     """The words of a text that no dot stands before."""
     return set(re.findall(r"(?<![\w.])\w+", text))
 
@@ -383,13 +467,13 @@ def words_of(text):
 # ---- sources
 
 
-def blanked(source):
+def blanked(source: str) -> str:
     """The source with comments, strings and characters blanked, each letter in its place."""
     pattern = r'//[^\n]*|r(#*)".*?"\1|"(?:\\.|[^"\\])*"|\'(?:\\.[^\']*|[^\'\\\n])\''
     return re.sub(pattern, lambda found: re.sub(r"[^\n]", " ", found[0]), source, flags=re.S)
 
 
-def closing(text, start):
+def closing(text: str, start: int) -> int:
     """The place after the brace that closes the one at `start`."""
     depth = 0
     for at in range(start, len(text)):
@@ -402,7 +486,7 @@ def closing(text, start):
     return len(text)
 
 
-def without_generics(text):
+def without_generics(text: str) -> str:
     """A header without what stands between angle brackets."""
     depth = 0
     kept = ""
@@ -414,13 +498,13 @@ def without_generics(text):
     return kept
 
 
-def last_name(text):
+def last_name(text: str) -> str:
     """The last name of a type's path."""
-    names = re.findall(r"\w+", text.split(" where ")[0])
+    names: list[str] = re.findall(r"\w+", text.split(" where ")[0])
     return names[-1] if names else ""
 
 
-def blocks(text):
+def blocks(text: str) -> list[Block]:
     """The `impl` and `trait` blocks of a blanked source."""
     found_blocks = []
     for found in re.finditer(r"^(?:pub(?:\([^)]*\))? )?(impl|trait)\b([^{;]*)\{", text, re.M):
@@ -436,9 +520,9 @@ def blocks(text):
     return found_blocks
 
 
-def contract_of(text, start):
-    """The clauses behind a function's head, as their words, names and texts, and the place after the function."""
-    clauses = []
+def contract_of(text: str, start: int) -> tuple[list[Clause], int]:
+    """The clauses behind a function's head, and the place after the function."""
+    clauses: list[Clause] = []
     since = start
     depth = 0
     at = start
@@ -454,22 +538,22 @@ def contract_of(text, start):
             word = re.search(r"\b(requires|ensures)(?:\s+(\w+))?\s*$", text[since:at])
             if not word:
                 return clauses, end
-            clauses.append((word[1], word[2] or "", text[at + 1:end - 1]))
+            clauses.append(Clause(word[1], word[2] or "", text[at + 1:end - 1]))
             since = at = end
             continue
         at += 1
     return clauses, at
 
 
-def module_of(path):
+def module_of(path: Path) -> tuple[list[str], bool]:
     """The module of a source file, and whether it is the crate's root."""
     inner = path.with_suffix("").parts
     return ([], True) if inner in [("lib",), ("main",)] else (list(inner), False)
 
 
-def public_modules(sources, is_program):
+def public_modules(sources: dict[Path, str], is_program: bool) -> set[tuple[str, ...]]:
     """The modules that can be named from outside. All modules of a program's root count: it has no outside."""
-    public = {()}
+    public: set[tuple[str, ...]] = {()}
     for path, text in sorted(sources.items(), key=lambda item: len(item[0].parts)):
         module, is_root = module_of(path)
         declared = r"^((?:#\[cfg\(test\)\]\n)?)(pub )?mod (\w+);"
@@ -479,10 +563,10 @@ def public_modules(sources, is_program):
     return public
 
 
-def private_types(sources, modules):
+def private_types(sources: dict[Path, str], modules: set[tuple[str, ...]]) -> set[str]:
     """The types and traits of a crate that can't be named from outside."""
-    public = set()
-    private = set()
+    public: set[str] = set()
+    private: set[str] = set()
     for path, text in sources.items():
         for pub, name in re.findall(r"^(pub(?:\([^)]*\))? )?(?:struct|enum|trait|union) (\w+)", text, re.M):
             is_public = pub == "pub " and tuple(module_of(path)[0]) in modules
@@ -490,13 +574,13 @@ def private_types(sources, modules):
     return private - public
 
 
-def block_at(source, at):
+def block_at(source: Source, at: int) -> Block | None:
     """The block around a place of a source, if there is one."""
     around = [block for block in source.blocks if block.start <= at < block.end]
     return around[-1] if around else None
 
 
-def make_function(source, name, is_ghost, public, start, end):
+def make_function(source: Source, name: str, is_ghost: bool, public: bool, start: int, end: int) -> Function:
     """A function or ghost item that stands between two places of a source, as yet without its contract."""
     block = block_at(source, start)
     owner = block.owner if block else ""
@@ -506,7 +590,7 @@ def make_function(source, name, is_ghost, public, start, end):
     return Function(source.crate, source.file, path, name, owner, trait, is_ghost, public, source.raw[start:end])
 
 
-def functions_of(source):
+def functions_of(source: Source) -> Iterator[Function]:
     """The functions of a source."""
     for found in re.finditer(r"^[ \t]*(pub(?:\([^)]*\))? )?(?:const |unsafe |extern +)*fn (\w+)", source.text, re.M):
         clauses, end = contract_of(source.text, found.end())
@@ -523,7 +607,7 @@ def functions_of(source):
         yield function
 
 
-def ghost_items_of(source):
+def ghost_items_of(source: Source) -> Iterator[Function]:
     """The ghost items of a source. A view and an invariant are the code's own."""
     for found in re.finditer(r"\bghost (\w+)\s*[=:]\s*\{", source.text):
         block = block_at(source, found.start())
@@ -534,14 +618,14 @@ def ghost_items_of(source):
         yield item
 
 
-def read_sources(crate, definitions):
+def read_sources(crate: str, definitions: Definitions) -> list[Function]:
     """The functions and ghost items of a crate's sources."""
     root = TOP / "crates" / crate / "src"
     raw = {path.relative_to(root): path.read_text("utf-8") for path in sorted(root.rglob("*.rt"))}
     texts = {path: blanked(text) for path, text in raw.items()}
     modules = public_modules(texts, Path("main.rt") in texts)
     private = private_types(texts, modules)
-    functions = []
+    functions: list[Function] = []
     for path, text in texts.items():
         module = module_of(path)[0]
         names, aliases = imports(text, definitions)
@@ -554,9 +638,9 @@ def read_sources(crate, definitions):
     return functions
 
 
-def follow_traits(functions):
+def follow_traits(functions: list[Function]) -> None:
     """Gives a function that implements a trait's the contract of that one."""
-    contracts = {}
+    contracts: dict[tuple[str, str], set[Key]] = {}
     for function in functions:
         if not function.trait:
             contracts.setdefault((function.owner, function.name), set()).update(function.cites)
@@ -568,7 +652,7 @@ def follow_traits(functions):
 # ---- edits
 
 
-def read_edits(crate):
+def read_edits(crate: str) -> list[Edit]:
     """The must-fail edits of a crate's sources."""
     edits = []
     folders = TOP / "crates" / crate / "must-fail", TOP / "conformance/refused" / crate
@@ -581,9 +665,9 @@ def read_edits(crate):
     return edits
 
 
-def edited(edit, functions):
+def edited(edit: Edit, functions: list[Function]) -> list[Function]:
     """The functions that an edit changes: of those with a text that it replaces, the smallest."""
-    changed = []
+    changed: list[Function] = []
     for old in edit.olds:
         having = [f for f in functions if (f.crate, f.file) == (edit.crate, edit.file) and old in f.text]
         changed.extend(sorted(having, key=lambda f: len(f.text))[:1])
@@ -593,9 +677,9 @@ def edited(edit, functions):
 # ---- what carries and guards a definition
 
 
-def distances(cites, definitions):
+def distances(cites: set[Key], definitions: Definitions) -> dict[Key, int]:
     """How far each definition lies from a contract that cites some: 1 for these."""
-    far = {}
+    far: dict[Key, int] = {}
     now = set(cites)
     step = 1
     while now:
@@ -606,20 +690,20 @@ def distances(cites, definitions):
     return far
 
 
-def has_examples(file):
+def has_examples(file: str) -> bool:
     """Whether a file is one of examples."""
     return file.endswith(EXAMPLES)
 
 
-def shows_examples(function):
+def shows_examples(function: Function) -> bool:
     """Whether a function proves examples."""
     return any(has_examples(key[1]) for key in function.proves)
 
 
-def find_calls(definitions, functions):
+def find_calls(definitions: Definitions, functions: list[Function]) -> None:
     """Says of each definition which public functions carry it, and of which kind it is."""
-    carriers = {key: [] for key in definitions}
-    believed = set()
+    carriers: dict[Key, list[tuple[bool, int, int, bool, str]]] = {key: [] for key in definitions}
+    believed: set[Key] = set()
     for function in functions:
         if function.public:
             for key, step in distances(function.cites, definitions).items():
@@ -638,11 +722,11 @@ def find_calls(definitions, functions):
             definition.kind = "believed"
 
 
-def find_examples(definitions):
+def find_examples(definitions: Definitions) -> None:
     """Says of each definition which examples cite it, themselves or by what their file works on."""
     for example in definitions.values():
         if example.kind == "example":
-            seen = set()
+            seen: set[Key] = set()
             now = {example.key()}
             while now:
                 seen |= now
@@ -652,9 +736,9 @@ def find_examples(definitions):
                 definitions[key].examples.append(example.name)
 
 
-def find_edits(definitions, functions, edits):
+def find_edits(definitions: Definitions, functions: list[Function], edits: list[Edit]) -> None:
     """Says of each definition which edits turn it: first those of its own crate, and of functions that cite few."""
-    turning = {key: set() for key in definitions}
+    turning: dict[Key, set[tuple[bool, int, str]]] = {key: set() for key in definitions}
     for edit in edits:
         for function in edited(edit, functions):
             for key in function.cites:
@@ -668,9 +752,9 @@ def find_edits(definitions, functions, edits):
 # ---- rows and opcodes
 
 
-def places_of(text):
+def places_of(text: str) -> list[tuple[Numbers, str]]:
     """The sections of a row, as numbers and a word: `2.3, 15 inc, dec` are 2.3, `15 inc` and `15 dec`."""
-    places = []
+    places: list[tuple[Numbers, str]] = []
     for item in text.split(", "):
         number, _, word = item.partition(" ")
         if re.fullmatch(NUMBER, number):
@@ -683,9 +767,9 @@ def places_of(text):
     return places
 
 
-def read_rows():
+def read_rows() -> list[Row]:
     """The rows of conformance, in the order of their files."""
-    rows = []
+    rows: list[Row] = []
     for path in sorted((TOP / "conformance").glob("*.rows")):
         for number, line in enumerate(path.read_text("utf-8").splitlines(), 1):
             word, _, rest = line.partition(" ")
@@ -699,14 +783,16 @@ def read_rows():
     return rows
 
 
-def opcodes_of(definitions):
+def opcodes_of(definitions: list[Definition]) -> list[Opcode]:
     """The lines of the tables of opcodes, which tie a name to the variant that stands for it elsewhere."""
     listed = r'\brow (\d+) \(?(\w+) ?(\d*)\)? (?:\((\w+) (\w+)\)|(\w+)) \(codes "(\w+)"\)'
     versions = {"Every": "in every version", "UpTo": "up to version ", "From": "from version ", "Only": "in version "}
     opcodes = []
     for table in definitions:
         form = re.fullmatch(r"section 14, .* opcodes, (\w+)", table.comment)
-        for number, word, version, group, variant, alone, name in re.findall(listed, table.text if form else ""):
+        if not form:
+            continue
+        for number, word, version, group, variant, alone, name in re.findall(listed, table.text):
             variant = variant or alone
             said = f"{form[1]} {number} {versions[word]}{version}, {group}{'::' if group else ''}{variant}"
             opcodes.append(Opcode(name, variant, said))
@@ -716,15 +802,15 @@ def opcodes_of(definitions):
 # ---- what a query finds
 
 
-def unique(items):
+def unique(items: Iterable[str]) -> list[str]:
     """The items in their order, each once."""
     return list(dict.fromkeys(items))
 
 
-def on_section(query, book):
+def on_section(query: str, book: Book) -> Answer:
     """What there is on a section or chapter: the definitions by the sections that they name, and the rows."""
     numbers = numbers_of(query)
-    found = {}
+    found: dict[tuple[Numbers, bool, Numbers, str], list[Entry]] = {}
     for definition in book.definitions:
         here = sections_in(definition, "", numbers)
         if here:
@@ -732,22 +818,23 @@ def on_section(query, book):
             heading = f"Section {label}" + ("" if definition.has_own else ", by the comment of the file")
             key = (max(here[0].first, numbers), not definition.has_own, here[0].last, heading)
             found.setdefault(key, []).append((definition, []))
-    rows = []
+    rows: Found = []
     for row in book.rows:
-        here = sorted({place for place in row.places if place[0][:len(numbers)] == numbers})
-        if here:
-            rows.append((", ".join(f"{written(numbers)} {word}".strip() for numbers, word in here), row))
+        named = sorted({place for place in row.places if place[0][:len(numbers)] == numbers})
+        if named:
+            rows.append((", ".join(f"{written(numbers)} {word}".strip() for numbers, word in named), row))
     title = f"{query}  {CHAPTERS.get(numbers[0], '')}".strip()
     return Answer(title, [(key[-1], found[key]) for key in sorted(found)], [("Rows of conformance", rows)])
 
 
-def on_opcode(query, book):
+def on_opcode(query: str, book: Book) -> Answer:
     """What there is on an opcode: the equations for its variants and what they cite, what else names it, and rows."""
     own = [opcode for opcode in book.opcodes if opcode.name == query]
     variants = {opcode.variant for opcode in own}
     names = {opcode.name for opcode in book.opcodes if opcode.variant in variants}
-    meaning, naming = [], []
-    cites = set()
+    meaning: list[Entry] = []
+    naming: list[Entry] = []
+    cites: set[Key] = set()
     for definition in book.definitions:
         named = variants & definition.variants
         quotes = lines_with(definition, named)
@@ -758,7 +845,7 @@ def on_opcode(query, book):
         elif quotes or is_said(definition, names):
             naming.append((definition, quotes if definition.kind != "example" else []))
     shown = {definition.key() for definition, _ in meaning + naming}
-    others = [(it, []) for it in book.definitions if it.key() in cites - shown]
+    others: list[Entry] = [(it, []) for it in book.definitions if it.key() in cites - shown]
     groups = [("Equations for it", meaning), ("What these cite", others), ("What else names it", naming)]
     reading = [("", row) for row in book.rows if is_read(row, names)]
     using = [("", row) for row in book.rows if row.uses & names and not is_read(row, names)]
@@ -766,26 +853,27 @@ def on_opcode(query, book):
     return Answer(f"{query}  " + "; ".join(it.said for it in own), groups, rows)
 
 
-def lines_with(definition, variants):
+def lines_with(definition: Definition, variants: set[str]) -> list[str]:
     """The lines of a definition that name one of some variants."""
     return [line.strip(" ∷") for line in definition.text.splitlines() if variants & words_of(line)]
 
 
-def is_said(definition, names):
+def is_said(definition: Definition, names: set[str]) -> bool:
     """Whether a definition's comment names an opcode, in quotes or by its entry in chapter 15."""
     entries = [word for section in definition.sections if definition.has_own for word in section.words]
     return not names.isdisjoint(entries + re.findall(r"`(\w+)`", definition.comment))
 
 
-def is_read(row, names):
+def is_read(row: Row, names: set[str]) -> bool:
     """Whether a row is read from the entry of an opcode, or uses one that its name has."""
     in_name = row.uses & set(re.findall(r"\w+", row.name))
     return not names.isdisjoint(in_name.union(word for _, word in row.places))
 
 
-def on_word(query, book):
+def on_word(query: str, book: Book) -> Answer:
     """The definitions with a word in their name, their meaning or a section's, and the rows with it in their name."""
-    by_name, by_meaning = [], []
+    by_name: list[Entry] = []
+    by_meaning: list[Entry] = []
     for definition in book.definitions:
         said = [meaning_of(definition)] + [f"{it.standard} {it.label}" for it in definition.sections]
         if query == definition.name or has_word(spaced(definition.name), spaced(query)):
@@ -797,17 +885,17 @@ def on_word(query, book):
     return Answer(query, groups, [("Rows of conformance with it in their name", rows)])
 
 
-def spaced(name):
+def spaced(name: str) -> str:
     """The words of a name: those of `IsFrame` and of `is_frame` are `is frame`."""
     return " ".join(re.findall(r"[A-Z]+(?![a-z])|[A-Z]?[a-z]+|\d+", name)).lower()
 
 
-def has_word(text, word):
+def has_word(text: str, word: str) -> bool:
     """Whether a text has a word, small or capital."""
     return bool(word) and bool(re.search(rf"(?<!\w){re.escape(word)}(?!\w)", text, re.I))
 
 
-def answer(query, book):
+def answer(query: str, book: Book) -> Answer | None:
     """What there is on a query, if there is anything."""
     if re.fullmatch(NUMBER, query):
         found = on_section(query, book)
@@ -815,18 +903,19 @@ def answer(query, book):
         found = on_opcode(query, book)
     else:
         found = on_word(query, book)
-    return found if any(entries for _, entries in found.definitions + found.rows) else None
+    is_there = any(entries for _, entries in found.definitions) or any(rows for _, rows in found.rows)
+    return found if is_there else None
 
 
 # ---- how it is printed
 
 
-def cut(text, room):
+def cut(text: str, room: int) -> str:
     """A text that fits into so many letters, cut after a word where it does not."""
     return text if len(text) <= room else text[:room - 4].rsplit(" ", 1)[0].rstrip(",;:") + " ..."
 
 
-def fitting(items, room):
+def fitting(items: Sequence[str], room: int) -> str:
     """The first items, as many as fit into so many letters and one at least, and how many there are more."""
     number = len(items)
     while True:
@@ -836,13 +925,13 @@ def fitting(items, room):
         number -= 1
 
 
-def wrapped(text, indent, first=None):
+def wrapped(text: str, indent: str, first: str | None = None) -> str:
     """A text in lines with an indent, and another one before the first."""
     first = indent if first is None else first
     return textwrap.fill(text, WIDTH, initial_indent=first, subsequent_indent=indent, break_on_hyphens=False)
 
 
-def entry_lines(definition, quotes, widest, is_brief):
+def entry_lines(definition: Definition, quotes: list[str], widest: int, is_brief: bool) -> Iterator[str]:
     """The lines of a definition."""
     indent = " " * 12
     place = f"crates/{definition.crate}/specs/{definition.file}.antt:{definition.line}"
@@ -858,7 +947,7 @@ def entry_lines(definition, quotes, widest, is_brief):
             yield wrapped(text, indent * 2, f"{indent}{title:<12}")
 
 
-def row_lines(rows):
+def row_lines(rows: Found) -> Iterator[str]:
     """The lines of rows, each with the sections that it is found by, or how many there are in each file."""
     if len(rows) > MOST_ROWS and not rows[0][0]:
         files = Counter(row.file for _, row in rows)
@@ -871,7 +960,7 @@ def row_lines(rows):
         yield wrapped(name, " " * len(start), start)
 
 
-def answer_lines(found):
+def answer_lines(found: Answer) -> Iterator[str]:
     """The lines of what a query finds."""
     definitions = [definition for _, entries in found.definitions for definition, _ in entries]
     kinds = Counter(definition.kind for definition in definitions)
@@ -893,7 +982,7 @@ def answer_lines(found):
 # ---- the page
 
 
-def places(book):
+def places(book: Book) -> list[tuple[str, Numbers]]:
     """The places that have a line of the table, each a standard and numbers: chapters, and sections of two numbers."""
     named = {("", numbers) for row in book.rows for numbers, _ in row.places}
     named |= {(section.standard, section.first) for it in book.definitions for section in it.sections}
@@ -901,7 +990,7 @@ def places(book):
     return sorted(chapters | {("", numbers[:2]) for standard, numbers in named if not standard})
 
 
-def table_line(standard, numbers, book):
+def table_line(standard: str, numbers: Numbers, book: Book) -> list[str]:
     """The line of the table for a chapter or section."""
     here = [(it, sections_in(it, standard, numbers)) for it in book.definitions]
     here = [(definition, sections) for definition, sections in here if sections]
@@ -923,11 +1012,11 @@ def table_line(standard, numbers, book):
     return line
 
 
-def main_ones(definitions, room):
+def main_ones(definitions: list[Definition], room: int) -> str:
     """The main ones of some definitions with their files, as many as fit into so many letters."""
     main = sorted(definitions, key=lambda it: (not it.has_own, -len(it.calls)))
     for number in range(MAIN, 0, -1):
-        files = {}
+        files: dict[str, list[str]] = {}
         for it in main[:number]:
             files.setdefault(f"(`{it.crate}` {it.file})", []).append(f"`{it.name}`")
         text = "; ".join(f"{', '.join(unique(names))} {file}" for file, names in files.items())
@@ -936,7 +1025,7 @@ def main_ones(definitions, room):
     return ""
 
 
-def is_named(section, rows):
+def is_named(section: Section, rows: list[Row]) -> bool:
     """Whether a row names a section or one inside it."""
     first, last = section.first, section.last
     return any(
@@ -946,26 +1035,26 @@ def is_named(section, rows):
     )
 
 
-def bare_lines(book):
+def bare_lines(book: Book) -> list[str]:
     """The sections with believed definitions that no row of conformance names, a line for each chapter."""
-    sections = {}
+    sections: dict[Section, list[str]] = {}
     for definition in book.definitions:
         for section in definition.sections:
             if definition.kind == "believed" and not section.standard:
                 sections.setdefault(section, []).append(f"`{definition.name}`")
-    chapters = {}
+    chapters: dict[int, list[str]] = {}
     for section, names in sorted(sections.items()):
         if not is_named(section, book.rows):
             chapters.setdefault(section.first[0], []).append(f"{section.label} ({fitting(unique(names), 60)})")
     return ["- " + "; ".join(labels) for labels in chapters.values()]
 
 
-def table(titles, lines):
+def table(titles: list[str], lines: list[list[str]]) -> str:
     """A table in Markdown."""
     return "\n".join("| " + " | ".join(line) + " |" for line in [titles, ["---"] * len(titles), *lines]) + "\n"
 
 
-def page(book):
+def page(book: Book) -> str:
     """The whole page."""
     kinds = Counter(definition.kind for definition in book.definitions)
     bare = sum(not definition.sections for definition in book.definitions)
@@ -978,7 +1067,7 @@ def page(book):
 # ---- the script
 
 
-def read_book():
+def read_book() -> Book:
     """All definitions, with what carries and guards them, and all rows."""
     crates = crate_names()
     specs = read_specs(crates)
@@ -993,7 +1082,7 @@ def read_book():
     return Book(shown, read_rows(), opcodes_of(shown))
 
 
-def print_answers(queries):
+def print_answers(queries: list[str]) -> int:
     """Prints what there is on each query."""
     book = read_book()
     answers = [answer(query, book) for query in queries]
@@ -1005,13 +1094,13 @@ def print_answers(queries):
     return 0 if all(answers) else 1
 
 
-def write_page():
+def write_page() -> int:
     """Writes the page."""
     PAGE.write_text(page(read_book()), "utf-8")
     return 0
 
 
-def check_page():
+def check_page() -> int:
     """Fails where the page is not what it would be."""
     if PAGE.exists() and PAGE.read_text("utf-8") == page(read_book()):
         return 0
@@ -1019,7 +1108,7 @@ def check_page():
     return 1
 
 
-def main(words):
+def main(words: list[str]) -> int:
     """Does what the arguments of the command line ask."""
     signal.signal(signal.SIGPIPE, signal.SIG_DFL)
     if words in (["--help"], ["-h"]):

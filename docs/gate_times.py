@@ -3,13 +3,15 @@
 
 usage: docs/gate_times.py [--write] [--jobs N]
 
-Each crate is checked in a copy of the repository over nothing that was kept, by one job. How long a function takes is read
-off the files that the check leaves, by the times at which they were written.
+Each crate is checked in a copy of the repository over nothing that was kept, by one job. How long a function takes is
+read off the files that the check leaves, by the times at which they were written.
 """
+
+from __future__ import annotations
 
 import argparse
 import collections
-import importlib.util
+import importlib
 import os
 import pathlib
 import re
@@ -18,6 +20,7 @@ import subprocess
 import sys
 import tempfile
 import threading
+from typing import NamedTuple, Protocol, cast
 
 TOP = pathlib.Path(__file__).resolve().parent.parent
 PAGE = TOP / "docs/PROVING.md"
@@ -25,21 +28,53 @@ BEGIN, END = "<!-- the table of docs/gate_times.py begins -->\n", "<!-- the tabl
 DEAREST = 3
 
 
-def toolchain():
+class Options:
+    """What the command line says."""
+
+    write: bool
+    jobs: int
+
+
+class Crate(Protocol):
+    """A crate, as the toolchain's module has it."""
+
+    name: str
+    folder: str
+    is_program: bool
+
+    def below(self) -> list[Crate]: ...
+    def words(self, flags: list[str], *, keeps: bool) -> list[str]: ...
+
+
+class Toolchain(Protocol):
     """The toolchain's own module, which knows how it calls the prover."""
-    path = pathlib.Path(shutil.which("rt")).resolve().parent / "rtlib.py"
+
+    RATTLE: str
+
+    def crates_below(self, top: str) -> list[Crate]: ...
+
+
+class Measured(NamedTuple):
+    """A crate's row, and the seconds of a processor that it took."""
+
+    row: str
+    seconds: float
+
+
+def toolchain() -> Toolchain:
+    """The module, which stands beside the command `rt`."""
+    command = shutil.which("rt")
+    if not command:
+        sys.exit("docs/gate_times.py: there is no command rt")
     sys.dont_write_bytecode = True
-    spec = importlib.util.spec_from_file_location("rtlib", path)
-    module = importlib.util.module_from_spec(spec)
-    sys.modules["rtlib"] = module
-    spec.loader.exec_module(module)
-    return module
+    sys.path.append(str(pathlib.Path(command).resolve().parent))
+    return cast(Toolchain, importlib.import_module("rtlib"))
 
 
-def dearest(kept):
+def dearest(kept: pathlib.Path) -> list[tuple[str, float]]:
     """The functions of a check that took the longest, each with its seconds."""
     files = sorted((it.stat().st_mtime_ns, it.name) for it in kept.rglob("*.oantt") if it.parent.name != "records")
-    seconds = collections.Counter()
+    seconds: dict[str, float] = collections.defaultdict(float)
     for (before, _), (after, name) in zip(files, files[1:]):
         found = re.match(r"Rattle-\w+-proofs\.(.*)\.oantt$", name)
         if found:
@@ -49,19 +84,10 @@ def dearest(kept):
             # A module of its own has no more than its file's name. A generic function has a plus before its name.
             if len(parts) > 1:
                 seconds["::".join(parts).replace("+", "")] += (after - before) / 1e9
-    return seconds.most_common(DEAREST)
+    return sorted(seconds.items(), key=lambda it: it[1], reverse=True)[:DEAREST]
 
 
-class Measured:
-    """A crate's row."""
-
-    def __init__(self, name, functions, seconds, dear):
-        told = ", ".join(f"`{it}` {round(time)}" for it, time in dear)
-        self.name, self.seconds = name, seconds
-        self.row = f"| `{name}` | {functions} | {round(seconds)} | {told} |"
-
-
-def measure(rtlib, crate):
+def measure(rtlib: Toolchain, crate: Crate) -> Measured:
     """Checks a crate over nothing, and then builds it for those above."""
     kept = pathlib.Path(crate.folder) / "out/incremental"
     kept.mkdir(parents=True)
@@ -76,17 +102,24 @@ def measure(rtlib, crate):
     functions = re.findall(r"functions=(\d+)", text)[-1]
     if not crate.is_program:
         subprocess.run(["rt", "lib"], cwd=crate.folder, check=True, stdin=subprocess.DEVNULL, stdout=subprocess.DEVNULL)
-    return Measured(crate.name, functions, used.ru_utime + used.ru_stime, dearest(kept))
+    seconds: float = used.ru_utime + used.ru_stime
+    told = ", ".join(f"`{it}` {round(time)}" for it, time in dearest(kept))
+    return Measured(f"| `{crate.name}` | {functions} | {round(seconds)} | {told} |", seconds)
 
 
-def measure_all(rtlib, crates, jobs):
+def measure_all(rtlib: Toolchain, crates: list[Crate], jobs: int) -> list[Measured]:
     """Checks all crates, as many side by side as jobs, each after those below it."""
-    rows, running, changed = {}, set(), threading.Condition()
+    rows: dict[str, Measured] = {}
+    running: set[str] = set()
+    changed = threading.Condition()
 
-    def work():
+    def ready() -> Crate | None:
+        waiting = (it for it in crates if it.name not in running)
+        return next((it for it in waiting if all(dep.name in rows for dep in it.below())), None)
+
+    def work() -> None:
         while True:
             with changed:
-                ready = lambda: next((it for it in crates if it.name not in running and all(dep.name in rows for dep in it.below())), None)
                 changed.wait_for(lambda: ready() or len(running) == len(crates))
                 crate = ready()
                 if crate is None:
@@ -99,32 +132,34 @@ def measure_all(rtlib, crates, jobs):
                 changed.notify_all()
 
     threads = [threading.Thread(target=work, daemon=True) for _ in range(jobs)]
-    for it in threads:
-        it.start()
-    for it in threads:
-        it.join()
+    for thread in threads:
+        thread.start()
+    for thread in threads:
+        thread.join()
     return [rows[it.name] for it in crates]
 
 
-def table(rows):
+def table(rows: list[Measured]) -> str:
+    """The table of the page."""
     head = "| Crate | Functions | Seconds of a processor | Dearest functions, in seconds |\n| --- | --- | --- | --- |\n"
     total = round(sum(it.seconds for it in rows) / 60)
     return head + "".join(f"{it.row}\n" for it in rows) + f"| all | | {total} minutes | |\n"
 
 
-def main():
+def main() -> None:
+    """Measures all crates, and prints or writes the table."""
     words = argparse.ArgumentParser(prog="docs/gate_times.py", description=__doc__.split("\n")[0])
     words.add_argument("--write", action="store_true", help="write the table into docs/PROVING.md")
     words.add_argument("--jobs", type=int, default=1, help="how many crates are checked side by side")
-    options = words.parse_args()
+    options = words.parse_args(namespace=Options())
     rtlib = toolchain()
     with tempfile.TemporaryDirectory(prefix="gate-times-") as name:
         shutil.copytree(TOP / "crates", f"{name}/crates", ignore=shutil.ignore_patterns("out"))
         shutil.copyfile(TOP / "crates.txt", f"{name}/crates.txt")
         os.mkdir(f"{name}/.git")
         os.chdir(name)
-        crates = [it for it in sorted(rtlib.crates_below(name), key=lambda it: len(it.below())) if it.name != "zk_tests"]
-        made = table(measure_all(rtlib, crates, options.jobs))
+        crates = [it for it in rtlib.crates_below(name) if it.name != "zk_tests"]
+        made = table(measure_all(rtlib, sorted(crates, key=lambda it: len(it.below())), options.jobs))
         os.chdir(TOP)
     if options.write:
         page = PAGE.read_text("utf-8")

@@ -11,18 +11,21 @@ A row of a table of promises cites, in its second column, in parts that semicolo
   `impl Sink for Buffer`, with `gave` implementations, each with ghost items of these names
   functions `.._by_example`           in each of its files, functions whose names end so
 
-A call without a type has that of the call before it, where it is no function by itself. The third column has files in crates/:
-each name is found in one of them, and each of them has one of the names.
+A call without a type has that of the call before it, where it is no function by itself. The third column has files in
+crates/: each name is found in one of them, and each of them has one of the names.
 
-A row of the table of what callers have to meet cites calls likewise, each with `requires` and the names of all its clauses
-that have one; and each public function with such a clause stands there.
+A row of the table of what callers have to meet cites calls likewise, each with `requires` and the names of all its
+clauses that have one; and each public function with such a clause stands there.
 """
+
+from __future__ import annotations
 
 import re
 import sys
+from collections.abc import Iterator
 from pathlib import Path
 
-import definitions
+from definitions import Definition, Function, crate_names, read_sources, read_specs
 
 TOP = Path(__file__).resolve().parent.parent
 PAGE = TOP / "docs" / "PROVED.md"
@@ -30,9 +33,9 @@ PROMISES = ["Promise", "Carried by", "Files"]
 DUTIES = ["Call", "What it asks for", "Files"]
 
 
-def rows_of(text):
+def rows_of(text: str) -> Iterator[tuple[int, list[str], list[str]]]:
     """The rows of tables, each with its line and the heads of its table's columns."""
-    head = None
+    head: list[str] | None = None
     for number, line in enumerate(text.splitlines(), 1):
         cells = [cell.strip() for cell in line.strip().strip("|").split(" | ")] if line.startswith("|") else None
         if cells is None:
@@ -43,7 +46,7 @@ def rows_of(text):
             yield number, head, cells
 
 
-def names_in(text):
+def names_in(text: str) -> list[str]:
     """The names that stand in backquotes."""
     return re.findall(r"`([^`]+)`", text)
 
@@ -51,26 +54,26 @@ def names_in(text):
 class Book:
     """What is there: functions and definitions by their files, and the texts of the files."""
 
-    def __init__(self):
-        self.functions = {}
-        self.specs = {}
-        self.texts = {}
-        crates = definitions.crate_names()
+    def __init__(self) -> None:
+        self.functions: dict[str, list[Function]] = {}
+        self.specs: dict[str, dict[str, Definition]] = {}
+        self.texts: dict[str, str | None] = {}
+        crates = crate_names()
         for crate in crates:
-            for function in definitions.read_sources(crate, {}):
+            for function in read_sources(crate, {}):
                 if not function.is_ghost:
                     self.functions.setdefault(f"{crate}/src/{function.file}", []).append(function)
-        for path, made in definitions.read_specs(crates):
+        for path, made in read_specs(crates):
             self.specs[str(path.relative_to(TOP / "crates"))] = {it.name: it for it in made}
 
-    def text(self, file):
+    def text(self, file: str) -> str | None:
         """The text of a file, or nothing where there is none."""
         if file not in self.texts:
             path = TOP / "crates" / file
             self.texts[file] = path.read_text("utf-8") if path.is_file() else None
         return self.texts[file]
 
-    def calls(self, name, files):
+    def calls(self, name: str, files: list[str]) -> list[tuple[str, Function]]:
         """The functions of a name, with its type or without one, in files, each with its file."""
         owner, _, last = name.rpartition("::")
         named = [(file, it) for file in files for it in self.functions.get(file, []) if it.name == last]
@@ -80,18 +83,19 @@ class Book:
 class Row:
     """A row whose citations are looked for. It notes which of its files have one."""
 
-    def __init__(self, book, number, files, complaints):
+    def __init__(self, book: Book, number: int, files: list[str], complaints: list[str]) -> None:
         self.book = book
         self.number = number
         self.files = files
-        self.used = set()
+        self.used: set[str] = set()
         self.complaints = complaints
         self.owner = ""
 
-    def complain(self, words):
+    def complain(self, words: str) -> None:
+        """Notes what is wrong with it."""
         self.complaints.append(f"docs/PROVED.md:{self.number}: {words}")
 
-    def find_calls(self, name):
+    def find_calls(self, name: str) -> list[Function]:
         """The functions that a name stands for."""
         found = self.book.calls(name, self.files)
         if not found and self.owner and "::" not in name:
@@ -101,16 +105,16 @@ class Row:
             self.used.update(file for file, _ in found)
         return [function for _, function in found]
 
-    def find_definitions(self, name):
+    def find_definitions(self, name: str) -> list[Definition]:
         """The definitions that a name stands for."""
         found = [(file, self.book.specs[file][name]) for file in self.files if name in self.book.specs.get(file, {})]
         self.used.update(file for file, _ in found)
         return [definition for _, definition in found]
 
-    def look_for_clauses(self, part, word):
+    def look_for_clauses(self, part: str, word: str) -> list[Function]:
         """Looks for calls with clauses of a word, and answers the calls."""
         said, _, named = part.partition(f", {word} ")
-        calls = []
+        calls: list[Function] = []
         for name in names_in(said):
             found = self.find_calls(name)
             if not found:
@@ -123,22 +127,22 @@ class Row:
             calls.extend(found)
         return calls
 
-    def look_for_names(self, part):
+    def look_for_names(self, part: str) -> None:
         """Looks for calls of one clause, and for definitions."""
         said, _, fields = part.partition(", field ")
         for name in names_in(said):
-            definitions = self.find_definitions(name)
-            calls = [] if definitions else self.find_calls(name)
-            if not calls and not definitions:
+            found = self.find_definitions(name)
+            calls = [] if found else self.find_calls(name)
+            if not calls and not found:
                 self.complain(f"no function and no definition `{name}` in its files")
             for call in calls:
                 if [kind for kind, _ in call.clauses].count("ensures") != 1:
                     self.complain(f"`{name}` has not one clause alone")
             for field in names_in(fields):
-                if not any(re.search(rf"^\s+pub {re.escape(field)} :", it.text, re.M) for it in definitions):
+                if not any(re.search(rf"^\s+pub {re.escape(field)} :", it.text, re.M) for it in found):
                     self.complain(f"`{name}` has no field `{field}`")
 
-    def look_for_implementations(self, part):
+    def look_for_implementations(self, part: str) -> None:
         """Looks for implementations with ghost items."""
         said, _, items = part.partition(", with ")
         for name in names_in(said):
@@ -153,14 +157,14 @@ class Row:
                 if not any(re.search(rf"^\s+ghost {re.escape(item)} =", block, re.M) for block in blocks):
                     self.complain(f"`{name}` has no `{item}`")
 
-    def look_for_endings(self, part):
+    def look_for_endings(self, part: str) -> None:
         """Looks in each file for functions whose names end in a way."""
         for name in names_in(part):
             for file in self.files:
                 if any(it.name.endswith(name[2:]) for it in self.book.functions.get(file, [])):
                     self.used.add(file)
 
-    def look_for_files(self):
+    def look_for_files(self) -> None:
         """Looks whether the files are there, and whether a name was found in each."""
         for file in self.files:
             if self.book.text(file) is None:
@@ -169,7 +173,7 @@ class Row:
                 self.complain(f"{file} has none of the names")
 
 
-def look_at_promise(row, carried):
+def look_at_promise(row: Row, carried: str) -> None:
     """Looks for all that a row of promises cites."""
     if not names_in(carried):
         row.complain("nothing carries it")
@@ -185,14 +189,14 @@ def look_at_promise(row, carried):
     row.look_for_files()
 
 
-def wanted_by(function):
+def wanted_by(function: Function) -> set[str]:
     """The names of the clauses that say what a function asks for, "" where one has none."""
     return {clause for word, clause in function.clauses if word == "requires"}
 
 
-def look_at_duty(row, called):
+def look_at_duty(row: Row, called: str) -> list[Function]:
     """Looks for the calls of a row of duties, and answers them."""
-    calls = []
+    calls: list[Function] = []
     for part in called.split("; "):
         found = row.look_for_clauses(part, "requires")
         named = set(names_in(part.partition(", requires ")[2]))
@@ -206,10 +210,11 @@ def look_at_duty(row, called):
     return calls
 
 
-def main():
+def main() -> int:
+    """Looks at all rows, and answers 1 where something is wrong."""
     book = Book()
-    complaints = []
-    listed = []
+    complaints: list[str] = []
+    listed: list[Function] = []
     count = 0
     for number, head, cells in rows_of(PAGE.read_text("utf-8")):
         count += 1
