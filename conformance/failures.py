@@ -218,7 +218,7 @@ def begins(whole: bytes | None, part: bytes | None) -> bool:
 
 
 def is_cut_off(plan: Plan, came: Came, whole: Came) -> bool:
-    """Whether a run ended for want of memory, with a first part of all that it shows and no file harmed."""
+    """Whether a run ended for lack of memory, with a first part of all that it shows and no file harmed."""
     return (
         came.status == 5
         and came.told.endswith(NO_MEMORY)

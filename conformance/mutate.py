@@ -35,7 +35,7 @@ TEMPORARY: list[str] = []  # the folders that it has made
 # Enough for all rows that do not end at a limit, and fewer than `zkit play` has, which shortens a run.
 WORDS, STEPS = 1100, 60_000
 # What else is made shorter in the copy: how many decoded instructions a run keeps.
-SHORTER = ("zk_fast/src/cache.rt", "PLACES: usize = 8_192", "PLACES: usize = 512")
+SHORTER = ("zk_fast/src/cache.rt", "SLOTS: usize = 8_192", "SLOTS: usize = 512")
 # How many times as long an edit gets, alone, that had no answer in time.
 LONGER = 5
 NO_ANSWER = "no answer"

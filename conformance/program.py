@@ -676,7 +676,7 @@ BAD_MEMORY = no_game("the memory of the saved game is bad")
 TOO_LONG = no_game("it is longer than a saved game may be")
 
 # Words behind `play --save kept`, what that file holds before, where it is there, and then the status, standard output,
-# the last line of standard error and what the file holds.
+# the last line of standard error and what the file holds: what it held before, or no file as before, where ANY stands.
 KEPT: list[tuple[str, bytes | None, WantedFile]] = [
     ("saves_on.z3", None, (0, "", "", saved_game())),
     ("saves_on.z3", b"an old game", (0, "", "", saved_game())),
@@ -884,12 +884,14 @@ def check_kept(command: list[str], words: str, before: bytes | None, wanted: Wan
     if before is not None:
         kept.write_bytes(before)
     status, shown, told = run(command, ["play", "--save", "kept", *words.split()], folder)
-    came = (status, shown, last_line(told), kept.read_bytes() if kept.exists() else None)
+    came = (status, shown, last_line(told))
+    holds = kept.read_bytes() if kept.exists() else None
     kept.unlink(missing_ok=True)
     beside = left_beside(folder)
     if beside:
         return f"left {beside}"
-    return None if agrees(wanted, came) else f"wanted {wanted}, came {came}"
+    left = before if wanted[3] is ANY else wanted[3]
+    return None if agrees(wanted, came) and holds == left else f"wanted {wanted}, came {came}, the file holds {holds!r}"
 
 
 def without_room() -> None:

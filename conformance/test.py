@@ -16,7 +16,7 @@ FOLDER = pathlib.Path(__file__).resolve().parent
 TOP = FOLDER.parent
 SECONDS = 300
 # What is made shorter in a copy: how far a check looks for texts, as the stories of the tests are short.
-TEXTS = "zk_inspect/src/texts.rt"
+TEXTS = "zk_inspect/src/check/texts.rt"
 SHORTER = (
     ("TEXTS_END: u32 = 524_289", "TEXTS_END: u32 = 66_001"),
     ("ABBREVIATIONS_END: u32 = 131_071", "ABBREVIATIONS_END: u32 = 66_001"),

@@ -554,7 +554,7 @@ def module_of(path: Path) -> tuple[list[str], bool]:
 def public_modules(sources: dict[Path, str], is_program: bool) -> set[tuple[str, ...]]:
     """The modules that can be named from outside. All modules of a program's root count: it has no outside."""
     public: set[tuple[str, ...]] = {()}
-    for path, text in sorted(sources.items(), key=lambda item: len(item[0].parts)):
+    for path, text in sorted(sources.items(), key=lambda item: len(module_of(item[0])[0])):
         module, is_root = module_of(path)
         declared = r"^((?:#\[cfg\(test\)\]\n)?)(pub )?mod (\w+);"
         for test, pub, name in re.findall(declared, text, re.M):
@@ -585,7 +585,8 @@ def make_function(source: Source, name: str, is_ghost: bool, public: bool, start
     block = block_at(source, start)
     owner = block.owner if block else ""
     path = "::".join([source.crate] + source.module + ([owner] if owner else []) + [name])
-    public = public and source.is_public and owner not in source.private_types
+    # a method can be named where its type can, whatever module its block stands in
+    public = public and (source.is_public or bool(owner)) and owner not in source.private_types
     trait = block.implements if block else ""
     return Function(source.crate, source.file, path, name, owner, trait, is_ghost, public, source.raw[start:end])
 

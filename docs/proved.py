@@ -1,7 +1,7 @@
 #!/usr/bin/env python3
 """Looks whether what docs/PROVED.md cites is there: each call and clause, each law and definition, each file.
 
-usage: docs/proved.py
+usage: docs/proved.py [--write]
 
 A row of a table of promises cites, in its second column, in parts that semicolons divide:
 
@@ -12,7 +12,8 @@ A row of a table of promises cites, in its second column, in parts that semicolo
   functions `.._by_example`           in each of its files, functions whose names end so
 
 A call without a type has that of the call before it, where it is no function by itself. The third column has files in
-crates/: each name is found in one of them, and each of them has one of the names.
+crates/: each name is found in one of them, and each of them has one of the names. --write makes this column anew: a
+name that stands in one file alone is followed there, and a file that has none of the names is left out.
 
 A row of the table of what callers have to meet cites calls likewise, each with `requires` and the names of all its
 clauses that have one; and each public function with such a clause stands there.
@@ -83,10 +84,11 @@ class Book:
 class Row:
     """A row whose citations are looked for. It notes which of its files have one."""
 
-    def __init__(self, book: Book, number: int, files: list[str], complaints: list[str]) -> None:
+    def __init__(self, book: Book, number: int, files: list[str], complaints: list[str], moves: bool) -> None:
         self.book = book
         self.number = number
         self.files = files
+        self.moves = moves
         self.used: set[str] = set()
         self.complaints = complaints
         self.owner = ""
@@ -95,11 +97,17 @@ class Row:
         """Notes what is wrong with it."""
         self.complaints.append(f"docs/PROVED.md:{self.number}: {words}")
 
+    def follow(self, files: list[str]) -> None:
+        """Takes the one file in which a name stands that none of the row's files has, where moves are followed."""
+        if self.moves and len(set(files)) == 1:
+            self.files.append(files[0])
+
     def find_calls(self, name: str) -> list[Function]:
         """The functions that a name stands for."""
-        found = self.book.calls(name, self.files)
-        if not found and self.owner and "::" not in name:
-            found = self.book.calls(f"{self.owner}::{name}", self.files)
+        names = [name] if "::" in name or not self.owner else [name, f"{self.owner}::{name}"]
+        if not any(self.book.calls(it, self.files) for it in names):
+            self.follow([file for file, _ in self.book.calls(names[-1], list(self.book.functions))])
+        found: list[tuple[str, Function]] = next(filter(None, (self.book.calls(it, self.files) for it in names)), [])
         if found:
             self.owner = found[0][1].owner
             self.used.update(file for file, _ in found)
@@ -107,7 +115,10 @@ class Row:
 
     def find_definitions(self, name: str) -> list[Definition]:
         """The definitions that a name stands for."""
-        found = [(file, self.book.specs[file][name]) for file in self.files if name in self.book.specs.get(file, {})]
+        there = [file for file, made in self.book.specs.items() if name in made]
+        if not any(file in there for file in self.files) and not self.book.calls(name, self.files):
+            self.follow(there)
+        found = [(file, self.book.specs[file][name]) for file in self.files if file in there]
         self.used.update(file for file, _ in found)
         return [definition for _, definition in found]
 
@@ -165,8 +176,8 @@ class Row:
                     self.used.add(file)
 
     def look_for_files(self) -> None:
-        """Looks whether the files are there, and whether a name was found in each."""
-        for file in self.files:
+        """Looks whether the files are there, and whether a name was found in each; moves leave such files out."""
+        for file in [] if self.moves else self.files:
             if self.book.text(file) is None:
                 self.complain(f"no file {file}")
             elif file not in self.used:
@@ -210,8 +221,15 @@ def look_at_duty(row: Row, called: str) -> list[Function]:
     return calls
 
 
+def with_files(line: str, cell: str, files: list[str]) -> str:
+    """A row with its files in place of those that it has."""
+    return line.removesuffix(f"{cell} |") + ", ".join(f"`{it}`" for it in files) + " |"
+
+
 def main() -> int:
     """Looks at all rows, and answers 1 where something is wrong."""
+    moves = sys.argv[1:] == ["--write"]
+    lines = PAGE.read_text("utf-8").split("\n")
     book = Book()
     complaints: list[str] = []
     listed: list[Function] = []
@@ -221,15 +239,19 @@ def main() -> int:
         if head not in (PROMISES, DUTIES) or len(cells) != len(head):
             complaints.append(f"docs/PROVED.md:{number}: a table of other columns than {PROMISES} or {DUTIES}")
             continue
-        row = Row(book, number, names_in(cells[2]), complaints)
+        row = Row(book, number, names_in(cells[2]), complaints, moves)
         if head == PROMISES:
             look_at_promise(row, cells[1])
         else:
             listed.extend(look_at_duty(row, cells[0]))
+        if moves:
+            lines[number - 1] = with_files(lines[number - 1], cells[2], [it for it in row.files if it in row.used])
     for file, functions in book.functions.items():
         for function in functions:
             if function.public and wanted_by(function) and function not in listed:
                 complaints.append(f"docs/PROVED.md: not listed with what it asks for: `{function.name}` of {file}")
+    if moves:
+        PAGE.write_text("\n".join(lines), "utf-8")
     for complaint in complaints:
         print(complaint, file=sys.stderr)
     print(f"docs/PROVED.md: {count} rows, of which {len(complaints)} citations are wrong")

@@ -142,7 +142,7 @@ uint32_t zkit_turn(zkit *game);
 
 /* Moves the next bytes of the screen's text into a buffer, and answers how many: at most length, and 0 where no text is
  * left, or length is 0. There may be more text after fewer bytes than length: ask until 0 comes. The text is
- * UTF-8 without a 0 at its end; a part may end inside a character. What is behind them in the buffer stays as it was. */
+ * UTF-8 without a 0 at its end; a part may end inside a character. The bytes after them in the buffer stay as they were. */
 size_t zkit_text(zkit *game, uint8_t *buffer, size_t length);
 
 /* The same for the text that the transcript got, while the story has it on. */

@@ -4,7 +4,7 @@ use Rattle.std.specs.Global.{Vec}
 use Rattle.zk_mem.specs.declared.story.OpenError.{OpenError}
 use Rattle.zk_mem.specs.declared.story.OpenError.TheVariants.{OutOfMemory}
 use Rattle.zk_mem.specs.Story.{refusal, refusal_number}
-use Rattle.zk_step.specs.declared.game_state.View.{View}
+use Rattle.zk_step.specs.declared.state.game_state.View.{View}
 use Rattle.zk_vm.specs.declared.limits.Limits.{Limits}
 use Rattle.zk_vm.specs.Plays.{image_of}
 use Rattle.zk_c.specs.declared.play.Play.{Play}

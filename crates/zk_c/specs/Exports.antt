@@ -2,10 +2,10 @@
 use Rattle.std.specs.Prelude.{◌≡◌, ◌≤◌, ◌<◌, ℕ, Bool, true, false, List, length, drop, ◌++◌, ◌==◌, if◌then◌else◌, Option, Some, None, Result}
 use Rattle.zk_mem.specs.declared.story.OpenError.{OpenError}
 use Rattle.zk_mem.specs.Story.{refusal, refusal_number}
-use Rattle.zk_step.specs.declared.game_state.View.{View}
-use Rattle.zk_step.specs.declared.game_state.View.TheVariants.{Plain, Upper}
+use Rattle.zk_step.specs.declared.state.game_state.View.{View}
+use Rattle.zk_step.specs.declared.state.game_state.View.TheVariants.{Plain, Upper}
 use Rattle.zk_vm.specs.declared.limits.Limits.{Limits}
-use Rattle.zk_step.specs.declared.ending.Event.{Event}
+use Rattle.zk_step.specs.declared.state.ending.Event.{Event}
 use Rattle.zk_vm.specs.declared.stop.Stop.{Stop}
 use Rattle.zk_vm.specs.declared.stop.Stop.TheVariants.{Write}
 use Rattle.zk_vm.specs.Answers.{Answer}

@@ -22,7 +22,7 @@ use numbers::{
 };
 use play::Play;
 use std::alloc::Global;
-use zk_step::game_state::View;
+use zk_step::state::game_state::View;
 use zk_vm::limits::Limits;
 use zk_vm::stop::Stop;
 
@@ -266,7 +266,7 @@ fn stopped(alloc: Global, game: &mut Zkit) -> Option<Stop>
 }
 
 /// Why the story has stopped, by what the last turn found: 1 its end, 2 a fault, 3 a limit, 4 its input (which these
-/// functions never end), 5 want of memory; 0 where it has not.
+/// functions never end), 5 lack of memory; 0 where it has not.
 #[unsafe(no_mangle)]
 pub extern "C" fn zkit_status(alloc: Global, game: &mut Zkit) -> u32
     ensures { OnPlay game.old.play game.new.play

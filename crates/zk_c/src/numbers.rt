@@ -4,7 +4,7 @@ ghost use Rattle.std.specs.Prelude.{◌≡◌};
 ghost use Rattle.zk_c.specs.Numbers.{address_number, event_number, reason_number, refused_number, status_number, answer_number, turn_number};
 
 use crate::play::Refusal;
-use zk_step::ending::Event;
+use zk_step::state::ending::Event;
 use zk_vm::stop::Stop;
 
 /// What is asked for.

@@ -11,8 +11,8 @@ use crate::text::Text;
 use crate::typed::{code_of, codes_of, is_line};
 use std::alloc::{AllocError, Global};
 use zk_mem::story::{OpenError, Story};
-use zk_step::ending::Event;
-use zk_step::game_state::View;
+use zk_step::state::ending::Event;
+use zk_step::state::game_state::View;
 use zk_vm::limits::Limits;
 use zk_vm::machine::Machine;
 use zk_vm::play::run_on;
@@ -66,7 +66,7 @@ impl Play {
         }
     }
 
-    /// A play at the start of the story that bytes are, or why they are none; want of memory is looked for last.
+    /// A play at the start of the story that bytes are, or why they are none; lack of memory is looked for last.
     pub fn open(
         alloc: Global,
         story: &[u8],

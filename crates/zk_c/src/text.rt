@@ -55,7 +55,7 @@ impl Text {
     }
 
     /// Takes bytes from the front into a buffer, at most as many as it has room for, and says how many: none where none
-    /// wait or there is no room. What is behind them in the buffer stays as it was.
+    /// wait or there is no room. The bytes after them in the buffer stay as they were.
     pub fn take(&mut self, buffer: &mut [u8]) -> usize
         ensures { IsTaken self.old self.new buffer.old buffer.new result }
     {

@@ -90,7 +90,7 @@ pub struct TextEnds {
 }
 
 impl TextEnds {
-    /// Refused for want of memory alone.
+    /// Refused for lack of memory alone.
     pub fn find(alloc: Global, memory: &Memory) -> Result<TextEnds, AllocError>
         ensures { IfOk result (KnowsEnds memory.now) }
     {

@@ -9,7 +9,7 @@ use Rattle.clap.specs.declared.ArgMatches.{ArgMatches}
 use Rattle.zk_command.specs.declared.settings.Settings.{Settings}
 use Rattle.zk_command.specs.CommandLine.{Asks, IsNumberIn, MaySayNumber, Says, SaysListing, SaysSettings, SaysNumber, SaysStory, command_line, flag_said, number_in, option_rule, with_rules}
 use Rattle.zk_command.specs.declared.choice.Choice.{Choice}
-use Rattle.zk_command.specs.declared.choice.CommandOption.{CommandOption}
+use Rattle.zk_command.specs.declared.options.CommandOption.{CommandOption}
 use Rattle.zk_command.specs.declared.choice.Choice.TheVariants.{Play, Show}
 use Rattle.zk_command.specs.declared.listing.Listing.{Listing}
 use Rattle.zk_command.specs.declared.listing.Listing.TheVariants.{Info, Code, Findings}

@@ -2,7 +2,7 @@
 use Rattle.std.proofs.Common.{◌≡◌, inl, inr, ℕ, Bool, List, [], true, refl, sym, append-nil, false}
 use Rattle.std.proofs.KnownBytes.{Appends-nil}
 use Rattle.zk_term.specs.Devices.{Device, Took}
-use Rattle.zk_term.specs.Pages.{Wrote}
+use Rattle.zk_term.specs.LineWriters.{Wrote}
 use Rattle.zk_term.proofs.Shown.{took_twice}
 use Rattle.zk_command.specs.declared.exit.Exit.{Exit}
 use Rattle.zk_command.specs.LastLine.{IsExplained, TookExplained, TookWords, words_line, last_line}

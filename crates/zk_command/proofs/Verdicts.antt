@@ -11,9 +11,9 @@ use Rattle.zk_code.specs.Reach.{IsReached}
 use Rattle.zk_code.specs.Reading.{instr_at}
 use Rattle.zk_code.proofs.Reached.{is_closed}
 use Rattle.zk_code.proofs.Whole.{found_at, only_at}
-use Rattle.zk_inspect.specs.declared.finding.Finding.{Finding}
-use Rattle.zk_inspect.specs.declared.finding.Number.{Number}
-use Rattle.zk_inspect.specs.declared.finding.Number.TheVariants.{UndecodableCode, TargetOutOfTheStory, CodeBelowTheStaticBase}
+use Rattle.zk_inspect.specs.declared.check.finding.Finding.{Finding}
+use Rattle.zk_inspect.specs.declared.check.finding.Number.{Number}
+use Rattle.zk_inspect.specs.declared.check.finding.Number.TheVariants.{UndecodableCode, TargetOutOfTheStory, CodeBelowTheStaticBase}
 use Rattle.zk_inspect.specs.Findings.{AreFindings, Finds}
 use Rattle.zk_inspect.proofs.FindingLaw.{findings_are_all}
 use Rattle.zk_vm.specs.Inside.{StopsRead}

@@ -10,21 +10,25 @@ use Rattle.clap.specs.declared.error.ErrorKind.{ErrorKind}
 use Rattle.clap.specs.declared.error.ErrorKind.TheVariants as kind
 use Rattle.zk_vm.specs.declared.limits.Limits.{Limits}
 use Rattle.zk_vm.specs.Bounds.{AreInRange}
-use Rattle.zk_step.specs.declared.game_state.View.{View}
-use Rattle.zk_step.specs.declared.game_state.View.TheVariants.{Plain, Upper}
+use Rattle.zk_step.specs.declared.state.game_state.View.{View}
+use Rattle.zk_step.specs.declared.state.game_state.View.TheVariants.{Plain, Upper}
 use Rattle.zk_command.specs.declared.settings.Settings.{Settings}
 use Rattle.zk_command.specs.declared.choice.Choice.{Choice}
-use Rattle.zk_command.specs.declared.choice.CommandOption.{CommandOption}
-use Rattle.zk_command.specs.declared.choice.Form.{Form}
-use Rattle.zk_command.specs.declared.choice.Form.TheVariants.{Number, Flag}
+use Rattle.zk_command.specs.declared.options.CommandOption.{CommandOption}
+use Rattle.zk_command.specs.declared.options.CommandOption.TheVariants.{Number, File, Flag}
+use Rattle.zk_command.specs.declared.options.NumberOption.{NumberOption}
 use Rattle.zk_command.specs.declared.choice.Choice.TheVariants.{Play, Show}
 use Rattle.zk_command.specs.declared.listing.Listing.{Listing}
 use Rattle.zk_command.specs.declared.listing.Listing.TheVariants.{Info, Code, Findings}
 use Rattle.zk_command.specs.declared.listing.Sections.{Sections}
 
+-- the option `--name`
+abbrev pub named_option : Text → Rule
+named_option name = record (new_rule name) { long = Some name }
+
 -- the option `--name n`, with what it is where it is not given
 abbrev pub number_option : Text → Text → Rule
-number_option name default = record (new_rule name) { long = Some name; value_names = 1; defaults = default ∷ [] }
+number_option name default = record (named_option name) { value_names = 1; defaults = default ∷ [] }
 
 -- the path of a story, which has to be given
 abbrev pub story_argument : Rule
@@ -36,20 +40,25 @@ story_arguments = record story_argument { action = Some Append }
 
 -- the option `--name VALUE`, which may be left out
 abbrev pub value_option : Text → Rule
-value_option name = record (new_rule name) { long = Some name; value_names = 1 }
+value_option name = record (named_option name) { value_names = 1 }
 
 -- the flag `--name`
 abbrev pub flag : Text → Rule
-flag name = record (new_rule name) { long = Some name; action = Some SetTrue }
+flag name = record (named_option name) { action = Some SetTrue }
 
--- an option by its form
-abbrev pub option_by : Text → Form → Rule
-option_by name (Number default) = number_option name default.now
-option_by name Flag = flag name
-option_by name _ = value_option name
+-- an option with a number, by what it is where it is not given
+abbrev pub number_by : Text → Option Text → Rule
+number_by name None = value_option name
+number_by name (Some default) = number_option name default
 
+abbrev pub number_rule : NumberOption → Rule
+number_rule o = number_by o.name.now (option_map (λ s. s.now) o.default)
+
+-- an option
 abbrev pub option_rule : CommandOption → Rule
-option_rule o = option_by o.name.now o.form
+option_rule (Number o) = number_rule o
+option_rule (File name help) = value_option name.now
+option_rule (Flag name help) = flag name.now
 
 -- a command with rules, one after another
 abbrev pub with_rules : App → List Rule → App

@@ -17,10 +17,10 @@ use Rattle.zk_inspect.specs.Listing.{disassembly}
 use Rattle.zk_inspect.specs.MapLines.{map_lines}
 use Rattle.zk_inspect.specs.ObjectLines.{AreObjectLines}
 use Rattle.zk_inspect.specs.TreeLines.{AreTreeRows}
-use Rattle.zk_inspect.specs.declared.code.Code as code
+use Rattle.zk_inspect.specs.declared.reach.code.Code as code
 use Rattle.zk_inspect.specs.declared.error.ListError.{ListError}
 use Rattle.zk_inspect.specs.declared.error.ListError.TheVariants as error
-use Rattle.zk_inspect.specs.declared.finding.Finding.{Finding}
+use Rattle.zk_inspect.specs.declared.check.finding.Finding.{Finding}
 use Rattle.zk_vm.specs.declared.stop.Stop.TheVariants.{Quit, Write, Memory}
 use Rattle.zk_command.specs.Headings.{heading}
 use Rattle.zk_command.specs.Playing.{AreRead, EndsBy}

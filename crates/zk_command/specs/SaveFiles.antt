@@ -36,7 +36,7 @@ abbrev pub lacks_memory : NoGame → Bool
 lacks_memory (Failed error) = is_memory (error_kind error)
 lacks_memory why = false
 
--- what is answered where a saved game is asked for: none, whatever the reason, but for want of memory
+-- what is answered where a saved game is asked for: none, whatever the reason, but for lack of memory
 abbrev pub IsAnswer : {F A : Type 0} → Result F NoGame → Result (Option F) A → Type 0
 IsAnswer {F} {A} (Ok found) (Ok (Some file)) = file ≡ found
 IsAnswer {F} {A} (Err why) (Ok None) = lacks_memory why ≡ false

@@ -9,14 +9,18 @@ ghost use Rattle.zk_vm.specs.declared.limits.Limits.{Limits};
 ghost use Rattle.zk_command.specs.declared.choice.Choice.{Choice};
 ghost use Rattle.zk_command.specs.declared.listing.Listing.{Listing};
 ghost use Rattle.zk_command.specs.declared.settings.Settings.{Settings};
-ghost use Rattle.zk_command.specs.CommandLine.{Asks, HasLimits, IsNumberIn, IsRefusedWith, MaySayNumber, Says, SaysLimits, SaysListing, SaysSettings, SaysNumber, SaysStory, check_command, command_line, disasm_command, flag_said, info_command, number_in, option_rule, play_command, sections_said, story_argument, story_arguments, usage_status, view_said, with_rules};
+ghost use Rattle.zk_command.specs.CommandLine.{Asks, HasLimits, IsNumberIn, IsRefusedWith, MaySayNumber, Says, SaysLimits, SaysListing, SaysSettings, SaysNumber, SaysStory, check_command, command_line, disasm_command, flag_said, info_command, number_in, number_rule, named_option, option_rule, play_command, sections_said, story_argument, story_arguments, usage_status, view_said, with_rules};
 
 use crate::listing::{Listing, Sections};
+use crate::options::{
+    CommandOption, FRAMES, INFO_OPTIONS, NumberOption, PLAY_OPTIONS, SEED, STEPS, UNDO, WIDTH,
+    WORDS,
+};
 use crate::settings::Settings;
 use clap::error::ErrorKind;
 use clap::{Arg, ArgAction, ArgMatches, Command, Error};
 use std::alloc::{AllocError, Global};
-use zk_step::game_state::View;
+use zk_step::state::game_state::View;
 use zk_vm::limits::Limits;
 
 /// What `check` says of its findings.
@@ -30,8 +34,8 @@ Example: zkit check story.z5";
 /// What the program is asked to do.
 #[derive(Drop)]
 pub enum Choice<'a> {
-    /// To play the story in a file, in a settings, with its saved game and its transcript in the files of `save` and
-    /// `script`, if there are any.
+    /// To play the story in a file with these settings, and with its saved game and its transcript in the files `save`
+    /// and `script`, where they are given.
     Play {
         story: &'a str,
         save: Option<&'a str>,
@@ -45,177 +49,37 @@ pub enum Choice<'a> {
     },
 }
 
-/// How an option is given.
-#[derive(Clone, Copy)]
-pub(crate) enum Form {
-    /// With a number; without the option it is another.
-    Number(&'static str),
-    /// With a number, or not at all.
-    NumberIfAny,
-    /// With a file's path, or not at all.
-    File,
-    /// Without a value.
-    Flag,
+/// An option by its name, as clap has it.
+fn option_named<'a>(alloc: Global, name: &'a str, help: &'a str) -> Arg<'a>
+    ensures rule { rule_of result ≡ named_option name.now }
+    ensures local { result.global ≡ false }
+{
+    Arg::new(alloc, name).long(name).help(help)
 }
 
-/// An option of a command.
-#[derive(Clone, Copy)]
-pub(crate) struct CommandOption {
-    name: &'static str,
-    form: Form,
-    help: &'static str,
+/// An option with a number, as clap has it.
+fn number_option_of<'a>(alloc: Global, number: NumberOption) -> Arg<'a>
+    ensures rule { rule_of result ≡ number_rule number }
+    ensures local { result.global ≡ false }
+{
+    let arg = option_named(alloc, number.name, number.help).value_name("n");
+    match number.default {
+        Some(default) => arg.default_value(default),
+        None => arg,
+    }
 }
-
-/// The numbers that an option of `play` takes: what is read and what is said of a mistake go by them.
-#[derive(Clone, Copy)]
-pub(crate) struct Range {
-    option: &'static str,
-    least: u64,
-    most: u64,
-}
-
-const FRAMES: Range = Range {
-    option: "frames",
-    least: 1,
-    most: 65_535,
-};
-
-const WORDS: Range = Range {
-    option: "words",
-    least: 0,
-    most: 65_535,
-};
-
-const UNDO: Range = Range {
-    option: "undo",
-    least: 0,
-    most: 64,
-};
-
-const STEPS: Range = Range {
-    option: "steps",
-    least: 1,
-    most: 1_000_000_000,
-};
-
-const SEED: Range = Range {
-    option: "seed",
-    least: 0,
-    most: 18_446_744_073_709_551_615,
-};
-
-const WIDTH: Range = Range {
-    option: "width",
-    least: 20,
-    most: 255,
-};
-
-/// The options of `play`.
-const PLAY_OPTIONS: [CommandOption; 10] = [
-    CommandOption {
-        name: "frames",
-        form: Form::Number("1024"),
-        help: "The most routines that may be open at once, 1 to 65535",
-    },
-    CommandOption {
-        name: "words",
-        form: Form::Number("16384"),
-        help: "The most words that the open routines may hold, 0 to 65535",
-    },
-    CommandOption {
-        name: "undo",
-        form: Form::Number("16"),
-        help: "How many states can be gone back to, 0 to 64",
-    },
-    CommandOption {
-        name: "steps",
-        form: Form::Number("10000000"),
-        help: "The most instructions without reading, 1 to 1000000000",
-    },
-    CommandOption {
-        name: "seed",
-        form: Form::Number("1"),
-        help: "What begins the random numbers, 0 to 18446744073709551615",
-    },
-    CommandOption {
-        name: "save",
-        form: Form::File,
-        help: "The file that the game is saved to and restored from; a save replaces what it held; without it there are no saved games",
-    },
-    CommandOption {
-        name: "script",
-        form: Form::File,
-        help: "The file of the transcript, emptied at the start and filled once the story turns its transcript on",
-    },
-    CommandOption {
-        name: "upper",
-        form: Form::Flag,
-        help: "Shows the status line and the upper window, on lines of their own",
-    },
-    CommandOption {
-        name: "width",
-        form: Form::NumberIfAny,
-        help: "Wraps the screen's lines at spaces, so that they have at most this many columns, 20 to 255",
-    },
-    CommandOption {
-        name: "echo",
-        form: Form::Flag,
-        help: "Shows each line that is read, for input from a pipe",
-    },
-];
-
-/// The options of `info`.
-const INFO_OPTIONS: [CommandOption; 7] = [
-    CommandOption {
-        name: "header",
-        form: Form::Flag,
-        help: "Lists what the header says",
-    },
-    CommandOption {
-        name: "map",
-        form: Form::Flag,
-        help: "Lists where the parts of the story begin",
-    },
-    CommandOption {
-        name: "abbreviations",
-        form: Form::Flag,
-        help: "Lists the abbreviations",
-    },
-    CommandOption {
-        name: "dictionary",
-        form: Form::Flag,
-        help: "Lists the words of the dictionary",
-    },
-    CommandOption {
-        name: "objects",
-        form: Form::Flag,
-        help: "Lists the objects with their properties",
-    },
-    CommandOption {
-        name: "tree",
-        form: Form::Flag,
-        help: "Lists the tree of objects",
-    },
-    CommandOption {
-        name: "ifid",
-        form: Form::Flag,
-        help: "Lists the IFID, by which catalogues name the story",
-    },
-];
 
 /// An option, as clap has it.
 fn option_of<'a>(alloc: Global, option: CommandOption) -> Arg<'a>
     ensures rule { rule_of result ≡ option_rule option }
     ensures local { result.global ≡ false }
 {
-    let arg = Arg::new(alloc, option.name)
-        .long(option.name)
-        .help(option.help);
-    match option.form {
-        Form::Number(default) => arg.value_name("n").default_value(default),
-        Form::NumberIfAny => arg.value_name("n"),
-        Form::File => arg.value_name("FILE"),
-        Form::Flag => arg.action(ArgAction::SetTrue),
+    match option {
+        CommandOption::Number(number) => number_option_of(alloc, number),
+        CommandOption::File { name, help } => option_named(alloc, name, help).value_name("FILE"),
+        CommandOption::Flag { name, help } => {
+            option_named(alloc, name, help).action(ArgAction::SetTrue)
+        }
     }
 }
 
@@ -338,28 +202,28 @@ fn command_line_of<'a>(alloc: Global) -> Result<Command<'a>, AllocError>
 }
 
 /// The number that an argument says, if it lies in a range.
-fn number_from(argument: &str, range: Range) -> Option<u64>
-    ensures { SomeIff result (IsNumberIn range.least range.most argument.now) (number_in argument.now) }
+fn number_from(argument: &str, number: NumberOption) -> Option<u64>
+    ensures { SomeIff result (IsNumberIn number.least number.most argument.now) (number_in argument.now) }
 {
     match argument.parse::<u64>() {
-        Ok(n) if n >= range.least && n <= range.most => Some(n),
+        Ok(n) if n >= number.least && n <= number.most => Some(n),
         _ => None,
     }
 }
 
 /// The number of an option, if it lies in its range.
-fn number_of(matches: &ArgMatches<'_>, range: Range) -> Option<u64>
+fn number_of(matches: &ArgMatches<'_>, number: NumberOption) -> Option<u64>
     ensures says { IfSome result
-        (λ n. SaysNumber (rows_of (found_of matches.now)) range.option.now range.least range.most n) }
-    ensures least { IfSome result (λ n. range.least ≤ n) }
-    ensures most { IfSome result (λ n. n ≤ range.most) }
+        (λ n. SaysNumber (rows_of (found_of matches.now)) number.name.now number.least number.most n) }
+    ensures least { IfSome result (λ n. number.least ≤ n) }
+    ensures most { IfSome result (λ n. n ≤ number.most) }
     ensures none { IfNone result ((n : ℕ)
-        → SaysNumber (rows_of (found_of matches.now)) range.option.now range.least range.most n → ⊥) }
+        → SaysNumber (rows_of (found_of matches.now)) number.name.now number.least number.most n → ⊥) }
 {
-    let Some(argument) = matches.get_str(range.option) else {
+    let Some(argument) = matches.get_str(number.name) else {
         return None;
     };
-    number_from(argument, range)
+    number_from(argument, number)
 }
 
 /// An error of the command line.
@@ -387,33 +251,38 @@ fn option_error(alloc: Global, text: &str) -> Error
 }
 
 /// The error of an option that is no number in its range.
-fn out_of_range(alloc: Global, range: Range) -> Error
+fn out_of_range(alloc: Global, number: NumberOption) -> Error
     ensures { 1 ≤ usage_status (kind_of result) }
 {
-    let Range {
-        option,
+    let NumberOption {
+        name,
         least,
         most,
-    } = range;
-    match format!(in alloc; "'--{option} <n>' takes a number from {least} to {most}") {
+        ..
+    } = number;
+    match format!(in alloc; "'--{name} <n>' takes a number from {least} to {most}") {
         Ok(text) => option_error(alloc, text.as_str()),
         Err(error) => Error::from(error),
     }
 }
 
 /// The number of an option that always has one, or the error where it lies out of its range.
-fn number_or_error(alloc: Global, matches: &ArgMatches<'_>, range: Range) -> Result<u64, Error>
+fn number_or_error(
+    alloc: Global,
+    matches: &ArgMatches<'_>,
+    number: NumberOption,
+) -> Result<u64, Error>
     ensures says { IfOk result
-        (λ n. SaysNumber (rows_of (found_of matches.now)) range.option.now range.least range.most n) }
-    ensures least { IfOk result (λ n. range.least ≤ n) }
-    ensures most { IfOk result (λ n. n ≤ range.most) }
+        (λ n. SaysNumber (rows_of (found_of matches.now)) number.name.now number.least number.most n) }
+    ensures least { IfOk result (λ n. number.least ≤ n) }
+    ensures most { IfOk result (λ n. n ≤ number.most) }
     ensures mistake { IfErr result (λ e. 1 ≤ usage_status (kind_of e)) }
     ensures none { OnErr result ((n : ℕ)
-        → SaysNumber (rows_of (found_of matches.now)) range.option.now range.least range.most n → ⊥) }
+        → SaysNumber (rows_of (found_of matches.now)) number.name.now number.least number.most n → ⊥) }
 {
-    match number_of(matches, range) {
+    match number_of(matches, number) {
         Some(n) => Ok(n),
-        None => Err(out_of_range(alloc, range)),
+        None => Err(out_of_range(alloc, number)),
     }
 }
 
@@ -435,22 +304,10 @@ fn limits_of(alloc: Global, play: &ArgMatches<'_>) -> Result<Limits, Error>
     ensures says_none { OnErr result
         ((l : Limits) → SaysLimits (rows_of (found_of play.now)) l → ⊥) }
 {
-    let frames = match number_or_error(alloc, play, FRAMES) {
-        Ok(frames) => frames,
-        Err(error) => return Err(error),
-    };
-    let words = match number_or_error(alloc, play, WORDS) {
-        Ok(words) => words,
-        Err(error) => return Err(error),
-    };
-    let undo = match number_or_error(alloc, play, UNDO) {
-        Ok(undo) => undo,
-        Err(error) => return Err(error),
-    };
-    let steps = match number_or_error(alloc, play, STEPS) {
-        Ok(steps) => steps,
-        Err(error) => return Err(error),
-    };
+    let frames = number_or_error(alloc, play, FRAMES)?;
+    let words = number_or_error(alloc, play, WORDS)?;
+    let undo = number_or_error(alloc, play, UNDO)?;
+    let steps = number_or_error(alloc, play, STEPS)?;
     Ok(Limits {
         frames: frames as u16,
         words: words as u16,
@@ -488,7 +345,7 @@ fn width_of(alloc: Global, play: &ArgMatches<'_>) -> Result<Option<u8>, Error>
     ensures says_none { OnErr result ((w : Option ℕ)
         → MaySayNumber (rows_of (found_of play.now)) (codes "width") 20 255 w → ⊥) }
 {
-    let Some(argument) = play.get_str(WIDTH.option) else {
+    let Some(argument) = play.get_str(WIDTH.name) else {
         return Ok(None);
     };
     match number_from(argument, WIDTH) {
@@ -505,18 +362,9 @@ fn settings_of(alloc: Global, play: &ArgMatches<'_>) -> Result<Settings, Error>
     ensures says_none { OnErr result
         ((m : Settings) → SaysSettings (rows_of (found_of play.now)) m → ⊥) }
 {
-    let limits = match limits_of(alloc, play) {
-        Ok(limits) => limits,
-        Err(error) => return Err(error),
-    };
-    let seed = match number_or_error(alloc, play, SEED) {
-        Ok(seed) => seed,
-        Err(error) => return Err(error),
-    };
-    let width = match width_of(alloc, play) {
-        Ok(width) => width,
-        Err(error) => return Err(error),
-    };
+    let limits = limits_of(alloc, play)?;
+    let seed = number_or_error(alloc, play, SEED)?;
+    let width = width_of(alloc, play)?;
     let view = view_of(play);
     let echo = has_flag(play, "echo");
     Ok(Settings {
@@ -554,14 +402,8 @@ fn choose_play<'a>(
     ensures says_none { OnErr result
         ((c : Choice) → Says (codes "play") (rows_of (found_of play.now)) c → ⊥) }
 {
-    let story = match story_of(command, play) {
-        Ok(story) => story,
-        Err(error) => return Err(error),
-    };
-    let settings = match settings_of(alloc, play) {
-        Ok(settings) => settings,
-        Err(error) => return Err(error),
-    };
+    let story = story_of(command, play)?;
+    let settings = settings_of(alloc, play)?;
     let save = play.get_str("save");
     let script = play.get_str("script");
     Ok(Choice::Play {

@@ -2,7 +2,7 @@
 
 ghost use Rattle.std.specs.Prelude.{◌≡◌, ◌||◌, ◌++◌, codes, false, is_err, None, Some, option_map};
 ghost use Rattle.std.specs.List.{flat_map};
-ghost use Rattle.zk_term.specs.Pages.{Wrote};
+ghost use Rattle.zk_term.specs.LineWriters.{Wrote};
 ghost use Rattle.zk_command.specs.Headings.{behind_path, heading};
 ghost use Rattle.zk_command.specs.LastLine.{refused_words, unread_words};
 ghost use Rattle.zk_command.specs.declared.exit.Exit.TheVariants.{Refused, Unread};
@@ -11,7 +11,7 @@ use crate::exit::Exit;
 use itoa::Buffer;
 use std::io::ErrorKind;
 use zk_mem::story::OpenError;
-use zk_term::page::{Page, TargetPage};
+use zk_term::line_writer::{LineWriter, TargetWriter};
 use zk_term::target::{Failed, Target};
 use zk_term::writing::write_texts;
 
@@ -21,9 +21,9 @@ fn write_parts<S: Target>(screen: &mut S, texts: &[&[u8]]) -> Result<(), Failed>
         (flat_map (λ t. t.now) texts.now) }
     ensures failed { S.failed screen.new ≡ (is_err result || S.failed screen.old) }
 {
-    let mut page = TargetPage::new(screen);
-    write_texts(&mut page, texts);
-    page.finish()
+    let mut writer = TargetWriter::new(screen);
+    write_texts(&mut writer, texts);
+    writer.finish()
 }
 
 /// Writes that a file can't be read.

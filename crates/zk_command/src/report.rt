@@ -18,7 +18,7 @@ use std::io::{self, ErrorKind};
 use zk_mem::fault::Fault;
 use zk_mem::story::OpenError;
 use zk_state::refusal::Limit;
-use zk_term::page::{Page, TargetPage};
+use zk_term::line_writer::{LineWriter, TargetWriter};
 use zk_term::target::{Failed, Target};
 use zk_term::writing::{hex_digits_of, write_texts, zeros_before};
 use zk_vm::limits::Limits;
@@ -32,9 +32,9 @@ fn write_together<E: Target>(errors: &mut E, texts: &[&[u8]]) -> Result<(), Fail
         (flat_map (λ t. t.now) texts.now) }
     ensures failed { E.failed errors.new ≡ is_err result }
 {
-    let mut page = TargetPage::new(errors);
-    write_texts(&mut page, texts);
-    page.finish()
+    let mut writer = TargetWriter::new(errors);
+    write_texts(&mut writer, texts);
+    writer.finish()
 }
 
 /// Writes a numbered cause at an address.

@@ -1,6 +1,6 @@
 // What a run is asked for.
 
-use zk_step::game_state::View;
+use zk_step::state::game_state::View;
 use zk_vm::limits::Limits;
 
 /// The settings in which a story is played.

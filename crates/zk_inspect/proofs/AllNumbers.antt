@@ -3,8 +3,8 @@ use Rattle.std.proofs.Common.{◌≡◌, ◌∙◌, ℕ, List, [], ◌∷◌, �
 use Rattle.std.proofs.lemmas.List.{take_more, append-nil}
 use Rattle.std.specs.List.{Contains, flat_map}
 use Rattle.zk_mem.specs.Map.{MemoryMap}
-use Rattle.zk_inspect.specs.declared.finding.Finding.{Finding}
-use Rattle.zk_inspect.specs.declared.finding.Number.{Number}
+use Rattle.zk_inspect.specs.declared.check.finding.Finding.{Finding}
+use Rattle.zk_inspect.specs.declared.check.finding.Number.{Number}
 use Rattle.zk_inspect.specs.Findings.{AreFindings, Finds, at_address, numbers}
 use Rattle.zk_inspect.specs.Lists.{IsListOf}
 use Rattle.zk_inspect.specs.Parts.{Adds, AddsAll, none, more}

@@ -15,13 +15,13 @@ use Rattle.zk_tables.specs.Properties.{list_of, properties_of}
 use Rattle.zk_tables.specs.PropertyList.{properties_at}
 use Rattle.zk_tables.proofs.ChainLaw.{children_are_chains}
 use Rattle.zk_tables.proofs.ListLaw.{lists_are_read}
-use Rattle.zk_inspect.specs.declared.finding.Number.TheVariants.{ObjectLinks, ChainWithARepeat, PropertyList}
+use Rattle.zk_inspect.specs.declared.check.finding.Number.TheVariants.{ObjectLinks, ChainWithARepeat, PropertyList}
 use Rattle.zk_inspect.specs.declared.objects.Question.{Question}
 use Rattle.zk_inspect.specs.declared.objects.Question.TheVariants.{Links, Chain, Properties}
 use Rattle.zk_inspect.specs.Findings.{Finds}
 use Rattle.zk_inspect.specs.Lists.{IsListOf}
 use Rattle.zk_inspect.specs.Objects.{IsListed, LeadsPast, LacksList}
-use Rattle.zk_inspect.specs.ObjectTests.{IsAnswered, IsCounted, answer, is_bad_property, is_bad_tree, is_past, leads_past}
+use Rattle.zk_inspect.specs.ObjectTests.{IsAnswered, IsCounted, answer, is_bad_property, is_bad_tree, is_past, leads_past, object_number}
 use Rattle.zk_inspect.proofs.Deciding.{three_decide}
 use Rattle.zk_inspect.proofs.Entries.{rising, same_ok, zero_none}
 use Rattle.zk_inspect.proofs.Listed.{list_more, list_same, list_none}
@@ -101,7 +101,7 @@ module _ (m : MemoryMap) (n o : ℕ) (c : IsCounted m n) where
   leads_decides = Decides-like _ to_past (λ h. by_name h.named (last_past m n h.named c h.some h.past) h.names)
       (three_decide _ _ _ (past_decides n (link_at m (parent_of o))) (past_decides n (link_at m (sibling_of o))) (past_decides n (link_at m (child_of o))))
 
-pub object_links : (m : MemoryMap) (n : ℕ) (xs : List ℕ) → IsCounted m n → IsListOf (IsAnswered m n Links n) xs → IsListOf (Finds m ObjectLinks) xs
+object_links : (m : MemoryMap) (n : ℕ) (xs : List ℕ) → IsCounted m n → IsListOf (IsAnswered m n Links n) xs → IsListOf (Finds m ObjectLinks) xs
 unfolding Finds
 object_links m n xs c h = list_same (IsAnswered m n Links n) (Finds m ObjectLinks) xs h
     (λ a p. (p.object, (c.listed p.object a).1 (p.few, p.stands), (leads_decides m n p.object c).0 p.yes))
@@ -115,7 +115,7 @@ pub bad_tree : (r : Result (List ℕ) Fault) → is_bad_tree r ≡ true → r �
 bad_tree (Ok xs) h = absurd cc
 bad_tree (Err f) h = ap (λ (g : Fault). Err g) (tree_fault f h)
 
-pub chains_repeat : (m : MemoryMap) (n : ℕ) (xs : List ℕ) → IsCounted m n → IsListOf (IsAnswered m n Chain n) xs → IsListOf (Finds m ChainWithARepeat) xs
+chains_repeat : (m : MemoryMap) (n : ℕ) (xs : List ℕ) → IsCounted m n → IsListOf (IsAnswered m n Chain n) xs → IsListOf (Finds m ChainWithARepeat) xs
 unfolding Finds
 chains_repeat m n xs c h = list_same (IsAnswered m n Chain n) (Finds m ChainWithARepeat) xs h
     (λ a p. (p.object, (c.listed p.object a).1 (p.few, p.stands), (children_are_chains m p.object).repeats.0 (bad_tree (children_of m p.object) p.yes)))
@@ -145,8 +145,14 @@ lack_of : (m : MemoryMap) (o : ℕ) → HasBytes m → properties_of m o ≡ Err
 unfolding properties_of
 lack_of m o bytes h = lacks_by m o (list_of m o) bytes refl h
 
-pub properties_lack : (m : MemoryMap) (n : ℕ) (xs : List ℕ) → HasBytes m → IsCounted m n → IsListOf (IsAnswered m n Properties n) xs → IsListOf (Finds m PropertyList) xs
+properties_lack : (m : MemoryMap) (n : ℕ) (xs : List ℕ) → HasBytes m → IsCounted m n → IsListOf (IsAnswered m n Properties n) xs → IsListOf (Finds m PropertyList) xs
 unfolding Finds
 properties_lack m n xs bytes c h = list_same (IsAnswered m n Properties n) (Finds m PropertyList) xs h
     (λ a p. (p.object, (c.listed p.object a).1 (p.few, p.stands), lack_of m p.object bytes (bad_property (properties_of m p.object) p.yes)))
     (λ a p. let l = (c.listed p.0 a).0 p.1 in record { object = p.0; few = l.0; stands = l.1; yes = ap is_bad_property (lacking m p.0 bytes p.2) })
+
+-- what is found by a question
+pub objects_found : (q : Question) (m : MemoryMap) (n : ℕ) (xs : List ℕ) → HasBytes m → IsCounted m n → IsListOf (IsAnswered m n q n) xs → IsListOf (Finds m (object_number q)) xs
+objects_found Links m n xs bytes c h = object_links m n xs c h
+objects_found Chain m n xs bytes c h = chains_repeat m n xs c h
+objects_found Properties m n xs bytes c h = properties_lack m n xs bytes c h

@@ -16,12 +16,14 @@ use Rattle.zk_code.specs.Reach.{IsReached, constant_call, constant_jump}
 use Rattle.zk_code.specs.Reading.{instr_at}
 use Rattle.zk_code.specs.Routines.{count_at}
 use Rattle.zk_code.proofs.Whole.{found_at, only_at}
-use Rattle.zk_inspect.specs.declared.code.Code.{Code}
-use Rattle.zk_inspect.specs.declared.finding.Number.TheVariants.{Checksum, Length, UndecodableCode, TargetOutOfTheStory, CodeBelowTheStaticBase}
+use Rattle.zk_inspect.specs.declared.reach.code.Code.{Code}
+use Rattle.zk_inspect.specs.declared.check.finding.Number.TheVariants.{Checksum, Length, UndecodableCode, TargetOutOfTheStory, CodeBelowTheStaticBase}
 use Rattle.zk_inspect.specs.Codes.{IsCodeOf}
 use Rattle.zk_inspect.specs.Findings.{Finds, IsLeadingOut, IsLowCode}
 use Rattle.zk_inspect.specs.Lists.{IsListOf}
-use Rattle.zk_inspect.specs.Tests.{is_undecodable, is_outside, branches_out, jumps_out, calls_out, instr_leads_out, found_leads_out, leads_out, calls_low, instr_is_low, found_is_low, is_low}
+use Rattle.zk_inspect.specs.Tests.{is_undecodable, is_outside, branches_out, jumps_out, calls_out, instr_leads_out, found_leads_out, leads_out, calls_low, instr_is_low, found_is_low, is_low, code_answer, code_number}
+use Rattle.zk_inspect.specs.declared.check.CodeQuestion.{CodeQuestion}
+use Rattle.zk_inspect.specs.declared.check.CodeQuestion.TheVariants as question
 use Rattle.zk_inspect.proofs.Deciding.{none_decides, some_decides, three_decide}
 use Rattle.zk_inspect.proofs.Listed.{list_if, list_filter}
 
@@ -43,7 +45,7 @@ none_found : (m : MemoryMap) (a : ℕ) (r : Result Instr Fault) → HasBytes m �
 none_found m a (Ok j) bytes e h = absurd (h j j.next (found_at m a j bytes e))
 none_found m a (Err f) bytes e h = refl
 
-pub undecodable : (m : MemoryMap) (code : Code) (xs : List ℕ) → HasBytes m → IsCodeOf m code → xs ≡ filter (is_undecodable m) code.addresses → IsListOf (Finds m UndecodableCode) xs
+undecodable : (m : MemoryMap) (code : Code) (xs : List ℕ) → HasBytes m → IsCodeOf m code → xs ≡ filter (is_undecodable m) code.addresses → IsListOf (Finds m UndecodableCode) xs
 unfolding Finds
 undecodable m code xs bytes h k = subst (IsListOf (Finds m UndecodableCode)) (sym k) (list_filter (IsReached m) (Finds m UndecodableCode) (is_undecodable m) code.addresses h.addresses
     (λ a r t. record { reached = r; none = found_none m a (instr_at m a) refl t })
@@ -68,7 +70,7 @@ leading_by m a (Err f) bytes reached e h = absurd cc
 leading_test : (m : MemoryMap) (a : ℕ) → IsLeadingOut m a → leads_out m a ≡ true
 leading_test m a p = ap (found_leads_out m) (only_at m a p.instr p.next p.stands) ∙ (leads_decides m p.instr).1 p.leads
 
-pub leading_out : (m : MemoryMap) (code : Code) (xs : List ℕ) → HasBytes m → IsCodeOf m code → xs ≡ filter (leads_out m) code.addresses → IsListOf (Finds m TargetOutOfTheStory) xs
+leading_out : (m : MemoryMap) (code : Code) (xs : List ℕ) → HasBytes m → IsCodeOf m code → xs ≡ filter (leads_out m) code.addresses → IsListOf (Finds m TargetOutOfTheStory) xs
 unfolding Finds
 leading_out m code xs bytes h k = subst (IsListOf (Finds m TargetOutOfTheStory)) (sym k) (list_filter (IsReached m) (Finds m TargetOutOfTheStory) (leads_out m) code.addresses h.addresses
     (λ a r t. leading_by m a (instr_at m a) bytes r refl t)
@@ -86,8 +88,14 @@ low_by m a (Err f) bytes reached e h = absurd cc
 pub low_code_test : (m : MemoryMap) (a : ℕ) → IsLowCode m a → is_low m a ≡ true
 low_code_test m a p = ap (found_is_low m a) (only_at m a p.instr p.next p.stands) ∙ (low_decides m a p.instr).1 p.low
 
-pub low_code : (m : MemoryMap) (code : Code) (xs : List ℕ) → HasBytes m → IsCodeOf m code → xs ≡ filter (is_low m) code.addresses → IsListOf (Finds m CodeBelowTheStaticBase) xs
+low_code : (m : MemoryMap) (code : Code) (xs : List ℕ) → HasBytes m → IsCodeOf m code → xs ≡ filter (is_low m) code.addresses → IsListOf (Finds m CodeBelowTheStaticBase) xs
 unfolding Finds
 low_code m code xs bytes h k = subst (IsListOf (Finds m CodeBelowTheStaticBase)) (sym k) (list_filter (IsReached m) (Finds m CodeBelowTheStaticBase) (is_low m) code.addresses h.addresses
     (λ a r t. low_by m a (instr_at m a) bytes r refl t)
     (λ a p. (p.reached, low_code_test m a p)))
+
+-- what is found by a question
+pub code_found : (q : CodeQuestion) (m : MemoryMap) (code : Code) (xs : List ℕ) → HasBytes m → IsCodeOf m code → xs ≡ filter (code_answer m q) code.addresses → IsListOf (Finds m (code_number q)) xs
+code_found question.Undecodable m code xs bytes h k = undecodable m code xs bytes h k
+code_found question.LeadsOut m code xs bytes h k = leading_out m code xs bytes h k
+code_found question.Low m code xs bytes h k = low_code m code xs bytes h k

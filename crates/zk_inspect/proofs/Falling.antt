@@ -12,7 +12,7 @@ use Rattle.zk_tables.specs.Halves.{entry_key}
 use Rattle.zk_tables.proofs.Finding.{entry_inside}
 use Rattle.zk_tables.proofs.Ordering.{length_bytes}
 use Rattle.zk_tables.proofs.TableLaw.{dictionaries_are_tables}
-use Rattle.zk_inspect.specs.declared.finding.Number.TheVariants.{DictionaryOrder, DictionaryExtent}
+use Rattle.zk_inspect.specs.declared.check.finding.Number.TheVariants.{DictionaryOrder, DictionaryExtent}
 use Rattle.zk_inspect.specs.Findings.{Finds}
 use Rattle.zk_inspect.specs.Keys.{Falls, IsFirstFall, comes_before, key_in}
 use Rattle.zk_inspect.specs.Lists.{IsListOf}

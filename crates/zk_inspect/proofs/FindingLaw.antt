@@ -5,9 +5,9 @@ use Rattle.std.specs.List.{Contains, flat_map}
 use Rattle.std.specs.List.Sorted.{IsStrictlyIncreasing}
 use Rattle.std.proofs.lemmas.List.Elements.{Contains-append_left, Contains-append_right, Contains-append_cases}
 use Rattle.zk_mem.specs.Map.{MemoryMap}
-use Rattle.zk_inspect.specs.declared.finding.Finding.{Finding}
-use Rattle.zk_inspect.specs.declared.finding.Number.{Number}
-use Rattle.zk_inspect.specs.declared.finding.Number.TheVariants.{Checksum, Length, DictionaryOrder, DictionaryExtent, ObjectLinks, ChainWithARepeat, PropertyList, TextPastTheEnd, NestedAbbreviation, UndecodableCode, TargetOutOfTheStory, CodeBelowTheStaticBase}
+use Rattle.zk_inspect.specs.declared.check.finding.Finding.{Finding}
+use Rattle.zk_inspect.specs.declared.check.finding.Number.{Number}
+use Rattle.zk_inspect.specs.declared.check.finding.Number.TheVariants.{Checksum, Length, DictionaryOrder, DictionaryExtent, ObjectLinks, ChainWithARepeat, PropertyList, TextPastTheEnd, NestedAbbreviation, UndecodableCode, TargetOutOfTheStory, CodeBelowTheStaticBase}
 use Rattle.zk_inspect.specs.Findings.{AreFindings, Finds, at_address, numbers}
 use Rattle.zk_inspect.specs.FindingLaws.{FindingsAreAll, OneListOfFindings, Precedes, rank_of}
 use Rattle.zk_inspect.proofs.OneList.{behind, behind_above, first_or, one_list}

@@ -4,8 +4,8 @@ use Rattle.std.specs.Prelude.{◌⊎◌, ◌↔◌, ◌<◌, Contains, zero, suc
 use Rattle.std.proofs.lemmas.Grind.{flat_map-append}
 use Rattle.std.proofs.lemmas.List.Elements.{All-nil, All-cons, All-append, All-weaker, Contains-append_left, Contains-append_right}
 use Rattle.zk_mem.specs.Map.{MemoryMap}
-use Rattle.zk_inspect.specs.declared.tree_lines.Row.{Row}
-use Rattle.zk_term.specs.Pages.{WroteSome}
+use Rattle.zk_inspect.specs.declared.listing.tree_lines.Row.{Row}
+use Rattle.zk_term.specs.LineWriters.{WroteSome}
 use Rattle.zk_mem.specs.declared.fault.Fault.{Fault}
 use Rattle.zk_tables.specs.Layout.{entry_of, is_entry, is_entry_in}
 use Rattle.zk_inspect.specs.Objects.{IsListed, IsObject}

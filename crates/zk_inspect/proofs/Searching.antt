@@ -19,7 +19,7 @@ use Rattle.zk_inspect.specs.declared.reach.Search.{Search}
 use Rattle.zk_inspect.specs.Lists.{IsListOf, IsMarked}
 use Rattle.zk_code.specs.Reach.{IsClosed}
 use Rattle.zk_code.proofs.Reached.{in_closed}
-use Rattle.zk_inspect.specs.declared.code.Code.{Code}
+use Rattle.zk_inspect.specs.declared.reach.code.Code.{Code}
 use Rattle.zk_inspect.specs.Codes.{IsCodeOf}
 use Rattle.zk_inspect.specs.Search.{one, IsSearch, Grows, IsExpanded, IsOnItsWay}
 use Rattle.zk_inspect.proofs.Marking.{counted_within, none_marked, marked_cases, marked_still, marked_counts}

@@ -6,10 +6,10 @@ use Rattle.zk_mem.specs.declared.fault.Fault.{Fault}
 use Rattle.zk_mem.specs.declared.fault.Fault.TheVariants.{NestedAbbreviation, TextPastEnd}
 use Rattle.zk_mem.specs.Map.{MemoryMap}
 use Rattle.zk_text.specs.Meaning.{Units, meaning_at, no_abbreviation, text_units}
-use Rattle.zk_inspect.specs.declared.finding.Number.TheVariants.{TextPastTheEnd, NestedAbbreviation as NestedNumber}
-use Rattle.zk_inspect.specs.declared.text_faults.TextFault.{TextFault}
-use Rattle.zk_inspect.specs.declared.text_faults.TextFault.TheVariants.{PastEnd, Nested}
-use Rattle.zk_inspect.specs.declared.texts.TextAddresses.{TextAddresses}
+use Rattle.zk_inspect.specs.declared.check.finding.Number.TheVariants.{TextPastTheEnd, NestedAbbreviation as NestedNumber}
+use Rattle.zk_inspect.specs.declared.check.text_faults.TextFault.{TextFault}
+use Rattle.zk_inspect.specs.declared.check.text_faults.TextFault.TheVariants.{PastEnd, Nested}
+use Rattle.zk_inspect.specs.declared.check.texts.TextAddresses.{TextAddresses}
 use Rattle.zk_inspect.specs.Findings.{Finds}
 use Rattle.zk_inspect.specs.Lists.{IsMarked}
 use Rattle.zk_inspect.specs.Texts.{HasFault, IsUnread}

@@ -2,7 +2,7 @@
 use Rattle.std.specs.Prelude.{◌≡◌}
 use Rattle.zk_mem.specs.Map.{MemoryMap}
 use Rattle.zk_code.specs.Reach.{IsReached, IsCalled}
-use Rattle.zk_inspect.specs.declared.code.Code.{Code}
+use Rattle.zk_inspect.specs.declared.reach.code.Code.{Code}
 use Rattle.zk_inspect.specs.Lists.{IsListOf}
 
 -- the addresses that are reached, and the routines that are called by a constant

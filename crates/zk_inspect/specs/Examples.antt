@@ -5,7 +5,7 @@ use Rattle.zk_mem.specs.Map.{MemoryMap}
 use Rattle.zk_mem.specs.declared.fault.Fault.TheVariants.{CodePastEnd, TextPastEnd, NestedAbbreviation as NestedFault}
 use Rattle.zk_code.specs.declared.branch.BranchTarget.TheVariants.{ReturnFalse, ReturnTrue, At, Below, Past}
 use Rattle.zk_code.specs.declared.operands.Operand.TheVariants.{Large, Small, Variable}
-use Rattle.zk_inspect.specs.declared.finding.Number.TheVariants.{Checksum, Length, DictionaryOrder, DictionaryExtent, ObjectLinks, ChainWithARepeat, PropertyList, TextPastTheEnd, NestedAbbreviation, UndecodableCode, TargetOutOfTheStory, CodeBelowTheStaticBase}
+use Rattle.zk_inspect.specs.declared.check.finding.Number.TheVariants.{Checksum, Length, DictionaryOrder, DictionaryExtent, ObjectLinks, ChainWithARepeat, PropertyList, TextPastTheEnd, NestedAbbreviation, UndecodableCode, TargetOutOfTheStory, CodeBelowTheStaticBase}
 use Rattle.zk_inspect.specs.FindingLines.{finding_line}
 use Rattle.zk_inspect.specs.Listing.{variable_text, operand_text, store_text, branch_text, quoted_bytes, address_line, routine_line, disassembly}
 use Rattle.zk_inspect.specs.AbbreviationLines.{abbreviation_line, abbreviation_lines}
@@ -17,8 +17,8 @@ use Rattle.zk_term.specs.Numbers.{address_digits, word_digits, byte_digits}
 use Rattle.zk_inspect.specs.TreeLines.{HasNoParent, row_line}
 use Rattle.zk_inspect.specs.Tests.{is_undecodable, leads_out}
 use Rattle.zk_inspect.specs.TextTests.{is_of, text_fails}
-use Rattle.zk_inspect.specs.declared.texts.TextAddresses.{TextAddresses}
-use Rattle.zk_inspect.specs.declared.text_faults.TextFault.TheVariants.{PastEnd, Nested}
+use Rattle.zk_inspect.specs.declared.check.texts.TextAddresses.{TextAddresses}
+use Rattle.zk_inspect.specs.declared.check.text_faults.TextFault.TheVariants.{PastEnd, Nested}
 
 -- ---- numbers
 

@@ -1,8 +1,8 @@
 -- The lines of findings. Their numbers and words are zkit's choice.
 use Rattle.std.specs.Prelude.{ℕ, List, ◌++◌, codes, decimal}
-use Rattle.zk_inspect.specs.declared.finding.Finding.{Finding}
-use Rattle.zk_inspect.specs.declared.finding.Number.{Number}
-use Rattle.zk_inspect.specs.declared.finding.Number.TheVariants.{Checksum, Length, DictionaryOrder, DictionaryExtent, ObjectLinks, ChainWithARepeat, PropertyList, TextPastTheEnd, NestedAbbreviation, UndecodableCode, TargetOutOfTheStory, CodeBelowTheStaticBase}
+use Rattle.zk_inspect.specs.declared.check.finding.Finding.{Finding}
+use Rattle.zk_inspect.specs.declared.check.finding.Number.{Number}
+use Rattle.zk_inspect.specs.declared.check.finding.Number.TheVariants.{Checksum, Length, DictionaryOrder, DictionaryExtent, ObjectLinks, ChainWithARepeat, PropertyList, TextPastTheEnd, NestedAbbreviation, UndecodableCode, TargetOutOfTheStory, CodeBelowTheStaticBase}
 use Rattle.zk_term.specs.Numbers.{address_digits}
 
 -- the number that a report shows

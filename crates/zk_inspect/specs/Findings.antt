@@ -11,9 +11,9 @@ use Rattle.zk_code.specs.declared.instr.Instr.{Instr}
 use Rattle.zk_code.specs.Clean.{LeadsOut, IsLow}
 use Rattle.zk_code.specs.Grammar.{IsInstruction}
 use Rattle.zk_code.specs.Reach.{IsReached}
-use Rattle.zk_inspect.specs.declared.finding.Finding.{Finding}
-use Rattle.zk_inspect.specs.declared.finding.Number.{Number}
-use Rattle.zk_inspect.specs.declared.finding.Number.TheVariants.{Checksum, Length, DictionaryOrder, DictionaryExtent, ObjectLinks, ChainWithARepeat, PropertyList, TextPastTheEnd, NestedAbbreviation, UndecodableCode, TargetOutOfTheStory, CodeBelowTheStaticBase}
+use Rattle.zk_inspect.specs.declared.check.finding.Finding.{Finding}
+use Rattle.zk_inspect.specs.declared.check.finding.Number.{Number}
+use Rattle.zk_inspect.specs.declared.check.finding.Number.TheVariants.{Checksum, Length, DictionaryOrder, DictionaryExtent, ObjectLinks, ChainWithARepeat, PropertyList, TextPastTheEnd, NestedAbbreviation, UndecodableCode, TargetOutOfTheStory, CodeBelowTheStaticBase}
 use Rattle.zk_inspect.specs.Keys.{IsFirstFall}
 use Rattle.zk_inspect.specs.Lists.{IsListOf}
 use Rattle.zk_inspect.specs.Objects.{HasObject, LeadsPast, LacksList}

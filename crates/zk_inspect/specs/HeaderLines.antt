@@ -4,8 +4,8 @@ use Rattle.std.specs.List.{concat}
 use Rattle.zk_mem.specs.Checksum.{has_right_sum, stated_length}
 use Rattle.zk_mem.specs.Header.{header_of}
 use Rattle.zk_mem.specs.Map.{MemoryMap}
-use Rattle.zk_inspect.specs.declared.header_lines.Value.{Value}
-use Rattle.zk_inspect.specs.declared.header_lines.Value.TheVariants.{Number, Address, Word, Byte, Serial, Checksum}
+use Rattle.zk_inspect.specs.declared.listing.header_lines.Value.{Value}
+use Rattle.zk_inspect.specs.declared.listing.header_lines.Value.TheVariants.{Number, Address, Word, Byte, Serial, Checksum}
 use Rattle.zk_term.specs.Numbers.{address_digits, word_digits, byte_digits}
 
 -- a byte of ASCII that is seen, and a question mark (63) in place of others

@@ -4,7 +4,7 @@ use Rattle.std.specs.Prelude.{◌≡◌, ℕ, List, [], ◌∷◌, ◌++◌, rep
 use Rattle.std.specs.List.{concat, flat_map}
 use Rattle.zk_mem.specs.Map.{MemoryMap}
 use Rattle.zk_tables.specs.declared.dictionary.Dictionary.{Dictionary}
-use Rattle.zk_inspect.specs.declared.finding.Number.TheVariants.{Checksum, UndecodableCode, TargetOutOfTheStory}
+use Rattle.zk_inspect.specs.declared.check.finding.Number.TheVariants.{Checksum, UndecodableCode, TargetOutOfTheStory}
 use Rattle.zk_inspect.specs.declared.objects.Question.TheVariants.{Links, Chain, Properties}
 use Rattle.zk_inspect.specs.AbbreviationLines.{abbreviation_lines}
 use Rattle.zk_inspect.specs.Examples.{listing_object, memory_by, memory_of}

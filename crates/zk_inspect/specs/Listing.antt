@@ -23,7 +23,7 @@ use Rattle.zk_code.specs.Reach.{is_jump, jump_address}
 use Rattle.zk_code.specs.Reading.{instr_at}
 use Rattle.zk_code.specs.Routines.{count_at}
 use Rattle.zk_code.specs.Table.{name_of}
-use Rattle.zk_inspect.specs.declared.code.Code.{Code}
+use Rattle.zk_inspect.specs.declared.reach.code.Code.{Code}
 use Rattle.zk_term.specs.Numbers.{address_digits, word_digits, byte_digits}
 
 -- a variable: the stack, a local one, a global one (section 4.2.2)

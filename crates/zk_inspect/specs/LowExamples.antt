@@ -2,7 +2,7 @@
 use Rattle.std.specs.Prelude.{◌≡◌, ℕ, List, [], ◌∷◌}
 use Rattle.zk_mem.specs.Map.{MemoryMap}
 use Rattle.zk_code.specs.CleanExamples.{calling_from}
-use Rattle.zk_inspect.specs.declared.finding.Number.TheVariants.{CodeBelowTheStaticBase}
+use Rattle.zk_inspect.specs.declared.check.finding.Number.TheVariants.{CodeBelowTheStaticBase}
 use Rattle.zk_inspect.specs.Findings.{Finds}
 
 -- of a story that begins at 8 nothing is low where dynamic memory ends there; a byte more, and it has the first instruction's

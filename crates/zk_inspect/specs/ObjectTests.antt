@@ -13,6 +13,8 @@ use Rattle.zk_inspect.specs.Siblings.{IsAhead}
 use Rattle.zk_inspect.specs.declared.objects.Objects.{Objects}
 use Rattle.zk_inspect.specs.declared.objects.Question.{Question}
 use Rattle.zk_inspect.specs.declared.objects.Question.TheVariants.{Links, Chain, Properties}
+use Rattle.zk_inspect.specs.declared.check.finding.Number.{Number}
+use Rattle.zk_inspect.specs.declared.check.finding.Number.TheVariants as number
 
 -- a link names an object past the last
 abbrev pub is_past : ℕ → Result ℕ Fault → Bool
@@ -56,3 +58,9 @@ pub record AreObjects (m : MemoryMap) (objects : Objects) : Type 0 where
   pub counted : IsCounted m objects.count
   pub far : IsAhead m 65536 objects.far_siblings.items
   pub lists : AreListMarks m objects.lists
+
+-- the finding that a question asks for
+abbrev pub object_number : Question → Number
+object_number Links = number.ObjectLinks
+object_number Chain = number.ChainWithARepeat
+object_number Properties = number.PropertyList

@@ -2,9 +2,9 @@
 use Rattle.std.specs.Prelude.{◌≡◌, ℕ, List, [], ◌∷◌, ◌++◌, map}
 use Rattle.zk_mem.specs.Map.{MemoryMap}
 use Rattle.zk_code.specs.Ends.{KnowsEnds}
-use Rattle.zk_inspect.specs.declared.checking.Parts.{Parts}
-use Rattle.zk_inspect.specs.declared.finding.Finding.{Finding}
-use Rattle.zk_inspect.specs.declared.finding.Number.{Number}
+use Rattle.zk_inspect.specs.declared.check.Parts.{Parts}
+use Rattle.zk_inspect.specs.declared.check.finding.Finding.{Finding}
+use Rattle.zk_inspect.specs.declared.check.finding.Number.{Number}
 use Rattle.zk_inspect.specs.Codes.{IsCodeOf}
 use Rattle.zk_inspect.specs.Findings.{Finds, at_address}
 use Rattle.zk_inspect.specs.Lists.{IsListOf}

@@ -9,8 +9,10 @@ use Rattle.zk_code.specs.declared.instr.Instr.{Instr}
 use Rattle.zk_code.specs.Reach.{constant_call, constant_jump}
 use Rattle.zk_code.specs.Reading.{instr_at}
 use Rattle.zk_code.specs.Routines.{count_at}
-use Rattle.zk_inspect.specs.declared.checking.CodeQuestion.{CodeQuestion}
-use Rattle.zk_inspect.specs.declared.checking.CodeQuestion.TheVariants.{Undecodable, LeadsOut, Low}
+use Rattle.zk_inspect.specs.declared.check.CodeQuestion.{CodeQuestion}
+use Rattle.zk_inspect.specs.declared.check.CodeQuestion.TheVariants.{Undecodable, LeadsOut, Low}
+use Rattle.zk_inspect.specs.declared.check.finding.Number.{Number}
+use Rattle.zk_inspect.specs.declared.check.finding.Number.TheVariants as number
 
 -- there is no instruction at an address
 abbrev pub is_undecodable : MemoryMap → ℕ → Bool
@@ -71,3 +73,9 @@ abbrev pub code_answer : MemoryMap → CodeQuestion → ℕ → Bool
 code_answer m Undecodable a = is_undecodable m a
 code_answer m LeadsOut a = leads_out m a
 code_answer m Low a = is_low m a
+
+-- the finding that a question asks for
+abbrev pub code_number : CodeQuestion → Number
+code_number Undecodable = number.UndecodableCode
+code_number LeadsOut = number.TargetOutOfTheStory
+code_number Low = number.CodeBelowTheStaticBase

@@ -7,11 +7,11 @@ use Rattle.zk_text.specs.Meaning.{Units, meaning_at, no_abbreviation, text_units
 use Rattle.zk_tables.specs.Properties.{name_of}
 use Rattle.zk_code.specs.declared.instr.Instr.{Instr}
 use Rattle.zk_code.specs.Grammar.{IsInstruction}
-use Rattle.zk_inspect.specs.declared.finding.Number.TheVariants as number
-use Rattle.zk_inspect.specs.declared.texts.TextAddresses.{TextAddresses}
-use Rattle.zk_inspect.specs.declared.text_faults.FailingTexts.{FailingTexts}
-use Rattle.zk_inspect.specs.declared.text_faults.TextFault.{TextFault}
-use Rattle.zk_inspect.specs.declared.text_faults.TextFault.TheVariants.{PastEnd, Nested}
+use Rattle.zk_inspect.specs.declared.check.finding.Number.TheVariants as number
+use Rattle.zk_inspect.specs.declared.check.texts.TextAddresses.{TextAddresses}
+use Rattle.zk_inspect.specs.declared.check.text_faults.FailingTexts.{FailingTexts}
+use Rattle.zk_inspect.specs.declared.check.text_faults.TextFault.{TextFault}
+use Rattle.zk_inspect.specs.declared.check.text_faults.TextFault.TheVariants.{PastEnd, Nested}
 use Rattle.zk_inspect.specs.Findings.{Finds}
 use Rattle.zk_inspect.specs.Lists.{IsListOf, IsMarked}
 use Rattle.zk_inspect.specs.Objects.{IsListed}

@@ -5,7 +5,7 @@ use Rattle.zk_mem.specs.Map.{MemoryMap}
 use Rattle.zk_tables.specs.Links.{link_at, parent_of}
 use Rattle.zk_inspect.specs.declared.error.ListError.{ListError}
 use Rattle.zk_inspect.specs.declared.error.ListError.TheVariants.{Memory, Write}
-use Rattle.zk_inspect.specs.declared.tree_lines.Row.{Row}
+use Rattle.zk_inspect.specs.declared.listing.tree_lines.Row.{Row}
 use Rattle.zk_inspect.specs.ObjectLines.{label_text, number_or_none}
 use Rattle.zk_inspect.specs.Objects.{IsObject}
 

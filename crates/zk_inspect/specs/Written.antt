@@ -1,6 +1,6 @@
 -- What was written of a text.
 use Rattle.std.specs.Prelude.{◌≡◌, ℕ, Bool, ◌||◌, List, Option}
-use Rattle.zk_term.specs.Pages.{Wrote}
+use Rattle.zk_term.specs.LineWriters.{Wrote}
 
 -- a target was given a text, and took all of it, or a first part where a write has failed now
 pub record Gave {S : Type 0} (taken : S → Option (List ℕ)) (has_failed : S → Bool) (failed : Bool) (old new : S) (text : List ℕ) : Type 0 where

@@ -9,10 +9,10 @@ ghost use Rattle.zk_inspect.specs.Lists.{IsListOf};
 ghost use Rattle.zk_inspect.specs.ObjectTests.{AreObjects, IsAnswered, answer, is_bad_property, is_bad_tree, is_past, leads_past};
 ghost use Rattle.zk_inspect.specs.Objects.{IsListed, lower_of};
 
-use crate::address_set::AddressSet;
-use crate::code::Addresses;
-use crate::property_lists::mark_lists;
-use crate::siblings::list_far_siblings;
+use crate::check::property_lists::mark_lists;
+use crate::check::siblings::list_far_siblings;
+use crate::reach::address_set::AddressSet;
+use crate::reach::code::Addresses;
 use std::alloc::{AllocError, Global};
 use zk_mem::fault::Fault;
 use zk_mem::memory::Memory;

@@ -10,8 +10,13 @@ ghost use Rattle.zk_inspect.specs.Codes.{IsCodeOf};
 ghost use Rattle.zk_inspect.specs.Lists.{IsMarked};
 ghost use Rattle.zk_inspect.specs.Search.{Grows, IsExpanded, IsOnItsWay, IsSearch};
 
-use crate::address_set::AddressSet;
-use crate::code::{Addresses, Code};
+pub(crate) mod address_set;
+pub mod code;
+pub mod disassembly;
+pub(crate) mod operands;
+
+use crate::reach::address_set::AddressSet;
+use crate::reach::code::{Addresses, Code};
 use std::alloc::{AllocError, Global};
 use zk_code::decode::decode_by;
 use zk_code::ends::TextEnds;
@@ -237,7 +242,7 @@ fn find_all(alloc: Global, memory: &Memory) -> Result<Search, AllocError>
 /// inside the story, and of the first instruction of a routine that it calls by a constant other than 0; and these routines
 /// (Z-Machine Standards Document 1.1, sections 4.7, 5 and 15). Code that only computed addresses lead to is not found.
 ///
-/// Refused for want of memory alone.
+/// Refused for lack of memory alone.
 pub fn reach(alloc: Global, memory: &Memory) -> Result<Code, AllocError>
     ensures { IfOk result (λ code. IsCodeOf memory.now code) }
 {

@@ -36,7 +36,7 @@ pub enum OpenError {
 }
 
 impl OpenError {
-    /// The number that reports name the refusal by.
+    /// The number by which reports name the refusal.
     pub fn number(self) -> u8
         ensures { result ≡ refusal_number self }
     {
@@ -128,7 +128,7 @@ fn greatest_length_of(version: u8) -> Option<usize>
     }
 }
 
-/// The first reason why a file is no story, but for want of memory.
+/// The first reason why a file is no story, but for lack of memory.
 #[tactic(auto, unfolding(crate::specs::Story::refusal))]
 fn refusal_of(file: &[u8]) -> Option<OpenError>
     ensures { result ≡ refusal file.now }

@@ -19,7 +19,7 @@ pub struct Return {
 
 /// The frames of the routines that have called one another (Standard, section 6.1), within bounds
 /// on their number and on the words that they hold together: local variables and evaluation
-/// stacks. All room is taken at the start, so no other call can fail for want of memory.
+/// stacks. All room is taken at the start, so no other call can fail for lack of memory.
 #[derive(Drop)]
 pub struct Frames {
     records: Records,
@@ -426,10 +426,7 @@ impl Frames {
             × (self.new ≡ self.old)) }
     {
         let count = locals.len() as u8;
-        match self.call_with(count, locals, pc, store, supplied) {
-            Ok(()) => Ok(()),
-            Err(refusal) => Err(refusal),
-        }
+        self.call_with(count, locals, pc, store, supplied)
     }
 
     /// Begins a routine with so many local variables, of which the first take the arguments and the others 0,

@@ -8,7 +8,7 @@ use Rattle.zk_text.specs.Extra.{own_characters, lower_code}
 use Rattle.zk_tables.proofs.Steps.{bind_ok}
 use Rattle.zk_tables.proofs.Storing.{same_here, same_on, same_by_byte}
 use Rattle.zk_step.specs.Laws.{LinesChangeTextBuffers}
-use Rattle.zk_arrays.specs.Runs.{bytes_put}
+use Rattle.zk_tables.specs.Runs.{bytes_put}
 use Rattle.zk_step.specs.TextBuffers.{taken_letters, ended_by_zero, early_line_put, counted_letters, later_line_put}
 
 -- bytes that were stored

@@ -11,7 +11,7 @@ use Rattle.zk_mem.specs.Results.{◌>>=◌}
 use Rattle.zk_text.specs.declared.unit.Unit.{Unit}
 use Rattle.zk_text.specs.Extra.{ExtraTable, character, characters}
 use Rattle.zk_text.specs.Standard.{standard_characters}
-use Rattle.zk_arrays.specs.Runs.{bytes_put}
+use Rattle.zk_tables.specs.Runs.{bytes_put}
 use Rattle.zk_step.specs.Routing.{code_stored, stored_all}
 use Rattle.zk_step.specs.Printed.{FirstPart, Collected, stored_all-append}
 

@@ -24,11 +24,11 @@ use Rattle.zk_code.specs.Targets.{jump_target}
 use Rattle.zk_code.proofs.Whole.{only_at}
 use Rattle.zk_code.proofs.Same.{cell_alike, instruction_alike}
 use Rattle.zk_code.proofs.Standing.{some_is}
-use Rattle.zk_step.specs.declared.ending.Ending.{Ending}
-use Rattle.zk_step.specs.declared.ending.Ending.TheVariants as ending
-use Rattle.zk_step.specs.declared.finish.Continuation.{Continuation}
-use Rattle.zk_step.specs.declared.finish.Continuation.TheVariants.{To}
-use Rattle.zk_step.specs.declared.game_state.GameState.{GameState}
+use Rattle.zk_step.specs.declared.state.ending.Ending.{Ending}
+use Rattle.zk_step.specs.declared.state.ending.Ending.TheVariants as ending
+use Rattle.zk_step.specs.declared.state.finish.Continuation.{Continuation}
+use Rattle.zk_step.specs.declared.state.finish.Continuation.TheVariants.{To}
+use Rattle.zk_step.specs.declared.state.game_state.GameState.{GameState}
 use Rattle.zk_step.specs.Finish.{agrees, continuation_of, continuation_after}
 use Rattle.zk_step.specs.Laws.{EndsBy, IsOneStory, KeepsStory}
 use Rattle.zk_step.specs.Routines.{RoutineHeader, routine_at, routine_of}

@@ -11,7 +11,7 @@ use Rattle.zk_text.specs.Keys.{place, a2_place, spelled, spelling, spellings, fi
 use Rattle.zk_text.proofs.Spells.{take_full}
 use Rattle.zk_tables.specs.Parsing.{letters_counted}
 use Rattle.zk_code.specs.declared.opcode.Words.TheVariants.{EncodeText}
-use Rattle.zk_arrays.specs.Runs.{bytes_put}
+use Rattle.zk_tables.specs.Runs.{bytes_put}
 use Rattle.zk_step.specs.Values.{first, second, third, fourth}
 use Rattle.zk_step.specs.Words.{words_changed}
 use Rattle.zk_tables.proofs.Dividing.{after, after_none, counted_on, counted_faults, counted_ends}

@@ -1,7 +1,7 @@
 -- The open tables of stream 3, the newest apart.
 use Rattle.std.proofs.Common.{◌≡◌, ℕ, ◌<◌, ◌+◌, ◌^◌, IfSome, List, [], ◌∷◌, length, Option, Some, None, refl, arith}
 use Rattle.std.specs.Prelude.{remove, slice_index_or}
-use Rattle.zk_step.specs.declared.streams.OpenTable.{OpenTable}
+use Rattle.zk_step.specs.declared.output.streams.OpenTable.{OpenTable}
 use Rattle.zk_step.specs.Streams.{newest_of, tables_of, tables_below, counted, NewestIsFirst}
 
 pub newest_is : (n : Option OpenTable) (below : List OpenTable) → n ≡ newest_of (tables_of n below)

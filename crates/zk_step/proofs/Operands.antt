@@ -5,7 +5,7 @@ use Rattle.std.proofs.lemmas.List.{drop_all}
 use Rattle.zk_mem.specs.declared.fault.Fault.{Fault}
 use Rattle.zk_code.specs.declared.operands.Operand.{Operand}
 use Rattle.zk_code.specs.declared.operands.Operand.TheVariants.{Large, Small, Variable}
-use Rattle.zk_step.specs.declared.game_state.GameState.{GameState}
+use Rattle.zk_step.specs.declared.state.game_state.GameState.{GameState}
 use Rattle.zk_mem.specs.Results.{◌>>=◌}
 use Rattle.zk_state.specs.Frames.{FrameList, popped}
 use Rattle.zk_step.specs.Variables.{operand_read, operands_read, values_before, variable_read, named_read, with_frames}

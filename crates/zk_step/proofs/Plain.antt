@@ -1,10 +1,10 @@
 -- An effect that prints goes on to the next instruction, or returns.
 use Rattle.std.proofs.Common.{◌≡◌, ℕ, None, Some, refl}
 use Rattle.zk_mem.specs.Map.{MemoryMap}
-use Rattle.zk_step.specs.declared.ending.Ending.{Ending}
-use Rattle.zk_step.specs.declared.ending.Ending.TheVariants.{GoOn, Jump, Call, Return, Throw, Restart, Asks}
-use Rattle.zk_step.specs.declared.ending.Output.{Output}
-use Rattle.zk_step.specs.declared.ending.Output.TheVariants.{Nothing, Code, Character, Number, Text, Line, Rows, Status}
+use Rattle.zk_step.specs.declared.state.ending.Ending.{Ending}
+use Rattle.zk_step.specs.declared.state.ending.Ending.TheVariants.{GoOn, Jump, Call, Return, Throw, Restart, Asks}
+use Rattle.zk_step.specs.declared.state.ending.Output.{Output}
+use Rattle.zk_step.specs.declared.state.ending.Output.TheVariants.{Nothing, Code, Character, Number, Text, Line, Rows, Status}
 use Rattle.zk_step.specs.Printing.{IsPlainEnd, IsReady, IsPrintable}
 
 pub plain_by : (e : Ending) → IsPlainEnd e → ((x : ℕ) → e ≡ Return x → ⊥) → e ≡ GoOn None None

@@ -9,7 +9,7 @@ use Rattle.zk_state.specs.declared.frames.Return.{Return}
 use Rattle.zk_state.specs.declared.refusal.Refusal.{Refusal}
 use Rattle.zk_state.specs.declared.refusal.Refusal.TheVariants as refusal
 use Rattle.zk_state.specs.Frames.{FrameList, left, within_bounds, taken, given_back, GivesBack, RefusesBack}
-use Rattle.zk_step.specs.declared.game_state.GameState.{GameState}
+use Rattle.zk_step.specs.declared.state.game_state.GameState.{GameState}
 use Rattle.zk_step.specs.Limited.{kept, limited_pc}
 use Rattle.zk_step.specs.Routines.{stored, returned}
 use Rattle.zk_step.specs.Variables.{with_frames, with_memory, global_address, variable_written, named_written}

@@ -1,9 +1,9 @@
 -- The route of a text.
 use Rattle.std.proofs.Common.{◌≡◌, refl}
 use Rattle.zk_mem.specs.Map.{MemoryMap}
-use Rattle.zk_step.specs.declared.ending.Output.{Output}
-use Rattle.zk_step.specs.declared.ending.Output.TheVariants.{Nothing, Status, Code, Character, Number, Text, Line, Rows}
-use Rattle.zk_step.specs.declared.game_state.GameState.{GameState}
+use Rattle.zk_step.specs.declared.state.ending.Output.{Output}
+use Rattle.zk_step.specs.declared.state.ending.Output.TheVariants.{Nothing, Status, Code, Character, Number, Text, Line, Rows}
+use Rattle.zk_step.specs.declared.state.game_state.GameState.{GameState}
 use Rattle.zk_step.specs.Routing.{routed, routed_by}
 use Rattle.zk_step.specs.Streams.{newest_of}
 

@@ -4,15 +4,15 @@ use Rattle.zk_mem.specs.declared.fault.Fault.{Fault}
 use Rattle.zk_mem.specs.Map.{MemoryMap}
 use Rattle.zk_state.specs.declared.refusal.Refusal.{Refusal}
 use Rattle.zk_state.specs.declared.refusal.Refusal.TheVariants as refusal
-use Rattle.zk_step.specs.declared.ending.Ending.{Ending}
-use Rattle.zk_step.specs.declared.ending.Ending.TheVariants as ending
+use Rattle.zk_step.specs.declared.state.ending.Ending.{Ending}
+use Rattle.zk_step.specs.declared.state.ending.Ending.TheVariants as ending
 use Rattle.zk_code.specs.declared.instr.Instr.{Instr}
-use Rattle.zk_step.specs.declared.ending.Effect.{Effect}
-use Rattle.zk_step.specs.declared.ending.Next.{Next}
-use Rattle.zk_step.specs.declared.ending.Next.TheVariants.{At, Asks}
-use Rattle.zk_step.specs.declared.ending.Output.{Output}
-use Rattle.zk_step.specs.declared.ending.Output.TheVariants.{Nothing, Code, Character, Number, Text, Line, Rows, Status}
-use Rattle.zk_step.specs.declared.game_state.GameState.{GameState}
+use Rattle.zk_step.specs.declared.state.ending.Effect.{Effect}
+use Rattle.zk_step.specs.declared.state.ending.Next.{Next}
+use Rattle.zk_step.specs.declared.state.ending.Next.TheVariants.{At, Asks}
+use Rattle.zk_step.specs.declared.state.ending.Output.{Output}
+use Rattle.zk_step.specs.declared.state.ending.Output.TheVariants.{Nothing, Code, Character, Number, Text, Line, Rows, Status}
+use Rattle.zk_step.specs.declared.state.game_state.GameState.{GameState}
 use Rattle.zk_step.specs.Finish.{finished}
 use Rattle.zk_step.specs.Instructions.{carried_out, HasBegun}
 use Rattle.zk_step.specs.Limited.{limited_next, limited_move, text_in}

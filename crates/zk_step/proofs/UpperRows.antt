@@ -5,7 +5,7 @@ use Rattle.zk_mem.specs.declared.fault.Fault.{Fault}
 use Rattle.zk_text.specs.Extra.{ExtraTable}
 use Rattle.zk_text.specs.Shown.{shown_all}
 use Rattle.zk_term.specs.Windows.{Windows, next_row}
-use Rattle.zk_arrays.specs.Rectangles.{row_units}
+use Rattle.zk_tables.specs.Rectangles.{row_units}
 use Rattle.zk_step.specs.Printing.{rows_or_none}
 use Rattle.zk_step.specs.Routing.{printed_if, rows_printed, rectangle_printed}
 

@@ -13,8 +13,8 @@ use Rattle.zk_code.specs.declared.opcode.Assignment.TheVariants.{Store, Load, In
 use Rattle.zk_code.specs.declared.opcode.Comparison.TheVariants.{Je, Jl, Jg, Jz, Test}
 use Rattle.zk_code.specs.declared.operands.Operand.{Operand}
 use Rattle.zk_code.specs.declared.operands.Operand.TheVariants.{Large, Small, Variable}
-use Rattle.zk_step.specs.declared.game_state.GameState.{GameState}
-use Rattle.zk_step.specs.declared.game_state.View.TheVariants.{Plain}
+use Rattle.zk_step.specs.declared.state.game_state.GameState.{GameState}
+use Rattle.zk_step.specs.declared.state.game_state.View.TheVariants.{Plain}
 use Rattle.zk_step.specs.Streams.{first_streams}
 use Rattle.zk_term.specs.Windows.{first_windows}
 use Rattle.zk_step.specs.Arithmetic.{arithmetic}

@@ -5,9 +5,9 @@ use Rattle.zk_mem.specs.Results.{◌>>=◌}
 use Rattle.zk_code.specs.declared.instr.Instr.{Instr}
 use Rattle.zk_code.specs.declared.opcode.Reading.{Reading}
 use Rattle.zk_code.specs.declared.opcode.Reading.TheVariants.{Sread, Aread, ReadChar}
-use Rattle.zk_step.specs.declared.ending.Effect.{Effect}
-use Rattle.zk_step.specs.declared.ending.Event.TheVariants.{Line, Char}
-use Rattle.zk_step.specs.declared.game_state.GameState.{GameState}
+use Rattle.zk_step.specs.declared.state.ending.Effect.{Effect}
+use Rattle.zk_step.specs.declared.state.ending.Event.TheVariants.{Line, Char}
+use Rattle.zk_step.specs.declared.state.game_state.GameState.{GameState}
 use Rattle.zk_step.specs.Endings.{awaits}
 use Rattle.zk_step.specs.Finish.{gone_on}
 use Rattle.zk_step.specs.TextBuffers.{line_put}

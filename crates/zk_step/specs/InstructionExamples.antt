@@ -10,10 +10,10 @@ use Rattle.zk_code.specs.declared.opcode.Printing.TheVariants.{PrintChar}
 use Rattle.zk_code.specs.declared.opcode.Reading.TheVariants.{Sread}
 use Rattle.zk_code.specs.declared.opcode.Words.TheVariants.{EncodeText}
 use Rattle.zk_code.specs.declared.operands.Operand.TheVariants.{Large, Small, Variable}
-use Rattle.zk_step.specs.declared.ending.Next.TheVariants.{Asks, At}
-use Rattle.zk_step.specs.declared.ending.Event.TheVariants.{Line, Char}
-use Rattle.zk_step.specs.declared.ending.Request.TheVariants as request
-use Rattle.zk_step.specs.declared.game_state.GameState.{GameState}
+use Rattle.zk_step.specs.declared.state.ending.Next.TheVariants.{Asks, At}
+use Rattle.zk_step.specs.declared.state.ending.Event.TheVariants.{Line, Char}
+use Rattle.zk_step.specs.declared.state.ending.Request.TheVariants as request
+use Rattle.zk_step.specs.declared.state.game_state.GameState.{GameState}
 use Rattle.zk_step.specs.Instructions.{carried_out}
 use Rattle.zk_step.specs.Limited.{limited, limited_next}
 use Rattle.zk_step.specs.Routing.{Texts, with_line_start}

@@ -4,7 +4,7 @@ use Rattle.zk_mem.specs.Map.{MemoryMap}
 use Rattle.zk_code.specs.declared.opcode.ObjectChange.TheVariants.{SetAttr, ClearAttr, InsertObj, RemoveObj, PutProp}
 use Rattle.zk_code.specs.declared.opcode.ObjectQuestion.TheVariants.{Jin, TestAttr, GetProp, GetPropAddr, GetNextProp, GetPropLen, GetParent, GetSibling, GetChild}
 use Rattle.zk_code.specs.declared.opcode.Printing.TheVariants.{PrintObj}
-use Rattle.zk_step.specs.declared.ending.Output.TheVariants as output
+use Rattle.zk_step.specs.declared.state.ending.Output.TheVariants as output
 use Rattle.zk_step.specs.Endings.{yields, yields_truth, prints}
 use Rattle.zk_step.specs.Objects.{object_changed, object_answer}
 use Rattle.zk_step.specs.Printing.{printing}

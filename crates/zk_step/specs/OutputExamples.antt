@@ -8,12 +8,12 @@ use Rattle.zk_term.specs.declared.windows.Window.TheVariants.{Upper}
 use Rattle.zk_term.specs.Windows.{Windows, first_windows, printed, split, window_selected}
 use Rattle.zk_code.specs.declared.opcode.Table.TheVariants.{ScanTable, PrintTable}
 use Rattle.zk_code.specs.declared.opcode.Window.TheVariants.{SplitWindow, SetWindow, EraseLine, SetCursor, GetCursor, ShowStatus}
-use Rattle.zk_step.specs.declared.ending.Ending.TheVariants.{GoOn}
-use Rattle.zk_step.specs.declared.ending.Output.TheVariants.{Code, Rows}
-use Rattle.zk_step.specs.declared.random.Generators.{Generators}
-use Rattle.zk_step.specs.declared.streams.OpenTable.{OpenTable}
-use Rattle.zk_step.specs.declared.game_state.View.TheVariants as view
-use Rattle.zk_step.specs.declared.game_state.GameState.{GameState}
+use Rattle.zk_step.specs.declared.state.ending.Ending.TheVariants.{GoOn}
+use Rattle.zk_step.specs.declared.state.ending.Output.TheVariants.{Code, Rows}
+use Rattle.zk_step.specs.declared.state.random.Generators.{Generators}
+use Rattle.zk_step.specs.declared.output.streams.OpenTable.{OpenTable}
+use Rattle.zk_step.specs.declared.state.game_state.View.TheVariants as view
+use Rattle.zk_step.specs.declared.state.game_state.GameState.{GameState}
 use Rattle.zk_step.specs.Endings.{ends, goes_on, prints}
 use Rattle.zk_step.specs.Examples.{memory_of, working, routine_with}
 use Rattle.zk_step.specs.Random.{randomised}

@@ -7,7 +7,7 @@ use Rattle.zk_text.specs.Shown.{shown, shown_all}
 use Rattle.zk_text.proofs.ShownLemmas.{shown_all-append, shown_all-one}
 use Rattle.zk_term.specs.Windows.{Windows, printed}
 use Rattle.zk_step.specs.Routing.{stored, stored_all, shown_if, ends_line}
-use Rattle.zk_step.specs.declared.printer.Selected.{Selected}
+use Rattle.zk_step.specs.declared.output.printer.Selected.{Selected}
 
 -- ---- on streams 1 and 2
 

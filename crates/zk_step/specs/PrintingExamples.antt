@@ -3,8 +3,8 @@ use Rattle.std.specs.Prelude.{◌≡◌, [], ◌∷◌, ◌++◌, Some, None, Ok
 use Rattle.zk_mem.specs.Map.{MemoryMap}
 use Rattle.zk_code.specs.declared.opcode.Idle.TheVariants.{Nop, SetColour, SetTrueColour, SetTextStyle, BufferMode, SoundEffect, SetFont, Piracy, CheckUnicode}
 use Rattle.zk_code.specs.declared.opcode.Printing.TheVariants.{Print, PrintRet, NewLine, PrintNum, PrintChar, PrintUnicode, PrintAddr, PrintPaddr}
-use Rattle.zk_step.specs.declared.ending.Ending.TheVariants as ending
-use Rattle.zk_step.specs.declared.ending.Output.TheVariants as output
+use Rattle.zk_step.specs.declared.state.ending.Ending.TheVariants as ending
+use Rattle.zk_step.specs.declared.state.ending.Output.TheVariants as output
 use Rattle.zk_step.specs.Endings.{goes_on, gives, tests, prints}
 use Rattle.zk_step.specs.Idle.{idle}
 use Rattle.zk_step.specs.Printing.{printing, characters_of}

@@ -6,10 +6,10 @@ use Rattle.zk_code.specs.declared.instr.Instr.{Instr}
 use Rattle.zk_code.specs.declared.opcode.Opcode.TheVariants as opcode
 use Rattle.zk_code.specs.declared.opcode.Reading.TheVariants.{Sread, Aread, ReadChar}
 use Rattle.zk_code.specs.declared.opcode.Words.TheVariants.{Tokenise, EncodeText}
-use Rattle.zk_step.specs.declared.ending.Ending.TheVariants as ending
-use Rattle.zk_step.specs.declared.ending.Event.TheVariants.{Line, Char}
-use Rattle.zk_step.specs.declared.ending.Request.TheVariants as request
-use Rattle.zk_step.specs.declared.game_state.GameState.{GameState}
+use Rattle.zk_step.specs.declared.state.ending.Ending.TheVariants as ending
+use Rattle.zk_step.specs.declared.state.ending.Event.TheVariants.{Line, Char}
+use Rattle.zk_step.specs.declared.state.ending.Request.TheVariants as request
+use Rattle.zk_step.specs.declared.state.game_state.GameState.{GameState}
 use Rattle.zk_step.specs.Endings.{ends}
 use Rattle.zk_step.specs.Inputs.{reading, line_answered, character_answered}
 use Rattle.zk_step.specs.TextBuffers.{early_line_put, later_line_put, line_put}

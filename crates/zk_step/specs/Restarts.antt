@@ -3,7 +3,7 @@ use Rattle.std.specs.Prelude.{[]}
 use Rattle.zk_mem.specs.Again.{restarted}
 use Rattle.zk_state.specs.Frames.{first_frames}
 use Rattle.zk_term.specs.Windows.{unsplit}
-use Rattle.zk_step.specs.declared.game_state.GameState.{GameState}
+use Rattle.zk_step.specs.declared.state.game_state.GameState.{GameState}
 
 -- the upper window is gone, as `erase_window` -1 leaves it, and the open tables of stream 3 are forgotten (a choice of zkit)
 unfoldable pub windows_closed : GameState → GameState

@@ -6,8 +6,8 @@ use Rattle.zk_mem.specs.declared.fault.Fault.TheVariants.{BadTarget}
 use Rattle.zk_mem.specs.Map.{cell_at}
 use Rattle.zk_code.specs.declared.branch.Branch.{Branch}
 use Rattle.zk_code.specs.Reading.{Read, branch_here}
-use Rattle.zk_step.specs.declared.finish.Continuation.TheVariants.{To}
-use Rattle.zk_step.specs.declared.game_state.GameState.{GameState}
+use Rattle.zk_step.specs.declared.state.finish.Continuation.TheVariants.{To}
+use Rattle.zk_step.specs.declared.state.game_state.GameState.{GameState}
 use Rattle.zk_step.specs.Finish.{gone, led, continuation_after}
 
 -- the branch of the `save` is taken as on success; one outside of the story is a bad target

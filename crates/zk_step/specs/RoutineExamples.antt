@@ -6,10 +6,10 @@ use Rattle.zk_code.specs.declared.opcode.Opcode.TheVariants as opcode
 use Rattle.zk_code.specs.declared.opcode.Call.TheVariants.{CallVs, Call1s, Call2s, CallVs2, CallVn, Call1n, Call2n, CallVn2}
 use Rattle.zk_code.specs.declared.opcode.Control.TheVariants.{Jump, Quit}
 use Rattle.zk_code.specs.declared.opcode.Routine.TheVariants.{Rtrue, Rfalse, Ret, RetPopped, Catch, Throw, CheckArgCount}
-use Rattle.zk_step.specs.declared.ending.Ending.TheVariants as ending
-use Rattle.zk_step.specs.declared.ending.Next.TheVariants.{Asks, At}
-use Rattle.zk_step.specs.declared.ending.Request.TheVariants as request
-use Rattle.zk_step.specs.declared.finish.Continuation.TheVariants.{To, Back, Out}
+use Rattle.zk_step.specs.declared.state.ending.Ending.TheVariants as ending
+use Rattle.zk_step.specs.declared.state.ending.Next.TheVariants.{Asks, At}
+use Rattle.zk_step.specs.declared.state.ending.Request.TheVariants as request
+use Rattle.zk_step.specs.declared.state.finish.Continuation.TheVariants.{To, Back, Out}
 use Rattle.zk_step.specs.Control.{control}
 use Rattle.zk_step.specs.Endings.{gives, tests, ends}
 use Rattle.zk_step.specs.Finish.{continuation_after, led, gone, finished}

@@ -10,12 +10,12 @@ use Rattle.zk_text.specs.Shown.{shown_all}
 use Rattle.zk_term.specs.declared.windows.Window.{Window}
 use Rattle.zk_term.specs.declared.windows.Window.TheVariants.{Lower, Upper}
 use Rattle.zk_term.specs.Windows.{Windows, printed, next_row}
-use Rattle.zk_arrays.specs.Rectangles.{rows_of, row_units}
-use Rattle.zk_arrays.specs.Runs.{bytes_put}
-use Rattle.zk_step.specs.declared.ending.Output.{Output}
-use Rattle.zk_step.specs.declared.ending.Output.TheVariants.{Nothing, Status, Rows}
-use Rattle.zk_step.specs.declared.streams.OpenTable.{OpenTable}
-use Rattle.zk_step.specs.declared.game_state.GameState.{GameState}
+use Rattle.zk_tables.specs.Rectangles.{rows_of, row_units}
+use Rattle.zk_tables.specs.Runs.{bytes_put}
+use Rattle.zk_step.specs.declared.state.ending.Output.{Output}
+use Rattle.zk_step.specs.declared.state.ending.Output.TheVariants.{Nothing, Status, Rows}
+use Rattle.zk_step.specs.declared.output.streams.OpenTable.{OpenTable}
+use Rattle.zk_step.specs.declared.state.game_state.GameState.{GameState}
 use Rattle.zk_step.specs.Printing.{units_of, characters_of, rows_or_none}
 use Rattle.zk_step.specs.Selecting.{flags_2, with_streams}
 use Rattle.zk_step.specs.Status.{status_units}

@@ -10,12 +10,12 @@ use Rattle.zk_code.specs.declared.opcode.Saving.TheVariants.{SaveBranch, SaveSto
 use Rattle.zk_code.specs.declared.operands.Operand.TheVariants.{Variable}
 use Rattle.zk_term.specs.declared.windows.Window.TheVariants.{Upper}
 use Rattle.zk_term.specs.Windows.{first_windows, printed, split, window_selected}
-use Rattle.zk_step.specs.declared.ending.Ending.TheVariants as ending
-use Rattle.zk_step.specs.declared.ending.Next.TheVariants.{Asks, At}
-use Rattle.zk_step.specs.declared.ending.Event.TheVariants as event
-use Rattle.zk_step.specs.declared.ending.Request.TheVariants as request
-use Rattle.zk_step.specs.declared.game_state.View.TheVariants as view
-use Rattle.zk_step.specs.declared.game_state.GameState.{GameState}
+use Rattle.zk_step.specs.declared.state.ending.Ending.TheVariants as ending
+use Rattle.zk_step.specs.declared.state.ending.Next.TheVariants.{Asks, At}
+use Rattle.zk_step.specs.declared.state.ending.Event.TheVariants as event
+use Rattle.zk_step.specs.declared.state.ending.Request.TheVariants as request
+use Rattle.zk_step.specs.declared.state.game_state.View.TheVariants as view
+use Rattle.zk_step.specs.declared.state.game_state.GameState.{GameState}
 use Rattle.zk_step.specs.Endings.{ends, gives, tests}
 use Rattle.zk_step.specs.Examples.{memory_of, routine_with, caller_with, working, in_routine, instruction}
 use Rattle.zk_step.specs.InstructionExamples.{silent, waiting}

@@ -6,8 +6,8 @@ use Rattle.zk_mem.specs.Results.{◌>>=◌}
 use Rattle.zk_mem.specs.Map.{byte_at, byte_put, word_put}
 use Rattle.zk_code.specs.declared.opcode.Stream.{Stream}
 use Rattle.zk_code.specs.declared.opcode.Stream.TheVariants.{OutputStream, InputStream}
-use Rattle.zk_step.specs.declared.streams.OpenTable.{OpenTable}
-use Rattle.zk_step.specs.declared.game_state.GameState.{GameState}
+use Rattle.zk_step.specs.declared.output.streams.OpenTable.{OpenTable}
+use Rattle.zk_step.specs.declared.state.game_state.GameState.{GameState}
 use Rattle.zk_step.specs.Streams.{OutputStreams, with_screen, opened, newest_of, closed}
 use Rattle.zk_step.specs.Values.{first}
 use Rattle.zk_step.specs.Variables.{with_memory}

@@ -9,7 +9,7 @@ use Rattle.zk_text.specs.declared.unit.Unit as text
 use Rattle.zk_text.specs.declared.unit.Unit.TheVariants.{Code}
 use Rattle.zk_text.specs.Meaning.{text_units, checked_end}
 use Rattle.zk_tables.specs.Properties.{name_of}
-use Rattle.zk_step.specs.declared.status.StatusLine.{StatusLine}
+use Rattle.zk_step.specs.declared.output.status.StatusLine.{StatusLine}
 use Rattle.zk_step.specs.Variables.{global_address}
 
 -- units of ZSCII codes

@@ -3,7 +3,7 @@ use Rattle.std.specs.Prelude.{◌≡◌, ℕ, List, Ok, IfSome}
 use Rattle.zk_mem.specs.Map.{MemoryMap, IsOfFile}
 use Rattle.zk_tables.specs.declared.dictionary.Dictionary.{Dictionary}
 use Rattle.zk_tables.specs.Dictionaries.{dictionary_at}
-use Rattle.zk_step.specs.declared.story_words.StoryWords.{StoryWords}
+use Rattle.zk_step.specs.declared.input.story_words.StoryWords.{StoryWords}
 use Rattle.zk_step.specs.Laws.{fixed_parts}
 
 -- in every memory of a story this dictionary stands at its address

@@ -2,7 +2,7 @@
 use Rattle.std.specs.Prelude.{◌≡◌, Bool, true, ℕ, ◌+◌, List, [], ◌∷◌, length, Option, Some, None, Result, Ok, Err, nat_le, if◌then◌else◌}
 use Rattle.zk_mem.specs.declared.fault.Fault.{Fault}
 use Rattle.zk_mem.specs.declared.fault.Fault.TheVariants.{StreamDepth}
-use Rattle.zk_step.specs.declared.streams.OpenTable.{OpenTable}
+use Rattle.zk_step.specs.declared.output.streams.OpenTable.{OpenTable}
 
 -- whether stream 1, the screen, is on, and the tables of stream 3 that are open, the newest first
 pub record OutputStreams : Type 0 where

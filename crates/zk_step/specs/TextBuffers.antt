@@ -5,7 +5,7 @@ use Rattle.zk_mem.specs.declared.fault.Fault.{Fault}
 use Rattle.zk_mem.specs.Header.{header_of}
 use Rattle.zk_mem.specs.Map.{MemoryMap, byte_at, byte_put}
 use Rattle.zk_mem.specs.Results.{◌>>=◌}
-use Rattle.zk_arrays.specs.Runs.{bytes_put}
+use Rattle.zk_tables.specs.Runs.{bytes_put}
 use Rattle.zk_text.specs.Extra.{own_characters, lower_code}
 use Rattle.zk_tables.specs.Dictionaries.{dictionary_at}
 use Rattle.zk_tables.specs.Parsing.{tokenised}

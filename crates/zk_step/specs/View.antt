@@ -6,9 +6,9 @@ use Rattle.zk_mem.specs.Results.{◌>>=◌}
 use Rattle.zk_text.specs.Extra.{own_characters}
 use Rattle.zk_text.specs.Shown.{shown_all}
 use Rattle.zk_term.specs.Windows.{Windows, row_text}
-use Rattle.zk_step.specs.declared.game_state.View.{View}
-use Rattle.zk_step.specs.declared.game_state.View.TheVariants.{Plain, Upper}
-use Rattle.zk_step.specs.declared.game_state.GameState.{GameState}
+use Rattle.zk_step.specs.declared.state.game_state.View.{View}
+use Rattle.zk_step.specs.declared.state.game_state.View.TheVariants.{Plain, Upper}
+use Rattle.zk_step.specs.declared.state.game_state.GameState.{GameState}
 use Rattle.zk_step.specs.Routing.{Texts, no_text, on_screen, fresh_line, with_line_start}
 use Rattle.zk_step.specs.Status.{status_units}
 

@@ -7,7 +7,7 @@ use Rattle.zk_text.specs.Keys.{key_of}
 use Rattle.zk_tables.specs.Parsing.{letters_counted}
 use Rattle.zk_code.specs.declared.opcode.Words.{Words}
 use Rattle.zk_code.specs.declared.opcode.Words.TheVariants.{Tokenise, EncodeText}
-use Rattle.zk_arrays.specs.Runs.{bytes_put}
+use Rattle.zk_tables.specs.Runs.{bytes_put}
 use Rattle.zk_step.specs.TextBuffers.{divided, own_dictionary}
 use Rattle.zk_step.specs.Values.{first, second, third, fourth}
 

@@ -9,16 +9,16 @@ ghost use Rattle.zk_step.specs.Printing.{IsPlainEnd, IsPrintable};
 ghost use Rattle.zk_step.specs.Routing.{with_line_start};
 ghost use Rattle.zk_step.specs.Silence.{IsQuiet};
 
-use crate::codes::Codes;
-use crate::effects::effect;
-use crate::ending::{Effect, Next};
-use crate::finish::{check_finish, finish as finish_ending};
-use crate::game_state::GameState;
-use crate::routing::route;
-use crate::screen::Screen;
-use crate::values::{Values, read_operands};
+use crate::opcodes::effects::effect;
+use crate::output::codes::Codes;
+use crate::output::routing::route;
+use crate::state::ending::{Effect, Next};
+use crate::state::finish::{check_finish, finish as finish_ending};
+use crate::state::game_state::GameState;
+use crate::state::values::{Values, read_operands};
 use zk_code::instr::Instr;
 use zk_state::refusal::Refusal;
+use zk_term::screen::Screen;
 
 /// An instruction whose operands were taken and whose effect was made: what it prints is to be shown, and
 /// how its effect ended is to be finished.

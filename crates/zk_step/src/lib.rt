@@ -1,44 +1,12 @@
 // One instruction, carried out: its operands, its effect, where what it prints goes, and its finish.
 #![tactic(auto)]
 
-mod arithmetic;
-mod arrays;
-mod assignment;
-pub mod call;
-pub mod codes;
-mod comparison;
-mod control;
-mod effects;
-pub mod ending;
 pub mod examples;
-pub mod finish;
-pub mod game_state;
-mod giving;
-mod idle;
-pub mod inputs;
+pub mod input;
 pub mod instruction;
 pub mod laws;
-mod objects;
+pub mod opcodes;
+pub mod output;
 pub mod output_examples;
-mod printer;
-mod printing;
-pub mod quiet;
-pub mod random;
-pub mod resuming;
-pub mod returning;
-mod routines;
-pub mod routing;
-mod saving;
 pub mod saving_examples;
-pub mod screen;
-mod screens;
-mod selecting;
-mod status;
-pub mod story_words;
-pub mod streams;
-mod tables;
-pub mod text_buffers;
-pub mod values;
-pub mod variables;
-pub mod view;
-mod words;
+pub mod state;

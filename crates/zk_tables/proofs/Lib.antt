@@ -28,3 +28,14 @@ pub mod RemovalLaw
 pub mod TakenLaw
 pub mod PutInLaw
 pub mod MadeLaw
+pub mod Stored
+pub mod Places
+pub mod Scans
+pub mod Rows
+pub mod Units
+pub mod Puts
+pub mod Copies
+pub mod Moves
+pub mod Passes
+pub mod ScanLaw
+pub mod CopyLaw

@@ -11,3 +11,9 @@ pub mod Halves
 pub mod Tokens
 pub mod Parsing
 pub mod Examples
+pub mod Runs
+pub mod Copying
+pub mod CopyLaws
+pub mod Scanning
+pub mod Rectangles
+pub mod ArrayExamples

@@ -1,6 +1,7 @@
 // The tables of a story: its objects with their tree, attributes and properties, and its dictionaries.
 #![tactic(auto)]
 
+pub mod arrays;
 pub mod attributes;
 mod chain;
 pub mod dictionary;

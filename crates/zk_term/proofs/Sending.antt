@@ -1,51 +1,9 @@
 -- What a device takes of bytes that wait, one text after another.
-use Rattle.std.proofs.Common.{◌≡◌, ◌∙◌, ℕ, List, [], ◌++◌, Option, Bool, true, false, append_assoc, append-nil, sym, refl, ap, subst}
-use Rattle.std.proofs.lemmas.Str.{encodes-append}
-use Rattle.std.proofs.KnownBytes.{Appends-nil, Appends-trans}
+use Rattle.std.proofs.Common.{◌≡◌, ◌∙◌, ℕ, List, [], ◌++◌, Option, true, false, append_assoc, append-nil, sym, refl, ap, subst}
+use Rattle.std.proofs.KnownBytes.{Appends-nil}
 use Rattle.std.specs.Io.KnownBytes.{Appends}
 use Rattle.std.specs.Prelude.{encode_utf8_all}
-use Rattle.zk_term.specs.Devices.{PassedOn, Sender, Sends, Sent, Shows, TookPart}
-
--- by whether a write has failed in between
-sent_by : (x : Bool) (a b c : Sender) (s t : List ℕ) → b.failed ≡ x → Sent a b s → Sent b c t → Sent a c (s ++ t)
-sent_by false a b c s t e h k =
-    let first : a.waiting ++ s ≡ h.part ++ b.waiting = h.whole ∙ ap (λ (l : List ℕ). h.part ++ l) (h.all e).1 in
-    record {
-      part = h.part ++ k.part;
-      rest = k.rest;
-      whole = sym (append_assoc a.waiting s t) ∙ ap (λ (l : List ℕ). l ++ t) first ∙ append_assoc h.part b.waiting t ∙ ap (λ (l : List ℕ). h.part ++ l) k.whole ∙ sym (append_assoc h.part k.part k.rest);
-      takes = Appends-trans a.taken b.taken c.taken h.part k.part h.takes k.takes;
-      all = λ f. ((h.all e).0, (k.all f).1);
-      none = λ f. let sound = (h.all e).0 in absurd cc;
-    }
-sent_by true a b c s t e h k =
-    let both = Appends-trans a.taken b.taken c.taken h.part k.part h.takes k.takes in
-    record {
-      part = h.part;
-      rest = h.rest ++ t;
-      whole = sym (append_assoc a.waiting s t) ∙ ap (λ (l : List ℕ). l ++ t) h.whole ∙ append_assoc h.part h.rest t;
-      takes = rw (k.none e, append-nil) at both;
-      all = λ f. let sound = (k.all f).0 in absurd cc;
-      none = h.none;
-    }
-
-sent_nothing : (a : Sender) → Sent a a []
-sent_nothing a = record {
-  part = [];
-  rest = a.waiting;
-  whole = append-nil a.waiting;
-  takes = Appends-nil a.taken;
-  all = λ f. (f, refl);
-  none = λ f. refl;
-}
-
-pub sends_twice : (a b c : Sender) (s t : List ℕ) → Sends a b s → Sends b c t → Sends a c (s ++ t)
-unfolding Sends
-sends_twice a b c s t h k = rw (encodes-append s t) (sent_by b.failed a b c (encode_utf8_all s) (encode_utf8_all t) refl h k)
-
-pub sends_nothing : (a : Sender) → Sends a a []
-unfolding Sends
-sends_nothing a = sent_nothing a
+use Rattle.zk_term.specs.Devices.{PassedOn, Sender, Sends, Shows, TookPart}
 
 -- nothing is sent once a write has failed
 pub sends_past : (a b : Sender) (s : List ℕ) → a.failed ≡ true → b.failed ≡ true → b.taken ≡ a.taken → Sends a b s

@@ -5,7 +5,7 @@ use Rattle.zk_term.specs.declared.open_line.LineKind.{LineKind}
 use Rattle.zk_term.specs.declared.open_line.LineKind.TheVariants.{Empty, Row, Words}
 use Rattle.zk_term.specs.declared.open_line.Line.{Line}
 use Rattle.zk_term.specs.Lines.{is_new_line}
-use Rattle.zk_term.specs.Pages.{WroteSome}
+use Rattle.zk_term.specs.LineWriters.{WroteSome}
 use Rattle.zk_term.specs.Wrapping.{is_space, columns, all_words, wrapped_line}
 
 -- no byte of a word is a space
@@ -94,7 +94,7 @@ pub record Begins (old new : Line) (byte : ℕ) : Type 0 where
   pub some : new.kind ≡ Empty → ⊥
   pub rest : (rest : List ℕ) → rest_of_line old (byte ∷ rest) ≡ rest_of_line new (byte ∷ rest)
 
--- ---- over a page
+-- ---- over a writer
 
 module _ {S : Type 0} (wrote : S → S → List ℕ → Type 0) (old new : Line) (before after : S) where
   -- a new line goes out in place of the space that was held back, and the word behind it with one more byte
@@ -112,7 +112,7 @@ module _ {S : Type 0} (wrote : S → S → List ℕ → Type 0) (old new : Line)
     pub held : new.held.items ≡ []
     pub wrote_all : wrote before after (old.held.items ++ 10 ∷ [])
 
-  -- a page was given what goes out at a byte among words
+  -- a writer was given what goes out at a byte among words
   abbrev pub TakesAmongWords : ℕ → Type 0
   TakesAmongWords byte =
       WroteSome (λ more. IsHeld old.held.items → WordsGoOn old new byte more) wrote before after

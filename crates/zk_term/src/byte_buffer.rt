@@ -77,10 +77,7 @@ impl ByteBuffer {
         let mut buffer = [0u8; 4];
         let bytes = c.encode_utf8(&mut buffer).as_bytes();
         if self.waiting.remaining_capacity() < bytes.len() {
-            match self.flush(target) {
-                Ok(()) => {}
-                Err(Failed) => return Err(Failed),
-            }
+            self.flush(target)?;
         }
         match self.waiting.try_extend_from_slice(bytes) {
             Ok(()) => Ok(()),

@@ -7,7 +7,7 @@ ghost use Rattle.zk_term.specs.OpenLines.{Begins, BreaksLine, EndsLine, HoldsBy,
 ghost use Rattle.zk_term.specs.WrappedTargets.{HasTaken};
 ghost use Rattle.zk_term.specs.Wrapping.{columns, is_space, wrapped};
 
-use crate::page::{Page, TargetPage};
+use crate::line_writer::{LineWriter, TargetWriter};
 use crate::target::{Failed, Target, write_all};
 use arrayvec::ArrayVec;
 
@@ -75,14 +75,14 @@ impl Line {
 
     /// Takes a space: the word that is held back goes out, and the space is held back in its place. Where there is no
     /// room for it, a new line goes out.
-    fn take_space<P: Page>(&mut self, page: &mut P)
+    fn take_space<P: LineWriter>(&mut self, writer: &mut P)
         ensures width { self.new.width ≡ self.old.width }
-        ensures taken { TakesAmongWords P.wrote self.old self.new page.old page.new 32 }
+        ensures taken { TakesAmongWords P.wrote self.old self.new writer.old writer.new 32 }
     {
-        page.write(self.held.as_slice());
+        writer.write(self.held.as_slice());
         self.held.clear();
         if self.room == 0 {
-            page.write(b"\n");
+            writer.write(b"\n");
             self.room = self.width;
             return;
         }
@@ -109,44 +109,44 @@ impl Line {
     }
 
     /// Gives out a word that is held back in a line of its own, with the byte after it.
-    fn break_line<P: Page>(&mut self, page: &mut P, byte: u8)
+    fn break_line<P: LineWriter>(&mut self, writer: &mut P, byte: u8)
         requires { 0 < length self.old.held.items }
-        ensures { BreaksLine P.wrote self.old self.new page.old page.new byte }
+        ensures { BreaksLine P.wrote self.old self.new writer.old writer.new byte }
     {
         let word = &self.held.as_slice()[1..];
         let taken = all_columns_of(word) + columns_of(byte);
-        page.write(b"\n");
-        page.write(word);
-        page.write(&[byte]);
+        writer.write(b"\n");
+        writer.write(word);
+        writer.write(&[byte]);
         self.held.clear();
         self.room = self.width.saturating_sub(taken);
     }
 
     /// Takes a byte of a word.
-    fn take_letter<P: Page>(&mut self, page: &mut P, byte: u8)
+    fn take_letter<P: LineWriter>(&mut self, writer: &mut P, byte: u8)
         ensures width { self.new.width ≡ self.old.width }
         ensures taken { is_space byte ≡ false
-            → TakesAmongWords P.wrote self.old self.new page.old page.new byte }
+            → TakesAmongWords P.wrote self.old self.new writer.old writer.new byte }
     {
         if self.held.is_empty() {
             self.room = self.room.saturating_sub(columns_of(byte));
-            page.write(&[byte]);
+            writer.write(&[byte]);
             return;
         }
         if !self.hold(byte) {
-            self.break_line(page, byte);
+            self.break_line(writer, byte);
         }
     }
 
     /// Takes a byte of a line of words.
-    fn take_among_words<P: Page>(&mut self, page: &mut P, byte: u8)
+    fn take_among_words<P: LineWriter>(&mut self, writer: &mut P, byte: u8)
         ensures width { self.new.width ≡ self.old.width }
-        ensures taken { TakesAmongWords P.wrote self.old self.new page.old page.new byte }
+        ensures taken { TakesAmongWords P.wrote self.old self.new writer.old writer.new byte }
     {
         if byte == b' ' {
-            self.take_space(page);
+            self.take_space(writer);
         } else {
-            self.take_letter(page, byte);
+            self.take_letter(writer, byte);
         }
     }
 
@@ -162,46 +162,46 @@ impl Line {
     }
 
     /// Takes a byte that is no new line.
-    fn take_in_line<P: Page>(&mut self, page: &mut P, byte: u8)
+    fn take_in_line<P: LineWriter>(&mut self, writer: &mut P, byte: u8)
         ensures width { self.new.width ≡ self.old.width }
-        ensures taken { TakesInLine P.wrote self.old self.new page.old page.new byte }
+        ensures taken { TakesInLine P.wrote self.old self.new writer.old writer.new byte }
     {
         self.begin(byte);
         match self.kind {
-            LineKind::Row => page.write(&[byte]),
-            LineKind::Empty | LineKind::Words => self.take_among_words(page, byte),
+            LineKind::Row => writer.write(&[byte]),
+            LineKind::Empty | LineKind::Words => self.take_among_words(writer, byte),
         }
     }
 
     /// Takes a new line: what is held back goes out before it.
-    fn take_new_line<P: Page>(&mut self, page: &mut P)
-        ensures { EndsLine P.wrote self.old self.new page.old page.new }
+    fn take_new_line<P: LineWriter>(&mut self, writer: &mut P)
+        ensures { EndsLine P.wrote self.old self.new writer.old writer.new }
     {
-        page.write(self.held.as_slice());
-        page.write(b"\n");
+        writer.write(self.held.as_slice());
+        writer.write(b"\n");
         self.held.clear();
         self.kind = LineKind::Empty;
     }
 
     /// Takes a byte.
-    fn take<P: Page>(&mut self, page: &mut P, byte: u8)
+    fn take<P: LineWriter>(&mut self, writer: &mut P, byte: u8)
         ensures width { self.new.width ≡ self.old.width }
-        ensures taken { Takes P.wrote self.old self.new page.old page.new (byte ∷ []) }
+        ensures taken { Takes P.wrote self.old self.new writer.old writer.new (byte ∷ []) }
     {
         if byte == b'\n' {
-            self.take_new_line(page);
+            self.take_new_line(writer);
         } else {
-            self.take_in_line(page, byte);
+            self.take_in_line(writer, byte);
         }
     }
 
     /// Takes bytes.
-    fn take_all<P: Page>(&mut self, page: &mut P, bytes: &[u8])
+    fn take_all<P: LineWriter>(&mut self, writer: &mut P, bytes: &[u8])
         ensures width { self.new.width ≡ self.old.width }
-        ensures taken { Takes P.wrote self.old self.new page.old page.new bytes.now }
+        ensures taken { Takes P.wrote self.old self.new writer.old writer.new bytes.now }
     {
         for byte in bytes {
-            self.take(page, *byte);
+            self.take(writer, *byte);
         }
     }
 
@@ -213,9 +213,9 @@ impl Line {
             (T.taken target.new) result bytes.now }
         ensures failed { T.failed target.new ≡ (is_err result || T.failed target.old) }
     {
-        let mut page = TargetPage::new(target);
-        self.take_all(&mut page, bytes);
-        match page.finish() {
+        let mut writer = TargetWriter::new(target);
+        self.take_all(&mut writer, bytes);
+        match writer.finish() {
             Ok(()) => Ok(bytes.len()),
             Err(Failed) => Err(Failed),
         }

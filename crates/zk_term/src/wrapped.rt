@@ -16,7 +16,7 @@ pub struct Wrapped<T> {
 }
 
 impl<T: Target> Wrapped<T> {
-    /// InputEnd a target, with lines of so many columns, or with lines as they come.
+    /// Over a target, with lines of so many columns, or with lines as they come.
     pub fn new(target: T, width: Option<u8>) -> Wrapped<T>
         ensures inner { result.inner ≡ target }
         ensures width { width_of result.line ≡ width }
@@ -49,10 +49,7 @@ impl<T: Target> Wrapped<T> {
     {
         match &mut self.line {
             None => self.inner.write(bytes),
-            Some(line) => match line.write_to(&mut self.inner, bytes) {
-                Ok(n) => Ok(n),
-                Err(Failed) => Err(Failed),
-            },
+            Some(line) => line.write_to(&mut self.inner, bytes),
         }
     }
 

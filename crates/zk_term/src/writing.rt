@@ -1,18 +1,18 @@
-// Texts, numbers and characters, written to a page.
+// Texts, numbers and characters, written to a writer.
 
 ghost use Rattle.std.specs.Prelude.{◌≡◌, ◌<◌, ◌++◌, decimal};
 ghost use Rattle.std.specs.List.{flat_map};
 ghost use Rattle.zk_term.specs.Numbers.{address_digits, hex_digit, hex_digits, zeros_left_out};
 
-use crate::page::Page;
+use crate::line_writer::LineWriter;
 use itoa::Buffer;
 
 /// Writes texts one after another.
-pub fn write_texts<P: Page>(page: &mut P, texts: &[&[u8]])
-    ensures { P.wrote page.old page.new (flat_map (λ t. t.now) texts.now) }
+pub fn write_texts<P: LineWriter>(writer: &mut P, texts: &[&[u8]])
+    ensures { P.wrote writer.old writer.new (flat_map (λ t. t.now) texts.now) }
 {
     for text in texts {
-        page.write(text);
+        writer.write(text);
     }
 }
 
@@ -62,18 +62,18 @@ pub fn zeros_before(address: u32) -> usize
 
 /// Writes an address after a text: by its hexadecimal digits, five at least.
 #[tactic(auto, unfolding(crate::specs::Numbers::address_digits))]
-pub fn write_address<P: Page>(page: &mut P, before: &[u8], address: u32)
-    ensures { P.wrote page.old page.new (before.now ++ address_digits address) }
+pub fn write_address<P: LineWriter>(writer: &mut P, before: &[u8], address: u32)
+    ensures { P.wrote writer.old writer.new (before.now ++ address_digits address) }
 {
     let digits = hex_digits_of(address);
     let shown = &digits[zeros_before(address)..];
-    write_texts(page, &[before, shown]);
+    write_texts(writer, &[before, shown]);
 }
 
 /// Writes a number after a text, by its decimal digits.
-pub fn write_decimal<P: Page>(page: &mut P, before: &[u8], n: u32)
-    ensures { P.wrote page.old page.new (before.now ++ decimal n) }
+pub fn write_decimal<P: LineWriter>(writer: &mut P, before: &[u8], n: u32)
+    ensures { P.wrote writer.old writer.new (before.now ++ decimal n) }
 {
     let mut buffer = Buffer::new();
-    write_texts(page, &[before, buffer.format(n).as_bytes()]);
+    write_texts(writer, &[before, buffer.format(n).as_bytes()]);
 }

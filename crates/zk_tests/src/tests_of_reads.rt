@@ -5,7 +5,7 @@ use crate::tests_same::{demand, same};
 use std::cell::Cell;
 use std::io::{self, Read, Write};
 use std::test::Fail;
-use zk_step::ending::Event;
+use zk_step::state::ending::Event;
 use zk_term::io_device::IoDevice;
 use zk_term::nothing::Nothing;
 use zk_vm::limits::Limits;

@@ -236,7 +236,7 @@ pub struct Sweep {
 }
 
 impl Sweep {
-    /// A sweep at any address past the story's end. Refused for want of memory alone.
+    /// A sweep at any address past the story's end. Refused for lack of memory alone.
     pub fn begin(alloc: Global, memory: &Memory) -> Result<Sweep, AllocError>
         ensures { IfOk result
             (λ sweep. (a : ℕ) → length memory.now.bytes ≤ a → IsSweptTo memory.now a sweep) }

@@ -12,12 +12,12 @@ use Rattle.zk_state.specs.Frames.{FrameList, bounds_of, within_bounds}
 use Rattle.zk_code.specs.declared.instr.Instr.{Instr}
 use Rattle.zk_code.specs.Reading.{instr_at}
 use Rattle.zk_save.specs.States.{AreOf, UndoStates, WholeState, gone_back, state_of, states_in}
-use Rattle.zk_step.specs.declared.ending.Next.{Next}
-use Rattle.zk_step.specs.declared.ending.Next.TheVariants.{Asks, At}
-use Rattle.zk_step.specs.declared.ending.Event.{Event}
-use Rattle.zk_step.specs.declared.ending.Request.{Request}
-use Rattle.zk_step.specs.declared.ending.Request.TheVariants.{Answer, Quit, RestoreUndo, SaveUndo}
-use Rattle.zk_step.specs.declared.game_state.GameState.{GameState}
+use Rattle.zk_step.specs.declared.state.ending.Next.{Next}
+use Rattle.zk_step.specs.declared.state.ending.Next.TheVariants.{Asks, At}
+use Rattle.zk_step.specs.declared.state.ending.Event.{Event}
+use Rattle.zk_step.specs.declared.state.ending.Request.{Request}
+use Rattle.zk_step.specs.declared.state.ending.Request.TheVariants.{Answer, Quit, RestoreUndo, SaveUndo}
+use Rattle.zk_step.specs.declared.state.game_state.GameState.{GameState}
 use Rattle.zk_step.specs.Inputs.{result_answered}
 use Rattle.zk_step.specs.Instructions.{carried_out}
 use Rattle.zk_step.specs.Laws.{fixed_parts}
@@ -38,8 +38,8 @@ use Rattle.zk_vm.specs.Sound.{state_seen, IsOfStory, IsSound}
 use Rattle.zk_vm.specs.Step.{State, Step, Verdict, asked, back_to, fetched, settled, goes_by, goes_to, is_past_reads, is_read, kept_answer, led_to, most_reads, state_after, step, text_of, text_within, verdict_of, waits_by, with_kept}
 use Rattle.zk_vm.specs.Step.Step.{Goes, Waits as Awaits, Quits, Faults, Exceeds}
 use Rattle.zk_vm.specs.Step.Verdict.{GoesOn, WaitsFor, StopsBy}
-use Rattle.zk_step.specs.declared.game_state.View.{View}
-use Rattle.zk_step.specs.declared.game_state.View.TheVariants as view
+use Rattle.zk_step.specs.declared.state.game_state.View.{View}
+use Rattle.zk_step.specs.declared.state.game_state.View.TheVariants as view
 use Rattle.zk_step.specs.View.{viewed, viewed_by, lines_shown, rows_shown, status_shown}
 use Rattle.zk_vm.proofs.Going.{stops_by}
 use Rattle.zk_vm.proofs.Keeping.{seen, same_states}

@@ -3,10 +3,10 @@ use Rattle.std.proofs.Common.{◌≡◌, ◌∙◌, ◌≤◌, ◌<◌, ℕ, zer
 use Rattle.zk_state.specs.declared.refusal.Refusal.{Refusal}
 use Rattle.zk_state.specs.Frames.{FrameList, bounds_of}
 use Rattle.zk_save.specs.States.{AreOf, UndoStates, WholeState}
-use Rattle.zk_step.specs.declared.ending.Next.TheVariants.{At}
+use Rattle.zk_step.specs.declared.state.ending.Next.TheVariants.{At}
 use Rattle.zk_step.specs.Laws.{fixed_parts}
 use Rattle.zk_fast.specs.Caches.{IsCacheOf}
-use Rattle.zk_step.specs.declared.game_state.GameState.{GameState}
+use Rattle.zk_step.specs.declared.state.game_state.GameState.{GameState}
 use Rattle.zk_step.specs.Instructions.{carried_out}
 use Rattle.zk_step.specs.Routing.{Texts, no_text, text_joined}
 use Rattle.zk_fast.specs.QuietSteps.{IsRefused, IsRefusedAfter, IsQuietStep, QuietSteps}

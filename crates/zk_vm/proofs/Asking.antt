@@ -3,14 +3,14 @@ use Rattle.std.proofs.Common.{◌≡◌, ℕ, List, Result, Ok, Err, refl, ap, s
 use Rattle.zk_mem.specs.declared.fault.Fault.{Fault}
 use Rattle.zk_mem.specs.Map.{MemoryMap}
 use Rattle.zk_code.specs.declared.instr.Instr.{Instr}
-use Rattle.zk_step.specs.declared.ending.Effect.{Effect}
-use Rattle.zk_step.specs.declared.ending.Ending.TheVariants as ending
-use Rattle.zk_step.specs.declared.ending.Next.{Next}
-use Rattle.zk_step.specs.declared.ending.Next.TheVariants.{Asks}
-use Rattle.zk_step.specs.declared.ending.Request.{Request}
-use Rattle.zk_step.specs.declared.ending.Output.{Output}
-use Rattle.zk_step.specs.declared.ending.Output.TheVariants.{Nothing}
-use Rattle.zk_step.specs.declared.game_state.GameState.{GameState}
+use Rattle.zk_step.specs.declared.state.ending.Effect.{Effect}
+use Rattle.zk_step.specs.declared.state.ending.Ending.TheVariants as ending
+use Rattle.zk_step.specs.declared.state.ending.Next.{Next}
+use Rattle.zk_step.specs.declared.state.ending.Next.TheVariants.{Asks}
+use Rattle.zk_step.specs.declared.state.ending.Request.{Request}
+use Rattle.zk_step.specs.declared.state.ending.Output.{Output}
+use Rattle.zk_step.specs.declared.state.ending.Output.TheVariants.{Nothing}
+use Rattle.zk_step.specs.declared.state.game_state.GameState.{GameState}
 use Rattle.zk_mem.specs.Results.{◌>>=◌}
 use Rattle.zk_step.specs.Effects.{effect_by, effect_of}
 use Rattle.zk_step.specs.Instructions.{carried_out}

@@ -19,7 +19,7 @@ use Rattle.zk_code.proofs.Longer.{ends_inside as instruction_ends}
 use Rattle.zk_code.proofs.Saved.{saved_from_five}
 use Rattle.zk_save.specs.Loading.{restored}
 use Rattle.zk_save.specs.States.{WholeState}
-use Rattle.zk_step.specs.declared.game_state.View.{View}
+use Rattle.zk_step.specs.declared.state.game_state.View.{View}
 use Rattle.zk_step.specs.Laws.{IsOneStory, KeepsStory}
 use Rattle.zk_step.proofs.Inside.{ends_inside, goes_inside, next_inside, read_inside}
 use Rattle.zk_step.proofs.Sweep.{Anywhere, ResumesInto, ends_anywhere, leads_anywhere, return_anywhere}

@@ -13,7 +13,8 @@ use Rattle.zk_vm.specs.Step.Verdict.{StopsBy}
 use Rattle.zk_vm.specs.Going.{steps_left}
 use Rattle.zk_vm.proofs.FrameLimits.{limits_cut_there, passes_stops}
 use Rattle.zk_vm.proofs.Halting.{segment_is, told_due}
-use Rattle.zk_vm.proofs.Playing.{outcome_on, outcome_stopped, outcome_stops, same_shown, shown_before, stopped_all}
+use Rattle.zk_vm.proofs.Turns.{stopped_all}
+use Rattle.zk_vm.proofs.Playing.{outcome_on, outcome_stopped, outcome_stops, same_shown, shown_before}
 use Rattle.zk_vm.proofs.Runs.{no_text_behind, step_limit_cuts_there}
 use Rattle.zk_vm.proofs.Within.{given_stopped}
 

@@ -11,9 +11,9 @@ use Rattle.zk_state.specs.Frames.{FrameList, frames_of, total_of, within_bounds}
 use Rattle.zk_code.specs.declared.instr.Instr.{Instr}
 use Rattle.zk_save.specs.declared.restore.RestoreError.{RestoreError}
 use Rattle.zk_save.specs.Loading.{restored}
-use Rattle.zk_step.specs.declared.ending.Event.{Event}
-use Rattle.zk_step.specs.declared.ending.Event.TheVariants as event
-use Rattle.zk_step.specs.declared.game_state.View.{View}
+use Rattle.zk_step.specs.declared.state.ending.Event.{Event}
+use Rattle.zk_step.specs.declared.state.ending.Event.TheVariants as event
+use Rattle.zk_step.specs.declared.state.game_state.View.{View}
 use Rattle.zk_step.specs.Inputs.{character_answered, line_answered, result_answered}
 use Rattle.zk_step.specs.Laws.{is_of_reading}
 use Rattle.zk_step.specs.Restarts.{windows_closed}

@@ -7,7 +7,7 @@ use Rattle.zk_state.specs.declared.refusal.Refusal.{Refusal}
 use Rattle.zk_state.specs.declared.refusal.Refusal.TheVariants as refusal
 use Rattle.zk_state.specs.Frames.{FrameList, within_bounds}
 use Rattle.zk_save.specs.States.{WholeState}
-use Rattle.zk_step.specs.declared.game_state.GameState.{GameState}
+use Rattle.zk_step.specs.declared.state.game_state.GameState.{GameState}
 use Rattle.zk_step.specs.Limited.{kept, limited_pc}
 use Rattle.zk_step.specs.Routing.{no_text}
 use Rattle.zk_vm.specs.declared.stop.Stop.{Stop}

@@ -5,9 +5,9 @@ use Rattle.zk_mem.specs.declared.fault.Fault.{Fault}
 use Rattle.zk_state.specs.declared.refusal.Refusal.{Refusal}
 use Rattle.zk_state.specs.declared.refusal.Refusal.TheVariants as refusal
 use Rattle.zk_state.specs.Frames.{FrameList, within_bounds}
-use Rattle.zk_step.specs.declared.ending.Event.{Event}
-use Rattle.zk_step.specs.declared.ending.Event.TheVariants as event
-use Rattle.zk_step.specs.declared.game_state.GameState.{GameState}
+use Rattle.zk_step.specs.declared.state.ending.Event.{Event}
+use Rattle.zk_step.specs.declared.state.ending.Event.TheVariants as event
+use Rattle.zk_step.specs.declared.state.game_state.GameState.{GameState}
 use Rattle.zk_step.specs.Inputs.{character_answered, line_answered, result_answered}
 use Rattle.zk_step.specs.Restarts.{windows_closed}
 use Rattle.zk_step.specs.Resuming.{resumed as back}

@@ -2,9 +2,9 @@
 use Rattle.std.specs.Prelude.{if◌then◌else◌}
 use Rattle.std.proofs.Common.{Bool, true, false, length, nat_lt, ◌≡◌, ◌∙◌, ◌≤◌, ℕ, zero, suc, ◌-◌, List, [], ◌∷◌, Option, Some, None, Result, Ok, Err, refl, ap, sym, subst, arith}
 use Rattle.zk_mem.specs.declared.fault.Fault.{Fault}
-use Rattle.zk_step.specs.declared.ending.Event.{Event}
-use Rattle.zk_step.specs.declared.ending.Event.TheVariants.{Line, Char, Save, Restore}
-use Rattle.zk_step.specs.declared.game_state.GameState.{GameState}
+use Rattle.zk_step.specs.declared.state.ending.Event.{Event}
+use Rattle.zk_step.specs.declared.state.ending.Event.TheVariants.{Line, Char, Save, Restore}
+use Rattle.zk_step.specs.declared.state.game_state.GameState.{GameState}
 use Rattle.zk_step.specs.Laws.{moved_in, rebounded}
 use Rattle.zk_step.specs.Routing.{Texts, no_text}
 use Rattle.zk_step.proofs.Sweep.{answers_see_no_bounds}

@@ -7,8 +7,8 @@ use Rattle.zk_state.specs.Frames.{Frame, FrameList, bounds_of, with_frames}
 use Rattle.zk_code.specs.declared.instr.Instr.{Instr}
 use Rattle.zk_save.specs.States.{WholeState, KeptState, UndoStates, whole_state, AreOf, gone_back, memory_back, state_of, states_in}
 use Rattle.zk_state.specs.declared.refusal.Refusal.{Refusal}
-use Rattle.zk_step.specs.declared.ending.Request.TheVariants.{RestoreUndo, SaveUndo}
-use Rattle.zk_step.specs.declared.game_state.GameState.{GameState}
+use Rattle.zk_step.specs.declared.state.ending.Request.TheVariants.{RestoreUndo, SaveUndo}
+use Rattle.zk_step.specs.declared.state.game_state.GameState.{GameState}
 use Rattle.zk_step.specs.Inputs.{result_answered}
 use Rattle.zk_step.specs.Laws.{fixed_parts}
 use Rattle.zk_step.specs.Limited.{limited_pc}

@@ -12,11 +12,11 @@ pub mod Sounds
 pub mod GreaterLimits
 pub mod GreaterRoom
 pub mod Outcomes
+pub mod Turns
 pub mod Playing
 pub mod Runs
 pub mod RunningOn
 pub mod Transcripts
-pub mod Writes
 pub mod Popping
 pub mod Within
 pub mod Cuts

@@ -10,12 +10,12 @@ use Rattle.zk_state.specs.Frames.{FrameList, within_bounds}
 use Rattle.zk_code.specs.declared.instr.Instr.{Instr}
 use Rattle.zk_code.specs.Reading.{instr_at}
 use Rattle.zk_save.specs.States.{WholeState, gone_back}
-use Rattle.zk_step.specs.declared.ending.Event.{Event}
-use Rattle.zk_step.specs.declared.ending.Next.{Next}
-use Rattle.zk_step.specs.declared.ending.Next.TheVariants.{Asks, At}
-use Rattle.zk_step.specs.declared.ending.Request.{Request}
-use Rattle.zk_step.specs.declared.ending.Request.TheVariants as request
-use Rattle.zk_step.specs.declared.game_state.GameState.{GameState}
+use Rattle.zk_step.specs.declared.state.ending.Event.{Event}
+use Rattle.zk_step.specs.declared.state.ending.Next.{Next}
+use Rattle.zk_step.specs.declared.state.ending.Next.TheVariants.{Asks, At}
+use Rattle.zk_step.specs.declared.state.ending.Request.{Request}
+use Rattle.zk_step.specs.declared.state.ending.Request.TheVariants as request
+use Rattle.zk_step.specs.declared.state.game_state.GameState.{GameState}
 use Rattle.zk_step.specs.Inputs.{result_answered}
 use Rattle.zk_step.specs.Instructions.{carried_out}
 use Rattle.zk_step.specs.Resuming.{resumed}

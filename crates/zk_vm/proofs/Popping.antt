@@ -7,10 +7,10 @@ use Rattle.std.proofs.lemmas.List.{length-take}
 use Rattle.zk_state.specs.Frames.{FrameList, bounds_of, frames_of, popped, sizes_of, total_of}
 use Rattle.zk_code.specs.declared.operands.Operand.{Operand}
 use Rattle.zk_code.specs.declared.operands.Operand.TheVariants.{Large, Small, Variable}
-use Rattle.zk_step.specs.declared.ending.Event.{Event}
-use Rattle.zk_step.specs.declared.game_state.View.{View}
-use Rattle.zk_step.specs.declared.game_state.View.TheVariants as view
-use Rattle.zk_step.specs.declared.game_state.GameState.{GameState}
+use Rattle.zk_step.specs.declared.state.ending.Event.{Event}
+use Rattle.zk_step.specs.declared.state.game_state.View.{View}
+use Rattle.zk_step.specs.declared.state.game_state.View.TheVariants as view
+use Rattle.zk_step.specs.declared.state.game_state.GameState.{GameState}
 use Rattle.zk_step.specs.Routing.{Texts, no_text}
 use Rattle.zk_step.specs.Variables.{named_read, operand_read, operands_read, variable_read, with_frames}
 use Rattle.zk_step.proofs.FixedParts.{Leaves, gives, fails, leaves_then, leaves_after, leaves_if, value_left}

@@ -3,10 +3,10 @@ use Rattle.std.proofs.Common.{◌≡◌, ◌∙◌, inl, inr, Bool, true, false,
 use Rattle.zk_term.specs.Devices.{Sends, Shows}
 use Rattle.zk_term.proofs.Sending.{sends_shows}
 use Rattle.zk_step.specs.Routing.{Texts, text_joined}
-use Rattle.zk_step.specs.declared.ending.Event.{Event}
+use Rattle.zk_step.specs.declared.state.ending.Event.{Event}
 use Rattle.zk_vm.specs.declared.stop.Stop.{Stop}
 use Rattle.zk_vm.specs.declared.stop.Stop.TheVariants as stop
-use Rattle.zk_vm.specs.Consoles.{Targets, Written, written_twice, screen_sender, script_sender}
+use Rattle.zk_term.specs.BufferedScreens.{Targets, Written, written_twice, screen_sender, script_sender}
 use Rattle.zk_vm.specs.Halts.{IsRun, ShowsLast}
 use Rattle.zk_vm.specs.Step.{State}
 use Rattle.zk_vm.specs.Outcome.{Session, segment_of}

@@ -8,7 +8,7 @@ use Rattle.zk_state.specs.declared.refusal.Refusal.{Refusal}
 use Rattle.zk_state.specs.Frames.{FrameList, IsBounded, bounds_of, first_frames}
 use Rattle.zk_save.specs.States.{WholeState, KeptState, UndoStates, whole_state, AreOf, memory_back, states_in}
 use Rattle.zk_save.proofs.Wholes.{same_of}
-use Rattle.zk_step.specs.declared.game_state.GameState.{GameState}
+use Rattle.zk_step.specs.declared.state.game_state.GameState.{GameState}
 use Rattle.zk_step.specs.Laws.{fixed_parts}
 use Rattle.zk_step.proofs.SameStory.{same_base}
 use Rattle.zk_fast.specs.Caches.{IsCacheOf}

@@ -19,16 +19,16 @@ use Rattle.zk_save.specs.declared.restore.RestoreError.{RestoreError}
 use Rattle.zk_state.specs.declared.refusal.Limit.{Limit}
 use Rattle.zk_save.specs.Loading.{restored}
 use Rattle.zk_save.specs.States.{WholeState, gone_back, memory_back, state_of}
-use Rattle.zk_step.specs.declared.ending.Ending.{Ending}
-use Rattle.zk_step.specs.declared.ending.Next.{Next}
-use Rattle.zk_step.specs.declared.ending.Event.{Event}
-use Rattle.zk_step.specs.declared.ending.Event.TheVariants as event
-use Rattle.zk_step.specs.declared.ending.Next.TheVariants as next
-use Rattle.zk_step.specs.declared.ending.Request.{Request}
-use Rattle.zk_step.specs.declared.ending.Request.TheVariants as request
-use Rattle.zk_step.specs.declared.game_state.View.{View}
-use Rattle.zk_step.specs.declared.game_state.View.TheVariants as view
-use Rattle.zk_step.specs.declared.game_state.GameState.{GameState}
+use Rattle.zk_step.specs.declared.state.ending.Ending.{Ending}
+use Rattle.zk_step.specs.declared.state.ending.Next.{Next}
+use Rattle.zk_step.specs.declared.state.ending.Event.{Event}
+use Rattle.zk_step.specs.declared.state.ending.Event.TheVariants as event
+use Rattle.zk_step.specs.declared.state.ending.Next.TheVariants as next
+use Rattle.zk_step.specs.declared.state.ending.Request.{Request}
+use Rattle.zk_step.specs.declared.state.ending.Request.TheVariants as request
+use Rattle.zk_step.specs.declared.state.game_state.View.{View}
+use Rattle.zk_step.specs.declared.state.game_state.View.TheVariants as view
+use Rattle.zk_step.specs.declared.state.game_state.GameState.{GameState}
 use Rattle.zk_step.specs.Inputs.{line_answered, character_answered, result_answered}
 use Rattle.zk_step.specs.Instructions.{carried_out}
 use Rattle.zk_step.specs.Laws.{AsksBy, EndsBy, GoesInto, IsOneStory, KeepsStory, ReturnInto, fixed_parts}

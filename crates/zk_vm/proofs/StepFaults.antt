@@ -10,14 +10,14 @@ use Rattle.zk_code.specs.Reading.{instr_at}
 use Rattle.zk_save.specs.declared.restore.RestoreError.{RestoreError}
 use Rattle.zk_save.specs.Loading.{restored}
 use Rattle.zk_save.specs.States.{WholeState, gone_back}
-use Rattle.zk_step.specs.declared.ending.Next.{Next}
-use Rattle.zk_step.specs.declared.ending.Next.TheVariants.{Asks, At}
-use Rattle.zk_step.specs.declared.ending.Request.TheVariants.{Answer, Quit, RestoreUndo, SaveUndo}
-use Rattle.zk_step.specs.declared.ending.Event.{Event}
-use Rattle.zk_step.specs.declared.ending.Event.TheVariants as event
-use Rattle.zk_step.specs.declared.game_state.View.{View}
-use Rattle.zk_step.specs.declared.game_state.View.TheVariants as view
-use Rattle.zk_step.specs.declared.game_state.GameState.{GameState}
+use Rattle.zk_step.specs.declared.state.ending.Next.{Next}
+use Rattle.zk_step.specs.declared.state.ending.Next.TheVariants.{Asks, At}
+use Rattle.zk_step.specs.declared.state.ending.Request.TheVariants.{Answer, Quit, RestoreUndo, SaveUndo}
+use Rattle.zk_step.specs.declared.state.ending.Event.{Event}
+use Rattle.zk_step.specs.declared.state.ending.Event.TheVariants as event
+use Rattle.zk_step.specs.declared.state.game_state.View.{View}
+use Rattle.zk_step.specs.declared.state.game_state.View.TheVariants as view
+use Rattle.zk_step.specs.declared.state.game_state.GameState.{GameState}
 use Rattle.zk_step.specs.Instructions.{carried_out}
 use Rattle.zk_step.specs.Laws.{is_of_reading}
 use Rattle.zk_step.specs.Restarts.{windows_closed}

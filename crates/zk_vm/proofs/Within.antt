@@ -12,7 +12,7 @@ use Rattle.zk_vm.specs.declared.stop.Stop.{Stop}
 use Rattle.zk_vm.specs.declared.stop.Stop.TheVariants.{Limit}
 use Rattle.zk_vm.specs.declared.waiting.Waiting.{Waiting}
 use Rattle.zk_vm.specs.Answers.{Answer, answered}
-use Rattle.zk_step.specs.declared.game_state.View.{View}
+use Rattle.zk_step.specs.declared.state.game_state.View.{View}
 use Rattle.zk_vm.specs.Bounds.{AreInRange}
 use Rattle.zk_vm.specs.Laws.{IsWithin, RunsStayWithin}
 use Rattle.zk_vm.specs.Outcome.{Leads, Segment, Session, begun, continued, ended, given, given_all, given_to, ran, resumed, segment, segment_by, segment_of}

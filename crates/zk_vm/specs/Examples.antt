@@ -4,9 +4,9 @@ use Rattle.std.specs.Prelude.{◌≡◌, ℕ, List, [], ◌∷◌, ◌++◌, Som
 use Rattle.zk_mem.specs.declared.fault.Fault.TheVariants.{BadAddress, DivisionByZero, BadOpcode, CodePastEnd, ReadOnly}
 use Rattle.zk_state.specs.declared.refusal.Limit.TheVariants.{Frames, Words, Steps, Reads}
 use Rattle.zk_state.specs.Frames.{first_frames}
-use Rattle.zk_step.specs.declared.game_state.View.TheVariants.{Plain, Upper}
+use Rattle.zk_step.specs.declared.state.game_state.View.TheVariants.{Plain, Upper}
 use Rattle.zk_vm.specs.declared.limits.Limits.{Limits}
-use Rattle.zk_step.specs.declared.ending.Event.TheVariants as event
+use Rattle.zk_step.specs.declared.state.ending.Event.TheVariants as event
 use Rattle.zk_vm.specs.declared.stop.Stop.{Stop}
 use Rattle.zk_vm.specs.declared.stop.Stop.TheVariants.{Quit, Fault, Limit, EndOfInput, Read}
 use Rattle.zk_vm.specs.Answers.Answer.{Typed}

@@ -4,9 +4,9 @@ use Rattle.zk_code.specs.declared.instr.Instr.{Instr}
 use Rattle.zk_code.specs.declared.opcode.Opcode.TheVariants.{Saving}
 use Rattle.zk_code.specs.declared.opcode.Saving.TheVariants.{SaveUndo}
 use Rattle.zk_code.specs.Reading.{instr_at}
-use Rattle.zk_step.specs.declared.ending.Event.{Event}
-use Rattle.zk_step.specs.declared.ending.Event.TheVariants as event
-use Rattle.zk_step.specs.declared.game_state.GameState.{GameState}
+use Rattle.zk_step.specs.declared.state.ending.Event.{Event}
+use Rattle.zk_step.specs.declared.state.ending.Event.TheVariants as event
+use Rattle.zk_step.specs.declared.state.game_state.GameState.{GameState}
 use Rattle.zk_step.specs.Routing.{Texts, no_text, on_script, text_joined}
 use Rattle.zk_step.specs.Variables.{operands_read}
 use Rattle.zk_vm.specs.declared.limits.Limits.{Limits}
@@ -72,7 +72,7 @@ abbrev pub CanAnswer : State → Limits → Option Stop → Option Waiting → T
 CanAnswer s l stopped None = Unit {0}
 CanAnswer s l stopped (Some w) = IsAnswerable s l stopped w
 
--- ---- want of memory
+-- ---- lack of memory
 
 -- the instruction at a state's program counter would be carried out, and keep a state, where there may be one; its operands were
 -- taken, and nothing else has changed

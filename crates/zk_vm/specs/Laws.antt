@@ -4,7 +4,7 @@ use Rattle.zk_state.specs.declared.refusal.Limit.{Limit}
 use Rattle.zk_state.specs.declared.refusal.Limit.TheVariants.{Frames, Words, Steps, Reads}
 use Rattle.zk_state.specs.declared.refusal.Refusal.TheVariants as refusal
 use Rattle.zk_state.specs.Frames.{frames_of, total_of, within_bounds}
-use Rattle.zk_step.specs.declared.game_state.View.{View}
+use Rattle.zk_step.specs.declared.state.game_state.View.{View}
 use Rattle.zk_step.specs.Laws.{rebounded}
 use Rattle.zk_step.specs.Routing.{Texts, on_script, text_joined}
 use Rattle.zk_vm.specs.declared.limits.Limits.{Limits}

@@ -1,6 +1,5 @@
 pub mod Answers
 pub mod Bounds
-pub mod Consoles
 pub mod Going
 pub mod Halts
 pub mod Laws

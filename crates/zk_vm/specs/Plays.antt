@@ -12,8 +12,8 @@ use Rattle.zk_term.specs.Characters.{line_codes}
 use Rattle.zk_term.specs.Devices.{HasJust, Shows}
 use Rattle.zk_term.specs.Lines.{Heard, heard, ended_lines, MeetsBound, Reading}
 use Rattle.zk_step.specs.Routing.{Texts, text_joined}
-use Rattle.zk_step.specs.declared.ending.Event.{Event}
-use Rattle.zk_step.specs.declared.ending.Event.TheVariants as event
+use Rattle.zk_step.specs.declared.state.ending.Event.{Event}
+use Rattle.zk_step.specs.declared.state.ending.Event.TheVariants as event
 use Rattle.zk_vm.specs.declared.stop.Stop.{Stop}
 use Rattle.zk_vm.specs.declared.stop.Stop.TheVariants.{EndOfInput, Read, Write, Memory}
 use Rattle.zk_vm.specs.declared.waiting.Waiting.{Waiting}
@@ -128,7 +128,7 @@ abbrev pub AsksForNoFile : Result Event Stop → Type 0
 AsksForNoFile (Ok event) = is_read event ≡ true
 AsksForNoFile (Err stop) = Unit {0}
 
--- how a machine ends its turn, and what it shows last: at a read or at its stop, or for want of memory for a state or a
+-- how a machine ends its turn, and what it shows last: at a read or at its stop, or for lack of memory for a state or a
 -- saved game
 abbrev pub EndsTurn : Session → Result Event Stop → Texts → Type 0
 EndsTurn s answer text =

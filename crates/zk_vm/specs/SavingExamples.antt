@@ -2,7 +2,7 @@
 use Rattle.std.specs.Prelude.{◌≡◌, ℕ, List, [], ◌∷◌, ◌++◌, Some, None, codes, true, false}
 use Rattle.zk_state.specs.declared.refusal.Limit.TheVariants.{Steps}
 use Rattle.zk_vm.specs.declared.limits.Limits.{Limits}
-use Rattle.zk_step.specs.declared.ending.Event.TheVariants as event
+use Rattle.zk_step.specs.declared.state.ending.Event.TheVariants as event
 use Rattle.zk_vm.specs.declared.stop.Stop.TheVariants.{Quit, Limit, EndOfInput}
 use Rattle.zk_vm.specs.Answers.{Answer}
 use Rattle.zk_vm.specs.Answers.Answer.{GameKept, File}

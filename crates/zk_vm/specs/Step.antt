@@ -4,12 +4,12 @@ use Rattle.zk_mem.specs.declared.fault.Fault.{Fault}
 use Rattle.zk_mem.specs.Map.{MemoryMap}
 use Rattle.zk_code.specs.declared.instr.Instr.{Instr}
 use Rattle.zk_code.specs.Reading.{instr_at}
-use Rattle.zk_step.specs.declared.ending.Next.{Next}
-use Rattle.zk_step.specs.declared.ending.Event.{Event}
-use Rattle.zk_step.specs.declared.ending.Event.TheVariants as event
-use Rattle.zk_step.specs.declared.ending.Next.TheVariants as next
-use Rattle.zk_step.specs.declared.ending.Request.{Request}
-use Rattle.zk_step.specs.declared.ending.Request.TheVariants as request
+use Rattle.zk_step.specs.declared.state.ending.Next.{Next}
+use Rattle.zk_step.specs.declared.state.ending.Event.{Event}
+use Rattle.zk_step.specs.declared.state.ending.Event.TheVariants as event
+use Rattle.zk_step.specs.declared.state.ending.Next.TheVariants as next
+use Rattle.zk_step.specs.declared.state.ending.Request.{Request}
+use Rattle.zk_step.specs.declared.state.ending.Request.TheVariants as request
 use Rattle.zk_state.specs.declared.refusal.Limit.{Limit}
 use Rattle.zk_state.specs.declared.refusal.Limit.TheVariants.{Reads}
 use Rattle.zk_state.specs.declared.refusal.Refusal.{Refusal}
@@ -18,7 +18,7 @@ use Rattle.zk_state.specs.Frames.{FrameList, within_bounds}
 use Rattle.zk_vm.specs.declared.stop.Stop.{Stop}
 use Rattle.zk_vm.specs.declared.stop.Stop.TheVariants as stop
 use Rattle.zk_vm.specs.declared.waiting.Waiting.{Waiting}
-use Rattle.zk_step.specs.declared.game_state.GameState.{GameState}
+use Rattle.zk_step.specs.declared.state.game_state.GameState.{GameState}
 use Rattle.zk_save.specs.States.{WholeState, state_of, gone_back}
 use Rattle.zk_step.specs.Inputs.{result_answered}
 use Rattle.zk_step.specs.Instructions.{carried_out}

@@ -1,14 +1,12 @@
 // The machine that runs a story.
 #![tactic(auto)]
 
-mod console;
 pub mod examples;
 pub mod laws;
 pub mod limits;
 pub mod machine;
 pub mod play;
 pub mod saving_examples;
-pub mod screen;
 pub mod slot;
 pub mod stop;
 mod transcript;

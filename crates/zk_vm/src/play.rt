@@ -15,14 +15,14 @@ ghost use Rattle.zk_vm.specs.Outcome.{given, with_stop};
 ghost use Rattle.zk_vm.specs.Plays.{AsksForFile, AreSlotAnswers, IsRunOn, IsServed, IsTold, IsTurn, TookTexts, IsPlay, IsPlayed, IsAnswered, refused_in, slot_tells, source_tells, taken_by};
 ghost use Rattle.zk_save.specs.Loading.{restored};
 
-use crate::console::Console;
 use crate::machine::{Machine, is_read};
-use crate::screen::Screen;
 use crate::slot::SaveSlot;
 use crate::stop::Stop;
 use std::alloc::{AllocError, Global};
-use zk_step::ending::Event;
+use zk_step::state::ending::Event;
+use zk_term::buffered_screen::BufferedScreen;
 use zk_term::lines::{Input, Lines};
+use zk_term::screen::Screen;
 use zk_term::source::Source;
 use zk_term::target::Target;
 use zk_text::extra::Extra;
@@ -156,7 +156,7 @@ pub fn run_on<S: Target, T: Target>(
     ensures limits { machine.new.limits ≡ machine.old.limits }
     ensures within { IsWithin machine.new.limits machine.new.state }
 {
-    let mut console = Console::new(screen, script);
+    let mut console = BufferedScreen::new(screen, script);
     let answer = machine.run(&mut console);
     console.finish();
     if console.has_failed() {

@@ -6,12 +6,12 @@ ghost use Rattle.zk_text.specs.Shown.{shown_all};
 ghost use Rattle.zk_step.specs.Status.{code_units};
 ghost use Rattle.zk_vm.specs.Answers.{line_shown, is_transcribed};
 
-use crate::screen::Screen;
 use arrayvec::ArrayVec;
 use zk_mem::memory::Memory;
-use zk_step::game_state::GameState;
-use zk_step::routing::is_script_on;
-use zk_step::text_buffers::kept_letters;
+use zk_step::input::text_buffers::kept_letters;
+use zk_step::output::routing::is_script_on;
+use zk_step::state::game_state::GameState;
+use zk_term::screen::Screen;
 use zk_text::extra::Extra;
 use zk_text::shown::Shown;
 use zk_text::unit::Unit;

@@ -2,7 +2,7 @@
 
 use crate::stop::Stop;
 use zk_code::instr::Instr;
-use zk_step::ending::Event;
+use zk_step::state::ending::Event;
 
 /// A read that waits for its answer.
 #[derive(Drop)]

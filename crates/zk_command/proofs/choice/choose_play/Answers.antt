@@ -6,4 +6,4 @@ use Rattle.zk_command.proofs.choice.choose_play.Goals as goal
 pub returns-clause-says : goal.returns-clause-says
 returns-clause-says c =
     let found = found_of c.args.play.now in
-    (refl, c.in-Ok.ensures.says, c.get_str-save.ensures ∙ first_value-rows found (codes "save"), c.get_str-script.ensures ∙ first_value-rows found (codes "script"), c.in-Ok-settings_of.ensures.says)
+    (refl, c.in_ok-story.ensures.says, c.get_str-save.ensures ∙ first_value-rows found (codes "save"), c.get_str-script.ensures ∙ first_value-rows found (codes "script"), c.in_ok-settings.ensures.says)

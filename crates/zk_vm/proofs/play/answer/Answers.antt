@@ -1,7 +1,7 @@
 use Rattle.std.proofs.Common.{subst}
 use Rattle.zk_vm.specs.Halts.{IsLeftAs}
 use Rattle.zk_vm.specs.Outcome.{Session}
-use Rattle.zk_vm.proofs.Playing.{char_given}
+use Rattle.zk_vm.proofs.Turns.{char_given}
 use Rattle.zk_vm.proofs.play.answer.Goals as goal
 
 pub returns-in-Char-clause-left : goal.returns-in-Char-clause-left

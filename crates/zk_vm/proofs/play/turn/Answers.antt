@@ -1,5 +1,5 @@
 use Rattle.std.proofs.Common.{◌∙◌, inl, inr, ap, refl, sym}
-use Rattle.zk_vm.proofs.Playing.{turn_begins, turn_served, turn_ends, run_asks, run_reads, run_lacks, run_stops, either_false, fewer_steps, ran_asks}
+use Rattle.zk_vm.proofs.Turns.{turn_begins, turn_served, turn_ends, run_asks, run_reads, run_lacks, run_stops, either_false, fewer_steps, ran_asks}
 use Rattle.zk_vm.proofs.play.turn.Goals as goal
 
 pub loop-event-init : goal.loop-event-init

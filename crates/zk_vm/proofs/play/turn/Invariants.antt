@@ -1,6 +1,6 @@
 use Rattle.std.proofs.Common.{◌≡◌, None, false}
 use Rattle.zk_vm.specs.Plays.{slot_tells, taken_by}
-use Rattle.zk_vm.proofs.Playing.{TurnSoFar, steps_left}
+use Rattle.zk_vm.proofs.Turns.{TurnSoFar, steps_left}
 use Rattle.zk_vm.proofs.play.turn.Given as goal
 
 abbrev pub invariant-loop-event : goal.invariant-loop-event

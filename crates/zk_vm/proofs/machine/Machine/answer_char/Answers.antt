@@ -1,6 +1,6 @@
 use Rattle.std.proofs.Common.{ap, sym, refl}
 use Rattle.zk_vm.proofs.Answering.{awaits, char_answered, char_fixed, read_sound}
-use Rattle.zk_step.specs.declared.ending.Event.TheVariants.{Char}
+use Rattle.zk_step.specs.declared.state.ending.Event.TheVariants.{Char}
 use Rattle.zk_vm.specs.Step.{is_read}
 use Rattle.zk_vm.proofs.machine.Machine.answer_char.Goals as goal
 

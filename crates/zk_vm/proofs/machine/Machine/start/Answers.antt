@@ -1,5 +1,5 @@
 use Rattle.std.proofs.Common.{◌∙◌, ap, arith}
-use Rattle.zk_step.specs.declared.game_state.GameState.{GameState}
+use Rattle.zk_step.specs.declared.state.game_state.GameState.{GameState}
 use Rattle.zk_save.specs.States.{UndoStates}
 use Rattle.zk_vm.proofs.Sounds.{first_bounds, first_undo}
 use Rattle.zk_vm.proofs.machine.Machine.start.Goals as goal

@@ -1,9 +1,0 @@
-use Rattle.std.proofs.Common.{◌≡◌, ℕ, List, take, Ok}
-use Rattle.zk_arrays.specs.Runs.{places, bytes_read}
-use Rattle.zk_arrays.specs.Rectangles.{row_units}
-use Rattle.zk_arrays.proofs.rectangle.give_bytes.Given as goal
-
-abbrev pub invariant-loop-column : goal.invariant-loop-column
-invariant-loop-column g l = record {
-  so_far : (codes : List ℕ) → bytes_read l.memory (places l.table l.length) ≡ Ok codes → g.S.Sink.gave l.fn.sink l.sink (row_units (take l.column codes));
-}

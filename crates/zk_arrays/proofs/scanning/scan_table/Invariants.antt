@@ -1,8 +1,0 @@
-use Rattle.std.proofs.Common.{◌≡◌, ◌-◌}
-use Rattle.zk_arrays.specs.Scanning.{scanned}
-use Rattle.zk_arrays.proofs.scanning.scan_table.Given as goal
-
-abbrev pub invariant-loop-i : goal.invariant-loop-i
-invariant-loop-i l = record {
-  so_far : scanned l.memory l.value l.address l.form (l.length - l._i) ≡ scanned l.memory l.value l.table l.form l.length;
-}

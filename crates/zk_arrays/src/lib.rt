@@ -1,9 +1,0 @@
-// Arrays of bytes and words in memory: copied, searched, shown as rectangles.
-#![tactic(auto)]
-
-pub mod copying;
-pub mod examples;
-pub mod laws;
-pub mod rectangle;
-pub mod runs;
-pub mod scanning;

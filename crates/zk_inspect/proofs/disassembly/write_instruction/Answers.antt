@@ -1,6 +1,0 @@
-use Rattle.zk_inspect.specs.Listing.{instruction_text}
-use Rattle.zk_inspect.proofs.disassembly.write_instruction.Goals as goal
-
-pub returns : goal.returns
-unfolding instruction_text
-returns g c = search (g.met.P.Page.twice)

@@ -1,6 +1,0 @@
-use Rattle.std.proofs.Common.{◌≡◌, drop}
-use Rattle.zk_inspect.specs.Ifid.{first_name}
-use Rattle.zk_inspect.proofs.ifid.first_name.Given as goal
-
-abbrev pub invariant-loop-at : goal.invariant-loop-at
-invariant-loop-at l = first_name l.file ≡ first_name (drop l.at l.file)

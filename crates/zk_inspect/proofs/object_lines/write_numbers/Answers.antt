@@ -1,7 +1,0 @@
-use Rattle.std.specs.Prelude.{decimal}
-use Rattle.zk_inspect.proofs.Outputs.{wrote_on}
-use Rattle.zk_inspect.proofs.PropertyLines.{first_separated}
-use Rattle.zk_inspect.proofs.object_lines.write_numbers.Goals as goal
-
-pub returns : goal.returns
-returns g c = wrote_on g.P.Page.wrote g.met.P.Page.twice _ _ _ _ _ _ (first_separated decimal c.args.numbers.now _ c.in-len1-up.len_at_least) c.write_decimal.ensures c.write_further_numbers.ensures

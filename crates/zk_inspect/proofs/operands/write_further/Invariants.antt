@@ -1,7 +1,0 @@
-use Rattle.std.proofs.Common.{take}
-use Rattle.std.specs.List.{flat_map}
-use Rattle.zk_inspect.specs.Listing.{further_text}
-use Rattle.zk_inspect.proofs.operands.write_further.Given as goal
-
-abbrev pub invariant-loop-operand : goal.invariant-loop-operand
-invariant-loop-operand g l = g.P.Page.wrote l.fn.page l.page (flat_map further_text (take l.operand-index l.operands))

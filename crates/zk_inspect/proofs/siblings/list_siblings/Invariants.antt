@@ -1,5 +1,0 @@
-use Rattle.zk_inspect.specs.Siblings.{HasSiblings}
-use Rattle.zk_inspect.proofs.siblings.list_siblings.Given as goal
-
-abbrev pub invariant-loop-before : goal.invariant-loop-before
-invariant-loop-before l = HasSiblings l.memory l.before l.list.items

@@ -1,6 +1,0 @@
-use Rattle.zk_inspect.specs.TreeLines.{row_line}
-use Rattle.zk_inspect.proofs.tree_lines.write_row.Goals as goal
-
-pub returns : goal.returns
-unfolding row_line
-returns g c = search (g.met.P.Page.twice)

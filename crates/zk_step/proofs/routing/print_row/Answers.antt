@@ -1,8 +1,0 @@
-use Rattle.zk_arrays.proofs.Rows.{row_readable}
-use Rattle.zk_arrays.proofs.Units.{was_ok}
-use Rattle.zk_step.proofs.routing.print_row.Goals as goal
-
-pub unreachable-requires : goal.unreachable-requires
-unreachable-requires c =
-    let row = was_ok _ (row_readable c.args.memory.now c.args.rectangle c.args.row c.requires.stands c.requires.within) in
-    c.in-Err.ensures.err row.0 row.1

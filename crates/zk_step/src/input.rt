@@ -1,0 +1,5 @@
+// What is read, and the words of a line.
+
+pub mod inputs;
+pub mod story_words;
+pub mod text_buffers;

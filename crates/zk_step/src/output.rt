@@ -1,0 +1,9 @@
+// Where what is printed goes: the output streams, the two windows, the status line.
+
+pub mod codes;
+pub(crate) mod giving;
+pub(crate) mod printer;
+pub mod routing;
+pub(crate) mod status;
+pub mod streams;
+pub mod view;

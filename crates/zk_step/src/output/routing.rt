@@ -1,0 +1,290 @@
+// What an instruction prints finds its way.
+
+ghost use Rattle.std.specs.Prelude.{◌≡◌, ◌<◌, List, [], ℕ, true, Some, Ok, Err, IsOk, MatchResult};
+ghost use Rattle.zk_state.specs.Frames.{bounds_of};
+ghost use Rattle.zk_text.specs.Extra.{own_characters};
+ghost use Rattle.zk_tables.specs.Rectangles.{rows_of, row_at, row_units};
+ghost use Rattle.zk_term.specs.Windows.{printed};
+ghost use Rattle.zk_text.specs.Shown.{shown_all};
+ghost use Rattle.zk_step.specs.Limited.{limited_next};
+ghost use Rattle.zk_step.specs.Printed.{Collected};
+ghost use Rattle.zk_step.specs.Printing.{characters_of, units_of, rows_or_none, IsPlainEnd, IsPrintable, IsReady};
+ghost use Rattle.zk_step.specs.Routes.{finished_after, IsRouted, IsRoutedBy};
+ghost use Rattle.zk_step.specs.Routing.{routed, routed_by, routed_to, no_text, streamed, stored_all, table_filled, upper_printed, rectangle_printed, printed_if, script_is_on, status_shown, text_routed, with_line_start};
+ghost use Rattle.zk_step.specs.Status.{status_units};
+ghost use Rattle.zk_step.specs.Streams.{newest_of};
+
+use crate::instruction::{Begun, check};
+use crate::output::codes::Codes;
+use crate::output::giving::give_output;
+use crate::output::printer::{Collector, Printer, Selected, WindowPrinter};
+use crate::output::streams::OpenTable;
+use crate::output::view::{show_status_line, start_line};
+use crate::state::ending::Output;
+use crate::state::game_state::GameState;
+use zk_code::instr::Instr;
+use zk_mem::fault::Fault;
+use zk_mem::memory::Memory;
+use zk_state::refusal::Refusal;
+use zk_tables::arrays::rectangle::{Rectangle, give_row};
+use zk_tables::arrays::runs::put_bytes;
+use zk_term::screen::Screen;
+use zk_term::windows::{Window, Windows};
+use zk_text::extra::Extra;
+
+/// Collects the codes that a table gets, as many as there is room for.
+fn collect(memory: &Memory, output: Output, codes: &mut Codes)
+    requires { IsReady memory.now output }
+    ensures { Collected codes.new
+        (stored_all (own_characters memory.now) (units_of memory.now output)) }
+{
+    codes.clear();
+    let extra = Extra::of(memory);
+    let mut collector = Collector {
+        codes,
+        extra: &extra,
+    };
+    match give_output(memory, output, &mut collector) {
+        Ok(()) => {}
+        Err(_) => {}
+    }
+}
+
+/// Stores what is printed in the newest table of stream 3. All of it is collected before the first code is stored; the
+/// first that can't be stored decides.
+fn fill_table(
+    game: &mut GameState,
+    table: OpenTable,
+    output: Output,
+    codes: &mut Codes,
+) -> Result<(), Fault>
+    requires ready { IsReady game.old.memory output }
+    requires newest { newest_of game.old.streams.tables ≡ Some table }
+    ensures value { MatchResult result (λ _. table_filled game.old table
+        (stored_all (own_characters game.old.memory) (units_of game.old.memory output))
+        ≡ Ok game.new) (λ e. table_filled game.old table
+        (stored_all (own_characters game.old.memory) (units_of game.old.memory output))
+        ≡ Err e) }
+    ensures bounds { bounds_of game.new.frames ≡ bounds_of game.old.frames }
+{
+    collect(&game.memory, output, codes);
+    let end = table.address as u32 + 2 + table.count as u32;
+    match put_bytes(&mut game.memory, end, codes.as_slice()) {
+        Ok(()) => {
+            game.streams.count(codes.as_slice().len() as u16);
+            Ok(())
+        }
+        Err(fault) => Err(fault),
+    }
+}
+
+/// Whether the transcript is on: it is a bit of Flags 2 (Standard, section 7.4).
+#[tactic(auto, unfolding(crate::specs::Routing::script_is_on))]
+pub fn is_script_on(memory: &Memory) -> bool
+    ensures { result ≡ script_is_on memory.now }
+{
+    match memory.byte(0x11) {
+        Ok(flags) => flags % 2 == 1,
+        Err(_) => false,
+    }
+}
+
+/// Shows what is printed on the screen and in the transcript, while they are on.
+fn show_text<S: Screen>(game: &mut GameState, output: Output, screen: &mut S)
+    requires ready { IsReady game.old.memory output }
+    ensures state { game.new
+        ≡ (streamed game.old.memory game.old (characters_of game.old.memory output)).0 }
+    ensures text { S.shows screen.old screen.new
+        (streamed game.old.memory game.old (characters_of game.old.memory output)).1.screen
+        (streamed game.old.memory game.old (characters_of game.old.memory output)).1.script }
+{
+    let extra = Extra::of(&game.memory);
+    let mut printer = Printer {
+        screen,
+        extra: &extra,
+        selected: Selected {
+            screen: game.streams.screen(),
+            script: is_script_on(&game.memory),
+        },
+        at_line_start: game.at_line_start,
+    };
+    match give_output(&game.memory, output, &mut printer) {
+        Ok(()) => game.at_line_start = printer.at_line_start,
+        Err(_) => unreachable!(),
+    }
+}
+
+/// Shows the status line on a line of its own.
+fn show_status<S: Screen>(game: &mut GameState, screen: &mut S)
+    requires { IsOk (status_units game.old.memory) }
+    ensures state { game.new ≡ with_line_start true game.old }
+    ensures text { S.shows screen.old screen.new
+        (text_routed (status_shown game.old.memory game.old (status_units game.old.memory))).screen
+        [] }
+{
+    start_line(screen, game.at_line_start);
+    show_status_line(&game.memory, screen);
+    game.at_line_start = true;
+}
+
+/// Prints a row of a rectangle in the upper window.
+fn print_row(windows: &mut Windows, memory: &Memory, rectangle: Rectangle, row: u16)
+    requires stands { IsOk (rows_of memory.now rectangle) }
+    requires within { row < rectangle.height }
+    ensures { (codes : List ℕ) → row_at memory.now rectangle row ≡ Ok codes
+        → windows.new
+        ≡ printed (shown_all (own_characters memory.now) (row_units codes)) windows.old }
+{
+    let extra = Extra::of(memory);
+    let mut printer = WindowPrinter {
+        windows,
+        extra: &extra,
+    };
+    match give_row(memory, rectangle, row, &mut printer) {
+        Ok(()) => {}
+        Err(_) => unreachable!(),
+    }
+}
+
+/// Prints a row of a rectangle in the upper window, while stream 1 is on.
+fn print_row_if(windows: &mut Windows, memory: &Memory, rectangle: Rectangle, row: u16, on: bool)
+    requires stands { IsOk (rows_of memory.now rectangle) }
+    requires within { row < rectangle.height }
+    ensures { (codes : List ℕ) → row_at memory.now rectangle row ≡ Ok codes
+        → windows.new
+        ≡ printed_if on (shown_all (own_characters memory.now) (row_units codes)) windows.old }
+{
+    if on {
+        print_row(windows, memory, rectangle, row);
+        return;
+    }
+}
+
+/// Prints a rectangle in the upper window, from the cursor on: further rows begin in its column. While stream 1 is off
+/// the cursor alone moves, from row to row.
+fn print_rows(windows: &mut Windows, memory: &Memory, rectangle: Rectangle, on: bool)
+    requires { IsOk (rows_of memory.now rectangle) }
+    ensures { windows.new ≡ rectangle_printed on (own_characters memory.now)
+        (rows_or_none (rows_of memory.now rectangle)) windows.old }
+{
+    if rectangle.height == 0 {
+        return;
+    }
+    let (_, column) = windows.cursor();
+    print_row_if(windows, memory, rectangle, 0, on);
+    for row in 1..rectangle.height {
+        windows.start_row(column);
+        print_row_if(windows, memory, rectangle, row, on);
+    }
+}
+
+/// Prints units in the upper window.
+fn print_units(windows: &mut Windows, memory: &Memory, output: Output)
+    requires { IsReady memory.now output }
+    ensures { windows.new ≡ printed (characters_of memory.now output) windows.old }
+{
+    let extra = Extra::of(memory);
+    let mut printer = WindowPrinter {
+        windows,
+        extra: &extra,
+    };
+    match give_output(memory, output, &mut printer) {
+        Ok(()) => {}
+        Err(_) => unreachable!(),
+    }
+}
+
+/// Prints in the upper window, while stream 1 is on.
+#[tactic(auto, unfolding(crate::specs::Routing::upper_printed))]
+fn print_upper(windows: &mut Windows, memory: &Memory, output: Output, on: bool)
+    requires { IsReady memory.now output }
+    ensures { windows.new ≡ upper_printed on memory.now output windows.old }
+{
+    match output {
+        Output::Rows(rectangle) => print_rows(windows, memory, rectangle, on),
+        output => {
+            if on {
+                print_units(windows, memory, output);
+            }
+        }
+    }
+}
+
+/// A text finds its way: while a table of stream 3 is open to that alone; else by the window that is selected.
+fn route_text<S: Screen>(
+    game: &mut GameState,
+    i: &Instr,
+    begun: &Begun,
+    output: Output,
+    codes: &mut Codes,
+    screen: &mut S,
+) -> Result<(), Refusal>
+    requires ready { IsReady game.old.memory output }
+    requires plain { IsPlainEnd begun.now.effect.ending }
+    ensures value { MatchResult result (λ _. IsRoutedBy
+        (routed_by (newest_of game.old.streams.tables) game.old.memory game.old output) game.new
+        i.now begun.now.values begun.now.effect.ending) (λ e. limited_next
+        (finished_after
+        (routed_by (newest_of game.old.streams.tables) game.old.memory game.old output)
+        i.now begun.now.values begun.now.effect.ending) ≡ Err e) }
+    ensures text { MatchResult result (λ _. S.shows screen.old screen.new
+        (text_routed (routed_by (newest_of game.old.streams.tables) game.old.memory game.old
+        output)).screen (text_routed (routed_by (newest_of game.old.streams.tables)
+        game.old.memory game.old output)).script)
+        (λ _. S.shows screen.old screen.new [] []) }
+    ensures bounds { bounds_of game.new.frames ≡ bounds_of game.old.frames }
+{
+    match game.streams.newest() {
+        Some(table) => match fill_table(game, table, output, codes) {
+            Ok(()) => Ok(()),
+            Err(fault) => Err(Refusal::Fault(fault)),
+        },
+        None => match game.windows.selected() {
+            Window::Lower => match check(game, i, begun) {
+                Ok(()) => {
+                    show_text(game, output, screen);
+                    Ok(())
+                }
+                Err(refusal) => Err(refusal),
+            },
+            Window::Upper => {
+                let on = game.streams.screen();
+                print_upper(&mut game.windows, &game.memory, output, on);
+                Ok(())
+            }
+        },
+    }
+}
+
+/// What is printed finds its way, once nothing can refuse the instruction any more that shows it.
+pub(crate) fn route<S: Screen>(
+    game: &mut GameState,
+    i: &Instr,
+    begun: &Begun,
+    codes: &mut Codes,
+    screen: &mut S,
+) -> Result<(), Refusal>
+    requires { IsPrintable game.old.memory game.old.memory begun.now.effect.output
+        begun.now.effect.ending }
+    ensures value { MatchResult result
+        (λ _. IsRouted game.old game.new i.now begun.now.values begun.now.effect)
+        (λ e. limited_next (finished_after (routed game.old.memory game.old begun.now.effect.output)
+        i.now begun.now.values begun.now.effect.ending) ≡ Err e) }
+    ensures text { MatchResult result (λ _. S.shows screen.old screen.new
+        (text_routed (routed game.old.memory game.old begun.now.effect.output)).screen
+        (text_routed (routed game.old.memory game.old begun.now.effect.output)).script)
+        (λ _. S.shows screen.old screen.new [] []) }
+    ensures bounds { bounds_of game.new.frames ≡ bounds_of game.old.frames }
+{
+    match begun.effect.output {
+        Output::Nothing => Ok(()),
+        Output::Status => match check(game, i, begun) {
+            Ok(()) => {
+                show_status(game, screen);
+                Ok(())
+            }
+            Err(refusal) => Err(refusal),
+        },
+        output => route_text(game, i, begun, output, codes, screen),
+    }
+}

@@ -1,0 +1,47 @@
+// Worked examples of the definitions, which refuse one that is turned together with its body.
+
+ghost use Rattle.zk_tables.specs.ArrayExamples.{RunsArePut, RunsEndAtTheStaticBase, PlacesGoOnAtZero, CopiesUpwards, CopiesDownwards, CopiesFromZero, CopiesForwards, TablesAreCleared, NothingIsCopied, SizesHaveNoSign, CopiesReadFirst, BytesInTheirOrder, WordsAreFound, BytesAreFound, TheFirstIsFound, ValuesAreWhole, EntriesOfNoLength, ScansEndAtTheMatch, ScansGoOnAtZero, RowsAreRead, RowsAreJoined, EmptyRectangles, RowsEndWithData, RowsGoOnAtZero};
+
+/// Runs of bytes (Standard, section 1.1).
+#[tactic(auto, unfolding(crate::specs::Runs::bytes_put, crate::specs::Runs::places, zk_mem::specs::Map::byte_put))]
+pub fn runs_by_example()
+    ensures runs_are_put { RunsArePut }
+    ensures runs_end_at_the_static_base { RunsEndAtTheStaticBase }
+    ensures places_go_on_at_zero { PlacesGoOnAtZero }
+{}
+
+/// Tables are copied and cleared (Standard, section 15, `copy_table`).
+#[tactic(auto, unfolding(crate::specs::Copying::table_copied, crate::specs::Copying::copied_forwards, crate::specs::Runs::places, crate::specs::Runs::bytes_read, crate::specs::Runs::bytes_stored, zk_mem::specs::Map::byte_at, zk_mem::specs::Map::byte_put))]
+pub fn copying_by_example()
+    ensures copies_upwards { CopiesUpwards }
+    ensures copies_downwards { CopiesDownwards }
+    ensures copies_from_zero { CopiesFromZero }
+    ensures copies_forwards { CopiesForwards }
+    ensures tables_are_cleared { TablesAreCleared }
+    ensures nothing_is_copied { NothingIsCopied }
+    ensures sizes_have_no_sign { SizesHaveNoSign }
+    ensures copies_read_first { CopiesReadFirst }
+    ensures bytes_in_their_order { BytesInTheirOrder }
+{}
+
+/// Tables are searched (Standard, section 15, `scan_table`).
+#[tactic(auto, unfolding(crate::specs::Scanning::scanned, zk_mem::specs::Map::byte_at, zk_mem::specs::Map::word_at))]
+pub fn scanning_by_example()
+    ensures words_are_found { WordsAreFound }
+    ensures bytes_are_found { BytesAreFound }
+    ensures the_first_is_found { TheFirstIsFound }
+    ensures values_are_whole { ValuesAreWhole }
+    ensures entries_of_no_length { EntriesOfNoLength }
+    ensures scans_end_at_the_match { ScansEndAtTheMatch }
+    ensures scans_go_on_at_zero { ScansGoOnAtZero }
+{}
+
+/// Rectangles of codes (Standard, section 15, `print_table`).
+#[tactic(auto, unfolding(crate::specs::Rectangles::row_at, crate::specs::Rectangles::rows_from, crate::specs::Rectangles::rows_of, crate::specs::Rectangles::more_rows, crate::specs::Rectangles::joined_rows, crate::specs::Runs::places, crate::specs::Runs::bytes_read, zk_mem::specs::Map::byte_at))]
+pub fn rectangles_by_example()
+    ensures rows_are_read { RowsAreRead }
+    ensures rows_are_joined { RowsAreJoined }
+    ensures empty_rectangles { EmptyRectangles }
+    ensures rows_end_with_data { RowsEndWithData }
+    ensures rows_go_on_at_zero { RowsGoOnAtZero }
+{}

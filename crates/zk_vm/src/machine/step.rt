@@ -1,0 +1,342 @@
+// A machine's run: step after step, up to what is waited for or the stop.
+
+ghost use Rattle.std.specs.Prelude.{◌≡◌, ◌≤◌, ◌<◌, ◌+◌, ◌-◌, ◌^◌, ◌⊎◌, true, false, [], if◌then◌else◌, Some, None, Ok, Err, IfOk, OnOk, OnErr};
+ghost use Rattle.zk_state.specs.Frames.{IsBounded};
+ghost use Rattle.zk_code.specs.Reading.{instr_at};
+ghost use Rattle.zk_vm.specs.Going.{IsAhead, Settles, LacksMemory, IsHalted};
+ghost use Rattle.zk_vm.specs.Halts.{IsRun, IsStep, IsCutOff, LeadsOn, ShowsLast, StopsAtOnce, event_waited};
+ghost use Rattle.zk_vm.specs.Laws.{IsWithin};
+ghost use Rattle.zk_vm.specs.Step.{asked, is_read, text_of};
+
+use crate::machine::{MOST_READS, Machine, go_on, halt, is_read, pc_of_save, stop_at};
+use crate::stop::Stop;
+use crate::transcript::script_all;
+use crate::waiting::{Halt, Waiting};
+use zk_code::decode::decode;
+use zk_code::instr::Instr;
+use zk_fast::ahead::run_ahead;
+use zk_state::refusal::Limit;
+use zk_step::input::inputs::answer_result;
+use zk_step::instruction::carry_out;
+use zk_step::output::view::{check_view, show_view};
+use zk_step::state::ending::{Event, Next, Request};
+use zk_step::state::resuming::resume;
+use zk_term::screen::Screen;
+
+impl Machine {
+    /// Runs the story up to the next event, a read or a saved game, or its stop, and answers the same stop
+    /// from then on until `close` sets another. Nothing of an instruction that faults is shown. Where there is
+    /// no memory for a state that `save_undo` keeps, the stop is `Memory`, before that instruction stores its
+    /// answer, and the states that were kept stand. Where the screen fails, the stop is `Write`, right after the step that
+    /// showed something. It is not waiting.
+    pub fn run<S: Screen>(&mut self, screen: &mut S) -> Result<Event, Stop>
+        requires { self.old.waiting ≡ None }
+        ensures run { IsRun self.old self.new result
+            (λ t. S.shows screen.old screen.new t.screen t.script)
+            ⊎ (IsCutOff ShowsLast S.shows S.failed screen.old screen.new self.old self.new result
+            × (self.new.stopped ≡ Some Stop.Write)) }
+        ensures at_once { StopsAtOnce S.shows S.failed screen.old screen.new self.old result }
+        ensures free { OnErr result (self.new.waiting ≡ None) }
+        ensures asks { IfOk result (λ event. event_waited self.new.waiting ≡ Some event) }
+        ensures reads { IfOk result
+            (λ event. is_read event ≡ true → self.new.state.reads < 16777216) }
+        ensures same_reads { OnOk result (self.new.state.reads ≡ self.old.state.reads) }
+        ensures steps { OnOk result ((self.old.state.steps ≤ self.new.state.steps)
+            × (self.new.state.steps < self.new.limits.steps)) }
+        ensures runs { OnOk result (self.new.stopped ≡ None) }
+        ensures limits { self.new.limits ≡ self.old.limits }
+        ensures frames { IsBounded self.new.state.game.frames }
+        ensures within { IsWithin self.new.limits self.new.state }
+    {
+        if let Some(stop) = self.stopped {
+            self.is_within();
+            return Err(stop);
+        }
+        script_all(screen, self.due.as_slice());
+        self.due.clear();
+        if screen.has_failed() {
+            self.stopped = Some(Stop::Write);
+            self.is_within();
+            return Err(Stop::Write);
+        }
+        match self.steps_to_halt(screen) {
+            Ok(event) => {
+                self.is_within();
+                Ok(event)
+            }
+            Err(stop) => {
+                self.stopped = Some(stop);
+                self.is_within();
+                Err(stop)
+            }
+        }
+    }
+
+    /// Steps up to an event or a stop: `Write` after the step at which the screen fails.
+    fn steps_to_halt<S: Screen>(&mut self, screen: &mut S) -> Halt
+        requires free { self.old.waiting ≡ None }
+        requires runs { self.old.stopped ≡ None }
+        requires silent { self.old.state.due ≡ [] }
+        requires works { S.failed screen.old ≡ false }
+        ensures run { IsHalted self.old self.new result
+            (λ t. S.shows screen.old screen.new t.screen t.script)
+            ⊎ IsCutOff LeadsOn S.shows S.failed screen.old screen.new self.old self.new result }
+        ensures at_once { StopsAtOnce S.shows S.failed screen.old screen.new self.old result }
+        ensures reads { self.new.state.reads ≡ self.old.state.reads }
+        ensures more { self.old.state.steps ≤ self.new.state.steps }
+        ensures limits { self.new.limits ≡ self.old.limits }
+    {
+        for _i in self.steps..self.limits.steps {
+            match self.go_ahead() {
+                Ok(()) => {}
+                Err(halt) => return halt,
+            }
+            if self.steps >= self.limits.steps {
+                return out_of_steps(self.pc);
+            }
+            match self.step(screen) {
+                Ok(()) => {}
+                Err(halt) => return halt,
+            }
+            if screen.has_failed() {
+                return Err(Stop::Write);
+            }
+        }
+        out_of_steps(self.pc)
+    }
+
+    /// Makes the steps that show nothing and go on in the story, as many as there may be, by instructions that are kept.
+    fn go_ahead(&mut self) -> Result<(), Halt>
+        requires free { self.old.waiting ≡ None }
+        requires runs { self.old.stopped ≡ None }
+        ensures ahead { IsAhead self.old self.new result }
+        ensures reads { self.new.state.reads ≡ self.old.state.reads }
+        ensures more { self.old.state.steps ≤ self.new.state.steps }
+        ensures limits { self.new.limits ≡ self.old.limits }
+    {
+        let most = self.limits.steps - self.steps;
+        let batch = run_ahead(&mut self.game, &mut self.cache, self.pc, most);
+        self.pc = batch.pc;
+        self.steps += batch.made;
+        match batch.refused {
+            None => Ok(()),
+            Some(refusal) => halt(&mut self.stopped, stop_at(batch.pc, refusal)),
+        }
+    }
+
+    /// One step.
+    fn step<S: Screen>(&mut self, screen: &mut S) -> Result<(), Halt>
+        requires room { self.old.state.steps < self.old.limits.steps }
+        requires free { self.old.waiting ≡ None }
+        requires runs { self.old.stopped ≡ None }
+        requires silent { self.old.state.due ≡ [] }
+        ensures step { IsStep self.old self.new result
+            (λ t. S.shows screen.old screen.new t.screen t.script) }
+        ensures counted { OnOk result (self.new.state.steps ≡ self.old.state.steps + 1) }
+        ensures silent { OnOk result (self.new.state.due ≡ self.old.state.due) }
+        ensures reads { self.new.state.reads ≡ self.old.state.reads }
+        ensures more { self.old.state.steps ≤ self.new.state.steps }
+        ensures limits { self.new.limits ≡ self.old.limits }
+    {
+        match decode(&self.game.memory, self.pc) {
+            Ok(i) => self.advance(i, screen),
+            Err(fault) => halt(&mut self.stopped, Stop::Fault(self.pc, fault)),
+        }
+    }
+
+    /// Carries out an instruction that was fetched from the machine's program counter.
+    fn advance<S: Screen>(&mut self, i: Instr, screen: &mut S) -> Result<(), Halt>
+        requires room { self.old.state.steps < self.old.limits.steps }
+        requires free { self.old.waiting ≡ None }
+        requires runs { self.old.stopped ≡ None }
+        requires silent { self.old.state.due ≡ [] }
+        requires near { i.next ≤ 2 ^ 20 }
+        requires inside { self.old.state.pc < i.next }
+        requires fetched { instr_at self.old.state.game.memory self.old.state.pc ≡ Ok i }
+        ensures step { IsStep self.old self.new result
+            (λ t. S.shows screen.old screen.new t.screen t.script) }
+        ensures counted { OnOk result (self.new.state.steps ≡ self.old.state.steps + 1) }
+        ensures silent { OnOk result (self.new.state.due ≡ self.old.state.due) }
+        ensures reads { self.new.state.reads ≡ self.old.state.reads }
+        ensures more { self.old.state.steps ≤ self.new.state.steps }
+        ensures limits { self.new.limits ≡ self.old.limits }
+    {
+        match carry_out(&mut self.game, &i, &mut self.codes, screen) {
+            Ok(Next::At(pc)) => {
+                self.pc = pc;
+                self.steps += 1;
+                Ok(())
+            }
+            Ok(Next::Asks(request)) => self.meet(request, i, screen),
+            Err(refusal) => halt(&mut self.stopped, stop_at(self.pc, refusal)),
+        }
+    }
+
+    /// Does what an instruction asks for.
+    fn meet<S: Screen>(&mut self, request: Request, i: Instr, screen: &mut S) -> Result<(), Halt>
+        requires room { self.old.state.steps < self.old.limits.steps }
+        requires free { self.old.waiting ≡ None }
+        requires runs { self.old.stopped ≡ None }
+        requires silent { self.old.state.due ≡ [] }
+        requires near { i.next ≤ 2 ^ 20 }
+        requires inside { self.old.state.pc < i.next }
+        ensures step { Settles self.old self.new result
+            (asked self.old.state i self.old.state.game request)
+            ⊎ ((request ≡ Request.SaveUndo) × LacksMemory self.old self.new result) }
+        ensures text { S.shows screen.old screen.new
+            (text_of self.old.state (asked self.old.state i self.old.state.game request)).screen
+            (text_of self.old.state (asked self.old.state i self.old.state.game request)).script }
+        ensures counted { OnOk result (self.new.state.steps ≡ self.old.state.steps + 1) }
+        ensures silent { OnOk result (self.new.state.due ≡ self.old.state.due) }
+        ensures reads { self.new.state.reads ≡ self.old.state.reads }
+        ensures more { self.old.state.steps ≤ self.new.state.steps }
+        ensures limits { self.new.limits ≡ self.old.limits }
+    {
+        match request {
+            Request::Answer(event) => self.wait_for(event, i, screen),
+            Request::SaveUndo => self.save_undo(&i),
+            Request::RestoreUndo => self.restore_undo(&i),
+            Request::Quit => halt(&mut self.stopped, Stop::Quit),
+        }
+    }
+
+    /// Keeps the state in front of the others, and goes on with the answer of `save_undo`. Where there is no
+    /// memory for it, nothing is stored.
+    fn save_undo(&mut self, i: &Instr) -> Result<(), Halt>
+        requires room { self.old.state.steps < self.old.limits.steps }
+        requires free { self.old.waiting ≡ None }
+        requires runs { self.old.stopped ≡ None }
+        requires near { i.now.next ≤ 2 ^ 20 }
+        requires inside { self.old.state.pc < i.now.next }
+        ensures step { Settles self.old self.new result
+            (asked self.old.state i.now self.old.state.game Request.SaveUndo)
+            ⊎ LacksMemory self.old self.new result }
+        ensures counted { OnOk result (self.new.state.steps ≡ self.old.state.steps + 1) }
+        ensures silent { OnOk result (self.new.state.due ≡ self.old.state.due) }
+        ensures reads { self.new.state.reads ≡ self.old.state.reads }
+        ensures more { self.old.state.steps ≤ self.new.state.steps }
+        ensures limits { self.new.limits ≡ self.old.limits }
+    {
+        if self.limits.undo == 0 {
+            self.undo.len();
+            let led = answer_result(&mut self.game, i, 0xffff, true);
+            return go_on(&mut self.pc, &mut self.steps, &mut self.stopped, led);
+        }
+        let pc = pc_of_save(self.game.memory.version(), self.pc, i.next);
+        match self.undo.put(&self.game.memory, &self.game.frames, pc) {
+            Ok(()) => {}
+            Err(_) => return halt(&mut self.stopped, Stop::Memory),
+        }
+        let led = answer_result(&mut self.game, i, 1, true);
+        go_on(&mut self.pc, &mut self.steps, &mut self.stopped, led)
+    }
+
+    /// Goes back to the newest state that is kept, and on where it was saved; without one `restore_undo`
+    /// answers 0.
+    fn restore_undo(&mut self, i: &Instr) -> Result<(), Halt>
+        requires room { self.old.state.steps < self.old.limits.steps }
+        requires free { self.old.waiting ≡ None }
+        requires runs { self.old.stopped ≡ None }
+        ensures step { Settles self.old self.new result
+            (asked self.old.state i.now self.old.state.game Request.RestoreUndo) }
+        ensures counted { OnOk result (self.new.state.steps ≡ self.old.state.steps + 1) }
+        ensures silent { OnOk result (self.new.state.due ≡ self.old.state.due) }
+        ensures reads { self.new.state.reads ≡ self.old.state.reads }
+        ensures more { self.old.state.steps ≤ self.new.state.steps }
+        ensures limits { self.new.limits ≡ self.old.limits }
+    {
+        match self.undo.take(&mut self.game.memory, &mut self.game.frames) {
+            Some(pc) => {
+                let led = resume(&mut self.game, pc);
+                go_on(&mut self.pc, &mut self.steps, &mut self.stopped, led)
+            }
+            None => {
+                let led = answer_result(&mut self.game, i, 0, false);
+                go_on(&mut self.pc, &mut self.steps, &mut self.stopped, led)
+            }
+        }
+    }
+
+    /// Waits for an answer: for a read after the view.
+    fn wait_for<S: Screen>(
+        &mut self,
+        event: Event,
+        instruction: Instr,
+        screen: &mut S,
+    ) -> Result<(), Halt>
+        requires room { self.old.state.steps < self.old.limits.steps }
+        requires free { self.old.waiting ≡ None }
+        requires runs { self.old.stopped ≡ None }
+        requires silent { self.old.state.due ≡ [] }
+        requires near { instruction.next ≤ 2 ^ 20 }
+        requires inside { self.old.state.pc < instruction.next }
+        ensures step { Settles self.old self.new result
+            (asked self.old.state instruction self.old.state.game (Request.Answer event)) }
+        ensures text { S.shows screen.old screen.new (text_of self.old.state
+            (asked self.old.state instruction self.old.state.game
+            (Request.Answer event))).screen (text_of self.old.state
+            (asked self.old.state instruction self.old.state.game
+            (Request.Answer event))).script }
+        ensures waits { OnOk result ⊥ }
+        ensures reads { self.new.state.reads ≡ self.old.state.reads }
+        ensures more { self.old.state.steps ≤ self.new.state.steps }
+        ensures limits { self.new.limits ≡ self.old.limits }
+    {
+        if is_read(event) {
+            return self.wait_after_view(event, instruction, screen);
+        }
+        self.waiting = Some(Waiting {
+            wait: event,
+            instruction,
+        });
+        Err(Ok(event))
+    }
+
+    /// Shows the view and waits for a line or a character, where there may be one more read.
+    fn wait_after_view<S: Screen>(
+        &mut self,
+        event: Event,
+        instruction: Instr,
+        screen: &mut S,
+    ) -> Result<(), Halt>
+        requires room { self.old.state.steps < self.old.limits.steps }
+        requires free { self.old.waiting ≡ None }
+        requires runs { self.old.stopped ≡ None }
+        requires silent { self.old.state.due ≡ [] }
+        requires near { instruction.next ≤ 2 ^ 20 }
+        requires inside { self.old.state.pc < instruction.next }
+        requires read { is_read event ≡ true }
+        ensures step { Settles self.old self.new result
+            (asked self.old.state instruction self.old.state.game (Request.Answer event)) }
+        ensures text { S.shows screen.old screen.new (text_of self.old.state
+            (asked self.old.state instruction self.old.state.game
+            (Request.Answer event))).screen (text_of self.old.state
+            (asked self.old.state instruction self.old.state.game
+            (Request.Answer event))).script }
+        ensures waits { OnOk result ⊥ }
+        ensures reads { self.new.state.reads ≡ self.old.state.reads }
+        ensures more { self.old.state.steps ≤ self.new.state.steps }
+        ensures limits { self.new.limits ≡ self.old.limits }
+    {
+        match check_view(&self.game) {
+            Ok(()) => {}
+            Err(fault) => return halt(&mut self.stopped, Stop::Fault(self.pc, fault)),
+        }
+        if self.reads >= MOST_READS {
+            return halt(&mut self.stopped, Stop::Limit(self.pc, Limit::Reads));
+        }
+        show_view(&mut self.game, screen);
+        self.waiting = Some(Waiting {
+            wait: event,
+            instruction,
+        });
+        Err(Ok(event))
+    }
+}
+
+/// The stop of a machine that has no step left.
+fn out_of_steps(pc: u32) -> Halt
+    ensures { result ≡ Err (Stop.Limit pc Limit.Steps) }
+{
+    Err(Stop::Limit(pc, Limit::Steps))
+}

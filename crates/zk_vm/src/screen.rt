@@ -1,3 +1,0 @@
-// Where a machine's text goes.
-
-pub use zk_step::screen::Screen;

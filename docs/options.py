@@ -1,0 +1,138 @@
+#!/usr/bin/env python3
+"""Puts the options of the command line into the pages that list them.
+
+usage: docs/options.py [--write]
+
+The table is crates/zk_command/src/options.rt. From it come the usage in README.md, docs/manual/playing.md and
+docs/zkit.1, the ranges and defaults in the manual's table and in the page for man, and the defaults in include/zkit.h.
+Without --write it tells which of these say something else, and the status is then 1.
+"""
+
+from __future__ import annotations
+
+import re
+import sys
+import textwrap
+from pathlib import Path
+from typing import NamedTuple, Optional
+
+TOP = Path(__file__).resolve().parent.parent
+TABLE = TOP / "crates" / "zk_command" / "src" / "options.rt"
+
+
+class Option(NamedTuple):
+    """An option: its name, what stands after it, and of one with a number its range and its default."""
+
+    name: str
+    value: str
+    least: int = 0
+    most: int = 0
+    default: Optional[int] = None
+
+    def usage(self) -> str:
+        """The option as a usage line has it."""
+        return f"[--{self.name}{self.value and ' ' + self.value}]"
+
+
+def read_numbers(text: str) -> dict[str, Option]:
+    """The options with a number, by the names of their constants."""
+    row = r'const (\w+): NumberOption =\s*number!\(\s*"(\w+)",\s*(?:Some\("(\d+)"\)|None),\s*(\d+) to (\d+),'
+    found = re.findall(row, text)
+    return {
+        constant: Option(name, "n", int(least), int(most), int(default) if default else None)
+        for constant, name, default, least, most in found
+    }
+
+
+def read_options(text: str, constant: str) -> list[Option]:
+    """The options of a command, in their order."""
+    numbers = read_numbers(text)
+    listed = text[text.index(f"const {constant}:"):].split("\n];")[0]
+    row = r'CommandOption::(?:Number\((\w+)\)|(File|Flag) \{\s*name: "(\w+)")'
+    return [
+        numbers[number] if number else Option(name, "FILE" if kind == "File" else "")
+        for number, kind, name in re.findall(row, listed)
+    ]
+
+
+def usage_lines(command: str, options: list[Option], last: str) -> str:
+    """A command's usage, at most 100 columns wide."""
+    words = [it.usage().replace(" ", "\0") for it in options]
+    begin = f"zkit {command} "
+    lines = textwrap.wrap(" ".join([*words, last]), 100 - len(begin), break_on_hyphens=False)
+    return begin + f"\n{' ' * len(begin)}".join(lines).replace("\0", " ")
+
+
+def with_usage(text: str, command: str, options: list[Option], last: str) -> str:
+    """A page with a command's usage in place of the one that it has."""
+    usage = usage_lines(command, options, last) + "\n"
+    return re.sub(rf"(?m)^zkit {command} \[--.*\n(?: +.*\n)*", lambda _: usage, text)
+
+
+def with_rows(text: str, options: list[Option]) -> str:
+    """The manual with the ranges and defaults of its table."""
+    for it in options:
+        if it.value == "n":
+            row = rf"(?m)^(\| `--{it.name} n` \| [^|]* \|)[^|]*\|[^|]*\|([^|]*)\|$"
+            default = f" {it.default:,} " if it.default is not None else r"\2"
+            text = re.sub(row, rf"\1 {it.least:,} | {it.most:,} |{default}|", text)
+    return text
+
+
+def with_entries(text: str, options: list[Option]) -> str:
+    """The page for man with the ranges and defaults of its entries."""
+    for it in options:
+        if it.value == "n":
+            entry = rf'(?s)(\.BI \\-\\-{it.name} " n"\n.*?)\d+ to \d+(?:; without it \d+)?'
+            default = f"; without it {it.default}" if it.default is not None else ""
+            text = re.sub(entry, lambda found: f"{found[1]}{it.least} to {it.most}{default}", text, count=1)
+    return text
+
+
+def with_synopsis(text: str, command: str, options: list[Option]) -> str:
+    """The page for man with the options of a command in its synopsis."""
+    lines = "".join(f".OP \\-\\-{it.name}{it.value and ' ' + it.value}\n" for it in options)
+    return re.sub(rf'(\.SY "zkit {command}"\n)(?:\.OP .*\n)*', lambda found: found[1] + lines, text)
+
+
+def with_constants(text: str, options: list[Option]) -> str:
+    """The header of the library for C with the defaults."""
+    for it in options:
+        if it.default is not None:
+            text = re.sub(rf"(#define ZKIT_{it.name.upper()} )\d+", lambda found: f"{found[1]}{it.default}", text)
+    return text
+
+
+def made() -> dict[Path, str]:
+    """Each page as it has to be."""
+    text = TABLE.read_text("utf-8")
+    play, info = read_options(text, "PLAY_OPTIONS"), read_options(text, "INFO_OPTIONS")
+    pages = {}
+    for name in ("README.md", "docs/manual/playing.md", "docs/manual/listings.md"):
+        page = (TOP / name).read_text("utf-8")
+        page = with_usage(with_usage(page, "play", play, "STORY"), "info", info, "STORY...")
+        pages[TOP / name] = with_rows(page, play)
+    manual = (TOP / "docs" / "zkit.1").read_text("utf-8")
+    manual = with_synopsis(with_synopsis(manual, "play", play), "info", info)
+    pages[TOP / "docs" / "zkit.1"] = with_entries(manual, play)
+    header = TOP / "include" / "zkit.h"
+    pages[header] = with_constants(header.read_text("utf-8"), play)
+    return pages
+
+
+def main() -> int:
+    """Writes the pages, or tells which are not as they have to be."""
+    pages = made()
+    wrong = [path for path, text in pages.items() if path.read_text("utf-8") != text]
+    if sys.argv[1:] == ["--write"]:
+        for path in wrong:
+            path.write_text(pages[path], "utf-8")
+        return 0
+    for path in wrong:
+        other = f"the options are not those of {TABLE.relative_to(TOP)}"
+        print(f"{path.relative_to(TOP)}: {other}: docs/options.py --write")
+    return 1 if wrong else 0
+
+
+if __name__ == "__main__":
+    sys.exit(main())
