@@ -9,7 +9,7 @@ use Rattle.zk_code.specs.declared.opcode.Opcode.TheVariants as opcode
 use Rattle.zk_code.specs.declared.opcode.Saving.TheVariants.{SaveBranch, SaveStore, RestoreBranch, RestoreStore, Save, Restore, Restart, Verify, SaveUndo, RestoreUndo}
 use Rattle.zk_code.specs.declared.operands.Operand.TheVariants.{Variable}
 use Rattle.zk_term.specs.declared.windows.Window.TheVariants.{Upper}
-use Rattle.zk_term.specs.Windows.{first_windows, printed, split, window_selected}
+use Rattle.zk_term.specs.Windows.{Windows, first_windows, printed, split, window_selected}
 use Rattle.zk_step.specs.declared.state.ending.Ending.TheVariants as ending
 use Rattle.zk_step.specs.declared.state.ending.Next.TheVariants.{Asks, At}
 use Rattle.zk_step.specs.declared.state.ending.Event.TheVariants as event
@@ -129,6 +129,10 @@ at_work = record {
   view = view.Upper;
 }
 
+-- no upper window any more, but for the grid that has gone with it
+abbrev pub windows_after : Windows
+windows_after = record first_windows { gone = at_work.windows.cells; gone_height = 2 }
+
 -- the bytes are the file's, but for bits 0 and 1 of Flags 2 and what an interpreter sets; the first frame stands alone;
 -- there is no upper window and no open table; stream 1, random numbers and what the screen shows go on. The first
 -- instruction is the one that the file names (sections 6.1.3 and 15, `restart`)
@@ -140,7 +144,7 @@ RestartsBegin =
         memory = memory_of_3 (bytes_of_3 0b10100010 1 0x23 0b10100001 77);
         frames = record { current = record { locals = []; words = []; pc = 0; result = None; supplied = 0 }; callers = []; most_frames = 5; most_words = 20 };
         streams = streams false [];
-        windows = first_windows;
+        windows = windows_after;
         generators = states 7 (Some 5);
         at_line_start = false;
         view = view.Upper;
@@ -150,7 +154,7 @@ RestartsBegin =
 
 -- where a saved game is back, memory and frames are its own, and the upper window and the open tables are gone
 abbrev pub WindowsAreRenewed : Type 0
-WindowsAreRenewed = windows_closed at_work ≡ record at_work { streams = streams false []; windows = first_windows }
+WindowsAreRenewed = windows_closed at_work ≡ record at_work { streams = streams false []; windows = windows_after }
 
 -- ---- answers
 

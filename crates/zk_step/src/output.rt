@@ -2,8 +2,8 @@
 
 pub mod codes;
 pub(crate) mod giving;
-pub(crate) mod printer;
+pub mod printer;
 pub mod routing;
-pub(crate) mod status;
+pub mod status;
 pub mod streams;
 pub mod view;

@@ -22,7 +22,7 @@ pub fn kept_by_example()
 {}
 
 /// Restarts (Standard, sections 6.1.3 and 15, `restart`).
-#[tactic(auto, unfolding(crate::specs::Finish::finished, crate::specs::Restarts::begun_again, crate::specs::Restarts::windows_closed, zk_mem::specs::Again::settled, zk_mem::specs::Again::again, zk_mem::specs::Again::restarted, zk_mem::specs::Fresh::with_fields, zk_mem::specs::Header::header_of, zk_term::specs::Windows::first_windows, zk_term::specs::Windows::cleared, zk_term::specs::Windows::unsplit))]
+#[tactic(auto, unfolding(crate::specs::Finish::finished, crate::specs::Restarts::begun_again, crate::specs::Restarts::windows_closed, zk_mem::specs::Again::settled, zk_mem::specs::Again::again, zk_mem::specs::Again::restarted, zk_mem::specs::Fresh::with_fields, zk_mem::specs::Header::header_of, zk_term::specs::Windows::first_windows, zk_term::specs::Windows::split, zk_term::specs::Windows::window_selected, zk_term::specs::Windows::printed, zk_term::specs::Windows::character_printed, zk_term::specs::Windows::cleared, zk_term::specs::Windows::unsplit))]
 pub fn restarts_by_example()
     ensures restarts_begin { RestartsBegin }
     ensures windows_closed { WindowsAreRenewed }

@@ -1,7 +1,9 @@
 -- Rows that are not shown: they are blank, and stay so.
-use Rattle.std.proofs.Common.{◌≡◌, ◌∙◌, ◌≤◌, ◌&&◌, ℕ, Bool, true, false, List, get_or, arith, ap, sym, inl, inr, refl, cond, nat_le}
+use Rattle.std.proofs.Common.{◌≡◌, ◌∙◌, ◌≤◌, ◌&&◌, ℕ, Bool, true, false, List, get_or, arith, ap, sym, inl, inr, refl, cond, nat_le, take, length-take}
 use Rattle.std.proofs.lemmas.Bool.{cases_lt, lt-ltb}
-use Rattle.zk_term.proofs.Grids.{AreEmptied}
+use Rattle.std.proofs.lemmas.List.{get_or-take, get_or_past}
+use Rattle.zk_term.specs.Places.{cells_of}
+use Rattle.zk_term.proofs.Grids.{AreEmptied, cells_of-same}
 
 -- all cells from a place on are blank
 abbrev pub IsBlankFrom : ℕ → List ℕ → Type 0
@@ -19,3 +21,13 @@ emptied_all old new from n high given blank k = elim (cases_lt k n) [
       let e = blank k outside in
       given k ∙ (either _ (get_or old k 32) e ∙ sym (either _ (get_or old k 32) e))
 ]
+
+-- past the places that are taken there are blanks anyway
+taken_or_blank : (items : List ℕ) (n k : ℕ) → IsBlankFrom n items → get_or (take n items) k 32 ≡ get_or items k 32
+taken_or_blank items n k blank = elim (cases_lt k n) [
+  | inl inside ↦ get_or-take n items k 32 inside
+  | inr outside ↦ get_or_past (take n items) k 32 (omega (arith, length-take n items)) ∙ sym (blank k outside)
+]
+
+pub cells_of-take : (items : List ℕ) (n : ℕ) → IsBlankFrom n items → cells_of (take n items) ≡ cells_of items
+cells_of-take items n blank = cells_of-same items (take n items) (λ k. taken_or_blank items n k blank)

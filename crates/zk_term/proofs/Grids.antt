@@ -1,5 +1,5 @@
 -- Grids that stand in a list, the rows one after another, and what a write leaves of them.
-use Rattle.std.proofs.Common.{◌≡◌, ◌≢◌, ◌∙◌, ◌*◌, ◌<◌, ◌≤◌, ◌&&◌, ℕ, Bool, true, false, List, length, get_or, set, arith, ap, sym, inl, inr, cond, nat_le, nat_lt, nat_eq, min, ◌⊎◌, if◌then◌else◌}
+use Rattle.std.proofs.Common.{◌≡◌, ◌≢◌, ◌∙◌, ◌*◌, ◌<◌, ◌≤◌, ◌&&◌, ℕ, Bool, true, false, List, [], length, get_or, set, arith, ap, sym, refl, inl, inr, cond, nat_le, nat_lt, nat_eq, min, ◌⊎◌, if◌then◌else◌}
 use Rattle.std.proofs.lemmas.Bool.{cases_Bool, cases_lt, cases_order, cond-true, cond-false, and_parts, and_cases, and_from, and_left, and_right, eqb-true, eqb-false, eq-eqb, ne_eqb, le-leb, lt-leb, lt-ltb, le-ltb}
 use Rattle.std.proofs.lemmas.Grind.{get_or-set_at}
 use Rattle.std.proofs.lemmas.List.{get_or-set_other}
@@ -72,6 +72,9 @@ pub cells_of-blank : (items : List ℕ) → ((k : ℕ) → k < 20400 → get_or 
 unfolding cells_of no_cells
 cells_of-blank items given =
     same_grids _ _ (λ r q place on. given (cell_number r q) (omega (arith, place.row_from, place.row_to, place.column_from, place.column_to)))
+
+pub no_cells_of : cells_of [] ≡ no_cells
+no_cells_of = cells_of-blank [] (λ k low. refl)
 
 pub cells_of-all_emptied : (old new : List ℕ) → AreEmptied old new 0 20400 → cells_of new ≡ no_cells
 cells_of-all_emptied old new given = cells_of-blank new (λ k low.

@@ -4,7 +4,7 @@ use Rattle.std.proofs.lemmas.Bool.{cases_Bool, cond_both, cond-true, cond-false,
 use Rattle.zk_term.specs.declared.windows.Window.{Window}
 use Rattle.zk_term.specs.declared.windows.Window.TheVariants.{Lower, Upper}
 use Rattle.zk_term.specs.Grid.{Cells, blank, is_on_grid, no_cells, emptied, cell_put}
-use Rattle.zk_term.specs.Windows.{Windows, first_windows, homed, past, split, window_selected, cleared, unsplit, line_erased, cursor_set, next_row, character_put, moved_right, character_printed, printed, before_blanks, without_last_blanks, columns_from, row_text}
+use Rattle.zk_term.specs.Windows.{Windows, first_windows, homed, homed_below, past, kept_if_lower, with_height, split, window_selected, cleared, unsplit, line_erased, cursor_set, next_row, character_put, moved_right, character_printed, printed, before_blanks, without_last_blanks, columns_from, row_text}
 use Rattle.zk_term.specs.WindowLaws.{IsSplit, SplitsEmptyThePast, IsNearTheGrid, KeepsTheCursor, IsWithoutLastSpaces, SpacesAtTheEndGo, ClearedRowsHaveNoText}
 use Rattle.zk_term.proofs.Grids.{at-on_grid}
 use Rattle.zk_term.proofs.Rows.{no_text}
@@ -43,24 +43,41 @@ past_below version height row column low =
 not_past : (version height row column : ℕ) → version ≢ 3 → row ≤ height → past version height row column ≡ false
 not_past version height row column other high = cond-false (nat_eq version 3) true (nat_lt height row) (ne_eqb version 3 other) ∙ le-ltb height row high
 
+-- a window that is kept stays as it is
+kept_stays : (height : ℕ) (w : Windows) → ((kept_if_lower height w).cells ≡ w.cells) × ((kept_if_lower height w).selected ≡ w.selected)
+kept_stays height w =
+    cond_both (nat_lt height w.height && nat_le w.gone_height w.height) (record w { gone = w.cells; gone_height = w.height }) w
+    (λ (v : Windows). (v.cells ≡ w.cells) × (v.selected ≡ w.selected)) (λ _. (refl, refl)) (λ _. (refl, refl))
+
+is_split : (version lines : ℕ) (w v : Windows) → v.cells ≡ w.cells → v.selected ≡ w.selected → IsSplit version lines w (homed_below (min lines 255) (with_height version (min lines 255) v))
+is_split version lines w v cells selected =
+    cond_both (nat_lt (min lines 255) v.row) (homed wider) wider (IsSplit version lines w) (λ _. whole) (λ _. whole')
+  where
+    wider : Windows
+    wider = with_height version (min lines 255) v
+
+    kept_there : version ≢ 3 → (row column : ℕ) → row ≤ min lines 255 → wider.cells.at row column ≡ w.cells.at row column
+    kept_there other row column high =
+        emptied_elsewhere (past version (min lines 255)) v.cells row column (not_past version (min lines 255) row column other high)
+        ∙ ap (λ (all : Cells). all.at row column) cells
+
+    past_there : (row column : ℕ) → min lines 255 < row → wider.cells.at row column ≡ 32
+    past_there row column low = emptied_there (past version (min lines 255)) v.cells row column (past_below version (min lines 255) row column low)
+
+    all_there : version ≡ 3 → (row column : ℕ) → wider.cells.at row column ≡ 32
+    all_there three row column = emptied_there (past version (min lines 255)) v.cells row column (past_in_3 version (min lines 255) row column three)
+
+    whole : IsSplit version lines w (homed wider)
+    whole = record { height = refl; selected = selected; kept = kept_there; past = past_there; all = all_there }
+
+    whole' : IsSplit version lines w wider
+    whole' = record { height = refl; selected = selected; kept = kept_there; past = past_there; all = all_there }
+
 pub splits_empty_the_past : SplitsEmptyThePast
 unfolding split
-splits_empty_the_past version lines w = cond_both (nat_lt (min lines 255) w.row) _ _ (IsSplit version lines w) (λ _. whole) (λ _. whole')
-  where
-    kept_there : version ≢ 3 → (row column : ℕ) → row ≤ min lines 255 → (emptied (past version (min lines 255)) w.cells).at row column ≡ w.cells.at row column
-    kept_there other row column high = emptied_elsewhere (past version (min lines 255)) w.cells row column (not_past version (min lines 255) row column other high)
-
-    past_there : (row column : ℕ) → min lines 255 < row → (emptied (past version (min lines 255)) w.cells).at row column ≡ 32
-    past_there row column low = emptied_there (past version (min lines 255)) w.cells row column (past_below version (min lines 255) row column low)
-
-    all_there : version ≡ 3 → (row column : ℕ) → (emptied (past version (min lines 255)) w.cells).at row column ≡ 32
-    all_there three row column = emptied_there (past version (min lines 255)) w.cells row column (past_in_3 version (min lines 255) row column three)
-
-    whole : IsSplit version lines w (homed (record w { cells = emptied (past version (min lines 255)) w.cells; height = min lines 255 }))
-    whole = record { height = refl; selected = refl; kept = kept_there; past = past_there; all = all_there }
-
-    whole' : IsSplit version lines w (record w { cells = emptied (past version (min lines 255)) w.cells; height = min lines 255 })
-    whole' = record { height = refl; selected = refl; kept = kept_there; past = past_there; all = all_there }
+splits_empty_the_past version lines w =
+    let same = kept_stays (min lines 255) w in
+    is_split version lines w (kept_if_lower (min lines 255) w) same.0 same.1
 
 -- ---- the cursor
 
@@ -71,12 +88,18 @@ near_first : IsNearTheGrid first_windows
 unfolding first_windows
 near_first = record { row_from = omega arith; row_to = omega arith; column_from = omega arith; column_to = omega arith }
 
+near_kept : (height : ℕ) (w : Windows) → IsNearTheGrid w → IsNearTheGrid (kept_if_lower height w)
+near_kept height w near =
+    cond_both (nat_lt height w.height && nat_le w.gone_height w.height) (record w { gone = w.cells; gone_height = w.height }) w IsNearTheGrid
+    (λ _. record { row_from = near.row_from; row_to = near.row_to; column_from = near.column_from; column_to = near.column_to }) (λ _. near)
+
 near_split : (version lines : ℕ) (w : Windows) → IsNearTheGrid w → IsNearTheGrid (split version lines w)
 unfolding split
 near_split version lines w near =
-    let wider : Windows = record w { cells = emptied (past version (min lines 255)) w.cells; height = min lines 255 } in
-    cond_both (nat_lt (min lines 255) w.row) (homed wider) wider IsNearTheGrid
-    (λ _. at_home wider) (λ _. record { row_from = near.row_from; row_to = near.row_to; column_from = near.column_from; column_to = near.column_to })
+    let wider : Windows = with_height version (min lines 255) (kept_if_lower (min lines 255) w) in
+    let kept = near_kept (min lines 255) w near in
+    cond_both (nat_lt (min lines 255) wider.row) (homed wider) wider IsNearTheGrid
+    (λ _. at_home wider) (λ _. record { row_from = kept.row_from; row_to = kept.row_to; column_from = kept.column_from; column_to = kept.column_to })
 
 near_selected : (window : Window) (w : Windows) → IsNearTheGrid w → IsNearTheGrid (window_selected window w)
 unfolding window_selected

@@ -7,7 +7,7 @@ use Rattle.zk_term.specs.Characters.{characters_of, line_codes}
 use Rattle.zk_term.specs.Lines.{Heard, heard}
 use Rattle.zk_term.specs.OpenLines.{rest_of_words}
 use Rattle.zk_term.specs.Wrapping.{wrapped}
-use Rattle.zk_term.specs.Windows.{Windows, first_windows, split, window_selected, cleared, unsplit, line_erased, cursor_set, next_row, printed, row_text}
+use Rattle.zk_term.specs.Windows.{Windows, first_windows, split, window_selected, cleared, unsplit, forgotten, line_erased, cursor_set, next_row, printed, row_text, tallest_height, tallest_row_text}
 
 -- ---- characters (Unicode Standard, table 3-7)
 
@@ -249,6 +249,56 @@ UnsplitWindows =
     × (cursor_of (unsplit three_rows) ≡ (1, 1))
     × ((unsplit three_rows).height ≡ 0)
     × ((unsplit three_rows).selected ≡ Lower)
+
+-- a grid that goes, or becomes lower, is kept as it was, and its rows are still told
+abbrev pub GridsThatAreGone : Type 0
+GridsThatAreGone =
+    ((split 5 1 three_rows).gone_height ≡ 3)
+    × (tallest_height (split 5 1 three_rows) ≡ 3)
+    × (row_text (split 5 1 three_rows) 2 ≡ [])
+    × (tallest_row_text (split 5 1 three_rows) 2 ≡ codes "b")
+    × (tallest_row_text (split 3 1 three_rows) 1 ≡ codes "a")
+    × (tallest_row_text (split 5 2 (split 5 1 three_rows)) 2 ≡ codes "b")
+    × (tallest_row_text (printed (codes "x") (window_selected Upper (split 5 1 three_rows))) 1 ≡ codes "a")
+    × (tallest_height (unsplit three_rows) ≡ 3)
+    × (tallest_row_text (unsplit three_rows) 3 ≡ codes "c")
+    × (tallest_row_text (unsplit three_rows) 4 ≡ [])
+
+-- one that stays as high is not gone: the tallest grid is the window's
+abbrev pub GridsThatStay : Type 0
+GridsThatStay =
+    ((split 5 3 three_rows).gone_height ≡ 0)
+    × ((split 3 4 three_rows).gone_height ≡ 0)
+    × ((cleared three_rows).gone_height ≡ 0)
+    × (tallest_height three_rows ≡ 3)
+    × (tallest_row_text three_rows 3 ≡ codes "c")
+    × (tallest_height (split 5 4 (split 5 1 three_rows)) ≡ 4)
+    × (tallest_row_text (split 5 4 (split 5 1 three_rows)) 2 ≡ [])
+
+-- the window gets so many rows after it was lower, with an x in its first one, and is lower again
+abbrev pub x_after : ℕ → Windows → Windows
+x_after lines w = split 5 1 (printed (codes "x") (window_selected Upper (split 5 lines (split 5 1 w))))
+
+-- a lower grid is not kept in place of a taller one, but one of the same height is
+abbrev pub TheTallestIsKept : Type 0
+TheTallestIsKept =
+    (tallest_height (x_after 2 three_rows) ≡ 3)
+    × (tallest_row_text (x_after 2 three_rows) 1 ≡ codes "a")
+    × (tallest_row_text (x_after 2 three_rows) 3 ≡ codes "c")
+    × (tallest_height (x_after 3 three_rows) ≡ 3)
+    × (tallest_row_text (x_after 3 three_rows) 1 ≡ codes "x")
+    × (tallest_row_text (x_after 3 three_rows) 3 ≡ [])
+    × (tallest_height (x_after 4 three_rows) ≡ 4)
+
+-- what is forgotten is told no more, and the window stays
+abbrev pub GridsThatAreForgotten : Type 0
+GridsThatAreForgotten =
+    ((forgotten (split 5 1 three_rows)).gone_height ≡ 0)
+    × (tallest_height (forgotten (split 5 1 three_rows)) ≡ 1)
+    × (tallest_row_text (forgotten (split 5 1 three_rows)) 1 ≡ codes "a")
+    × (tallest_row_text (forgotten (split 5 1 three_rows)) 2 ≡ [])
+    × (tallest_row_text (forgotten three_rows) 3 ≡ codes "c")
+    × (tallest_height (x_after 2 (forgotten (unsplit three_rows))) ≡ 2)
 
 -- the text of a row has no spaces at its end, and all others
 abbrev pub TextsOfRows : Type 0

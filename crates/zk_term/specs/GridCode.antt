@@ -87,7 +87,7 @@ window_code = code_by Bool coded_bool is_upper (λ b. cond b Upper Lower) window
 -- the windows are stored field by field
 abbrev pub windows_code : Coded Windows
 windows_code =
-    code_by (Cells × (ℕ × (ℕ × (ℕ × Window)))) (coded× cells_code (coded× coded_ℕ (coded× coded_ℕ (coded× coded_ℕ window_code))))
-    (λ w. (w.cells, (w.height, (w.row, (w.column, w.selected)))))
-    (λ p. record { cells = p.0; height = p.1.0; row = p.1.1.0; column = p.1.1.1.0; selected = p.1.1.1.1 })
+    code_by (Cells × (ℕ × (ℕ × (ℕ × (Window × (Cells × ℕ)))))) (coded× cells_code (coded× coded_ℕ (coded× coded_ℕ (coded× coded_ℕ (coded× window_code (coded× cells_code coded_ℕ))))))
+    (λ w. (w.cells, (w.height, (w.row, (w.column, (w.selected, (w.gone, w.gone_height)))))))
+    (λ p. record { cells = p.0; height = p.1.0; row = p.1.1.0; column = p.1.1.1.0; selected = p.1.1.1.1.0; gone = p.1.1.1.1.1.0; gone_height = p.1.1.1.1.1.1 })
     (λ _. refl)

@@ -1,8 +1,8 @@
 -- Laws of the upper window (Standard, sections 8.6 and 8.7).
-use Rattle.std.specs.Prelude.{◌≡◌, ◌≢◌, ◌+◌, ◌<◌, ◌≤◌, ℕ, List, [], ◌∷◌, ◌++◌, length, slice_index, replicate, min}
+use Rattle.std.specs.Prelude.{◌≡◌, ◌≢◌, ◌+◌, ◌<◌, ◌≤◌, ℕ, List, [], ◌∷◌, ◌++◌, length, slice_index, replicate, min, max}
 use Rattle.std.specs.List.{AllByRecursion}
 use Rattle.zk_term.specs.declared.windows.Window.{Window}
-use Rattle.zk_term.specs.Windows.{Windows, first_windows, split, window_selected, cleared, unsplit, line_erased, cursor_set, next_row, printed, without_last_blanks, row_text}
+use Rattle.zk_term.specs.Windows.{Windows, first_windows, split, window_selected, cleared, unsplit, forgotten, line_erased, cursor_set, next_row, printed, without_last_blanks, row_text, tallest_height, tallest_row_text}
 
 -- none of the characters is a new line
 abbrev pub HasNoNewLine : List ℕ → Type 0
@@ -48,6 +48,15 @@ pub record IsSplit (version lines : ℕ) (old new : Windows) : Type 0 where
 
 abbrev pub SplitsEmptyThePast : Type 0
 SplitsEmptyThePast = (version lines : ℕ) (w : Windows) → IsSplit version lines w (split version lines w)
+
+-- the tallest grid is told as it was where the window becomes lower than that, until it is forgotten
+pub record KeepsTheTallest : Type 0 where
+  pub split_height : (version lines : ℕ) (w : Windows) → tallest_height (split version lines w) ≡ max (min lines 255) (tallest_height w)
+  pub split_rows : (version lines : ℕ) (w : Windows) → min lines 255 < tallest_height w → (row : ℕ) → tallest_row_text (split version lines w) row ≡ tallest_row_text w row
+  pub unsplit_height : (w : Windows) → tallest_height (unsplit w) ≡ tallest_height w
+  pub unsplit_rows : (w : Windows) → 0 < tallest_height w → (row : ℕ) → tallest_row_text (unsplit w) row ≡ tallest_row_text w row
+  pub forgotten_height : (w : Windows) → tallest_height (forgotten w) ≡ w.height
+  pub forgotten_rows : (w : Windows) (row : ℕ) → tallest_row_text (forgotten w) row ≡ row_text w row
 
 -- the cursor stands on the grid, or right past its last row or column
 pub record IsNearTheGrid (w : Windows) : Type 0 where

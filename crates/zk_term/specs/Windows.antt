@@ -1,21 +1,24 @@
 -- The upper window (Standard, sections 8.6 and 8.7): a grid of cells, of which a height of rows is shown, with a cursor;
--- the lower window has neither.
+-- the lower window has neither. Of grids that are gone the tallest is kept, for whoever draws the screen.
 use Rattle.std.specs.Prelude.{Bool, true, ℕ, zero, suc, ◌+◌, List, [], ◌∷◌, map, if◌then◌else◌, ◌==◌, ◌&&◌, nat_lt, nat_le, min, max}
 use Rattle.zk_term.specs.Grid.{Cells, blank, no_cells, emptied, cell_put}
 use Rattle.zk_term.specs.declared.windows.Window.{Window}
 use Rattle.zk_term.specs.declared.windows.Window.TheVariants.{Lower, Upper}
 
--- the cells, how many rows are shown, the row and column of the cursor, and the window that is selected
+-- the cells, how many rows are shown, the row and column of the cursor, and the window that is selected; the cells and the
+-- height of the tallest grid that has gone, or has become lower, since one was last forgotten
 pub record Windows : Type 0 where
   pub cells : Cells
   pub height : ℕ
   pub row : ℕ
   pub column : ℕ
   pub selected : Window
+  pub gone : Cells
+  pub gone_height : ℕ
 
 -- at the start the upper window has no row, and the lower one is selected (section 8.7.2)
 unfoldable pub first_windows : Windows
-first_windows = record { cells = no_cells; height = 0; row = 1; column = 1; selected = Lower }
+first_windows = record { cells = no_cells; height = 0; row = 1; column = 1; selected = Lower; gone = no_cells; gone_height = 0 }
 
 -- the cursor goes to the top left
 abbrev pub homed : Windows → Windows
@@ -29,9 +32,20 @@ homed_below height w = if nat_lt height w.row then homed w else w
 abbrev pub past : ℕ → ℕ → ℕ → ℕ → Bool
 past version height row column = if version == 3 then true else nat_lt height row
 
+-- what stands in the window is kept where it gets a lower height, and nothing taller is gone
+abbrev pub kept_if_lower : ℕ → Windows → Windows
+kept_if_lower height w =
+    if nat_lt height w.height && nat_le w.gone_height w.height
+    then record w { gone = w.cells; gone_height = w.height }
+    else w
+
+-- so many rows are shown, and those past them are emptied
+abbrev pub with_height : ℕ → ℕ → Windows → Windows
+with_height version height w = record w { cells = emptied (past version height) w.cells; height = height }
+
 -- the upper window gets a height (section 15, `split_window`)
 unfoldable pub split : ℕ → ℕ → Windows → Windows
-split version lines w = homed_below (min lines 255) (record w { cells = emptied (past version (min lines 255)) w.cells; height = min lines 255 })
+split version lines w = homed_below (min lines 255) (with_height version (min lines 255) (kept_if_lower (min lines 255) w))
 
 -- a window is selected; in the upper one the cursor goes to the top left (section 8.7.2)
 unfoldable pub window_selected : Window → Windows → Windows
@@ -44,7 +58,11 @@ cleared w = homed (record w { cells = no_cells })
 
 -- the grid is emptied, and the upper window has no row any more (section 8.7.3.3)
 unfoldable pub unsplit : Windows → Windows
-unsplit w = record (cleared w) { height = 0; selected = Lower }
+unsplit w = record (cleared (kept_if_lower 0 w)) { height = 0; selected = Lower }
+
+-- the grid that is gone is forgotten
+unfoldable pub forgotten : Windows → Windows
+forgotten w = record w { gone = no_cells; gone_height = 0 }
 
 -- the rest of a row, from a column on
 abbrev pub rest_of_row : ℕ → ℕ → ℕ → ℕ → Bool
@@ -99,6 +117,18 @@ unfoldable pub columns_from : ℕ → ℕ → List ℕ
 columns_from column zero = []
 columns_from column (suc n) = column ∷ columns_from (column + 1) n
 
--- the characters of a row without the spaces at its end
+-- the characters of a row of cells without the spaces at its end
+abbrev pub row_text_of : Cells → ℕ → List ℕ
+row_text_of cells row = without_last_blanks (map (cells.at row) (columns_from 1 80))
+
+-- those of a row of the window
 unfoldable pub row_text : Windows → ℕ → List ℕ
-row_text w row = without_last_blanks (map (w.cells.at row) (columns_from 1 80))
+row_text w row = row_text_of w.cells row
+
+-- the height of the tallest grid: the window's, or that of the one that is gone
+unfoldable pub tallest_height : Windows → ℕ
+tallest_height w = max w.height w.gone_height
+
+-- the characters of a row of the tallest grid
+unfoldable pub tallest_row_text : Windows → ℕ → List ℕ
+tallest_row_text w row = if nat_lt w.height w.gone_height then row_text_of w.gone row else row_text w row

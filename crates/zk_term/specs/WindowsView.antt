@@ -6,10 +6,10 @@ use Rattle.zk_term.specs.Windows.{Windows}
 
 -- what contracts see
 abbrev pub windows_of : Inside → Windows
-windows_of w = record { cells = cells_of w.cells.items; height = w.height; row = w.row; column = w.column; selected = w.selected }
+windows_of w = record { cells = cells_of w.cells.items; height = w.height; row = w.row; column = w.column; selected = w.selected; gone = cells_of w.gone.items; gone_height = w.gone_height }
 
 -- There is room for the whole grid. The rows that are shown have cells, those that are not are blank, and the cursor may
--- stand past the last row and column.
+-- stand past the last row and column. The grid that is gone has the cells of its rows alone.
 pub record IsKept (w : Inside) : Type 0 where
   pub room : 20400 ≤ vec_capacity w.cells
   pub shown : w.height * 80 ≤ length w.cells.items
@@ -18,3 +18,5 @@ pub record IsKept (w : Inside) : Type 0 where
   pub row_to : w.row ≤ 256
   pub column_from : 1 ≤ w.column
   pub column_to : w.column ≤ 81
+  pub gone_room : 20400 ≤ vec_capacity w.gone
+  pub gone_cells : length w.gone.items ≡ w.gone_height * 80

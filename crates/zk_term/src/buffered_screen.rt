@@ -82,7 +82,7 @@ impl<'a, S: Target, T: Target> BufferedScreen<'a, S, T> {
 }
 
 impl<'a, S: Target, T: Target> Screen for BufferedScreen<'a, S, T> {
-    ghost use Rattle.std.specs.Prelude.{◌≡◌, ◌||◌, List, ℕ, refl};
+    ghost use Rattle.std.specs.Prelude.{◌≡◌, ◌||◌, List, ℕ, refl, false};
     ghost use Rattle.std.proofs.Common.{◌∙◌};
     ghost use Rattle.zk_term.specs.BufferedScreens.{Written, written_nothing, written_twice};
 
@@ -107,6 +107,8 @@ impl<'a, S: Target, T: Target> Screen for BufferedScreen<'a, S, T> {
 
     ghost failed = { λ c. c.failed };
 
+    ghost full = { λ _. false };
+
     fn text(&mut self, c: char) {
         if self.failed {
             return;
@@ -129,6 +131,10 @@ impl<'a, S: Target, T: Target> Screen for BufferedScreen<'a, S, T> {
 
     fn has_failed(&self) -> bool {
         self.failed
+    }
+
+    fn is_full(&self) -> bool {
+        false
     }
 
     ghost nothing = { λ a. (refl, refl, written_nothing _) };

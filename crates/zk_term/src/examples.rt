@@ -1,7 +1,7 @@
 // Worked examples of the definitions, which refuse one that is turned together with its body.
 
 ghost use Rattle.zk_term.specs.Examples.{CharactersOfEachLength, StrayBytes, CodesOfALine, QuestionMarks, CodesByAnOwnTable, LongLines, NewLinesEndLines, ReturnsBeforeNewLines, TooManyBytes};
-ghost use Rattle.zk_term.specs.Examples.{WindowsAtTheStart, CharactersOfARow, NewLinesGoDown, TheLastColumn, BelowTheHeight, SplitsEmptyRows, HeightsOfSplits, SplitsAndTheCursor, SelectedWindows, CursorsOnTheGrid, RestsOfRows, ClearedWindows, UnsplitWindows, TextsOfRows};
+ghost use Rattle.zk_term.specs.Examples.{WindowsAtTheStart, CharactersOfARow, NewLinesGoDown, TheLastColumn, BelowTheHeight, SplitsEmptyRows, HeightsOfSplits, SplitsAndTheCursor, SelectedWindows, CursorsOnTheGrid, RestsOfRows, ClearedWindows, UnsplitWindows, GridsThatAreGone, GridsThatStay, TheTallestIsKept, GridsThatAreForgotten, TextsOfRows};
 ghost use Rattle.zk_term.specs.Examples.{CharactersAreColumns, LinesBeginAnew, LinesGoOn, LongWordsStandAlone, RowsAreNotWrapped, SpacesInARow, WordsFillALine, WordsOfManyBytes};
 
 /// The characters of bytes in UTF-8, and bytes that are none.
@@ -53,6 +53,15 @@ pub fn erasures_by_example()
     ensures rests_of_rows { RestsOfRows }
     ensures cleared_windows { ClearedWindows }
     ensures unsplit_windows { UnsplitWindows }
+{}
+
+/// The tallest grid since one was last forgotten.
+#[tactic(auto, unfolding(crate::specs::Grid::on_grid, crate::specs::Grid::no_cells, crate::specs::Grid::emptied, crate::specs::Grid::cell_put, crate::specs::Windows::first_windows, crate::specs::Windows::split, crate::specs::Windows::window_selected, crate::specs::Windows::cursor_set, crate::specs::Windows::printed, crate::specs::Windows::character_printed, crate::specs::Windows::next_row, crate::specs::Windows::cleared, crate::specs::Windows::unsplit, crate::specs::Windows::forgotten, crate::specs::Windows::row_text, crate::specs::Windows::tallest_height, crate::specs::Windows::tallest_row_text, crate::specs::Windows::columns_from, crate::specs::Windows::without_last_blanks))]
+pub fn tallest_by_example()
+    ensures grids_that_are_gone { GridsThatAreGone }
+    ensures grids_that_stay { GridsThatStay }
+    ensures the_tallest_is_kept { TheTallestIsKept }
+    ensures grids_that_are_forgotten { GridsThatAreForgotten }
 {}
 
 /// Text that is wrapped at words.

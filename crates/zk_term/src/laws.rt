@@ -2,7 +2,7 @@
 
 ghost use Rattle.zk_term.specs.Characters.{CharactersAreSpelled, CharactersAreDetermined};
 ghost use Rattle.zk_term.specs.Lines.{AreLines};
-ghost use Rattle.zk_term.specs.WindowLaws.{CharactersStandInARow, PrintsKeepTheSplit, PrintsKeepTheRowsBelow, PrintsFollowOneAnother, SplitsEmptyThePast, KeepsTheCursor, SpacesAtTheEndGo, ClearedRowsHaveNoText};
+ghost use Rattle.zk_term.specs.WindowLaws.{CharactersStandInARow, PrintsKeepTheSplit, PrintsKeepTheRowsBelow, PrintsFollowOneAnother, SplitsEmptyThePast, KeepsTheTallest, KeepsTheCursor, SpacesAtTheEndGo, ClearedRowsHaveNoText};
 ghost use Rattle.zk_term.specs.WrappingLaws.{CharactersTakeColumns, LinesAreFull, LinesAreWithin, LinesAreWrappedOneByOne, OnlySpacesBecomeNewLines, RowsStay};
 
 /// The characters of bytes are those that the bytes spell.
@@ -39,6 +39,12 @@ pub fn prints_keep_the_rest()
 /// (Standard, section 8.6.1.1).
 pub fn splits_empty_the_past()
     ensures { SplitsEmptyThePast }
+{}
+
+/// The tallest grid of the upper window is told as it was after the window has become lower, or has gone, until it
+/// is forgotten.
+pub fn the_tallest_is_kept()
+    ensures { KeepsTheTallest }
 {}
 
 /// The cursor stands on the grid, or right past its last row or column.

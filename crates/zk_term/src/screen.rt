@@ -12,6 +12,9 @@ pub trait Screen {
     // that a write has failed
     ghost failed: { Self → Bool };
 
+    // that it asks for a pause
+    ghost full: { Self → Bool };
+
     /// Shows a character on the screen.
     fn text(&mut self, c: char)
         ensures { shows self.old self.new (c ∷ []) [] };
@@ -23,6 +26,10 @@ pub trait Screen {
     /// Whether a write has failed: what it is given then goes nowhere.
     fn has_failed(&self) -> bool
         ensures { result ≡ failed self.now };
+
+    /// Whether it asks for a pause, since as much waits to be taken from it as may.
+    fn is_full(&self) -> bool
+        ensures { result ≡ full self.now };
 
     ghost nothing: { (a : Self) → shows a a [] [] };
 

@@ -1,9 +1,9 @@
 // The upper window: a grid of characters with a cursor.
 
 ghost use Rattle.std.specs.Prelude.{◌≡◌, ◌≤◌, ◌<◌, ◌&&◌, ◌*◌, ℕ, IfOk, if◌then◌else◌, length, nat_le, nat_lt, slice_index_or, vec_capacity};
-ghost use Rattle.zk_term.specs.Windows.{first_windows, homed, past, split, window_selected, cleared, unsplit, line_erased, cursor_set, next_row, character_put, character_printed, row_text, without_last_blanks};
+ghost use Rattle.zk_term.specs.Windows.{first_windows, homed, past, kept_if_lower, split, window_selected, cleared, unsplit, forgotten, line_erased, cursor_set, next_row, character_put, character_printed, row_text_of, row_text, tallest_height, tallest_row_text, without_last_blanks};
 ghost use Rattle.zk_term.specs.Grid.{emptied};
-ghost use Rattle.zk_term.specs.Places.{cell_number};
+ghost use Rattle.zk_term.specs.Places.{cell_number, cells_of};
 
 use std::alloc::{AllocError, Global};
 use std::marker::Model;
@@ -22,8 +22,10 @@ pub enum Window {
 
 /// The upper window of the screen (Z-Machine Standards Document 1.1, sections 8.6 and 8.7): a grid of 255 rows
 /// and 80 columns, numbered from 1 on, of which as many rows are shown as its height says, and a cursor, which
-/// may stand past the last column or row. Contracts see each cell by its row and column. It takes memory when
-/// it is made, and none later; what is taken is first written where rows are first shown.
+/// may stand past the last column or row. Of grids that were taken away, or made lower, the tallest is kept until
+/// it is forgotten, so that what stood there for a moment alone can be drawn. Contracts see each cell by its row
+/// and column. It takes memory when it is made, and none later; what is taken is first written where rows are
+/// first shown, or first gone.
 #[derive(Drop)]
 pub struct Windows {
     // the rows that were ever shown, one after another, with spaces alone in those that are not shown now
@@ -32,6 +34,9 @@ pub struct Windows {
     row: u16,
     column: u8,
     selected: Window,
+    // the rows of the tallest grid that is gone, one after another
+    gone: Vec<char>,
+    gone_height: u8,
 }
 
 impl Model for Windows {
@@ -106,18 +111,36 @@ fn place(row: u16, column: u8) -> usize
     (row as usize - 1) * COLUMNS + (column as usize - 1)
 }
 
+/// The characters of a row of cells, from 1 on, without the spaces at its end. Past a height all rows are blank.
+fn row_of(cells: &[char], height: u8, row: u8) -> &[char]
+    requires row { 1 ≤ row }
+    requires shown { height * 80 ≤ length cells.now }
+    requires blank { (k : ℕ) → height * 80 ≤ k → slice_index_or cells.now k 32 ≡ 32 }
+    ensures value { result.now ≡ row_text_of (cells_of cells.now) row }
+    ensures within { length result.now ≤ 80 }
+{
+    if height < row {
+        return &[];
+    }
+    let start = place(row as u16, 1);
+    without_last_spaces(&cells[start..start + COLUMNS])
+}
+
 impl Windows {
     /// No row is shown, and the lower window is selected.
     pub fn new(alloc: Global) -> Result<Windows, AllocError>
         ensures { IfOk result (λ w. w ≡ first_windows) }
     {
         let cells = Vec::with_capacity(alloc, ROWS * COLUMNS)?;
+        let gone = Vec::with_capacity(alloc, ROWS * COLUMNS)?;
         Ok(Windows {
             cells,
             height: 0,
             row: 1,
             column: 1,
             selected: Window::Lower,
+            gone,
+            gone_height: 0,
         })
     }
 
@@ -127,6 +150,19 @@ impl Windows {
     {
         self.row = 1;
         self.column = 1;
+    }
+
+    /// Keeps what stands in the window, before it gets a lower height, where nothing taller is gone.
+    fn keep_if_lower(&mut self, height: u8)
+        ensures { self.new ≡ kept_if_lower height self.old }
+    {
+        if height < self.height && self.gone_height <= self.height {
+            self.gone.clear();
+            let shown = &self.cells[..self.height as usize * COLUMNS];
+            // there is room, so this does not fail
+            let _ = self.gone.extend_from_slice(shown);
+            self.gone_height = self.height;
+        }
     }
 
     /// Shows so many rows, and empties those past them, in version 3 all.
@@ -152,6 +188,7 @@ impl Windows {
         ensures { self.new ≡ split version lines self.old }
     {
         let height = lines.min(255) as u8;
+        self.keep_if_lower(height);
         self.set_height(version, height);
         if self.row > height as u16 {
             self.home();
@@ -183,10 +220,20 @@ impl Windows {
     pub fn unsplit(&mut self)
         ensures { self.new ≡ unsplit self.old }
     {
+        self.keep_if_lower(0);
         empty_shown(&mut self.cells, self.height);
         self.height = 0;
         self.selected = Window::Lower;
         self.home();
+    }
+
+    /// Forgets the grid that is gone.
+    #[tactic(auto, unfolding(crate::specs::Windows::forgotten))]
+    pub fn forget(&mut self)
+        ensures { self.new ≡ forgotten self.old }
+    {
+        self.gone.clear();
+        self.gone_height = 0;
     }
 
     /// Empties the cursor's row from the cursor on (Standard, section 15, erase_line). Where the cursor stands
@@ -277,11 +324,27 @@ impl Windows {
         ensures value { result.now ≡ row_text self.now row }
         ensures within { length result.now ≤ 80 }
     {
-        // a row that is not shown is blank
-        if self.height < row {
-            return &[];
+        row_of(self.cells.as_slice(), self.height, row)
+    }
+
+    /// How many rows the tallest grid has had since one was last forgotten.
+    #[tactic(auto, unfolding(crate::specs::Windows::tallest_height))]
+    pub fn tallest(&self) -> u8
+        ensures { result ≡ tallest_height self.now }
+    {
+        self.height.max(self.gone_height)
+    }
+
+    /// The characters of a row of the tallest grid, from 1 on, without the spaces at its end.
+    #[tactic(auto, unfolding(crate::specs::Windows::tallest_row_text))]
+    pub fn tallest_row(&self, row: u8) -> &[char]
+        requires { 1 ≤ row }
+        ensures value { result.now ≡ tallest_row_text self.now row }
+        ensures within { length result.now ≤ 80 }
+    {
+        if self.height < self.gone_height {
+            return row_of(self.gone.as_slice(), self.gone_height, row);
         }
-        let start = place(row as u16, 1);
-        without_last_spaces(&self.cells[start..start + COLUMNS])
+        self.row(row)
     }
 }
