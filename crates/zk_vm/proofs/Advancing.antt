@@ -46,6 +46,7 @@ use Rattle.zk_vm.proofs.Keeping.{seen, same_states}
 use Rattle.zk_vm.specs.declared.limits.Limits.{Limits}
 use Rattle.zk_vm.proofs.OneStep.{step_all}
 use Rattle.zk_vm.proofs.Asking.{asks}
+use Rattle.zk_step.proofs.Operands.{operands_memory}
 use Rattle.zk_step.proofs.WithinBounds.{move_is}
 use Rattle.zk_step.specs.Laws.{AsksBy}
 use Rattle.zk_step.proofs.SameStory.{same_version}
@@ -137,6 +138,12 @@ resumes_silent s i w = go (gone_back s.undo w.memory w.frames)
 -- ---- the ways of a step
 
 -- an instruction has asked something of the machine, which goes on as it says from the state after it
+-- an instruction that asks for something is still the one that stands there
+pub still_there : (m : Inside) (w : GameState) (i : Instr) (x : Request) (t : Texts) → instr_at m.game.memory m.pc ≡ Ok i → limited_move (carried_out m.game i) ≡ Ok (w, (Asks x, t)) → instr_at w.memory m.pc ≡ Ok i
+still_there m w i x t h told =
+    let has = asks m.game i w x t (move_is (carried_out m.game i) (w, (Asks x, t)) told) in
+    ap (λ (n : MemoryMap). instr_at n m.pc) (operands_memory i.operands m.game w has.values has.operands) ∙ h
+
 pub stepped_asked : {S : Type 0} (shows : S → S → List ℕ → List ℕ → Type 0) (twice : (a b c : S) (s t u v : List ℕ) → shows a b s u → shows b c t v → shows a c (s ++ t) (u ++ v)) (a b c : S) (m : Inside) (new : Session) (i : Instr) (w : GameState) (x : Request) (t : Texts) (answer : Result (Unit {0}) Halt)
     → instr_at m.game.memory m.pc ≡ Ok i → limited_move (carried_out m.game i) ≡ Ok (w, (Asks x, t)) → t ≡ no_text → shows a b t.screen t.script
     → Settles (seen (record m { game = w })) new answer (asked (state_seen (record m { game = w })) i w x) ⊎ ((x ≡ SaveUndo) × LacksMemory (seen (record m { game = w })) new answer)
@@ -265,8 +272,8 @@ not_past n x lt =
     go false = refl
 
 pub sound_waiting : (m : Inside) (v : GameState) (w : Waiting) → IsSound m → m.stopped ≡ None → m.due.items ≡ [] → m.steps < m.limits.steps → v.memory ≡ m.game.memory → bounds_of v.frames ≡ bounds_of m.game.frames
-    → w.instruction.next ≤ 1048576 → m.pc < w.instruction.next → is_past_reads m.reads w.wait ≡ false → IsSound (record m { game = v; waiting = Some w })
-sound_waiting m v w is runs silent room memory bounds near inside past =
+    → w.instruction.next ≤ 1048576 → m.pc < w.instruction.next → is_past_reads m.reads w.wait ≡ false → instr_at m.game.memory m.pc ≡ Ok w.instruction → IsSound (record m { game = v; waiting = Some w })
+sound_waiting m v w is runs silent room memory bounds near inside past there =
     let has = running m.stopped (IsOfStory m) runs is.story in
     let all = sound_now m (record m { game = v; waiting = None }) is refl refl is.steps is.reads refl bounds
     (λ e. story_stays (record m { game = v; waiting = None }) m.game has.are_of has.memory has.cache (ap fixed_parts memory) bounds) in
@@ -277,12 +284,12 @@ sound_waiting m v w is runs silent room memory bounds near inside past =
       reads = all.reads;
       most = all.most;
       story = while_running m.stopped (IsOfStory (record m { game = v; waiting = Some w })) (λ e. stays);
-      waits = record { reads = past; steps = room; next = near; some = omega (arith, inside); pc = omega (arith, near, inside); runs = runs; shown = silent };
+      waits = record { reads = past; steps = room; next = near; some = omega (arith, inside); pc = omega (arith, near, inside); runs = runs; shown = silent; fetched = ap (λ (n : MemoryMap). instr_at n m.pc) memory ∙ there };
     }
 
 pub sound_viewed : (m : Inside) (v : GameState) (t : Texts) (w : Waiting) → IsSound m → m.stopped ≡ None → m.due.items ≡ [] → m.steps < m.limits.steps → viewed m.game ≡ Ok (v, t) → bounds_of v.frames ≡ bounds_of m.game.frames
-    → w.instruction.next ≤ 1048576 → m.pc < w.instruction.next → m.reads < 16777216 → IsSound (record m { game = v; waiting = Some w })
-sound_viewed m v t w is runs silent room view bounds near inside few = sound_waiting m v w is runs silent room (viewed_memory m.game v t view) bounds near inside (not_past m.reads w.wait few)
+    → w.instruction.next ≤ 1048576 → m.pc < w.instruction.next → m.reads < 16777216 → instr_at m.game.memory m.pc ≡ Ok w.instruction → IsSound (record m { game = v; waiting = Some w })
+sound_viewed m v t w is runs silent room view bounds near inside few there = sound_waiting m v w is runs silent room (viewed_memory m.game v t view) bounds near inside (not_past m.reads w.wait few) there
 
 -- so it is left
 pub view_settles : (m : Inside) (v : GameState) (t : Texts) (x : Event) (i : Instr) → is_read x ≡ true → viewed m.game ≡ Ok (v, t) → m.reads < 16777216

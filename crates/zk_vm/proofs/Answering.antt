@@ -9,7 +9,8 @@ use Rattle.zk_save.specs.Loading.{frames_fit, loaded, loaded_by, put_in_place, r
 use Rattle.zk_state.specs.declared.refusal.Refusal.{Refusal}
 use Rattle.zk_state.specs.declared.refusal.Refusal.TheVariants as refusal
 use Rattle.zk_state.specs.declared.refusal.Limit.{Limit}
-use Rattle.zk_save.specs.States.{AreOf, UndoStates, WholeState, memory_back, states_in}
+use Rattle.zk_save.specs.States.{AreOf, UndoStates, WholeState, gone_back, memory_back, states_in}
+use Rattle.zk_term.specs.Windows.{Windows, forgotten}
 use Rattle.zk_step.specs.declared.state.ending.Event.{Event}
 use Rattle.zk_step.specs.declared.state.ending.Event.TheVariants as event
 use Rattle.zk_step.specs.declared.state.game_state.GameState.{GameState}
@@ -25,15 +26,19 @@ use Rattle.zk_fast.specs.Caches.{IsCacheOf}
 use Rattle.zk_vm.specs.declared.machine.Machine.TheInside.{Inside}
 use Rattle.zk_vm.specs.declared.stop.Stop.{Stop}
 use Rattle.zk_vm.specs.declared.waiting.Waiting.{Waiting}
-use Rattle.zk_vm.specs.Answers.{Answer, answered, answer_settled, limit_of, none_restored, restored_from, restored_to, transcribed, truth_word}
+use Rattle.zk_vm.specs.Answers.{Answer, answered, answer_settled, limit_of, none_restored, restored_from, restored_to, transcribed, truth_word, undone, undone_to}
 use Rattle.zk_vm.specs.Answers.Answer.{Typed, GameKept, File}
-use Rattle.zk_vm.specs.Going.{verdict_by, pc_by, steps_by, stopped_by, restored_by, restored_on, unrestored_by}
-use Rattle.zk_vm.specs.Halts.{CanAnswer, IsAnswerable, IsLeftAs, event_waited}
-use Rattle.zk_vm.specs.Outcome.{given}
+use Rattle.zk_vm.specs.Going.{IsPut, verdict_by, pc_by, steps_by, stopped_by, restored_by, restored_on, unrestored_by}
+use Rattle.zk_vm.specs.Halts.{CanAnswer, Halt, IsAnswerable, IsLeftAs, IsUndone, WhileRunning, event_waited, halt_by}
+use Rattle.zk_vm.specs.Outcome.{Session, given}
+use Rattle.zk_vm.specs.Outcome.{resumed as resumed_as}
+use Rattle.zk_vm.specs.Plays.{AsksForLine}
 use Rattle.zk_vm.specs.Sound.{state_seen, IsOfStory, IsSound}
-use Rattle.zk_vm.specs.Step.{State, goes_to, is_read, is_past_reads, most_reads}
+use Rattle.zk_mem.specs.declared.fault.Fault.{Fault}
+use Rattle.zk_vm.specs.Step.{State, Step, Verdict, back_to, goes_by, goes_to, is_read, is_past_reads, most_reads, state_after, verdict_of}
+use Rattle.zk_vm.specs.Step.Verdict.{GoesOn, WaitsFor, StopsBy}
 use Rattle.zk_vm.proofs.Going.{Told, told_on, file_answered, limit_answered, read_answered, reading}
-use Rattle.zk_vm.proofs.Keeping.{seen, behind, same_states}
+use Rattle.zk_vm.proofs.Keeping.{seen, behind, same_states, went_back}
 use Rattle.zk_vm.proofs.Sounds.{back_fixed, running, sound_now, sound_after, story_stays, going_led}
 
 answerable_by : (s : State) (l : Limits) (stopped : Option Stop) (x : Option Waiting) (w : Waiting) → x ≡ Some w → CanAnswer s l stopped x → IsAnswerable s l stopped w
@@ -227,3 +232,75 @@ refused_told w i file e n g led v h memory frames none told =
     let both : ◌≡◌ {A = MemoryMap × FrameList} (n, g) (w.memory, w.frames) = cc in
     let here : Told led (limited_pc (result_answered w i 0 false)) v = subst (λ (p : MemoryMap × FrameList). Told led (limited_pc (result_answered (record w { memory = p.0; frames = p.1 }) i 0 false)) v) both told in
     subst (λ (r : Result (GameState × ℕ) Refusal). Told led r v) (sym (refused_on w i file e h none)) here
+
+-- ---- a host that goes back, or forgets a grid
+
+-- what a machine waits for that asks for a line
+waits_some : (x : Option Waiting) (e : Event) → event_waited x ≡ Some e → (w : Waiting) × (x ≡ Some w)
+waits_some None e h = absurd cc
+waits_some (Some w) e h = (w, refl)
+
+abbrev is_waiting_verdict : Verdict → Bool
+is_waiting_verdict (WaitsFor w) = true
+is_waiting_verdict _ = false
+
+-- a machine as a step has put it is left as an answer leaves it
+put_left : (old new : Session) (v : Verdict) (s : State) → IsPut (record old { waiting = None }) new v s → old.stopped ≡ None → is_waiting_verdict v ≡ false → IsLeftAs new (resumed_as old v s) (resumed_as old v s).stopped
+put_left old new GoesOn s put runs never = subst (λ (x : Option Stop). IsLeftAs new (record old { state = s; waiting = None }) x) (sym runs) put
+put_left old new (WaitsFor w) s put runs never = absurd cc
+put_left old new (StopsBy stop) s put runs never = put
+
+-- what goes to a place does not wait
+goes_never_waits : (s : State) (undo : List WholeState) (r : Result (GameState × ℕ) Fault) → is_waiting_verdict (verdict_of s (goes_to s undo r)) ≡ false
+goes_never_waits s undo (Ok found) = by_frames (within_bounds found.0.frames)
+  where
+    by_frames : (r : Result FrameList Refusal) → is_waiting_verdict (goes_by s.pc r) ≡ false
+    by_frames (Ok f) = refl
+    by_frames (Err (refusal.Limit l)) = refl
+    by_frames (Err (refusal.Fault f)) = refl
+goes_never_waits s undo (Err f) = refl
+
+undone_is : (s : State) (n : MemoryMap) (g : FrameList) (saved : ℕ) (others : List WholeState) → gone_back s.undo s.game.memory s.game.frames ≡ Some (n, g, saved, others)
+    → undone s ≡ Some (goes_to s others (resumed (record s.game { memory = n; frames = g }) saved))
+undone_is s n g saved others h = ap (undone_to s) h
+
+-- what is of a story does not rest on what is waited for
+free_story : (m : Inside) (x : Option Stop) → WhileRunning x (IsOfStory m) → WhileRunning x (IsOfStory (record m { waiting = None }))
+free_story m None has = record { are_of = has.are_of; memory = has.memory; cache = has.cache }
+free_story m (Some stop) has = tt
+
+pub went_back_by_host : (m : Inside) (n : MemoryMap) (g : FrameList) (saved : ℕ) (undo : UndoStates) (led : Result ℕ Refusal) (w : GameState) (pc steps : ℕ) (stopped : Option Stop) (answer : Result (Unit {0}) Halt) → IsSound m → AsksForLine (seen m)
+    → gone_back (states_in m.game.memory.file m.undo) m.game.memory m.game.frames ≡ Some (n, g, saved, states_in m.game.memory.file undo) → undo.most ≡ m.undo.most → AreOf n g undo
+    → Told led (limited_pc (resumed (record m.game { memory = n; frames = g }) saved)) w → bounds_of w.frames ≡ bounds_of g
+    → answer ≡ halt_by (verdict_by m.pc led) → pc ≡ pc_by m.pc led → steps ≡ steps_by m.steps led → stopped ≡ stopped_by m.stopped (verdict_by m.pc led)
+    → IsSound (behind (record m { waiting = None }) w pc steps stopped undo) × IsUndone (seen m) (seen (behind (record m { waiting = None }) w pc steps stopped undo)) true (undone (state_seen m))
+went_back_by_host m n g saved undo led w pc steps stopped answer is asks gone most are told bounds tells at counts stops =
+    let some = waits_some m.waiting asks.0 asks.1.0 in
+    let can = answerable m some.0 is some.1 in
+    let x : Step = goes_to (state_seen m) (states_in m.game.memory.file undo) (resumed (record m.game { memory = n; frames = g }) saved) in
+    let free : Inside = record m { waiting = None } in
+    let sound : IsSound free = record { steps = is.steps; bounds = is.bounds; reads = is.reads; most = is.most; story = free_story m m.stopped is.story; waits = tt } in
+    let both = went_back free some.0.instruction n g saved undo led w pc steps stopped answer sound can.runs refl can.steps gone most are told bounds tells at counts stops in
+    let same = ap (back_to (state_seen m) some.0.instruction m.game) gone in
+    let put : IsPut (seen free) (seen (behind free w pc steps stopped undo)) (verdict_of (state_seen m) x) (state_after (state_seen m) x)
+    = subst (λ (y : Step). IsPut (seen free) (seen (behind free w pc steps stopped undo)) (verdict_of (state_seen m) y) (state_after (state_seen m) y)) same both.1.put in
+    let left = put_left (seen m) (seen (behind free w pc steps stopped undo)) (verdict_of (state_seen m) x) (state_after (state_seen m) x) put can.runs (goes_never_waits (state_seen m) (states_in m.game.memory.file undo) (resumed (record m.game { memory = n; frames = g }) saved)) in
+    (both.0, subst (IsUndone (seen m) (seen (behind free w pc steps stopped undo)) true) (sym (undone_is (state_seen m) n g saved (states_in m.game.memory.file undo) gone)) (refl, left))
+
+can_still : (s : State) (v : Windows) (l : Limits) (stopped : Option Stop) (x : Option Waiting) → CanAnswer s l stopped x → CanAnswer (record s { game = record s.game { windows = v } }) l stopped x
+can_still s v l stopped None can = tt
+can_still s v l stopped (Some w) can = record { reads = can.reads; steps = can.steps; next = can.next; some = can.some; pc = can.pc; runs = can.runs; shown = can.shown; fetched = can.fetched }
+
+pub grid_forgotten : (m : Inside) → IsSound m → IsSound (record m { game = record m.game { windows = forgotten m.game.windows } })
+grid_forgotten m is = record {
+  steps = is.steps;
+  bounds = is.bounds;
+  reads = is.reads;
+  most = is.most;
+  story = story_same m.stopped is.story;
+  waits = can_still (state_seen m) (forgotten m.game.windows) m.limits m.stopped m.waiting is.waits;
+}
+  where
+    story_same : (x : Option Stop) → WhileRunning x (IsOfStory m) → WhileRunning x (IsOfStory (record m { game = record m.game { windows = forgotten m.game.windows } }))
+    story_same None has = record { are_of = has.are_of; memory = has.memory; cache = has.cache }
+    story_same (Some stop) has = tt

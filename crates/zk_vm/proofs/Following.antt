@@ -1,9 +1,10 @@
 -- A run, from the machine that it began with to where it has come.
-use Rattle.std.proofs.Common.{◌≡◌, ◌∙◌, ◌≤◌, ◌<◌, inl, inr, Bool, true, false, ℕ, ◌+◌, ◌-◌, List, [], ◌++◌, None, Ok, Err, refl, ap, sym, subst, arith}
+use Rattle.std.proofs.Common.{◌≡◌, ◌∙◌, ◌≤◌, ◌<◌, ◌⊎◌, inl, inr, Bool, true, false, ℕ, ◌+◌, ◌-◌, List, [], ◌++◌, None, Result, Ok, Err, refl, ap, sym, subst, arith}
+use Rattle.std.specs.Prelude.{MatchResult}
 use Rattle.zk_state.specs.declared.refusal.Limit.TheVariants.{Steps}
 use Rattle.zk_step.specs.Routing.{Texts, no_text, on_script, text_joined}
 use Rattle.zk_vm.specs.declared.stop.Stop.TheVariants as stops
-use Rattle.zk_vm.specs.Going.{GoesAhead, IsHalted, StopsAhead, steps_left}
+use Rattle.zk_vm.specs.Going.{GoesAhead, IsHalted, Pauses, StopsAhead, steps_left}
 use Rattle.zk_vm.specs.Halts.{Halt, IsCutOff, IsStep, LeadsOn, StopsAtOnce}
 use Rattle.zk_vm.specs.Outcome.{Leads, Segment, Session, segment}
 use Rattle.zk_vm.specs.Step.{State, step, state_after, text_of, verdict_of}
@@ -211,3 +212,40 @@ follows_end_at_once {S} shows failed first now last old s new h on silent room w
 -- or it has not
 pub never_fails : {S : Type 0} (shows : S → S → List ℕ → List ℕ → Type 0) (failed : S → Bool) (first now : S) (old : Session) (h : Halt) → failed now ≡ false → StopsAtOnce shows failed first now old h
 never_fails {S} shows failed first now old h works = λ sound broken. absurd (true_no_false (failed now) broken works)
+
+-- ---- a pause
+
+-- it pauses at a bound, unless no step is left
+pub follows_bound : {S : Type 0} (shows : S → S → List ℕ → List ℕ → Type 0) (full failed : S → Bool) (first now : S) (old s : Session) (bound : ℕ) (r : Result (Unit {0}) Halt) → Follows shows first now old s → s.state.steps ≡ bound → s.waiting ≡ None → shows now now [] []
+    → MatchResult r (λ _. s.state.steps < s.limits.steps) (λ h. (h ≡ Err (stops.Limit s.state.pc Steps)) × (s.limits.steps ≤ s.state.steps))
+    → MatchResult r (λ _. Pauses shows full first now bound old s) (λ h. IsHalted old s h (λ t. shows first now t.screen t.script) ⊎ IsCutOff LeadsOn shows failed first now old s h)
+follows_bound {S} shows full failed first now old s bound (Ok u) on at free silence h = record {
+  steps = on.led.steps;
+  text = on.led.text;
+  leads = on.led.leads;
+  count = on.led.count;
+  there = on.left;
+  silent = on.silent;
+  shown = on.led.shown;
+  why = inl (at, omega (arith, at, h, ap (λ (m : Session). m.limits.steps) on.left));
+}
+follows_bound {S} shows full failed first now old s bound (Err e) on at free silence h =
+    let ends : IsHalted old s (Err (stops.Limit s.state.pc Steps)) (λ t. shows first now t.screen t.script) = follows_limit shows first now old s s.state.pc on h.1 refl free silence in
+    inl (subst (λ (x : Halt). IsHalted old s x (λ t. shows first now t.screen t.script)) (sym h.0) ends)
+
+pub bound_at_once : {S : Type 0} (shows : S → S → List ℕ → List ℕ → Type 0) (failed : S → Bool) (first now : S) (old : Session) (r : Result (Unit {0}) Halt) → failed now ≡ false → MatchResult r (λ _. failed now ≡ false) (λ h. StopsAtOnce shows failed first now old h)
+bound_at_once {S} shows failed first now old (Ok u) works = works
+bound_at_once {S} shows failed first now old (Err h) works = never_fails shows failed first now old h works
+
+-- or after the step that has filled its screen
+pub follows_full : {S : Type 0} (shows : S → S → List ℕ → List ℕ → Type 0) (full : S → Bool) (first next : S) (old new : Session) (bound : ℕ) → Follows shows first next old new → IsCutOff LeadsOn shows full first next old new (Err stops.Write) → Pauses shows full first next bound old new
+follows_full {S} shows full first next old new bound on (tells, free, filled) = record {
+  steps = on.led.steps;
+  text = on.led.text;
+  leads = on.led.leads;
+  count = on.led.count;
+  there = on.left;
+  silent = on.silent;
+  shown = on.led.shown;
+  why = inr filled;
+}

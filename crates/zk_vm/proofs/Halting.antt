@@ -1,13 +1,13 @@
 -- Steps of a machine up to an event or a stop.
-use Rattle.std.proofs.Common.{◌≡◌, ◌∙◌, ◌≤◌, ◌<◌, ◌⊎◌, inl, inr, Bool, true, false, ℕ, suc, ◌+◌, ◌-◌, List, [], ◌++◌, Option, Some, None, Result, Ok, Err, refl, ap, sym, subst, arith}
+use Rattle.std.proofs.Common.{◌≡◌, ◌∙◌, ◌≤◌, ◌<◌, ◌⊎◌, inl, inr, Bool, true, false, ℕ, suc, ◌+◌, ◌-◌, List, [], ◌++◌, append-nil, Option, Some, None, Result, Ok, Err, refl, ap, sym, subst, arith}
 use Rattle.zk_state.specs.declared.refusal.Limit.TheVariants.{Steps}
 use Rattle.zk_step.specs.Routing.{Texts, no_text, on_script, text_joined}
 use Rattle.zk_step.specs.declared.state.ending.Event.{Event}
 use Rattle.zk_vm.specs.declared.stop.Stop.{Stop}
 use Rattle.zk_vm.specs.declared.stop.Stop.TheVariants as stops
 use Rattle.zk_vm.specs.declared.waiting.Waiting.{Waiting}
-use Rattle.zk_vm.specs.Going.{IsHalted, steps_left}
-use Rattle.zk_vm.specs.Halts.{ComesToKeepAt, EndsAtStep, FailsAt, Halt, IsCutOff, LeadsOn, ShowsLast, StopsAtOnce, IsKeeping, IsLeftAs, IsLeftBy, IsRun, IsStep, StepsTo, event_of}
+use Rattle.zk_vm.specs.Going.{IsHalted, Pauses, steps_left}
+use Rattle.zk_vm.specs.Halts.{ComesToKeepAt, EndsAtStep, FailsAt, Halt, HasPaused, IsCutOff, LeadsOn, ShowsLast, StopsAtOnce, IsKeeping, IsLeftAs, IsLeftBy, IsRun, IsStep, StepsTo, WhyPaused, event_of}
 use Rattle.zk_vm.specs.Outcome.{Leads, Segment, Session, behind_due, ended, ran, segment, segment_by, segment_of}
 use Rattle.zk_vm.specs.Step.{State, step, state_after, text_of, verdict_of}
 use Rattle.zk_vm.specs.Step.Verdict.{GoesOn}
@@ -224,3 +224,54 @@ once_due {S} shows twice failed a b c old answer first works h = λ sound broken
         ),
       ),
     )
+
+-- ---- a pause
+
+-- what the transcript was still to get comes first
+why_due : {S : Type 0} (shows : S → S → List ℕ → List ℕ → Type 0) (twice : (a b c : S) (s t u v : List ℕ) → shows a b s u → shows b c t v → shows a c (s ++ t) (u ++ v)) (full : S → Bool) (a b c : S) (old new : Session) (most bound made : ℕ)
+    → shows a b [] old.state.due → full b ≡ false → new.state.steps ≡ old.state.steps + made → (bound < old.limits.steps → bound ≡ old.state.steps + most)
+    → ((new.state.steps ≡ bound) × (bound < old.limits.steps)) ⊎ ((before : Texts) × ((last : Texts) × (LeadsOn (told_due old) before last new.state × FailsAt shows full b c before last)))
+    → WhyPaused shows full a c most made old new
+why_due {S} shows twice full a b c old new most bound made first room count to (inl h) = let e = to h.1 in inl (omega (arith, h.0, e, count), omega (arith, h.0, h.1))
+why_due {S} shows twice full a b c old new most bound made first room count to (inr (before, (last, (leads, fails)))) =
+    inr (text_joined (on_script old.state.due) before, (last, (inl (leads_due old before last new.state leads), fails_due shows twice full a b c old.state.due before last first room fails)))
+
+pub paused_due : {S : Type 0} (shows : S → S → List ℕ → List ℕ → Type 0) (twice : (a b c : S) (s t u v : List ℕ) → shows a b s u → shows b c t v → shows a c (s ++ t) (u ++ v)) (full : S → Bool) (a b c : S) (old new : Session) (most bound : ℕ) → old.stopped ≡ None
+    → shows a b [] old.state.due → full b ≡ false → (bound < old.limits.steps → bound ≡ old.state.steps + most) → new.state.steps ≤ old.limits.steps → Pauses shows full b c bound (told_due old) new → HasPaused shows full a c most old new
+paused_due {S} shows twice full a b c old new most bound runs first room to within h = record {
+  runs = runs;
+  steps = h.steps;
+  behind = h.text;
+  leads = h.leads;
+  count = h.count;
+  within = within;
+  there = h.there;
+  silent = h.silent;
+  shown = twice a b c [] h.text.screen old.state.due h.text.script first h.shown;
+  why = why_due shows twice full a b c old new most bound h.steps first room h.count to h.why;
+}
+
+-- it has filled the screen, before any step
+pub paused_untold : {S : Type 0} (shows : S → S → List ℕ → List ℕ → Type 0) (nothing : (a : S) → shows a a [] []) (full : S → Bool) (a b : S) (old new : Session) (most : ℕ) → old.stopped ≡ None → shows a b [] old.state.due → full b ≡ true
+    → old.state.steps ≤ old.limits.steps → new ≡ told_due old → HasPaused shows full a b most old new
+paused_untold {S} shows nothing full a b old new most runs first filled within there =
+    let state : new.state ≡ record old.state { due = [] } = ap (λ (s : Session). s.state) there in
+    record {
+      runs = runs;
+      steps = 0;
+      behind = no_text;
+      leads = (sym state, refl);
+      count = omega (arith, ap (λ (s : State). s.steps) state);
+      within = omega (arith, ap (λ (s : State). s.steps) state, within);
+      there = there ∙ ap (λ (s : State). record old { state = s }) (sym state);
+      silent = ap (λ (s : State). s.due) state;
+      shown = rw (append-nil old.state.due) first;
+      why = inr (no_text, (on_script old.state.due, (inr (runs, refl, refl, state), (a, (nothing a, λ e. e, first, filled)))));
+    }
+
+-- a machine does not pause that may make all its steps, on a screen that never asks for it
+pub never_pauses : {S : Type 0} (shows : S → S → List ℕ → List ℕ → Type 0) (full : S → Bool) (a b : S) (old new : Session) → ((x : S) → full x ≡ false) → old.limits.steps ≤ 4294967295 → HasPaused shows full a b 4294967295 old new → ⊥
+never_pauses {S} shows full a b old new endless most h = elim h.why [
+  | inl time ↦ omega (arith, time.0, time.1, h.count, most)
+  | inr filled ↦ let broken = filled.1.1.1.1.3 in let sound = endless b in absurd cc
+]

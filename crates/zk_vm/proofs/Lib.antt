@@ -15,6 +15,7 @@ pub mod Outcomes
 pub mod Turns
 pub mod Playing
 pub mod Runs
+pub mod Pauses
 pub mod RunningOn
 pub mod Transcripts
 pub mod Popping

@@ -97,10 +97,16 @@ leads_both (suc n) k a b c t u h l =
 pub leads_one : (s : State) → verdict_of s (step s) ≡ GoesOn → Leads 1 s (state_after s (step s)) (text_of s (step s))
 leads_one s goes = (no_text, goes, (refl, refl), sym (no_text_behind (text_of s (step s))))
 
+-- a segment is what they show and the segment from there
+pub segment_whole : (n k : ℕ) (s end : State) (text : Texts) → Leads n s end text → segment (n + k) s ≡ record (segment k end) { text = text_joined text (segment k end).text }
+unfolding segment
+segment_whole zero k s end text h = let count : zero + k ≡ k = omega arith in rw (count, h.0, h.1) refl
+segment_whole (suc n) k s end text h =
+    let count : suc n + k ≡ suc (n + k) = omega arith in
+    let rest = segment_whole n k (state_after s (step s)) end h.0 h.2 in
+    rw (count, h.1, h.3) (ap (λ (g : Segment). let x : Segment = record g { text = text_joined (text_of s (step s)) g.text } in x) rest
+    ∙ ap (λ (t : Texts). let x : Segment = record (segment k end) { text = t } in x) (same_text (text_of s (step s)) h.0 (segment k end).text))
+
 -- a segment begins with them
 pub segment_leads : (n k : ℕ) (s end : State) (text : Texts) → Leads n s end text → (segment (n + k) s).text ≡ text_joined text (segment k end).text
-unfolding segment
-segment_leads zero k s end text h = let count : zero + k ≡ k = omega arith in rw (count, h.0, h.1) refl
-segment_leads (suc n) k s end text h =
-    let count : suc n + k ≡ suc (n + k) = omega arith in
-    rw (count, h.1, h.3) (ap (text_joined (text_of s (step s))) (segment_leads n k (state_after s (step s)) end h.0 h.2) ∙ same_text (text_of s (step s)) h.0 (segment k end).text)
+segment_leads n k s end text h = ap (λ (g : Segment). g.text) (segment_whole n k s end text h)

@@ -12,6 +12,7 @@ use Rattle.zk_state.specs.Frames.{FrameList}
 use Rattle.zk_save.specs.declared.restore.RestoreError.{RestoreError}
 use Rattle.zk_save.specs.declared.restore.RestoreError.TheVariants as restore_error
 use Rattle.zk_save.specs.Loading.{restored}
+use Rattle.zk_save.specs.States.{WholeState, gone_back}
 use Rattle.zk_step.specs.Inputs.{line_answered, character_answered, result_answered}
 use Rattle.zk_step.specs.Restarts.{windows_closed}
 use Rattle.zk_step.specs.Resuming.{resumed}
@@ -111,3 +112,13 @@ answered_by s i Restore a = restored_from s i (file_of a)
 -- the rest of the instruction that waits, once its answer has come
 unfoldable pub answered : State → Waiting → Answer → Step
 answered s w a = answered_by s w.instruction w.wait a
+
+-- ---- a host that goes back
+
+-- the newest state is back in place of an answer, and goes on where it was saved, as `restore_undo` has it; or there is none
+abbrev pub undone_to : State → Option (MemoryMap × FrameList × ℕ × List WholeState) → Option Step
+undone_to s None = None
+undone_to s (Some (m, f, pc, others)) = Some (goes_to s others (resumed (record s.game { memory = m; frames = f }) pc))
+
+abbrev pub undone : State → Option Step
+undone s = undone_to s (gone_back s.undo s.game.memory s.game.frames)

@@ -1,5 +1,5 @@
 -- How a machine goes on where an instruction leads.
-use Rattle.std.specs.Prelude.{◌≡◌, ◌⊎◌, ◌<◌, ◌+◌, ◌-◌, false, ℕ, List, Option, Some, None, Result, Ok, Err}
+use Rattle.std.specs.Prelude.{◌≡◌, ◌⊎◌, ◌<◌, ◌+◌, ◌-◌, Bool, false, ℕ, List, [], Option, Some, None, Result, Ok, Err}
 use Rattle.zk_state.specs.declared.refusal.Limit.{Limit}
 use Rattle.zk_state.specs.declared.refusal.Refusal.{Refusal}
 use Rattle.zk_state.specs.declared.refusal.Refusal.TheVariants as refusal
@@ -18,8 +18,8 @@ use Rattle.zk_fast.specs.QuietSteps.{IsRefusedAfter, QuietSteps}
 use Rattle.zk_vm.specs.declared.stop.Stop.{Stop}
 use Rattle.zk_vm.specs.declared.stop.Stop.TheVariants as stop
 use Rattle.zk_vm.specs.Answers.{limit_of}
-use Rattle.zk_vm.specs.Halts.{ComesToKeepAt, Halt, IsLeftBy, event_of, halt_by}
-use Rattle.zk_vm.specs.Outcome.{Segment, Session, segment}
+use Rattle.zk_vm.specs.Halts.{ComesToKeepAt, FailsAt, Halt, IsLeftBy, LeadsOn, event_of, halt_by}
+use Rattle.zk_vm.specs.Outcome.{Leads, Segment, Session, segment}
 use Rattle.zk_vm.specs.Step.{State, Step, Verdict, verdict_of, state_after}
 use Rattle.zk_vm.specs.Step.Verdict.{GoesOn, WaitsFor, StopsBy}
 
@@ -90,6 +90,18 @@ abbrev pub IsHalted : Session → Session → Halt → (Texts → Type 0) → Ty
 IsHalted old new answer Shown =
     ((answer ≡ event_of (steps_left old).end) × IsLeftBy old new (steps_left old).end (steps_left old).state × Shown (steps_left old).text)
     ⊎ ((answer ≡ Err stop.Memory) × (new.waiting ≡ None) × ((text : Texts) × ComesToKeepAt old text new.state × Shown text))
+
+-- A machine has made some steps, each of which goes on, and shown their text. It pauses where they lead: at a bound, with
+-- steps left, or since its screen is full, which it was not before the last of them.
+pub record Pauses {S : Type 0} (shows : S → S → List ℕ → List ℕ → Type 0) (full : S → Bool) (a b : S) (bound : ℕ) (old new : Session) : Type 0 where
+  pub steps : ℕ
+  pub text : Texts
+  pub leads : Leads steps old.state new.state text
+  pub count : new.state.steps ≡ old.state.steps + steps
+  pub there : new ≡ record old { state = new.state }
+  pub silent : new.state.due ≡ []
+  pub shown : shows a b text.screen text.script
+  pub why : ((new.state.steps ≡ bound) × (bound < old.limits.steps)) ⊎ ((before : Texts) × ((last : Texts) × (LeadsOn old before last new.state × FailsAt shows full a b before last)))
 
 -- ---- steps that are made in silence
 

@@ -1,5 +1,5 @@
 -- What a machine tells of a run, and how it is left.
-use Rattle.std.specs.Prelude.{◌≡◌, ◌⊎◌, ◌≤◌, ◌<◌, ◌^◌, ◌-◌, Bool, true, false, ℕ, List, [], Option, Some, None, Result, Ok, Err}
+use Rattle.std.specs.Prelude.{◌≡◌, ◌⊎◌, ◌≤◌, ◌<◌, ◌^◌, ◌+◌, ◌-◌, Bool, true, false, ℕ, List, [], ◌++◌, Option, Some, None, Result, Ok, Err}
 use Rattle.zk_code.specs.declared.instr.Instr.{Instr}
 use Rattle.zk_code.specs.declared.opcode.Opcode.TheVariants.{Saving}
 use Rattle.zk_code.specs.declared.opcode.Saving.TheVariants.{SaveUndo}
@@ -15,7 +15,7 @@ use Rattle.zk_vm.specs.declared.stop.Stop.TheVariants as stop
 use Rattle.zk_vm.specs.declared.waiting.Waiting.{Waiting}
 use Rattle.zk_vm.specs.Step.{State, Step, Verdict, step, verdict_of, state_after, text_of, is_past_reads}
 use Rattle.zk_vm.specs.Step.Verdict.{GoesOn, WaitsFor, StopsBy}
-use Rattle.zk_vm.specs.Outcome.{Session, Leads, segment_of, ran}
+use Rattle.zk_vm.specs.Outcome.{Session, Leads, segment_of, ran, resumed}
 
 -- what ends the steps of a machine: what is asked for, or why it stops
 abbrev pub Halt : Type 0
@@ -58,7 +58,14 @@ abbrev pub IsLeftAs : Session → Session → Option Stop → Type 0
 IsLeftAs new s None = new ≡ s
 IsLeftAs new s (Some stop) = (new.stopped ≡ Some stop) × (new.waiting ≡ None) × (new.limits ≡ s.limits)
 
--- a machine that waits can be answered: there may be one more read, where it waits for one, and one more step
+-- a host has gone back to a state, in place of an answer; or it has not, since there is none
+abbrev pub IsUndone : Session → Session → Bool → Option Step → Type 0
+IsUndone old new done None = (done ≡ false) × (new ≡ old)
+IsUndone old new done (Some x) =
+    (done ≡ true) × IsLeftAs new (resumed old (verdict_of old.state x) (state_after old.state x)) (resumed old (verdict_of old.state x) (state_after old.state x)).stopped
+
+-- a machine that waits can be answered: there may be one more read, where it waits for one, and one more step; what waits is
+-- the instruction at its program counter
 pub record IsAnswerable (s : State) (l : Limits) (stopped : Option Stop) (w : Waiting) : Type 0 where
   pub reads : is_past_reads s.reads w.wait ≡ false
   pub steps : s.steps < l.steps
@@ -67,6 +74,7 @@ pub record IsAnswerable (s : State) (l : Limits) (stopped : Option Stop) (w : Wa
   pub pc : s.pc < 2 ^ 20
   pub runs : stopped ≡ None
   pub shown : s.due ≡ []
+  pub fetched : instr_at s.game.memory s.pc ≡ Ok w.instruction
 
 abbrev pub CanAnswer : State → Limits → Option Stop → Option Waiting → Type 0
 CanAnswer s l stopped None = Unit {0}
@@ -171,6 +179,35 @@ abbrev pub StopsAtOnce : {S : Type 0} → (S → S → List ℕ → List ℕ →
 StopsAtOnce {S} shows failed a b old answer =
     failed a ≡ false → failed b ≡ true
     → (answer ≡ Err stop.Write) ⊎ ((before : Texts) × ((last : Texts) × (EndsAtStep old before last answer × FailsAt shows failed a b before last)))
+
+-- ---- a pause
+
+-- why a machine pauses: it has made so many steps, and may make more; or its screen is full, which it was not before the text
+-- that it was shown last
+abbrev pub WhyPaused : {S : Type 0} → (S → S → List ℕ → List ℕ → Type 0) → (S → Bool) → S → S → (most made : ℕ) → Session → Session → Type 0
+WhyPaused {S} shows full a b most made old new =
+    ((made ≡ most) × (new.state.steps < old.limits.steps))
+    ⊎ ((before : Texts) × ((last : Texts) × (ShowsLast old before last new.state × FailsAt shows full a b before last)))
+
+-- A machine has made some steps, each of which goes on, and stands where they lead. It has shown their text, after what the
+-- transcript was still to get.
+pub record HasPaused {S : Type 0} (shows : S → S → List ℕ → List ℕ → Type 0) (full : S → Bool) (a b : S) (most : ℕ) (old new : Session) : Type 0 where
+  pub runs : old.stopped ≡ None
+  pub steps : ℕ
+  pub behind : Texts
+  pub leads : Leads steps (record old.state { due = [] }) new.state behind
+  pub count : new.state.steps ≡ old.state.steps + steps
+  pub within : new.state.steps ≤ old.limits.steps
+  pub there : new ≡ record old { state = new.state }
+  pub silent : new.state.due ≡ []
+  pub shown : shows a b behind.screen (old.state.due ++ behind.script)
+  pub why : WhyPaused shows full a b most steps old new
+
+-- what holds of a run that has come to an event or a stop, and of one that has paused
+abbrev pub IfRan : Result (Option Event) Stop → (Result Event Stop → Type 0) → Type 0 → Type 0
+IfRan (Ok None) Ran Paused = Paused
+IfRan (Ok (Some event)) Ran Paused = Ran (Ok event)
+IfRan (Err stop) Ran Paused = Ran (Err stop)
 
 -- while a machine has no stop
 abbrev pub WhileRunning : Option Stop → Type 0 → Type 0

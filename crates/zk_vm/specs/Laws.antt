@@ -56,6 +56,13 @@ StepLimitOnlyCuts = (n k : ℕ) (s : State) → IsNoStepLimit (segment n s).end 
 abbrev pub StepLimitCutsThere : Type 0
 StepLimitCutsThere = (n : ℕ) (s end : State) (text : Texts) → Leads n s end text → segment n s ≡ record { end = Err (LimitAt end.pc Steps); state = end; text = text }
 
+-- a machine comes to an event or its stop as another one does, whatever answers it gets then, and shows a text before what
+-- that one shows
+pub record IsDivided (whole rest : Session) (first : Texts) : Type 0 where
+  pub ran : ran whole ≡ ran rest
+  pub text : (segment_of whole).text ≡ text_joined first (segment_of rest).text
+  pub outcome : (answers : List Answer) (stop : Stop) → outcome answers stop whole ≡ record (outcome answers stop rest) { text = text_joined first (outcome answers stop rest).text }
+
 -- the state with other bounds on frames and words
 abbrev pub state_in : ℕ → ℕ → State → State
 state_in f w s = record s { game = rebounded f w s.game }
@@ -93,6 +100,11 @@ Passes l old _ = ⊥
 abbrev pub LimitsCutThere : Type 0
 LimitsCutThere = (n k : ℕ) (s end : State) (text : Texts) (l : Limit) → Leads n s end text → Passes l end (step end)
     → ((segment (n + suc k) s).end ≡ Err (LimitAt end.pc l)) × ((segment (n + suc k) s).text ≡ text)
+
+-- A pause changes nothing: where steps have led a machine on, it runs from there as it would have run, and shows the rest.
+abbrev pub PausesOnlyDivide : Type 0
+PausesOnlyDivide = (s : Session) (n : ℕ) (end : State) (text : Texts) → s.stopped ≡ None → Leads n (record s.state { due = [] }) end text
+    → end.steps ≡ s.state.steps + n → end.steps ≤ s.limits.steps → end.due ≡ [] → IsDivided s (record s { state = end }) (text_joined (on_script s.state.due) text)
 
 -- ---- over all answers
 

@@ -4,6 +4,7 @@ pub mod Going
 pub mod Halts
 pub mod Laws
 pub mod Outcome
+pub mod Parts
 pub mod Sound
 pub mod Plays
 pub mod Step

@@ -4,7 +4,7 @@ ghost use Rattle.std.specs.Prelude.{Bool};
 ghost use Rattle.zk_vm.specs.declared.waiting.Waiting.{Waiting};
 ghost use Rattle.zk_vm.specs.Answers.{Answer};
 ghost use Rattle.zk_vm.specs.Inside.{CleanStays, CleanStopsRead, EachIsSaid};
-ghost use Rattle.zk_vm.specs.Laws.{RunsStayWithin, StepLimitOnlyCuts, StepLimitCutsThere, FrameLimitsOnlyCut, LimitsCutThere, StepLimitOnlyCutsRuns, FrameLimitsOnlyCutRuns, LimitsCutRuns};
+ghost use Rattle.zk_vm.specs.Laws.{RunsStayWithin, StepLimitOnlyCuts, StepLimitCutsThere, PausesOnlyDivide, FrameLimitsOnlyCut, LimitsCutThere, StepLimitOnlyCutsRuns, FrameLimitsOnlyCutRuns, LimitsCutRuns};
 ghost use Rattle.zk_vm.specs.Step.{State};
 
 /// Every state that a run passes, whatever answers it gets, has no more frames, words, steps, reads and states to go back
@@ -21,6 +21,12 @@ pub fn step_limit_only_cuts()
 /// Where as many steps lead on as the limit says, the run stops there, by the limit on steps.
 pub fn step_limit_cuts_there()
     ensures { StepLimitCutsThere }
+{}
+
+/// A machine that has paused goes on as if it had not, whatever answers it gets: it comes to the same event or stop, and its
+/// text before and after the pause is the text of the whole.
+pub fn pauses_only_divide()
+    ensures { PausesOnlyDivide }
 {}
 
 /// A run that stops for another reason is the same under any greater limits on frames and words.

@@ -6,10 +6,11 @@ ghost use Rattle.zk_vm.specs.Bounds.{AreInRange};
 ghost use Rattle.zk_vm.specs.Going.{stop_by, verdict_by, pc_by, steps_by, stopped_by};
 ghost use Rattle.zk_vm.specs.Halts.{event_waited, halt_by};
 ghost use Rattle.zk_vm.specs.Laws.{IsWithin};
-ghost use Rattle.zk_vm.specs.Outcome.{begun, first_game, with_stop};
+ghost use Rattle.zk_vm.specs.Outcome.{begun, first_game, with_grid_forgotten, with_stop};
 ghost use Rattle.zk_vm.specs.Step.{is_read};
 
 mod answers;
+pub mod parts;
 mod step;
 
 use crate::limits::Limits;
@@ -166,6 +167,20 @@ impl Machine {
         ensures { result.now ≡ self.now.state.game.memory }
     {
         &self.game.memory
+    }
+
+    /// The upper window of the screen.
+    pub fn windows(&self) -> &Windows
+        ensures { result.now ≡ self.now.state.game.windows }
+    {
+        &self.game.windows
+    }
+
+    /// Forgets the grid of the upper window that is gone, which nothing but the host's screen looks at.
+    pub fn forget_grid(&mut self)
+        ensures { self.new ≡ with_grid_forgotten self.old }
+    {
+        self.game.windows.forget();
     }
 
     /// Ends the machine with a stop, in place of one that it may have. It waits for nothing.

@@ -4,14 +4,14 @@ ghost use Rattle.std.specs.Prelude.{◌≡◌, ◌≤◌, ◌+◌, ◌*◌, ◌�
 ghost use Rattle.std.specs.List.{AllByRecursion};
 ghost use Rattle.zk_text.specs.Extra.{is_input_code};
 ghost use Rattle.zk_state.specs.Frames.{bounds_of};
-ghost use Rattle.zk_vm.specs.Answers.{limit_of, truth_word};
+ghost use Rattle.zk_vm.specs.Answers.{limit_of, truth_word, undone};
 ghost use Rattle.zk_vm.specs.Answers.Answer.{Typed, GameKept, File};
 ghost use Rattle.zk_vm.specs.Going.{verdict_by, pc_by, stopped_by, restored_on};
-ghost use Rattle.zk_vm.specs.Halts.{IsLeftAs, IsLine, event_waited};
+ghost use Rattle.zk_vm.specs.Halts.{IsLeftAs, IsLine, IsUndone, event_waited};
 ghost use Rattle.zk_vm.specs.Laws.{IsWithin};
 ghost use Rattle.zk_vm.specs.Outcome.{given};
 ghost use Rattle.zk_save.specs.Loading.{restored};
-ghost use Rattle.zk_vm.specs.Plays.{image_of, refused_in};
+ghost use Rattle.zk_vm.specs.Plays.{AsksForLine, image_of, refused_in};
 
 use crate::machine::{Machine, go_on, pc_of_save, stop_at};
 use crate::stop::Stop;
@@ -145,6 +145,29 @@ impl Machine {
                 let answered = answer_result(&mut self.game, &waiting.instruction, 0, false);
                 let _ = go_on(&mut self.pc, &mut self.steps, &mut self.stopped, answered);
                 self.is_within();
+            }
+        }
+    }
+
+    /// Goes back to the newest state that is kept, as `restore_undo` would, in place of the line or the character that is
+    /// waited for; says whether there is one. A fault or a limit comes from the next `run`. Without a state nothing changes.
+    pub fn go_back(&mut self) -> bool
+        requires waits { AsksForLine self.old }
+        ensures undone { IsUndone self.old self.new result (undone self.old.state) }
+        ensures limits { self.new.limits ≡ self.old.limits }
+        ensures within { IsWithin self.new.limits self.new.state }
+    {
+        match self.undo.take(&mut self.game.memory, &mut self.game.frames) {
+            Some(pc) => {
+                self.waiting = None;
+                let led = resume(&mut self.game, pc);
+                let _ = go_on(&mut self.pc, &mut self.steps, &mut self.stopped, led);
+                self.is_within();
+                true
+            }
+            None => {
+                self.is_within();
+                false
             }
         }
     }

@@ -1,10 +1,10 @@
 // A machine's run: step after step, up to what is waited for or the stop.
 
-ghost use Rattle.std.specs.Prelude.{◌≡◌, ◌≤◌, ◌<◌, ◌+◌, ◌-◌, ◌^◌, ◌⊎◌, true, false, [], if◌then◌else◌, Some, None, Ok, Err, IfOk, OnOk, OnErr};
+ghost use Rattle.std.specs.Prelude.{◌≡◌, ◌≤◌, ◌<◌, ◌+◌, ◌-◌, ◌^◌, ◌⊎◌, true, false, [], if◌then◌else◌, Some, None, Ok, Err, IfOk, IfSome, OnOk, OnSome, OnErr, MatchResult};
 ghost use Rattle.zk_state.specs.Frames.{IsBounded};
 ghost use Rattle.zk_code.specs.Reading.{instr_at};
-ghost use Rattle.zk_vm.specs.Going.{IsAhead, Settles, LacksMemory, IsHalted};
-ghost use Rattle.zk_vm.specs.Halts.{IsRun, IsStep, IsCutOff, LeadsOn, ShowsLast, StopsAtOnce, event_waited};
+ghost use Rattle.zk_vm.specs.Going.{IsAhead, Settles, LacksMemory, IsHalted, Pauses};
+ghost use Rattle.zk_vm.specs.Halts.{HasPaused, IfRan, IsRun, IsStep, IsCutOff, LeadsOn, ShowsLast, StopsAtOnce, event_waited};
 ghost use Rattle.zk_vm.specs.Laws.{IsWithin};
 ghost use Rattle.zk_vm.specs.Step.{asked, is_read, text_of};
 
@@ -28,9 +28,10 @@ impl Machine {
     /// from then on until `close` sets another. Nothing of an instruction that faults is shown. Where there is
     /// no memory for a state that `save_undo` keeps, the stop is `Memory`, before that instruction stores its
     /// answer, and the states that were kept stand. Where the screen fails, the stop is `Write`, right after the step that
-    /// showed something. It is not waiting.
+    /// showed something. It is not waiting, and the screen never asks for a pause.
     pub fn run<S: Screen>(&mut self, screen: &mut S) -> Result<Event, Stop>
-        requires { self.old.waiting ≡ None }
+        requires free { self.old.waiting ≡ None }
+        requires endless { (a : S) → S.full a ≡ false }
         ensures run { IsRun self.old self.new result
             (λ t. S.shows screen.old screen.new t.screen t.script)
             ⊎ (IsCutOff ShowsLast S.shows S.failed screen.old screen.new self.old self.new result
@@ -48,6 +49,41 @@ impl Machine {
         ensures frames { IsBounded self.new.state.game.frames }
         ensures within { IsWithin self.new.limits self.new.state }
     {
+        match self.run_for(screen, u32::MAX) {
+            Ok(Some(event)) => Ok(event),
+            Ok(None) => unreachable!(),
+            Err(stop) => Err(stop),
+        }
+    }
+
+    /// Runs the story as `run` does, but pauses after so many instructions, and after a step at which the screen comes to ask
+    /// for it: then it answers none, and goes on from there when it is run again. It is not waiting, and the screen does not
+    /// ask for a pause.
+    pub fn run_for<S: Screen>(&mut self, screen: &mut S, most: u32) -> Result<Option<Event>, Stop>
+        requires free { self.old.waiting ≡ None }
+        requires room { S.full screen.old ≡ false }
+        ensures run { IfRan result (λ answer. IsRun self.old self.new answer
+            (λ t. S.shows screen.old screen.new t.screen t.script)
+            ⊎ (IsCutOff ShowsLast S.shows S.failed screen.old screen.new self.old self.new answer
+            × (self.new.stopped ≡ Some Stop.Write)))
+            (HasPaused S.shows S.full screen.old screen.new most self.old self.new) }
+        ensures at_once { IfRan result
+            (λ answer. StopsAtOnce S.shows S.failed screen.old screen.new self.old answer)
+            (S.failed screen.new ≡ false) }
+        ensures free { OnErr result (self.new.waiting ≡ None) }
+        ensures asks { IfOk result (λ event. event_waited self.new.waiting ≡ event) }
+        ensures reads { IfOk result (λ asked. IfSome asked
+            (λ event. is_read event ≡ true → self.new.state.reads < 16777216)) }
+        ensures same_reads { OnOk result (self.new.state.reads ≡ self.old.state.reads) }
+        ensures more { OnOk result (self.old.state.steps ≤ self.new.state.steps) }
+        ensures steps { IfOk result
+            (λ asked. OnSome asked (self.new.state.steps < self.new.limits.steps)) }
+        ensures runs { OnOk result (self.new.stopped ≡ None) }
+        ensures word { self.old.limits.steps < 2 ^ 32 }
+        ensures limits { self.new.limits ≡ self.old.limits }
+        ensures frames { IsBounded self.new.state.game.frames }
+        ensures within { IsWithin self.new.limits self.new.state }
+    {
         if let Some(stop) = self.stopped {
             self.is_within();
             return Err(stop);
@@ -59,12 +95,21 @@ impl Machine {
             self.is_within();
             return Err(Stop::Write);
         }
-        match self.steps_to_halt(screen) {
-            Ok(event) => {
+        if screen.is_full() {
+            self.is_within();
+            return Ok(None);
+        }
+        let bound = self.steps.saturating_add(most).min(self.limits.steps);
+        match self.steps_to_pause(screen, bound) {
+            Ok(()) => {
                 self.is_within();
-                Ok(event)
+                Ok(None)
             }
-            Err(stop) => {
+            Err(Ok(event)) => {
+                self.is_within();
+                Ok(Some(event))
+            }
+            Err(Err(stop)) => {
                 self.stopped = Some(stop);
                 self.is_within();
                 Err(stop)
@@ -72,49 +117,76 @@ impl Machine {
         }
     }
 
-    /// Steps up to an event or a stop: `Write` after the step at which the screen fails.
-    fn steps_to_halt<S: Screen>(&mut self, screen: &mut S) -> Halt
+    /// Steps up to an event or a stop, `Write` after the step at which the screen fails; or up to a pause, once so many steps
+    /// were made in all, and after the step at which the screen comes to ask for it.
+    fn steps_to_pause<S: Screen>(&mut self, screen: &mut S, bound: u32) -> Result<(), Halt>
         requires free { self.old.waiting ≡ None }
         requires runs { self.old.stopped ≡ None }
         requires silent { self.old.state.due ≡ [] }
         requires works { S.failed screen.old ≡ false }
-        ensures run { IsHalted self.old self.new result
+        requires room { S.full screen.old ≡ false }
+        requires from { self.old.state.steps ≤ bound }
+        requires to { bound ≤ self.old.limits.steps }
+        ensures run { MatchResult result
+            (λ _. Pauses S.shows S.full screen.old screen.new bound self.old self.new)
+            (λ halt. IsHalted self.old self.new halt
             (λ t. S.shows screen.old screen.new t.screen t.script)
-            ⊎ IsCutOff LeadsOn S.shows S.failed screen.old screen.new self.old self.new result }
-        ensures at_once { StopsAtOnce S.shows S.failed screen.old screen.new self.old result }
+            ⊎ IsCutOff LeadsOn S.shows S.failed screen.old screen.new self.old self.new halt) }
+        ensures at_once { MatchResult result (λ _. S.failed screen.new ≡ false)
+            (λ halt. StopsAtOnce S.shows S.failed screen.old screen.new self.old halt) }
         ensures reads { self.new.state.reads ≡ self.old.state.reads }
         ensures more { self.old.state.steps ≤ self.new.state.steps }
         ensures limits { self.new.limits ≡ self.old.limits }
     {
-        for _i in self.steps..self.limits.steps {
-            match self.go_ahead() {
+        for _i in self.steps..bound {
+            match self.go_ahead(bound) {
                 Ok(()) => {}
-                Err(halt) => return halt,
+                Err(halt) => return Err(halt),
             }
-            if self.steps >= self.limits.steps {
-                return out_of_steps(self.pc);
+            if self.steps >= bound {
+                return self.pause();
             }
             match self.step(screen) {
                 Ok(()) => {}
-                Err(halt) => return halt,
+                Err(halt) => return Err(halt),
             }
             if screen.has_failed() {
-                return Err(Stop::Write);
+                return Err(Err(Stop::Write));
+            }
+            if screen.is_full() {
+                return Ok(());
             }
         }
-        out_of_steps(self.pc)
+        self.pause()
     }
 
-    /// Makes the steps that show nothing and go on in the story, as many as there may be, by instructions that are kept.
-    fn go_ahead(&mut self) -> Result<(), Halt>
+    /// Pauses, unless no step is left.
+    fn pause(&self) -> Result<(), Halt>
+        ensures { MatchResult result (λ _. self.now.state.steps < self.now.limits.steps)
+            (λ halt. (halt ≡ Err (Stop.Limit self.now.state.pc Limit.Steps))
+            × (self.now.limits.steps ≤ self.now.state.steps)) }
+    {
+        if self.steps < self.limits.steps {
+            Ok(())
+        } else {
+            Err(Err(Stop::Limit(self.pc, Limit::Steps)))
+        }
+    }
+
+    /// Makes the steps that show nothing and go on in the story, as many as there may be up to a bound, by instructions that
+    /// are kept.
+    fn go_ahead(&mut self, bound: u32) -> Result<(), Halt>
         requires free { self.old.waiting ≡ None }
         requires runs { self.old.stopped ≡ None }
+        requires from { self.old.state.steps ≤ bound }
+        requires to { bound ≤ self.old.limits.steps }
         ensures ahead { IsAhead self.old self.new result }
         ensures reads { self.new.state.reads ≡ self.old.state.reads }
         ensures more { self.old.state.steps ≤ self.new.state.steps }
+        ensures few { OnOk result (self.new.state.steps ≤ bound) }
         ensures limits { self.new.limits ≡ self.old.limits }
     {
-        let most = self.limits.steps - self.steps;
+        let most = bound - self.steps;
         let batch = run_ahead(&mut self.game, &mut self.cache, self.pc, most);
         self.pc = batch.pc;
         self.steps += batch.made;
@@ -180,6 +252,7 @@ impl Machine {
         requires silent { self.old.state.due ≡ [] }
         requires near { i.next ≤ 2 ^ 20 }
         requires inside { self.old.state.pc < i.next }
+        requires fetched { instr_at self.old.state.game.memory self.old.state.pc ≡ Ok i }
         ensures step { Settles self.old self.new result
             (asked self.old.state i self.old.state.game request)
             ⊎ ((request ≡ Request.SaveUndo) × LacksMemory self.old self.new result) }
@@ -270,6 +343,7 @@ impl Machine {
         requires silent { self.old.state.due ≡ [] }
         requires near { instruction.next ≤ 2 ^ 20 }
         requires inside { self.old.state.pc < instruction.next }
+        requires fetched { instr_at self.old.state.game.memory self.old.state.pc ≡ Ok instruction }
         ensures step { Settles self.old self.new result
             (asked self.old.state instruction self.old.state.game (Request.Answer event)) }
         ensures text { S.shows screen.old screen.new (text_of self.old.state
@@ -305,6 +379,7 @@ impl Machine {
         requires silent { self.old.state.due ≡ [] }
         requires near { instruction.next ≤ 2 ^ 20 }
         requires inside { self.old.state.pc < instruction.next }
+        requires fetched { instr_at self.old.state.game.memory self.old.state.pc ≡ Ok instruction }
         requires read { is_read event ≡ true }
         ensures step { Settles self.old self.new result
             (asked self.old.state instruction self.old.state.game (Request.Answer event)) }
@@ -332,11 +407,4 @@ impl Machine {
         });
         Err(Ok(event))
     }
-}
-
-/// The stop of a machine that has no step left.
-fn out_of_steps(pc: u32) -> Halt
-    ensures { result ≡ Err (Stop.Limit pc Limit.Steps) }
-{
-    Err(Stop::Limit(pc, Limit::Steps))
 }

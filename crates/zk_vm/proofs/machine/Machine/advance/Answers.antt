@@ -1,5 +1,5 @@
 use Rattle.std.proofs.Common.{◌≤◌, ◌+◌, refl, arith}
-use Rattle.zk_vm.proofs.Advancing.{sound_moved, stepped_asked, stepped_on, stepped_err}
+use Rattle.zk_vm.proofs.Advancing.{sound_moved, still_there, stepped_asked, stepped_on, stepped_err}
 use Rattle.zk_vm.proofs.machine.Machine.advance.Goals as goal
 
 pub invariant_of-self : goal.invariant_of-self
@@ -37,3 +37,9 @@ returns-in-Err-clause-step g c =
     let fetched = rw (← c.self.view_is) at c.requires.fetched in
     let tells = rw c.stop_at.ensures at c.halt.ensures.value in
     rw (← c.self.view_is) (stepped_err g.S.Screen.shows _ _ c.self.inside _ c.args.i c.in-Err.refusal _ fetched c.in-Err.ensures.value tells free c.in-Err.ensures.text)
+
+pub meet-requires-clause-fetched : goal.meet-requires-clause-fetched
+meet-requires-clause-fetched g c =
+    let fetched = rw (← c.self.view_is) at c.requires.fetched in
+    let value = rw c.in-Ok-Asks.field-0-is at c.in-Ok-Asks.ensures.value in
+    still_there c.self.inside c.carry_out.new.game c.args.i c.in-Ok-Asks.request _ fetched value

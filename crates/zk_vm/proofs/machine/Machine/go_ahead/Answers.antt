@@ -1,4 +1,4 @@
-use Rattle.std.proofs.Common.{◌≤◌, ◌+◌, refl, arith}
+use Rattle.std.proofs.Common.{◌≤◌, ◌<◌, ◌+◌, ◌-◌, refl, arith}
 use Rattle.zk_vm.proofs.Ahead.{seen_ahead, seen_stop, sound_ahead}
 use Rattle.zk_vm.proofs.machine.Machine.go_ahead.Goals as goal
 
@@ -7,7 +7,9 @@ invariant_of-self c =
     let runs = rw (← c.self.view_is) at c.requires.runs in
     let free = rw (← c.self.view_is) at c.requires.free in
     let quiet_steps = rw c.in-None.is at c.run_ahead-batch.ensures.goes in
-    let more : c.self.inside.steps + c.run_ahead-batch.result.made ≤ c.self.inside.limits.steps = omega (arith, c.run_ahead-batch.ensures.few, c.self.invariant.steps) in
+    let from = rw (← c.self.view_is) at c.requires.from in
+    let to = rw (← c.self.view_is) at c.requires.to in
+    let more : c.self.inside.steps + c.run_ahead-batch.result.made ≤ c.self.inside.limits.steps = omega (arith, c.run_ahead-batch.ensures.few, from, to) in
     sound_ahead c.self.inside _ c.run_ahead-batch.result.made quiet_steps c.self.invariant runs refl free more refl refl c.run_ahead-batch.ensures.cache c.run_ahead-batch.ensures.bounds
 
 pub returns-in-None-clause-ahead : goal.returns-in-None-clause-ahead
@@ -19,6 +21,9 @@ pub returns-in-Some-clause-ahead : goal.returns-in-Some-clause-ahead
 returns-in-Some-clause-ahead c =
     let free = rw (← c.self.view_is) at c.requires.free in
     let refused = rw c.in-Some.is at c.run_ahead-batch.ensures.goes in
-    let room = rw c.in-Some.is at c.run_ahead-batch.ensures.room in
+    let from = rw (← c.self.view_is) at c.requires.from in
+    let to = rw (← c.self.view_is) at c.requires.to in
+    let few = rw c.in-Some.is at c.run_ahead-batch.ensures.room in
+    let room : c.run_ahead-batch.result.made < c.self.inside.limits.steps - c.self.inside.steps = omega (arith, few, from, to) in
     let tells = rw c.stop_at.ensures at c.halt.ensures.value in
     rw (← c.self.view_is) (seen_stop _ _ _ c.run_ahead-batch.result.made c.run_ahead-batch.result.pc c.in-Some.refusal tells room refused free)

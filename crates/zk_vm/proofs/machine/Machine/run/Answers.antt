@@ -1,65 +1,6 @@
-use Rattle.std.proofs.Common.{◌∙◌, inl, inr, ℕ, List, Some, ap, sym, refl}
-use Rattle.zk_vm.specs.declared.stop.Stop.TheVariants.{Write}
-use Rattle.zk_vm.specs.Outcome.{Session}
-use Rattle.zk_vm.specs.Sound.{state_seen}
-use Rattle.zk_vm.specs.Step.{State}
-use Rattle.zk_vm.proofs.Answering.{answerable}
-use Rattle.zk_vm.proofs.Following.{never_fails}
-use Rattle.zk_vm.proofs.Halting.{run_stopped, run_waits, run_stops, run_cut, run_untold, never_cut, once_due, halted_waits}
-use Rattle.zk_vm.proofs.Keeping.{seen}
+use Rattle.std.proofs.Common.{◌∙◌, ap, arith}
+use Rattle.zk_vm.proofs.Halting.{never_pauses}
 use Rattle.zk_vm.proofs.machine.Machine.run.Goals as goal
 
-pub returns-in-Some-clause-run : goal.returns-in-Some-clause-run
-returns-in-Some-clause-run g c =
-    let stopped = c.in-Some.is in
-    let free = rw (← c.self.view_is) at c.requires in
-    rw (← c.self.view_is) (inl (run_stopped g.S.Screen.shows _ _ c.in-Some.stop stopped free (g.met.S.Screen.nothing _)))
-
-pub returns-in-Ok-clause-run : goal.returns-in-Ok-clause-run
-returns-in-Ok-clause-run g c =
-    let first = rw c.as_slice.ensures.value at c.script_all.ensures in
-    let rest = never_cut g.S.Screen.shows g.S.Screen.failed _ _ _ _ c.in-Ok.event _ (rw c.clear.ensures at c.in-Ok.ensures.run) in
-    rw (← c.self.view_is) (inl (run_waits g.S.Screen.shows g.met.S.Screen.twice _ _ _ (seen c.self.inside) c.steps_to_halt.new.self c.in-Ok.event c.in_default.is first rest))
-
-pub returns-in-Ok-clause-steps : goal.returns-in-Ok-clause-steps
-returns-in-Ok-clause-steps g c =
-    let waits = halted_waits _ _ c.in-Ok.event _ (never_cut g.S.Screen.shows g.S.Screen.failed _ _ _ _ c.in-Ok.event _ c.in-Ok.ensures.run) in
-    let can = answerable c.self-2.inside waits.0 c.self-2.invariant (ap (λ (m : Session). m.waiting) c.self-2.view_is ∙ waits.1) in
-    (rw (← c.self.view_is) c.in-Ok.ensures.more, rw (← c.self-2.view_is) can.steps)
-
-pub returns-in-Err-clause-run : goal.returns-in-Err-clause-run
-returns-in-Err-clause-run g c =
-    let first = rw c.as_slice.ensures.value at c.script_all.ensures in
-    let works = sym c.has_failed.ensures ∙ c.if-has_failed.false in
-    let free = ap (λ (m : Session). m.waiting) c.self-2.view_is in
-    let state = ap (λ (m : Session). m.state) c.self-2.view_is in
-    elim (rw c.clear.ensures at c.in-Err.ensures.run) [
-      | inl rest ↦ rw (← c.self.view_is) (inl (run_stops g.S.Screen.shows g.met.S.Screen.twice _ _ _ (seen c.self.inside) c.steps_to_halt.new.self _ c.in-Err.stop c.in_default.is first rest refl free (ap (λ (m : Session). m.limits) c.self-2.view_is ∙ c.in-Err.ensures.limits) state))
-      | inr cut ↦ rw (← c.self.view_is) (inr (run_cut g.S.Screen.shows g.met.S.Screen.twice g.S.Screen.failed _ _ _ (seen c.self.inside) c.steps_to_halt.new.self _ c.in-Err.stop first works cut refl free (ap (λ (m : Session). m.limits) c.self-2.view_is ∙ c.in-Err.ensures.limits) state))
-    ]
-
-pub returns-in-Some-clause-at_once : goal.returns-in-Some-clause-at_once
-returns-in-Some-clause-at_once g c = λ works. never_fails g.S.Screen.shows g.S.Screen.failed _ _ _ _ works works
-
-pub returns-in-Ok-clause-at_once : goal.returns-in-Ok-clause-at_once
-returns-in-Ok-clause-at_once g c =
-    let first = rw c.as_slice.ensures.value at c.script_all.ensures in
-    let works = sym c.has_failed.ensures ∙ c.if-has_failed.false in
-    rw (← c.self.view_is) (once_due g.S.Screen.shows g.met.S.Screen.twice g.S.Screen.failed _ _ _ (seen c.self.inside) _ first works (rw c.clear.ensures at c.in-Ok.ensures.at_once))
-
-pub returns-in-Err-clause-at_once : goal.returns-in-Err-clause-at_once
-returns-in-Err-clause-at_once g c =
-    let first = rw c.as_slice.ensures.value at c.script_all.ensures in
-    let works = sym c.has_failed.ensures ∙ c.if-has_failed.false in
-    rw (← c.self.view_is) (once_due g.S.Screen.shows g.met.S.Screen.twice g.S.Screen.failed _ _ _ (seen c.self.inside) _ first works (rw c.clear.ensures at c.in-Err.ensures.at_once))
-
-pub returns-then-has_failed-clause-at_once : goal.returns-then-has_failed-clause-at_once
-returns-then-has_failed-clause-at_once g c = λ sound broken. inl refl
-
-pub returns-then-has_failed-clause-run : goal.returns-then-has_failed-clause-run
-returns-then-has_failed-clause-run g c =
-    let first = rw c.as_slice.ensures.value at c.script_all.ensures in
-    let free = rw (← c.self.view_is) at c.requires in
-    let there = ap (λ (due : List ℕ). let s : State = record (state_seen c.self.inside) { due = due } in s) c.clear.ensures in
-    let new : Session = record (seen c.self.inside) { state = record (state_seen c.self.inside) { due = c.clear.new.self.items }; stopped = Some Write } in
-    rw (← c.self.view_is) (inr (run_untold g.S.Screen.shows g.met.S.Screen.nothing g.S.Screen.failed _ _ (seen c.self.inside) new c.in_default.is first (sym c.has_failed.ensures ∙ c.if-has_failed.true) free there, refl))
+pub unreachable-requires : goal.unreachable-requires
+unreachable-requires g c = never_pauses g.S.Screen.shows g.S.Screen.full _ _ _ _ c.requires.endless (omega (arith, c.run_for.ensures.word)) (rw c.in-Ok-None.field-0-is at c.in-Ok-None.ensures.run)

@@ -1,6 +1,6 @@
 use Rattle.std.proofs.Common.{◌≡◌, ◌≤◌, false}
 use Rattle.zk_vm.proofs.Following.{Follows}
-use Rattle.zk_vm.proofs.machine.Machine.steps_to_halt.Given as goal
+use Rattle.zk_vm.proofs.machine.Machine.steps_to_pause.Given as goal
 
 abbrev pub invariant-loop-i : goal.invariant-loop-i
 invariant-loop-i g l = record {
@@ -9,5 +9,6 @@ invariant-loop-i g l = record {
   more : l.fn.self.state.steps ≤ l.self.state.steps;
   count : l._i ≤ l.self.state.steps;
   works : g.S.Screen.failed l.screen ≡ false;
-  limit : l._i-end ≡ l.fn.self.limits.steps;
+  room : g.S.Screen.full l.screen ≡ false;
+  under : l.self.state.steps ≤ l.fn.bound;
 }
