@@ -1,0 +1,33 @@
+-- What filling memory leaves alone.
+use Rattle.std.proofs.Common.{◌≡◌, ℕ, Bool, true, false, List, Ok, Err, refl, ap, sym, nat_lt}
+use Rattle.zk_mem.specs.Fresh.{fresh}
+use Rattle.zk_mem.specs.Map.{MemoryMap, byte_put, readable_end, with_byte}
+use Rattle.zk_mem.specs.declared.fault.Fault.TheVariants.{BadAddress, ReadOnly}
+use Rattle.zk_step.specs.Laws.{fixed_parts}
+use Rattle.std.specs.Prelude.{if◌then◌else◌}
+
+put_by : (m n : MemoryMap) (a v : ℕ) (p q : Bool) → (if p then (if q then Ok (with_byte m a v) else Err ReadOnly) else Err BadAddress) ≡ Ok n → fixed_parts n ≡ fixed_parts m
+unfolding fixed_parts
+put_by m n a v true true h = let same : with_byte m a v ≡ n = cc in sym (ap fixed_parts same)
+put_by m n a v true false h = absurd cc
+put_by m n a v false q h = absurd cc
+
+pub byte_fixed : (m n : MemoryMap) (a v : ℕ) → byte_put m a v ≡ Ok n → fixed_parts n ≡ fixed_parts m
+unfolding byte_put
+byte_fixed m n a v h = put_by m n a v (nat_lt a (readable_end m)) (nat_lt a m.static_base) h
+
+pub fresh_file : (file : List ℕ) (undo : ℕ) → (fresh file undo).file ≡ file
+unfolding fresh
+fresh_file file undo = refl
+
+pub fresh_undo : (file : List ℕ) (undo : ℕ) → (fresh file undo).undo_states ≡ undo
+unfolding fresh
+fresh_undo file undo = refl
+
+pub same_file : (m n : MemoryMap) → fixed_parts n ≡ fixed_parts m → n.file ≡ m.file
+unfolding fixed_parts
+same_file m n e = ap (λ (p : (ℕ × ℕ) × (List ℕ × ℕ)). p.1.0) e
+
+pub same_undo : (m n : MemoryMap) → fixed_parts n ≡ fixed_parts m → n.undo_states ≡ m.undo_states
+unfolding fixed_parts
+same_undo m n e = ap (λ (p : (ℕ × ℕ) × (List ℕ × ℕ)). p.1.1) e

@@ -1,0 +1,4 @@
+pub mod Sums
+pub mod Snapshots
+pub mod Opening
+pub mod Laws

@@ -1,0 +1,148 @@
+-- The bytes of a snapshot: a machine that waits for a line or a character. Numbers have their high byte first.
+use Rattle.std.specs.Prelude.{◌≡◌, ℕ, zero, suc, ◌/◌, ◌%◌, Bool, true, false, List, [], ◌∷◌, ◌++◌, length, take, reverse, Option, Some, None}
+use Rattle.std.specs.List.{flat_map}
+use Rattle.zk_mem.specs.Header.{header_of}
+use Rattle.zk_state.specs.Frames.{Frame, FrameList, frames_of}
+use Rattle.zk_save.specs.Quetzal.{bytes_2, bytes_4, words_bytes}
+use Rattle.zk_term.specs.Windows.{Windows, row_text}
+use Rattle.zk_term.specs.declared.windows.Window.{Window}
+use Rattle.zk_term.specs.declared.windows.Window.TheVariants.{Lower}
+use Rattle.zk_term.specs.declared.windows.Window.TheVariants.{Upper as UpperWindow}
+use Rattle.zk_step.specs.declared.state.ending.Event.{Event}
+use Rattle.zk_step.specs.declared.state.ending.Event.TheVariants.{Line, Char, Save, Restore}
+use Rattle.zk_step.specs.declared.state.game_state.GameState.{GameState}
+use Rattle.zk_step.specs.declared.state.game_state.View.{View}
+use Rattle.zk_step.specs.declared.state.game_state.View.TheVariants.{Plain, Upper}
+use Rattle.zk_step.specs.declared.state.random.Generators.{Generators}
+use Rattle.zk_vm.specs.declared.limits.Limits.{Limits}
+use Rattle.zk_vm.specs.declared.machine.parts.Asking.{Asking}
+use Rattle.zk_vm.specs.declared.machine.parts.Place.{Place}
+use Rattle.zk_vm.specs.Outcome.{Session}
+use Rattle.zk_vm.specs.Parts.{asking_of, place_of}
+use Rattle.zk_vm.specs.Plays.{AsksForLine}
+use Rattle.zk_snapshot.specs.Sums.{sum_of}
+
+-- ---- numbers and choices
+
+-- a number of eight bytes
+abbrev pub bytes_8 : ℕ → List ℕ
+bytes_8 n = bytes_4 (n / 4294967296) ++ bytes_4 (n % 4294967296)
+
+-- 1 for a truth, 0 for a falsehood
+abbrev pub truth_byte : Bool → ℕ
+truth_byte true = 1
+truth_byte false = 0
+
+-- a variable that takes a result, after a 1; two zeros where the result is dropped
+unfoldable pub store_bytes : Option ℕ → List ℕ
+store_bytes None = 0 ∷ 0 ∷ []
+store_bytes (Some v) = 1 ∷ v ∷ []
+
+-- the state of a generator, after a 1; zeros where it is closed
+unfoldable pub state_bytes : Option ℕ → List ℕ
+state_bytes None = 0 ∷ [] ++ bytes_8 0
+state_bytes (Some n) = 1 ∷ [] ++ bytes_8 n
+
+-- ---- the story
+
+-- the four letters ZKSN
+abbrev pub name_bytes : List ℕ
+name_bytes = 90 ∷ 75 ∷ 83 ∷ 78 ∷ []
+
+-- the version of the format
+abbrev pub version_byte : ℕ
+version_byte = 1
+
+-- what a story's file is known by, in 18 bytes: its length, its release, its serial number, its checksum, and the sum of all
+-- its bytes
+unfoldable pub story_bytes : List ℕ → List ℕ
+story_bytes file = bytes_4 (length file) ++ bytes_2 (header_of file).release ++ (header_of file).serial ++ bytes_2 (header_of file).checksum ++ bytes_4 (sum_of file)
+
+-- ---- the machine
+
+-- limits, in 9 bytes: frames, words, states to go back to, steps
+unfoldable pub limits_bytes : Limits → List ℕ
+limits_bytes l = bytes_2 l.frames ++ bytes_2 l.words ++ l.undo ∷ [] ++ bytes_4 l.steps
+
+-- where the run stands, in 12 bytes: the program counter, steps, reads
+unfoldable pub place_bytes : Place → List ℕ
+place_bytes p = bytes_4 p.pc ++ bytes_4 p.steps ++ bytes_4 p.reads
+
+-- what is waited for, in 5 bytes: 1 with the addresses of the text buffer and the parse buffer for a line, 2 and zeros for a
+-- character; a machine that waits for a saved game has no snapshot
+unfoldable pub event_bytes : Event → List ℕ
+event_bytes (Line text parse) = 1 ∷ [] ++ bytes_2 text ++ bytes_2 parse
+event_bytes Char = 2 ∷ [] ++ bytes_2 0 ++ bytes_2 0
+event_bytes Save = 3 ∷ [] ++ bytes_2 0 ++ bytes_2 0
+event_bytes Restore = 4 ∷ [] ++ bytes_2 0 ++ bytes_2 0
+
+-- what is asked for, in 11 bytes: the event, the address after the instruction that waits, and what takes its result
+unfoldable pub asking_bytes : Option Asking → List ℕ
+asking_bytes None = []
+asking_bytes (Some a) = event_bytes a.event ++ bytes_4 a.next ++ store_bytes a.store
+
+-- ---- the game state
+
+-- what is shown of the upper window and the status line
+abbrev pub view_byte : View → ℕ
+view_byte Plain = 0
+view_byte Upper = 1
+
+-- the window that is selected
+abbrev pub window_byte : Window → ℕ
+window_byte Lower = 0
+window_byte UpperWindow = 1
+
+-- the random numbers, in 17 bytes
+unfoldable pub generators_bytes : Generators → List ℕ
+generators_bytes g = bytes_8 g.free ++ state_bytes g.predictable
+
+-- a row: the number of its characters up to the last that is no space, and these, four bytes each
+unfoldable pub row_bytes : List ℕ → List ℕ
+row_bytes text = length text ∷ [] ++ flat_map bytes_4 text
+
+-- so many rows of the grid, from the first on
+unfoldable pub rows_bytes : ℕ → Windows → List ℕ
+rows_bytes zero w = []
+rows_bytes (suc n) w = rows_bytes n w ++ row_bytes (row_text w (suc n))
+
+-- the upper window: its height, the cursor's row and column, the window that is selected, and all 255 rows
+unfoldable pub windows_bytes : Windows → List ℕ
+windows_bytes w = w.height ∷ [] ++ bytes_2 w.row ++ w.column ∷ [] ++ window_byte w.selected ∷ [] ++ rows_bytes 255 w
+
+-- a frame: the address that it returns to, what takes its result, how many arguments it was given, how many local variables
+-- and words on its evaluation stack it has, and both
+unfoldable pub frame_bytes : Frame → List ℕ
+frame_bytes f = bytes_4 f.pc ++ store_bytes f.result ++ f.supplied ∷ [] ++ length f.locals ∷ [] ++ bytes_2 (length f.words) ++ words_bytes f.locals ++ words_bytes f.words
+
+-- the frames: how many wait, and all of them, the first before the others
+unfoldable pub frames_bytes : FrameList → List ℕ
+frames_bytes s = bytes_2 (length s.callers) ++ flat_map frame_bytes (reverse (frames_of s))
+
+-- the game state: the view, whether the screen's last line is empty, whether the screen is on, the random numbers, the upper
+-- window, dynamic memory as it stands, and the frames
+unfoldable pub game_bytes : GameState → List ℕ
+game_bytes g = view_byte g.view ∷ [] ++ truth_byte g.at_line_start ∷ [] ++ truth_byte g.streams.screen ∷ [] ++ generators_bytes g.generators ++ windows_bytes g.windows ++ take g.memory.static_base g.memory.bytes ++ frames_bytes g.frames
+
+-- ---- the whole
+
+-- the name, the version and the story, in 23 bytes
+unfoldable pub head_bytes : List ℕ → List ℕ
+head_bytes file = name_bytes ++ version_byte ∷ [] ++ story_bytes file
+
+-- all but the sum
+unfoldable pub body_bytes : Session → List ℕ
+body_bytes s = head_bytes s.state.game.memory.file ++ limits_bytes s.limits ++ place_bytes (place_of s) ++ asking_bytes (asking_of s.waiting) ++ game_bytes s.state.game
+
+-- bytes with their sum after them
+abbrev pub with_sum : List ℕ → List ℕ
+with_sum bytes = bytes ++ bytes_4 (sum_of bytes)
+
+-- the snapshot of a machine
+unfoldable pub snapshot_of : Session → List ℕ
+snapshot_of s = with_sum (body_bytes s)
+
+-- a machine has a snapshot where it waits for a line or a character and no table of stream 3 is open
+pub record HasSnapshot (s : Session) : Type 0 where
+  pub waits : AsksForLine s
+  pub tables : s.state.game.streams.tables ≡ []

@@ -1,0 +1,268 @@
+// The parts of a machine, read from bytes. What is made of them counts only where it has these bytes as its
+// snapshot, so what is read here is looked at once, when all is there.
+
+ghost use Rattle.std.specs.Prelude.{◌≡◌, ◌<◌, ◌≤◌, true, length, IfSome};
+ghost use Rattle.zk_step.specs.Laws.{fixed_parts};
+ghost use Rattle.zk_vm.specs.Step.{is_read};
+
+use zk_mem::memory::Memory;
+use zk_state::frames::Frames;
+use zk_step::state::ending::Event;
+use zk_step::state::game_state::View;
+use zk_step::state::random::Generators;
+use zk_term::windows::{Window, Windows};
+use zk_vm::limits::Limits;
+use zk_vm::machine::parts::Place;
+
+/// Bytes that are still to be read.
+#[derive(Drop)]
+pub(crate) struct Reader<'a> {
+    rest: &'a [u8],
+}
+
+impl<'a> Reader<'a> {
+    /// A reader at the first of some bytes.
+    pub(crate) fn new(bytes: &'a [u8]) -> Reader<'a> {
+        Reader { rest: bytes }
+    }
+
+    /// The next bytes, so many of them; none where fewer are left.
+    pub(crate) fn take(&mut self, count: usize) -> Option<&'a [u8]>
+        ensures { IfSome result (λ taken. length taken.now ≡ count) }
+    {
+        let rest = self.rest;
+        if rest.len() < count {
+            return None;
+        }
+        self.rest = &rest[count..];
+        Some(&rest[..count])
+    }
+
+    /// The next byte.
+    pub(crate) fn byte(&mut self) -> Option<u8> {
+        let taken = self.take(1)?;
+        Some(taken[0])
+    }
+
+    /// The next number of two bytes.
+    pub(crate) fn word(&mut self) -> Option<u16> {
+        let taken = self.take(2)?;
+        Some(taken[0] as u16 * 256 + taken[1] as u16)
+    }
+
+    /// The next number of four bytes.
+    pub(crate) fn number(&mut self) -> Option<u32> {
+        let high = self.word()?;
+        let low = self.word()?;
+        Some(high as u32 * 65536 + low as u32)
+    }
+
+    /// The next number of eight bytes.
+    fn long(&mut self) -> Option<u64> {
+        let high = self.number()?;
+        let low = self.number()?;
+        Some(high as u64 * 4_294_967_296 + low as u64)
+    }
+
+    /// The next byte as a truth.
+    fn truth(&mut self) -> Option<bool> {
+        let byte = self.byte()?;
+        Some(byte == 1)
+    }
+}
+
+/// What a snapshot says besides the upper window, memory and frames.
+#[derive(Clone, Copy, Drop)]
+pub(crate) struct Front {
+    pub limits: Limits,
+    pub place: Place,
+    pub event: Event,
+    pub view: View,
+    pub at_line_start: bool,
+    pub screen: bool,
+    pub generators: Generators,
+}
+
+/// Limits.
+fn limits_in(reader: &mut Reader<'_>) -> Option<Limits> {
+    let frames = reader.word()?;
+    let words = reader.word()?;
+    let undo = reader.byte()?;
+    let steps = reader.number()?;
+    Some(Limits {
+        frames,
+        words,
+        undo,
+        steps,
+    })
+}
+
+/// Where a run stands.
+fn place_in(reader: &mut Reader<'_>) -> Option<Place> {
+    let pc = reader.number()?;
+    let steps = reader.number()?;
+    let reads = reader.number()?;
+    Some(Place { pc, steps, reads })
+}
+
+/// The line or the character that is waited for.
+fn event_in(reader: &mut Reader<'_>) -> Option<Event>
+    ensures { IfSome result (λ event. is_read event ≡ true) }
+{
+    let kind = reader.byte()?;
+    let text = reader.word()?;
+    let parse = reader.word()?;
+    if kind == 1 {
+        return Some(Event::Line(text, parse));
+    }
+    Some(Event::Char)
+}
+
+/// The variable that takes a result.
+fn store_in(reader: &mut Reader<'_>) -> Option<Option<u8>> {
+    let taken = reader.truth()?;
+    let variable = reader.byte()?;
+    Some(if taken { Some(variable) } else { None })
+}
+
+/// The random numbers.
+fn generators_in(reader: &mut Reader<'_>) -> Option<Generators> {
+    let free = reader.long()?;
+    let open = reader.truth()?;
+    let state = reader.long()?;
+    Some(Generators {
+        free,
+        predictable: if open { Some(state) } else { None },
+    })
+}
+
+/// What comes before the upper window.
+pub(crate) fn front_in(reader: &mut Reader<'_>) -> Option<Front>
+    ensures { IfSome result (λ front. is_read front.event ≡ true) }
+{
+    let limits = limits_in(reader)?;
+    let place = place_in(reader)?;
+    let event = event_in(reader)?;
+    // the instruction that waits is the one at its address
+    let _ = reader.number()?;
+    let _ = store_in(reader)?;
+    let upper = reader.truth()?;
+    let at_line_start = reader.truth()?;
+    let screen = reader.truth()?;
+    let generators = generators_in(reader)?;
+    Some(Front {
+        limits,
+        place,
+        event,
+        view: if upper { View::Upper } else { View::Plain },
+        at_line_start,
+        screen,
+        generators,
+    })
+}
+
+/// Puts a row's characters into the upper window.
+fn fill_row(reader: &mut Reader<'_>, windows: &mut Windows, row: u16) -> Option<()> {
+    let count = reader.byte()?;
+    windows.set_cursor(row, 1);
+    for _i in 0..count {
+        let c = char::from_u32(reader.number()?)?;
+        windows.put(c);
+    }
+    Some(())
+}
+
+/// Puts the cursor where it stood, which may be past the last row or column.
+fn put_cursor(windows: &mut Windows, row: u16, column: u8) {
+    if row == 1 && column == 81 {
+        let last = windows.row(1).get(79).copied().unwrap_or(' ');
+        windows.set_cursor(1, 80);
+        windows.put(last);
+    } else if row >= 2 && column >= 1 && column <= 81 {
+        windows.set_cursor(row - 1, 1);
+        windows.start_row(column);
+    } else {
+        windows.set_cursor(row, column as u16);
+    }
+}
+
+/// Fills an upper window that is new.
+pub(crate) fn fill_windows(reader: &mut Reader<'_>, windows: &mut Windows) -> Option<()> {
+    let height = reader.byte()?;
+    let row = reader.word()?;
+    let column = reader.byte()?;
+    let upper = reader.truth()?;
+    windows.split(4, height as u16);
+    if upper {
+        windows.select(Window::Upper);
+    }
+    for number in 0..255u16 {
+        fill_row(reader, windows, number + 1)?;
+    }
+    put_cursor(windows, row, column);
+    Some(())
+}
+
+/// Gives dynamic memory its bytes.
+#[tactic(auto, using(crate::proofs::Filled::byte_fixed))]
+fn put_bytes(memory: &mut Memory, bytes: &[u8])
+    requires { length bytes.now < 65536 }
+    ensures { fixed_parts memory.new ≡ fixed_parts memory.old }
+{
+    for k in 0..bytes.len() {
+        let _ = memory.set_byte(k as u32, bytes[k]);
+    }
+}
+
+/// Reads dynamic memory.
+#[tactic(auto, using(crate::proofs::Filled::same_file, crate::proofs::Filled::same_undo))]
+pub(crate) fn fill_memory(reader: &mut Reader<'_>, memory: &mut Memory) -> Option<()>
+    ensures file { memory.new.file ≡ memory.old.file }
+    ensures undo { memory.new.undo_states ≡ memory.old.undo_states }
+{
+    let count = memory.dynamic().len();
+    let bytes = reader.take(count)?;
+    put_bytes(memory, bytes);
+    Some(())
+}
+
+/// Reads the words of the current frame: its local variables, and its evaluation stack.
+fn fill_frame(reader: &mut Reader<'_>, frames: &mut Frames, locals: u8, words: u16) -> Option<()>
+    requires { locals ≤ 15 }
+{
+    for k in 0..locals {
+        let value = reader.word()?;
+        frames.set_local_at(k, value).ok()?;
+    }
+    for _i in 0..words {
+        let value = reader.word()?;
+        frames.push(value).ok()?;
+    }
+    Some(())
+}
+
+/// Reads a frame; the first one is there before.
+fn next_frame(reader: &mut Reader<'_>, frames: &mut Frames, is_first: bool) -> Option<()> {
+    let pc = reader.number()?;
+    let result = store_in(reader)?;
+    let supplied = reader.byte()?;
+    let locals = reader.byte()?;
+    let words = reader.word()?;
+    if locals > 15 || supplied > 7 || pc >= 16_777_216 {
+        return None;
+    }
+    if !is_first {
+        frames.call_with(locals, &[], pc, result, supplied).ok()?;
+    }
+    fill_frame(reader, frames, locals, words)
+}
+
+/// Reads all frames.
+pub(crate) fn fill_frames(reader: &mut Reader<'_>, frames: &mut Frames) -> Option<()> {
+    let waiting = reader.word()?;
+    next_frame(reader, frames, true)?;
+    for _i in 0..waiting {
+        next_frame(reader, frames, false)?;
+    }
+    Some(())
+}
