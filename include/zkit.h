@@ -1,30 +1,28 @@
-/* zkit.h - plays Z-machine stories from C or C++.
+/* zkit.h - plays and inspects Z-machine stories from C or C++.
  * SPDX-License-Identifier: MIT OR Apache-2.0
  *
- * A handle has one story that is played. The program opens it, lets it take turns, takes its text and answers what it
- * asks for. The library calls back nothing, reads no file and keeps nothing outside the handles: a saved game is bytes
+ * A game is one story that is played. The program opens it, lets it take turns, takes its text and answers what it
+ * asks for. The library calls back nothing, reads no file and keeps nothing outside the games: a saved game is bytes
  * that the program keeps where it likes.
  *
- *     zkit game = ZKIT_CLOSED;
- *     zkit_open(&game, story, length, 1, ZKIT_FRAMES, ZKIT_WORDS, ZKIT_UNDO, ZKIT_STEPS, 0);
+ *     zkit *game = zkit_open(story, length, NULL, NULL);
  *     do {
- *         asked = zkit_turn(&game);
+ *         asked = zkit_turn(game);
  *         ... show what zkit_text gives, and answer what is asked for, as a line by zkit_line
  *     } while (asked != ZKIT_STOPPED);
- *     zkit_close(&game);
+ *     zkit_close(game);
  *
  * What the program owes, and no call tests:
  *
- * - A handle is ZKIT_CLOSED at first, and then changed by these functions alone. It may be moved in memory, but only
- *   one copy is used. It is used by one thread, that which opened it. Other handles may be used by other threads at the same time.
- * - No pointer is null, even if its length is 0. It points to as many bytes as the length after it says, less than
- *   2^63. No argument overlaps a handle or a buffer of the same call.
- * - The library takes its memory by the program's malloc, realloc and free. malloc and realloc align a block to each
- *   power of two up to 16 that divides its size.
+ * - A game is used by one thread at a time. Other games may be used by other threads meanwhile.
+ * - A game is what zkit_open gave and zkit_close has not taken. No other pointer is null, unless it is said, or the
+ *   length after it is 0. A pointer points to as many bytes as that length says, less than 2^63. No argument overlaps
+ *   another one of the same call.
  * - No function is called from a signal handler, or in the forked child of a process with threads.
  *
- * Every function looks at its numbers itself: any value may be passed. A call that is refused changes nothing. A handle
- * that is not open waits for nothing, has no text and has not stopped.
+ * The library takes its memory by the three functions of zkit_heap.h, which are there already, over malloc.
+ *
+ * Every function looks at its numbers itself: any value may be passed. A call that is refused changes nothing.
  */
 #ifndef ZKIT_H
 #define ZKIT_H
@@ -36,14 +34,15 @@
 extern "C" {
 #endif
 
-/* A handle. Its fields are the library's. */
-typedef struct zkit {
-    void *at;
-    unsigned char is_open;
-} zkit;
+/* The version of this header, the number of the program: 0.1.0 as 0x000100. From 1.0.0 on later versions under one first
+ * number add, and change nothing; before it nothing is promised. */
+#define ZKIT_VERSION 0x000100
 
-/* A handle that is not open. */
-#define ZKIT_CLOSED {0, 0}
+/* The version of the library. */
+uint32_t zkit_version(void);
+
+/* A game. */
+typedef struct zkit zkit;
 
 /* The limits that the program `zkit play` has where none are given. */
 #define ZKIT_FRAMES 1024
@@ -51,7 +50,27 @@ typedef struct zkit {
 #define ZKIT_UNDO 16
 #define ZKIT_STEPS 10000000
 
-/* What zkit_open answers. */
+/* So much text waits at most, in bytes, before the story pauses. */
+#define ZKIT_ROOM 1048576
+
+/* How a story is played. A later version adds fields at the end; `size` says which are there. */
+typedef struct zkit_options {
+    size_t size;     /* sizeof (zkit_options) */
+    uint64_t seed;   /* begins the random numbers: any number. The same seed and the same answers give the same play */
+    uint32_t frames; /* the most routines that may be open at once: 1 to 65,535 */
+    uint32_t words;  /* the most 16-bit words that the open routines may hold: 0 to 65,535 */
+    uint32_t undo;   /* how many states can be gone back to: 0 to 64 */
+    uint32_t steps;  /* the most instructions without a read: 1 to 1,000,000,000 */
+    uint32_t room;   /* the story pauses where so many bytes of text wait: 1 to 2,147,483,647 */
+    uint32_t upper;  /* not 0: the text has the status line and the upper window too, on lines of their own, before
+                        each read. A program that draws them asks zkit_window and zkit_status_line, and leaves it 0 */
+} zkit_options;
+
+/* Sets each field that `options->size` has to what zkit_open goes by without options: seed 1, the limits above, and
+ * no upper window. */
+void zkit_defaults(zkit_options *options);
+
+/* Why zkit_open and zkit_open_snapshot open nothing. */
 enum {
     ZKIT_OPENED = 0,
     ZKIT_TOO_SHORT = 1,         /* shorter than a header, 64 bytes */
@@ -60,16 +79,22 @@ enum {
     ZKIT_BAD_STATIC_BASE = 4,   /* static memory begins inside the header or past the story */
     ZKIT_BAD_START = 5,         /* the first instruction lies at or past the end of the story */
     ZKIT_OPEN_NO_MEMORY = 6,    /* there is no memory */
-    ZKIT_BAD_LIMIT = 7          /* a limit lies out of its range */
+    ZKIT_BAD_LIMIT = 7,         /* an option lies out of its range */
+    ZKIT_NOT_A_SNAPSHOT = 8,    /* the bytes are no snapshot */
+    ZKIT_OTHER_VERSION = 9,     /* the snapshot is of a format that this version does not know */
+    ZKIT_OTHER_STORY = 10,      /* the snapshot is of another story */
+    ZKIT_DAMAGED = 11           /* the snapshot is damaged */
 };
 
-/* What zkit_turn answers: what is awaited. */
+/* What a turn answers: what is awaited. */
 enum {
     ZKIT_STOPPED = 0,           /* nothing: the story has stopped, and zkit_status tells why */
     ZKIT_AWAITS_LINE = 1,       /* a line: zkit_line */
     ZKIT_AWAITS_CHARACTER = 2,  /* a character: zkit_character */
     ZKIT_AWAITS_SAVE = 3,       /* a game is to be kept: zkit_image, and then zkit_saved */
-    ZKIT_AWAITS_RESTORE = 4     /* a saved game: zkit_restore or zkit_restore_none */
+    ZKIT_AWAITS_RESTORE = 4,    /* a saved game: zkit_restore or zkit_restore_none */
+    ZKIT_AWAITS_ROOM = 5,       /* as much text waits as may: take it, and turn again */
+    ZKIT_AWAITS_TIME = 6        /* the instructions of the turn are used up: turn again */
 };
 
 /* What the functions that answer a story answer. */
@@ -78,7 +103,8 @@ enum {
     ZKIT_NOT_AWAITED = 1,       /* something else is awaited, or nothing */
     ZKIT_NOT_A_LINE = 2,        /* the bytes have a new line, or are more than 65,535 */
     ZKIT_NO_ROOM = 3,           /* the buffer is shorter than the file */
-    ZKIT_NO_MEMORY = 4          /* there is no memory */
+    ZKIT_NO_MEMORY = 4,         /* there is no memory */
+    ZKIT_NO_STATE = 5           /* there is no state to go back to */
 };
 
 /* What zkit_status answers: why the story has stopped. */
@@ -87,7 +113,8 @@ enum {
     ZKIT_QUIT = 1,              /* it has ended */
     ZKIT_FAULT = 2,             /* an instruction can't be carried out: zkit_reason and zkit_address */
     ZKIT_LIMIT = 3,             /* an instruction would go past a limit: zkit_reason and zkit_address */
-    ZKIT_OUT_OF_MEMORY = 5      /* there is no memory for its text, for a state that is kept or for a saved game */
+    ZKIT_OUT_OF_MEMORY = 5,     /* there is no memory for its text, for a state that is kept or for a saved game */
+    ZKIT_TOO_MUCH_TEXT = 6      /* one instruction has shown more than 1,048,576 bytes past the room for text */
 };
 
 /* What zkit_reason answers after a fault. */
@@ -120,38 +147,64 @@ enum {
     ZKIT_TOO_MANY_READS = 4     /* 16,777,216 reads were answered */
 };
 
-/* Opens a story at its start, in place of one that the handle may have, which is closed then.
+/* ---- opening and closing */
+
+/* Opens a story at its start.
  *
- * story   the story file, length bytes. They are copied.
- * seed    begins the random numbers: any number. The same seed and the same answers give the same play.
- * frames  the most routines that may be open at once: 1 to 65,535.
- * words   the most 16-bit words that the open routines may hold: 0 to 65,535.
- * undo    how many states can be gone back to: 0 to 64.
- * steps   the most instructions without a read: 1 to 1,000,000,000.
- * upper   not 0: the status line and the upper window are shown as well, on lines of their own, before each read.
+ * story    the story file, length bytes. They are copied.
+ * options  how it is played; null for what zkit_defaults says. Fields past its size are as zkit_defaults has them.
+ * reason   gets ZKIT_OPENED or why the story is not opened; may be null.
  *
- * Answers ZKIT_OPENED, or why the story is not opened: of several reasons a limit, then the first of the story's, then
- * memory. Where it is not opened the handle is as it was. */
-uint32_t zkit_open(zkit *game, const uint8_t *story, size_t length, uint64_t seed, uint32_t frames, uint32_t words,
-                   uint32_t undo, uint32_t steps, uint32_t upper);
+ * Answers the game; null where it is not opened. Of several reasons it is an option, then the first of the story's,
+ * then memory. */
+zkit *zkit_open(const uint8_t *story, size_t length, const zkit_options *options, uint32_t *reason);
+
+/* Gives back all memory of a game. Null is nothing. */
+void zkit_close(zkit *game);
+
+/* ---- turns and text */
 
 /* Runs the story until it awaits something or stops, and answers which. Its text is collected for zkit_text and
- * zkit_transcript, and kept until it is taken. Where the story awaits something already, that is answered again and
- * nothing is run; where it has stopped, ZKIT_STOPPED. */
+ * zkit_transcript, and kept until it is taken. Where the story awaits an answer already, that is told again and
+ * nothing is run; where it has stopped, ZKIT_STOPPED.
+ *
+ * ZKIT_AWAITS_ROOM: as many bytes of text wait, for both together, as the option `room` says, or more by what one
+ * instruction has shown. Nothing else is changed by it: the next turn goes on. */
 uint32_t zkit_turn(zkit *game);
 
+/* The same for so many instructions at most: ZKIT_AWAITS_TIME where they are used up, and the next turn goes on as if
+ * nothing had been. */
+uint32_t zkit_turn_for(zkit *game, uint32_t steps);
+
 /* Moves the next bytes of the screen's text into a buffer, and answers how many: at most length, and 0 where no text is
- * left, or length is 0. There may be more text after fewer bytes than length: ask until 0 comes. The text is
- * UTF-8 without a 0 at its end; a part may end inside a character. The bytes after them in the buffer stay as they were. */
+ * left, or length is 0. There may be more text after fewer bytes than length: ask until 0 comes. The text is UTF-8
+ * without a 0 at its end; a part may end inside a character. The bytes after them in the buffer stay as they were. */
 size_t zkit_text(zkit *game, uint8_t *buffer, size_t length);
 
 /* The same for the text that the transcript got, while the story has it on. */
 size_t zkit_transcript(zkit *game, uint8_t *buffer, size_t length);
 
-/* Answers a story that awaits a line: length bytes of UTF-8 without its end, no new line and no return
- * before it, at most 65,535. A character that the
- * story's character set has not is read as a question mark, and so is a byte that is no UTF-8; a tab is a space. What
- * is after the 255th character is dropped.
+/* Why the story has stopped, by what the last turn found: ZKIT_RUNS where it has not. */
+uint32_t zkit_status(const zkit *game);
+
+/* Which fault or limit has stopped the story; 0 where none has. */
+uint32_t zkit_reason(const zkit *game);
+
+/* The byte address of the instruction with that fault or limit; 0 where there is none. */
+uint32_t zkit_address(const zkit *game);
+
+/* Puts the words for a status and its reason, such as "division by zero", at the front of a buffer, as UTF-8 without a 0 at
+ * its end, or as much of them as there is room for; answers how many bytes. A status or reason that is not known has none. */
+size_t zkit_text_of_reason(uint32_t status, uint32_t reason, uint8_t *buffer, size_t length);
+
+/* ---- answers */
+
+/* The most characters of a line that the story takes, where it awaits a line: at most 255. 0 where it awaits none. */
+uint32_t zkit_longest_line(const zkit *game);
+
+/* Answers a story that awaits a line: length bytes of UTF-8, at most 65,535, without its end: no new line, and no return
+ * before it. A character that the story's character set has not is read as a question mark, and so is a byte that is no
+ * UTF-8; a tab is a space. What is after the 255th character is dropped.
  *
  * ZKIT_DONE, ZKIT_NOT_AWAITED or ZKIT_NOT_A_LINE. */
 uint32_t zkit_line(zkit *game, const uint8_t *line, size_t length);
@@ -161,6 +214,12 @@ uint32_t zkit_line(zkit *game, const uint8_t *line, size_t length);
  *
  * ZKIT_DONE or ZKIT_NOT_AWAITED. */
 uint32_t zkit_character(zkit *game, uint32_t character);
+
+/* Goes back to the newest state that the story has kept, as its own `restore_undo` would, where it awaits a line or a
+ * character. The next turn goes on from there.
+ *
+ * ZKIT_DONE; ZKIT_NOT_AWAITED: it awaits something else; ZKIT_NO_STATE: it has kept none, or all are used up. */
+uint32_t zkit_undo(zkit *game);
 
 /* Copies the file of the saved game that is to be kept, in the format Quetzal 1.4, to the front of a buffer of length
  * bytes, and says in *needed how many bytes it has: at most 51, and the bytes of the story's dynamic memory (less than
@@ -187,17 +246,106 @@ uint32_t zkit_restore(zkit *game, const uint8_t *file, size_t length);
  * ZKIT_DONE or ZKIT_NOT_AWAITED. */
 uint32_t zkit_restore_none(zkit *game);
 
-/* Why the story has stopped, by what the last turn found: ZKIT_RUNS where it has not. */
-uint32_t zkit_status(zkit *game);
+/* ---- snapshots */
 
-/* Which fault or limit has stopped the story; 0 where none has. */
-uint32_t zkit_reason(zkit *game);
+/* Copies a snapshot of the play to the front of a buffer of length bytes, and says in *needed how many bytes it has. It may
+ * be had where the story awaits a line or a character, but not while it prints into a table of its own. It has memory,
+ * routines, random numbers, streams and windows as they are, so that the same answers give the same play from there on, in
+ * another process too. It has not the states that zkit_undo and the story's own `restore_undo` go back to, nor the grid of a
+ * box that is gone, nor text that was not taken: take that first.
+ *
+ * Its format is this project's own; it begins with a number of its version, and a later version may not read it. A
+ * saved game, by zkit_image, is what other interpreters and later versions read.
+ *
+ * ZKIT_DONE; ZKIT_NO_ROOM: *needed is set and the buffer is as it was; ZKIT_NOT_AWAITED or ZKIT_NO_MEMORY: both are as
+ * they were. */
+uint32_t zkit_snapshot(zkit *game, uint8_t *buffer, size_t length, size_t *needed);
 
-/* The byte address of the instruction with that fault or limit; 0 where there is none. */
-uint32_t zkit_address(zkit *game);
+/* Opens a game that goes on from a snapshot, in the place of the one that it was taken of: as zkit_open, with the story's
+ * file and the snapshot's bytes. Of the options `room` is used; the limits and whether the upper window is in the text are
+ * in the snapshot. A snapshot that is damaged, or of another story, is refused. */
+zkit *zkit_open_snapshot(const uint8_t *story, size_t length, const uint8_t *snapshot, size_t snapshot_length,
+                         const zkit_options *options, uint32_t *reason);
 
-/* Gives back all memory of the handle, which is ZKIT_CLOSED then. A handle that is not open stays so. */
-void zkit_close(zkit *game);
+/* ---- the screen's upper part */
+
+/* The upper window: a grid of characters, 80 columns wide, above the text. */
+typedef struct zkit_window {
+    uint32_t height;   /* how many rows are shown: 0 to 255 */
+    uint32_t tallest;  /* the rows of the tallest grid that was shown since the last answer to a read, this one among them.
+                          Where it is more than height, its rows were taken away again before the story reads: a box that
+                          is drawn over the text */
+    uint32_t row;      /* where the cursor is, from 1 on; 256 is past the last row */
+    uint32_t column;   /* from 1 on; 81 is past the last column */
+    uint32_t selected; /* 1 where the upper window is selected, else 0 */
+} zkit_window;
+
+/* Tells how the upper window stands. */
+void zkit_window_of(const zkit *game, zkit_window *window);
+
+/* Puts the text of a row of the upper window, from 1 on, at the front of a buffer, as UTF-8 without the spaces at its end,
+ * or as much of it as there is room for; answers how many bytes, at most 240. A row that is not shown has none. */
+size_t zkit_row(const zkit *game, uint32_t row, uint8_t *buffer, size_t length);
+
+/* The same for a row of the tallest grid since the last answer to a read. */
+size_t zkit_tallest_row(const zkit *game, uint32_t row, uint8_t *buffer, size_t length);
+
+/* What a status line shows beside its name. */
+enum {
+    ZKIT_NO_STATUS = 0,         /* the story has none: it is not of version 3, or its status line can't be read */
+    ZKIT_SCORE = 1,             /* a score and how many turns were made */
+    ZKIT_TIME = 2               /* hours and minutes */
+};
+
+/* The figures of a status line. */
+typedef struct zkit_figures {
+    uint32_t kind;
+    int32_t first;
+    int32_t second;
+} zkit_figures;
+
+/* Tells the figures of the status line of a story of version 3. */
+void zkit_status_line(const zkit *game, zkit_figures *figures);
+
+/* Puts the name in the status line of a story of version 3, which is mostly that of a place, at the front of a buffer, as
+ * UTF-8, or as much of it as there is room for; answers how many bytes. */
+size_t zkit_status_name(const zkit *game, uint8_t *buffer, size_t length);
+
+/* ---- about a story */
+
+/* What its file says of a story. */
+typedef struct zkit_story {
+    uint32_t version;
+    uint32_t release;
+    uint32_t checksum;
+    uint8_t serial[8]; /* six bytes, mostly digits, and zeros */
+} zkit_story;
+
+/* Tells what the story's file says of it. */
+void zkit_story_of(const zkit *game, zkit_story *story);
+
+/* What zkit_list lists. */
+enum {
+    ZKIT_LIST_HEADER = 0,
+    ZKIT_LIST_MAP = 1,
+    ZKIT_LIST_ABBREVIATIONS = 2,
+    ZKIT_LIST_DICTIONARY = 3,
+    ZKIT_LIST_OBJECTS = 4,
+    ZKIT_LIST_TREE = 5,
+    ZKIT_LIST_IFID = 6,
+    ZKIT_LIST_CODE = 7,         /* as `zkit disasm` */
+    ZKIT_LIST_FINDINGS = 8      /* as `zkit check` */
+};
+
+/* Lists what is in the file of the game's story, for zkit_listing, in place of what is left of an earlier listing: the lines
+ * that `zkit info`, `zkit disasm` and `zkit check` show, without the name of the section. The play is not changed. The whole
+ * listing is kept, and may be as long as there is memory: a story can have texts of gigabytes.
+ *
+ * ZKIT_DONE; ZKIT_NOT_AWAITED: there is no such listing; ZKIT_NO_MEMORY: nothing is listed. */
+uint32_t zkit_list(zkit *game, uint32_t listing);
+
+/* Moves the next bytes of the listing into a buffer, as zkit_text. */
+size_t zkit_listing(zkit *game, uint8_t *buffer, size_t length);
 
 #ifdef __cplusplus
 }

@@ -1,20 +1,25 @@
 -- What the exported functions do to the play that a handle has.
-use Rattle.std.specs.Prelude.{◌≡◌, ◌≤◌, ◌<◌, ℕ, Bool, true, false, List, length, drop, ◌++◌, ◌==◌, if◌then◌else◌, Option, Some, None, Result}
+use Rattle.std.specs.Prelude.{◌≡◌, ◌≤◌, ◌<◌, ℕ, Bool, true, false, List, length, drop, ◌++◌, ◌==◌, if◌then◌else◌, Option, Some, None, Result, Ok, Err}
 use Rattle.zk_mem.specs.declared.story.OpenError.{OpenError}
 use Rattle.zk_mem.specs.Story.{refusal, refusal_number}
 use Rattle.zk_step.specs.declared.state.game_state.View.{View}
 use Rattle.zk_step.specs.declared.state.game_state.View.TheVariants.{Plain, Upper}
 use Rattle.zk_vm.specs.declared.limits.Limits.{Limits}
-use Rattle.zk_step.specs.declared.state.ending.Event.{Event}
 use Rattle.zk_vm.specs.declared.stop.Stop.{Stop}
-use Rattle.zk_vm.specs.declared.stop.Stop.TheVariants.{Write}
 use Rattle.zk_vm.specs.Answers.{Answer}
 use Rattle.zk_vm.specs.Bounds.{AreInRange}
 use Rattle.zk_vm.specs.Plays.{image_of}
+use Rattle.zk_c.specs.declared.play.Asked.{Asked}
 use Rattle.zk_c.specs.declared.play.Play.{Play}
+use Rattle.std.specs.Global.{Box, Vec}
+use Rattle.zk_c.specs.declared.play.SnapshotRefusal.{SnapshotRefusal}
 use Rattle.zk_c.specs.declared.play.Refusal.{Refusal}
-use Rattle.zk_c.specs.Calls.{begun_play, HasRunOn, IsGiven}
-use Rattle.zk_c.specs.Numbers.{event_number, turn_number, refused_number}
+use Rattle.zk_mem.specs.declared.header.Header.{Header}
+use Rattle.zk_vm.specs.Outcome.{Session}
+use Rattle.zk_c.specs.declared.Facts.{Facts}
+use Rattle.zk_c.specs.declared.listing.Listing.{Listing}
+use Rattle.zk_c.specs.Calls.{awaited, begun_play, read_refused, IsGiven, IsGoneBack, IsListedBy, IsOpenedFrom, IsSnapshot, IsTurned}
+use Rattle.zk_c.specs.Numbers.{answer_number, snapshot_number, turn_number, refused_number}
 
 -- a handle has a play before and after, of which something holds; or it is closed and stays so, and something else
 -- holds
@@ -49,16 +54,18 @@ pub data IsOpened (old new : Option Play) (story : List ℕ) (seed : ℕ) (limit
 
 -- ---- turns and answers
 
--- a turn and what is told of it, by what was waited for and whether there was no memory for text before
-abbrev pub IsTurn : Option Event → Bool → Play → Play → ℕ → Type 0
-IsTurn (Some event) unwritten old new n = (n ≡ event_number event) × (new ≡ old)
-IsTurn None true old new n = (n ≡ 0) × (new ≡ record old { stopped = Some Write })
-IsTurn None false old new n = (answer : Result Event Stop) × (n ≡ turn_number answer) × HasRunOn old new answer
+-- a turn and what is told of it
+abbrev pub IsTurn : Play → Play → (steps room : ℕ) → ℕ → Type 0
+IsTurn old new steps room n = (answer : Result Asked Stop) × (n ≡ turn_number answer) × IsTurned old new steps room answer
 
 -- an answer and what is told of it, by why it is refused, if it is
-abbrev pub IsAnswered : Option Refusal → Play → Play → Answer → ℕ → Type 0
-IsAnswered None old new a n = (n ≡ 0) × IsGiven old new a
-IsAnswered (Some r) old new a n = (n ≡ refused_number r) × (new ≡ old)
+abbrev pub IsAnswered : Option Refusal → Session → Play → Play → Answer → ℕ → Type 0
+IsAnswered None before old new a n = (n ≡ 0) × IsGiven before old new a
+IsAnswered (Some r) before old new a n = (n ≡ refused_number r) × (new ≡ old)
+
+-- a host has gone back, and what is told of it
+abbrev pub IsUndo : Play → Play → ℕ → Type 0
+IsUndo old new n = (result : Result (Unit {0}) Refusal) × (n ≡ answer_number result) × IsGoneBack (read_refused (awaited old)) old new result
 
 -- ---- saved games
 
@@ -73,3 +80,33 @@ pub data IsPut (file before after : List ℕ) (length_before length_after : ℕ)
 abbrev pub IsImaged : Option Refusal → Play → Play → List ℕ → List ℕ → ℕ → ℕ → ℕ → Type 0
 IsImaged None old new before after length_before length_after n = (new ≡ old) × IsPut (image_of old.machine) before after length_before length_after n
 IsImaged (Some r) old new before after length_before length_after n = (new ≡ old) × (n ≡ refused_number r) × (after ≡ before) × (length_after ≡ length_before)
+
+-- ---- snapshots
+
+-- bytes were put at the front of a buffer, and their length told; or they are refused, and the buffer is as it was
+abbrev pub IsPutUnless : Result (Vec ℕ) Refusal → List ℕ → List ℕ → ℕ → ℕ → ℕ → Type 0
+IsPutUnless (Ok bytes) before after length_before length_after n = IsPut bytes.items before after length_before length_after n
+IsPutUnless (Err r) before after length_before length_after n = (n ≡ refused_number r) × (after ≡ before) × (length_after ≡ length_before)
+
+-- the snapshot of a play was put there, or it is refused; the play stays
+abbrev pub IsSnapshotPut : Play → Play → List ℕ → List ℕ → ℕ → ℕ → ℕ → Type 0
+IsSnapshotPut old new before after length_before length_after n =
+    (result : Result (Vec ℕ) Refusal) × IsSnapshot old result × IsPutUnless result before after length_before length_after n × (new ≡ old)
+
+-- a handle has a play that goes on from a snapshot, or is as it was, and a number says why
+abbrev pub IsHeld : Option Play → Option Play → Result (Box Play) SnapshotRefusal → ℕ → Type 0
+IsHeld old new (Ok p) n = (n ≡ 0) × (new ≡ Some p.value)
+IsHeld old new (Err r) n = (n ≡ snapshot_number r) × (new ≡ old)
+
+abbrev pub IsOpenedAgain : Option Play → Option Play → List ℕ → List ℕ → ℕ → Type 0
+IsOpenedAgain old new story bytes n = (result : Result (Box Play) SnapshotRefusal) × IsOpenedFrom story bytes result × IsHeld old new result n
+
+-- ---- about a story
+
+abbrev pub facts_of : Header → Facts
+facts_of h = record { version = h.version; release = h.release; checksum = h.checksum }
+
+-- a story is listed, by which listing is asked for, if there is one
+abbrev pub IsListed : Option Listing → Play → Play → ℕ → Type 0
+IsListed None old new n = (n ≡ 1) × (new ≡ old)
+IsListed (Some listing) old new n = (result : Result (Unit {0}) Refusal) × (n ≡ answer_number result) × IsListedBy listing old new result

@@ -1,5 +1,9 @@
 pub mod Owning
 pub mod Texts
+pub mod Collecting
+pub mod Drawing
+pub mod Listings
+pub mod Names
 pub mod Typing
 pub mod Calls
 pub mod Numbers

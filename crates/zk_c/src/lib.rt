@@ -1,27 +1,42 @@
-// Playing a story from C: what `include/zkit.h` declares.
+// Playing a story from C: what `library/raw.h` declares, on which `library/zkit.c` makes the functions of `include/zkit.h`.
 #![tactic(auto)]
 
-ghost use Rattle.std.specs.Prelude.{◌≡◌, ◌∷◌, ◌==◌, [], None, Some, IfSome, not};
+ghost use Rattle.std.specs.Prelude.{◌≡◌, ◌∷◌, ◌==◌, [], List, ℕ, None, Some, IfSome, false, not};
+ghost use Rattle.zk_mem.specs.Header.{header_of};
+ghost use Rattle.zk_term.specs.Windows.{row_text, tallest_row_text};
+ghost use Rattle.zk_vm.specs.Outcome.{with_grid_forgotten};
 ghost use Rattle.zk_vm.specs.Answers.Answer.{Typed, GameKept, File};
 ghost use Rattle.zk_vm.specs.Plays.{codes_read};
-ghost use Rattle.zk_c.specs.Texts.{IsTaken};
-ghost use Rattle.zk_c.specs.Calls.{awaited, character_read, character_refused, is_unwritten, line_refused, restore_refused, save_refused};
+ghost use Rattle.zk_c.specs.Texts.{IsPutInFront, IsTaken};
+ghost use Rattle.zk_c.specs.Calls.{IsStatus, awaited, character_read, character_refused, line_refused, restore_refused, save_refused};
+ghost use Rattle.zk_c.specs.Drawing.{longest_line, row_bytes, row_number, window_of};
+ghost use Rattle.zk_c.specs.Listings.{listing_numbered};
 ghost use Rattle.zk_c.specs.Numbers.{address_number, reason_number, status_number};
-ghost use Rattle.zk_c.specs.Exports.{AreLimits, IsAnswered, IsImaged, IsOpened, IsPut, IsTurn, OnPlay, limits_said, view_if};
+ghost use Rattle.zk_c.specs.Exports.{AreLimits, IsAnswered, IsImaged, IsListed, IsOpened, IsOpenedAgain, IsPut, IsSnapshotPut, IsTurn, IsUndo, OnPlay, facts_of, limits_said, view_if};
 
+mod collected;
+mod drawing;
 mod handle;
+mod listing;
 mod loose;
+mod name;
 mod numbers;
 mod play;
+mod reasons;
 mod text;
 mod typed;
 
+use drawing::{StatusFigures, WindowFigures};
 use handle::Zkit;
+use listing::listing_of;
 use numbers::{
-    address_number, answer_number, reason_number, refused_number, status_number, turn_number,
+    address_number, answer_number, reason_number, refused_number, snapshot_number, status_number,
+    turn_number,
 };
 use play::Play;
+use reasons::words;
 use std::alloc::Global;
+use text::put_front;
 use zk_step::state::game_state::View;
 use zk_vm::limits::Limits;
 use zk_vm::stop::Stop;
@@ -62,7 +77,7 @@ fn view_if(upper: u32) -> View
 /// Opens a story at its start, in place of one that the handle may have: `Machine::start` of `zk_vm`. Answers 0, or why
 /// it is not opened: 1 to 6 are the numbers of `OpenError`, 7 a limit out of its range. Then the handle is as it was.
 #[unsafe(no_mangle)]
-pub extern "C" fn zkit_open(
+pub extern "C" fn zk_open(
     alloc: Global,
     game: &mut Zkit,
     story: &[u8],
@@ -88,17 +103,18 @@ pub extern "C" fn zkit_open(
     }
 }
 
-/// Runs the story up to its next event or its stop, and collects its text: `run_on` of `zk_vm`. Answers what is awaited:
-/// 1 a line, 2 a character, 3 that a game is kept, 4 a saved game; 0 where the story has stopped.
+/// Runs the story up to its next event or its stop, for so many instructions at most and while fewer than `room` bytes of its
+/// text wait, which it collects: `run_for` of `zk_vm`. Answers what is awaited: 1 a line, 2 a character, 3 that a game is
+/// kept, 4 a saved game, 5 that text is taken, 6 another turn; 0 where the story has stopped.
 #[unsafe(no_mangle)]
-pub extern "C" fn zkit_turn(alloc: Global, game: &mut Zkit) -> u32
+pub extern "C" fn zk_turn(alloc: Global, game: &mut Zkit, steps: u32, room: u32) -> u32
     ensures { OnPlay game.old.play game.new.play
-        (λ old new. IsTurn (awaited old) (is_unwritten old) old new result) (result ≡ 0) }
+        (λ old new. IsTurn old new steps room result) (result ≡ 0) }
 {
     let Some(mut play) = game.take(alloc) else {
         return 0;
     };
-    let turned = play.turn();
+    let turned = play.turn(steps, room);
     game.put(alloc, play);
     turn_number(turned)
 }
@@ -106,9 +122,10 @@ pub extern "C" fn zkit_turn(alloc: Global, game: &mut Zkit) -> u32
 /// Answers a read by a line, UTF-8 without its new line: `answer_line` of `zk_vm`. Answers 0, 1 where no line is awaited,
 /// or 2 where the bytes are no line.
 #[unsafe(no_mangle)]
-pub extern "C" fn zkit_line(alloc: Global, game: &mut Zkit, line: &[u8]) -> u32
+pub extern "C" fn zk_line(alloc: Global, game: &mut Zkit, line: &[u8]) -> u32
     ensures { OnPlay game.old.play game.new.play
-        (λ old new. IsAnswered (line_refused (awaited old) line.now) old new
+        (λ old new. IsAnswered (line_refused (awaited old) line.now)
+        (with_grid_forgotten old.machine) old new
         (Typed (codes_read old.machine line.now)) result) (result ≡ 1) }
 {
     let Some(mut play) = game.take(alloc) else {
@@ -121,9 +138,10 @@ pub extern "C" fn zkit_line(alloc: Global, game: &mut Zkit, line: &[u8]) -> u32
 
 /// Answers a read by a character, its number in Unicode: `answer_char` of `zk_vm`. Answers 0, or 1 where none is awaited.
 #[unsafe(no_mangle)]
-pub extern "C" fn zkit_character(alloc: Global, game: &mut Zkit, character: u32) -> u32
+pub extern "C" fn zk_character(alloc: Global, game: &mut Zkit, character: u32) -> u32
     ensures { OnPlay game.old.play game.new.play
-        (λ old new. IsAnswered (character_refused (awaited old)) old new
+        (λ old new. IsAnswered (character_refused (awaited old))
+        (with_grid_forgotten old.machine) old new
         (Typed (character_read old.machine character ∷ [])) result) (result ≡ 1) }
 {
     let Some(mut play) = game.take(alloc) else {
@@ -137,10 +155,10 @@ pub extern "C" fn zkit_character(alloc: Global, game: &mut Zkit, character: u32)
 /// Takes text of the screen, UTF-8, from the front into a buffer. Answers how many bytes: 0 where none are left. What is
 /// behind them in the buffer stays as it was.
 #[unsafe(no_mangle)]
-pub extern "C" fn zkit_text(alloc: Global, game: &mut Zkit, buffer: &mut [u8]) -> usize
+pub extern "C" fn zk_text(alloc: Global, game: &mut Zkit, buffer: &mut [u8]) -> usize
     ensures { OnPlay game.old.play game.new.play
-        (λ old new. IsTaken old.screen new.screen buffer.old buffer.new result
-        × (new ≡ record old { screen = new.screen }))
+        (λ old new. IsTaken old.text.screen new.text.screen buffer.old buffer.new result
+        × (new ≡ record old { text = record old.text { screen = new.text.screen } }))
         ((result ≡ 0) × (buffer.new ≡ buffer.old)) }
 {
     let Some(mut play) = game.take(alloc) else {
@@ -154,10 +172,10 @@ pub extern "C" fn zkit_text(alloc: Global, game: &mut Zkit, buffer: &mut [u8]) -
 /// Takes text of the transcript, UTF-8, from the front into a buffer. Answers how many bytes: 0 where none are left. What is
 /// behind them in the buffer stays as it was.
 #[unsafe(no_mangle)]
-pub extern "C" fn zkit_transcript(alloc: Global, game: &mut Zkit, buffer: &mut [u8]) -> usize
+pub extern "C" fn zk_transcript(alloc: Global, game: &mut Zkit, buffer: &mut [u8]) -> usize
     ensures { OnPlay game.old.play game.new.play
-        (λ old new. IsTaken old.script new.script buffer.old buffer.new result
-        × (new ≡ record old { script = new.script }))
+        (λ old new. IsTaken old.text.script new.text.script buffer.old buffer.new result
+        × (new ≡ record old { text = record old.text { script = new.text.script } }))
         ((result ≡ 0) × (buffer.new ≡ buffer.old)) }
 {
     let Some(mut play) = game.take(alloc) else {
@@ -184,7 +202,7 @@ fn put_file(file: &[u8], buffer: &mut [u8], length: &mut usize) -> u32
 /// `zk_vm`. Answers 0, 1 where none is to be kept, 3 where the buffer is shorter, or 4 where there is no memory.
 #[tactic(auto, using(crate::proofs::Exporting::not_imaged))]
 #[unsafe(no_mangle)]
-pub extern "C" fn zkit_image(
+pub extern "C" fn zk_image(
     alloc: Global,
     game: &mut Zkit,
     buffer: &mut [u8],
@@ -206,12 +224,58 @@ pub extern "C" fn zkit_image(
     }
 }
 
+/// Copies the snapshot of a play that waits for a line or a character to the front of a buffer, and its length in bytes to
+/// `length`: `snapshot` of `zk_snapshot`. Text that was not taken is not in it. Answers 0, 1 where nothing of the kind is
+/// awaited or a table of stream 3 is open, 3 where the buffer is shorter, or 4 where there is no memory.
+#[unsafe(no_mangle)]
+pub extern "C" fn zk_take_snapshot(
+    alloc: Global,
+    game: &mut Zkit,
+    buffer: &mut [u8],
+    length: &mut usize,
+) -> u32
+    ensures { OnPlay game.old.play game.new.play (λ old new.
+        IsSnapshotPut old new buffer.old buffer.new length.old length.new result)
+        ((result ≡ 1) × (buffer.new ≡ buffer.old) × (length.new ≡ length.old)) }
+{
+    let Some(play) = game.take(alloc) else {
+        return NOT_AWAITED;
+    };
+    let snapshot = play.snapshot(alloc);
+    game.put(alloc, play);
+    match snapshot {
+        Ok(bytes) => put_file(bytes.as_slice(), buffer, length),
+        Err(refusal) => refused_number(refusal),
+    }
+}
+
+/// Opens a play that goes on from a snapshot of a story, in place of one that the handle may have: `open_snapshot` of
+/// `zk_snapshot`. Answers 0, or why it is not opened: 1 to 6 as `zk_open`, 8 to 11 since the bytes are no snapshot, one of
+/// another version or another story, or damaged. Then the handle is as it was.
+#[unsafe(no_mangle)]
+pub extern "C" fn zk_open_snapshot(
+    alloc: Global,
+    game: &mut Zkit,
+    story: &[u8],
+    snapshot: &[u8],
+) -> u32
+    ensures { IsOpenedAgain game.old.play game.new.play story.now snapshot.now result }
+{
+    match Play::open_snapshot(alloc, story, snapshot) {
+        Ok(play) => {
+            game.put(alloc, play);
+            0
+        }
+        Err(refusal) => snapshot_number(refusal),
+    }
+}
+
 /// Answers whether the saved game was kept, not 0 where it was: `answer_save` of `zk_vm`. Answers 0, or 1 where that is
 /// not awaited.
 #[unsafe(no_mangle)]
-pub extern "C" fn zkit_saved(alloc: Global, game: &mut Zkit, kept: u32) -> u32
+pub extern "C" fn zk_saved(alloc: Global, game: &mut Zkit, kept: u32) -> u32
     ensures { OnPlay game.old.play game.new.play
-        (λ old new. IsAnswered (save_refused (awaited old)) old new
+        (λ old new. IsAnswered (save_refused (awaited old)) old.machine old new
         (GameKept (not (kept == 0))) result) (result ≡ 1) }
 {
     let Some(mut play) = game.take(alloc) else {
@@ -224,9 +288,9 @@ pub extern "C" fn zkit_saved(alloc: Global, game: &mut Zkit, kept: u32) -> u32
 
 /// Answers by the file of a saved game: `answer_restore` of `zk_vm`. Answers 0, or 1 where none is awaited.
 #[unsafe(no_mangle)]
-pub extern "C" fn zkit_restore(alloc: Global, game: &mut Zkit, file: &[u8]) -> u32
+pub extern "C" fn zk_restore(alloc: Global, game: &mut Zkit, file: &[u8]) -> u32
     ensures { OnPlay game.old.play game.new.play
-        (λ old new. IsAnswered (restore_refused (awaited old)) old new
+        (λ old new. IsAnswered (restore_refused (awaited old)) old.machine old new
         (File (Some file.now)) result) (result ≡ 1) }
 {
     let Some(mut play) = game.take(alloc) else {
@@ -239,9 +303,10 @@ pub extern "C" fn zkit_restore(alloc: Global, game: &mut Zkit, file: &[u8]) -> u
 
 /// Answers that there is no saved game: `answer_restore` of `zk_vm`. Answers 0, or 1 where none is awaited.
 #[unsafe(no_mangle)]
-pub extern "C" fn zkit_restore_none(alloc: Global, game: &mut Zkit) -> u32
+pub extern "C" fn zk_restore_none(alloc: Global, game: &mut Zkit) -> u32
     ensures { OnPlay game.old.play game.new.play
-        (λ old new. IsAnswered (restore_refused (awaited old)) old new (File None) result)
+        (λ old new. IsAnswered (restore_refused (awaited old)) old.machine old new (File None)
+        result)
         (result ≡ 1) }
 {
     let Some(mut play) = game.take(alloc) else {
@@ -265,19 +330,34 @@ fn stopped(alloc: Global, game: &mut Zkit) -> Option<Stop>
     stopped
 }
 
-/// Why the story has stopped, by what the last turn found: 1 its end, 2 a fault, 3 a limit, 4 its input (which these
-/// functions never end), 5 lack of memory; 0 where it has not.
-#[unsafe(no_mangle)]
-pub extern "C" fn zkit_status(alloc: Global, game: &mut Zkit) -> u32
+/// Whether an instruction has shown too much text.
+fn has_shown_too_much(alloc: Global, game: &mut Zkit) -> bool
     ensures { OnPlay game.old.play game.new.play
-        (λ old new. (new ≡ old) × (result ≡ status_number old.stopped)) (result ≡ 0) }
+        (λ old new. (new ≡ old) × (result ≡ old.text.too_much)) (result ≡ false) }
 {
-    status_number(stopped(alloc, game))
+    let Some(play) = game.take(alloc) else {
+        return false;
+    };
+    let too_much = play.has_shown_too_much();
+    game.put(alloc, play);
+    too_much
+}
+
+/// Why the story has stopped, by what the last turn found: 1 its end, 2 a fault, 3 a limit, 4 its input (which these
+/// functions never end), 5 lack of memory, 6 too much text of one instruction; 0 where it has not.
+#[unsafe(no_mangle)]
+pub extern "C" fn zk_status(alloc: Global, game: &mut Zkit) -> u32
+    ensures { OnPlay game.old.play game.new.play
+        (λ old new. (new ≡ old) × (result ≡ status_number old.text.too_much old.stopped))
+        (result ≡ 0) }
+{
+    let too_much = has_shown_too_much(alloc, game);
+    status_number(too_much, stopped(alloc, game))
 }
 
 /// The number of the fault or the limit that has stopped the story; 0 where none has.
 #[unsafe(no_mangle)]
-pub extern "C" fn zkit_reason(alloc: Global, game: &mut Zkit) -> u32
+pub extern "C" fn zk_reason(alloc: Global, game: &mut Zkit) -> u32
     ensures { OnPlay game.old.play game.new.play
         (λ old new. (new ≡ old) × (result ≡ reason_number old.stopped)) (result ≡ 0) }
 {
@@ -286,16 +366,205 @@ pub extern "C" fn zkit_reason(alloc: Global, game: &mut Zkit) -> u32
 
 /// The byte address of the instruction with the fault or the limit that has stopped the story; 0 where none has.
 #[unsafe(no_mangle)]
-pub extern "C" fn zkit_address(alloc: Global, game: &mut Zkit) -> u32
+pub extern "C" fn zk_address(alloc: Global, game: &mut Zkit) -> u32
     ensures { OnPlay game.old.play game.new.play
         (λ old new. (new ≡ old) × (result ≡ address_number old.stopped)) (result ≡ 0) }
 {
     address_number(stopped(alloc, game))
 }
 
+/// Goes back to the newest state that the story has kept, in place of an answer to a read: `go_back` of `zk_vm`. Answers 0,
+/// 1 where no line or character is awaited, or 5 where there is no state.
+#[unsafe(no_mangle)]
+pub extern "C" fn zk_undo(alloc: Global, game: &mut Zkit) -> u32
+    ensures { OnPlay game.old.play game.new.play (λ old new. IsUndo old new result) (result ≡ 1) }
+{
+    let Some(mut play) = game.take(alloc) else {
+        return NOT_AWAITED;
+    };
+    let gone = play.go_back();
+    game.put(alloc, play);
+    answer_number(gone)
+}
+
+/// The most letters of the line that is awaited; 0 where none is.
+#[unsafe(no_mangle)]
+pub extern "C" fn zk_longest_line(alloc: Global, game: &mut Zkit) -> u32
+    ensures { OnPlay game.old.play game.new.play (λ old new. (new ≡ old)
+        × (result ≡ longest_line old.machine.state.game.memory (awaited old))) (result ≡ 0) }
+{
+    let Some(play) = game.take(alloc) else {
+        return 0;
+    };
+    let longest = play.longest_line();
+    game.put(alloc, play);
+    longest as u32
+}
+
+/// Tells how the upper window stands: its height, the height of the tallest grid since the last answer to a read, the
+/// cursor, and whether it is selected.
+#[unsafe(no_mangle)]
+pub extern "C" fn zk_window(alloc: Global, game: &mut Zkit, window: &mut WindowFigures)
+    ensures { OnPlay game.old.play game.new.play
+        (λ old new. (new ≡ old) × (window.new ≡ window_of old.machine.state.game.windows))
+        (window.new ≡ window.old) }
+{
+    let Some(play) = game.take(alloc) else {
+        return;
+    };
+    *window = play.window();
+    game.put(alloc, play);
+}
+
+/// Puts the UTF-8 of a row of the upper window, from 1 on, at the front of a buffer, as much of it as there is room for.
+/// Answers how many bytes.
+#[unsafe(no_mangle)]
+pub extern "C" fn zk_row(alloc: Global, game: &mut Zkit, row: u32, buffer: &mut [u8]) -> usize
+    ensures { OnPlay game.old.play game.new.play (λ old new. (new ≡ old) × IsPutInFront
+        (row_bytes (row_text old.machine.state.game.windows) (row_number row)) buffer.old
+        buffer.new result)
+        ((result ≡ 0) × (buffer.new ≡ buffer.old)) }
+{
+    let Some(play) = game.take(alloc) else {
+        return 0;
+    };
+    let bytes = play.row(row);
+    game.put(alloc, play);
+    put_front(bytes.as_slice(), buffer)
+}
+
+/// The same for a row of the tallest grid since the last answer to a read.
+#[unsafe(no_mangle)]
+pub extern "C" fn zk_tallest_row(
+    alloc: Global,
+    game: &mut Zkit,
+    row: u32,
+    buffer: &mut [u8],
+) -> usize
+    ensures { OnPlay game.old.play game.new.play (λ old new. (new ≡ old) × IsPutInFront
+        (row_bytes (tallest_row_text old.machine.state.game.windows) (row_number row)) buffer.old
+        buffer.new result)
+        ((result ≡ 0) × (buffer.new ≡ buffer.old)) }
+{
+    let Some(play) = game.take(alloc) else {
+        return 0;
+    };
+    let bytes = play.tallest_row(row);
+    game.put(alloc, play);
+    put_front(bytes.as_slice(), buffer)
+}
+
+/// Tells the figures of the status line of a story of version 3, and collects its name, which `zk_status_name` takes.
+#[unsafe(no_mangle)]
+pub extern "C" fn zk_figures(alloc: Global, game: &mut Zkit, figures: &mut StatusFigures)
+    ensures { OnPlay game.old.play game.new.play (λ old new. IsStatus old new figures.new)
+        (figures.new ≡ figures.old) }
+{
+    let Some(mut play) = game.take(alloc) else {
+        return;
+    };
+    *figures = play.status(alloc);
+    game.put(alloc, play);
+}
+
+/// Takes text of the name in the status line, UTF-8, from the front into a buffer. Answers how many bytes: 0 where none are
+/// left.
+#[unsafe(no_mangle)]
+pub extern "C" fn zk_status_name(alloc: Global, game: &mut Zkit, buffer: &mut [u8]) -> usize
+    ensures { OnPlay game.old.play game.new.play
+        (λ old new. IsTaken old.name.screen new.name.screen buffer.old buffer.new result
+        × (new ≡ record old { name = record old.name { screen = new.name.screen } }))
+        ((result ≡ 0) × (buffer.new ≡ buffer.old)) }
+{
+    let Some(mut play) = game.take(alloc) else {
+        return 0;
+    };
+    let count = play.take_name(buffer);
+    game.put(alloc, play);
+    count
+}
+
+/// What a story's file says of it.
+#[repr(C)]
+#[derive(Drop)]
+pub struct Facts {
+    pub version: u32,
+    pub release: u32,
+    pub checksum: u32,
+}
+
+/// Tells version, release and checksum that a story's file says, and puts its serial number at the front of a buffer.
+/// Answers how many bytes.
+#[unsafe(no_mangle)]
+pub extern "C" fn zk_facts(
+    alloc: Global,
+    game: &mut Zkit,
+    facts: &mut Facts,
+    buffer: &mut [u8],
+) -> usize
+    ensures { OnPlay game.old.play game.new.play (λ old new. (new ≡ old)
+        × (facts.new ≡ facts_of (header_of old.machine.state.game.memory.file))
+        × IsPutInFront (header_of old.machine.state.game.memory.file).serial buffer.old buffer.new
+        result)
+        ((result ≡ 0) × (facts.new ≡ facts.old) × (buffer.new ≡ buffer.old)) }
+{
+    let Some(play) = game.take(alloc) else {
+        return 0;
+    };
+    let header = play.header();
+    game.put(alloc, play);
+    *facts = Facts {
+        version: header.version as u32,
+        release: header.release as u32,
+        checksum: header.checksum as u32,
+    };
+    put_front(&header.serial, buffer)
+}
+
+/// Puts the words for a status and its reason at the front of a buffer, as many bytes as there is room for. Answers how many.
+#[unsafe(no_mangle)]
+pub extern "C" fn zk_text_of_reason(status: u32, reason: u32, buffer: &mut [u8]) -> usize
+    ensures { (bytes : List ℕ) × IsPutInFront bytes buffer.old buffer.new result }
+{
+    put_front(words(status, reason).as_bytes(), buffer)
+}
+
+/// Lists the story's file, for `zk_listing`. Answers 0, 1 where there is no such listing, or 4 where there is no memory.
+#[unsafe(no_mangle)]
+pub extern "C" fn zk_list(alloc: Global, game: &mut Zkit, listing: u32) -> u32
+    ensures { OnPlay game.old.play game.new.play
+        (λ old new. IsListed (listing_numbered listing) old new result) (result ≡ 1) }
+{
+    let Some(listing) = listing_of(listing) else {
+        return NOT_AWAITED;
+    };
+    let Some(mut play) = game.take(alloc) else {
+        return NOT_AWAITED;
+    };
+    let listed = play.list(alloc, listing);
+    game.put(alloc, play);
+    answer_number(listed)
+}
+
+/// Takes text of the listing, UTF-8, from the front into a buffer. Answers how many bytes: 0 where none are left.
+#[unsafe(no_mangle)]
+pub extern "C" fn zk_listing(alloc: Global, game: &mut Zkit, buffer: &mut [u8]) -> usize
+    ensures { OnPlay game.old.play game.new.play
+        (λ old new. IsTaken old.listing new.listing buffer.old buffer.new result
+        × (new ≡ record old { listing = new.listing }))
+        ((result ≡ 0) × (buffer.new ≡ buffer.old)) }
+{
+    let Some(mut play) = game.take(alloc) else {
+        return 0;
+    };
+    let count = play.take_listing(buffer);
+    game.put(alloc, play);
+    count
+}
+
 /// Gives back the memory of a handle, which is not open then.
 #[unsafe(no_mangle)]
-pub extern "C" fn zkit_close(alloc: Global, game: &mut Zkit)
+pub extern "C" fn zk_close(alloc: Global, game: &mut Zkit)
     ensures { game.new.play ≡ None }
 {
     drop(game.take(alloc));

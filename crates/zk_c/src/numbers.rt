@@ -1,9 +1,10 @@
 // The numbers by which C is told.
 
 ghost use Rattle.std.specs.Prelude.{◌≡◌};
-ghost use Rattle.zk_c.specs.Numbers.{address_number, event_number, reason_number, refused_number, status_number, answer_number, turn_number};
+ghost use Rattle.zk_c.specs.Numbers.{address_number, event_number, reason_number, refused_number, status_number, answer_number, snapshot_number, stop_number, turn_number};
 
-use crate::play::Refusal;
+use crate::play::{Asked, Refusal, SnapshotRefusal};
+use zk_snapshot::opening::SnapshotError;
 use zk_step::state::ending::Event;
 use zk_vm::stop::Stop;
 
@@ -20,11 +21,13 @@ fn event_number(event: Event) -> u32
 }
 
 /// What a turn asks for, and 0 where the story has stopped.
-pub fn turn_number(turned: Result<Event, Stop>) -> u32
+pub fn turn_number(turned: Result<Asked, Stop>) -> u32
     ensures { result ≡ turn_number turned }
 {
     match turned {
-        Ok(event) => event_number(event),
+        Ok(Asked::Answer(event)) => event_number(event),
+        Ok(Asked::Room) => 5,
+        Ok(Asked::Time) => 6,
         Err(_) => 0,
     }
 }
@@ -37,6 +40,7 @@ pub fn refused_number(refusal: Refusal) -> u32
         Refusal::NotAwaited => 1,
         Refusal::NotALine => 2,
         Refusal::Memory => 4,
+        Refusal::NoState => 5,
     }
 }
 
@@ -50,17 +54,41 @@ pub fn answer_number(answered: Result<(), Refusal>) -> u32
     }
 }
 
-/// Why a story has stopped, and 0 where it has not.
-pub fn status_number(stopped: Option<Stop>) -> u32
-    ensures { result ≡ status_number stopped }
+/// Why no play goes on from a snapshot.
+pub fn snapshot_number(refusal: SnapshotRefusal) -> u32
+    ensures { result ≡ snapshot_number refusal }
+{
+    match refusal {
+        SnapshotRefusal::Story(error) => error.number() as u32,
+        SnapshotRefusal::Snapshot(SnapshotError::NotASnapshot) => 8,
+        SnapshotRefusal::Snapshot(SnapshotError::OtherVersion) => 9,
+        SnapshotRefusal::Snapshot(SnapshotError::OtherStory) => 10,
+        SnapshotRefusal::Snapshot(SnapshotError::Damaged) => 11,
+        SnapshotRefusal::Snapshot(SnapshotError::OutOfMemory) => 6,
+    }
+}
+
+/// Why a story has stopped.
+fn stop_number(stop: Stop) -> u32
+    ensures { result ≡ stop_number stop }
+{
+    match stop {
+        Stop::Quit => 1,
+        Stop::Fault(_, _) => 2,
+        Stop::Limit(_, _) => 3,
+        Stop::EndOfInput | Stop::Read => 4,
+        Stop::Write | Stop::Memory => 5,
+    }
+}
+
+/// Why a story has stopped, and 0 where it has not. `too_much` says that an instruction has shown too much text.
+pub fn status_number(too_much: bool, stopped: Option<Stop>) -> u32
+    ensures { result ≡ status_number too_much stopped }
 {
     match stopped {
         None => 0,
-        Some(Stop::Quit) => 1,
-        Some(Stop::Fault(_, _)) => 2,
-        Some(Stop::Limit(_, _)) => 3,
-        Some(Stop::EndOfInput | Stop::Read) => 4,
-        Some(Stop::Write | Stop::Memory) => 5,
+        Some(_) if too_much => 6,
+        Some(stop) => stop_number(stop),
     }
 }
 

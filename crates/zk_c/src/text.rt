@@ -1,7 +1,8 @@
 // Text that waits to be taken.
 
-ghost use Rattle.std.specs.Prelude.{◌≡◌, ◌++◌, [], Some, drop, false, length, min, take};
-ghost use Rattle.zk_c.specs.Texts.{IsTaken};
+ghost use Rattle.std.specs.Prelude.{◌≡◌, ◌++◌, [], drop, false, length, min, take};
+ghost use Rattle.zk_c.specs.Collecting.{no_text};
+ghost use Rattle.zk_c.specs.Texts.{IsPutInFront, IsTaken};
 
 use std::alloc::Global;
 use std::collections::VecDeque;
@@ -18,18 +19,16 @@ pub struct Text {
 }
 
 impl Model for Text {
-    ghost use Rattle.std.specs.Prelude.{Some};
-    ghost use Rattle.zk_term.specs.Devices.{Device};
+    ghost use Rattle.zk_c.specs.Texts.{Unread};
 
-    ghost Value = { Device };
+    ghost Value = { Unread };
 
-    ghost view = { λ t. record { taken = Some t.bytes.items; failed = t.failed } };
+    ghost view = { λ t. record { bytes = t.bytes.items; failed = t.failed } };
 }
 
 /// Puts as many bytes at the front of a buffer as it has room for, and says how many.
-fn put_front(bytes: &[u8], buffer: &mut [u8]) -> usize
-    ensures count { result ≡ min (length bytes.now) (length buffer.old) }
-    ensures buffer { buffer.new ≡ take result bytes.now ++ drop result buffer.old }
+pub fn put_front(bytes: &[u8], buffer: &mut [u8]) -> usize
+    ensures { IsPutInFront bytes.now buffer.old buffer.new result }
 {
     let count = bytes.len().min(buffer.len());
     buffer[..count].copy_from_slice(&bytes[..count]);
@@ -39,12 +38,19 @@ fn put_front(bytes: &[u8], buffer: &mut [u8]) -> usize
 impl Text {
     /// No text.
     pub fn new(alloc: Global) -> Text
-        ensures { result ≡ record { taken = Some []; failed = false } }
+        ensures { result ≡ no_text }
     {
         Text {
             bytes: VecDeque::new(alloc),
             failed: false,
         }
+    }
+
+    /// How many bytes wait.
+    pub fn len(&self) -> usize
+        ensures { result ≡ length self.now.bytes }
+    {
+        self.bytes.len()
     }
 
     /// Whether there was no memory for some text.
@@ -67,9 +73,9 @@ impl Text {
 }
 
 impl Target for Text {
-    ghost use Rattle.std.specs.Prelude.{◌≡◌, true};
+    ghost use Rattle.std.specs.Prelude.{◌≡◌, Some, true};
 
-    ghost taken = { λ t. t.taken };
+    ghost taken = { λ t. Some t.bytes };
 
     ghost failed = { λ t. t.failed };
 

@@ -3,7 +3,7 @@ use Rattle.zk_c.specs.Calls.{begun_play}
 use Rattle.zk_c.specs.Exports.{AreLimits}
 use Rattle.zk_c.specs.Exports.IsOpened.{Opened, NoLimits}
 use Rattle.zk_c.proofs.Exporting.{not_opened}
-use Rattle.zk_c.proofs.zkit_open.Goals as goal
+use Rattle.zk_c.proofs.zk_open.Goals as goal
 
 pub returns-in-None : goal.returns-in-None
 returns-in-None c = NoLimits (c.limits_said.ensures.none c.in-None.is) refl

@@ -1,0 +1,56 @@
+/* raw.h - the functions that are proved, as crates/zk_c exports them. zkit.c calls them; no program does.
+ * SPDX-License-Identifier: MIT OR Apache-2.0
+ *
+ * No pointer is null, even if its length is 0. crates/zk_c says what each function does. */
+#ifndef ZKIT_RAW_H
+#define ZKIT_RAW_H
+
+#include <stddef.h>
+#include <stdint.h>
+
+#include "zkit.h"
+
+/* A play on the heap, or none: {0, 0}. */
+struct zk_handle {
+    void *at;
+    unsigned char is_open;
+};
+
+uint32_t zk_open(struct zk_handle *game, const uint8_t *story, size_t length, uint64_t seed, uint32_t frames, uint32_t words,
+                 uint32_t undo, uint32_t steps, uint32_t upper);
+void zk_close(struct zk_handle *game);
+/* steps: at most so many instructions; room: pauses where so many bytes of text wait */
+uint32_t zk_turn(struct zk_handle *game, uint32_t steps, uint32_t room);
+size_t zk_text(struct zk_handle *game, uint8_t *buffer, size_t length);
+size_t zk_transcript(struct zk_handle *game, uint8_t *buffer, size_t length);
+uint32_t zk_status(struct zk_handle *game);
+uint32_t zk_reason(struct zk_handle *game);
+uint32_t zk_address(struct zk_handle *game);
+size_t zk_text_of_reason(uint32_t status, uint32_t reason, uint8_t *buffer, size_t length);
+uint32_t zk_longest_line(struct zk_handle *game);
+uint32_t zk_line(struct zk_handle *game, const uint8_t *line, size_t length);
+uint32_t zk_character(struct zk_handle *game, uint32_t character);
+uint32_t zk_undo(struct zk_handle *game);
+uint32_t zk_image(struct zk_handle *game, uint8_t *buffer, size_t length, size_t *needed);
+uint32_t zk_saved(struct zk_handle *game, uint32_t kept);
+uint32_t zk_restore(struct zk_handle *game, const uint8_t *file, size_t length);
+uint32_t zk_restore_none(struct zk_handle *game);
+uint32_t zk_take_snapshot(struct zk_handle *game, uint8_t *buffer, size_t length, size_t *needed);
+uint32_t zk_open_snapshot(struct zk_handle *game, const uint8_t *story, size_t length, const uint8_t *snapshot,
+                          size_t snapshot_length);
+void zk_window(struct zk_handle *game, zkit_window *window);
+size_t zk_row(struct zk_handle *game, uint32_t row, uint8_t *buffer, size_t length);
+size_t zk_tallest_row(struct zk_handle *game, uint32_t row, uint8_t *buffer, size_t length);
+void zk_figures(struct zk_handle *game, zkit_figures *figures);
+size_t zk_status_name(struct zk_handle *game, uint8_t *buffer, size_t length);
+/* version, release and checksum of a story; its serial number goes to a buffer */
+struct zk_facts {
+    uint32_t version;
+    uint32_t release;
+    uint32_t checksum;
+};
+size_t zk_facts(struct zk_handle *game, struct zk_facts *facts, uint8_t *buffer, size_t length);
+uint32_t zk_list(struct zk_handle *game, uint32_t listing);
+size_t zk_listing(struct zk_handle *game, uint8_t *buffer, size_t length);
+
+#endif

@@ -1,0 +1,248 @@
+/* zkit.c - the functions of zkit.h, each by the function of raw.h that is proved.
+ * SPDX-License-Identifier: MIT OR Apache-2.0
+ *
+ * What is added here: a game is a block on the heap, options have their defaults and their size, the room for text is kept
+ * beside the play, and a null pointer with the length 0 becomes one that is not null. */
+#include <stddef.h>
+#include <stdint.h>
+
+#include "raw.h"
+#include "zkit.h"
+#include "zkit_heap.h"
+
+struct zkit {
+    struct zk_handle play;
+    uint32_t room;
+};
+
+enum { GREATEST_ROOM = 2147483647 };
+
+/* The functions of raw.h get no null pointer: this is what they get in its place. */
+static uint8_t nothing;
+
+static const uint8_t *bytes_at(const uint8_t *at) {
+    return at ? at : &nothing;
+}
+
+static uint8_t *buffer_at(uint8_t *at) {
+    return at ? at : &nothing;
+}
+
+/* The play of a game that is only looked at. The proved functions take a handle that they could change, but each one that is
+ * given this leaves it, and all of the play that a call tells: a clause of its contract in crates/zk_c says so. What changes
+ * is the name that zk_figures collects for zk_status_name, and zkit_status_name has it collected anew each time. */
+static struct zk_handle *play_of(const zkit *game) {
+    return (struct zk_handle *)&game->play;
+}
+
+uint32_t zkit_version(void) {
+    return ZKIT_VERSION;
+}
+
+/* ---- options */
+
+/* Where each field ends that this version knows. */
+#define END(field) (offsetof(zkit_options, field) + sizeof((zkit_options *)NULL)->field)
+static const size_t ends[] = {END(size),  END(seed), END(frames), END(words),
+                              END(undo), END(steps), END(room),   END(upper)};
+
+/* Copies the fields that lie wholly in the first `size` bytes. */
+static void copy_options(zkit_options *to, const zkit_options *from, size_t size) {
+    uint8_t *bytes = (uint8_t *)to;
+    const uint8_t *others = (const uint8_t *)from;
+    size_t end = 0;
+    for (size_t i = 0; i < sizeof ends / sizeof ends[0] && ends[i] <= size; i++)
+        end = ends[i];
+    for (size_t i = 0; i < end; i++)
+        bytes[i] = others[i];
+}
+
+static zkit_options default_options(size_t size) {
+    zkit_options options = {size, 1, ZKIT_FRAMES, ZKIT_WORDS, ZKIT_UNDO, ZKIT_STEPS, ZKIT_ROOM, 0};
+    return options;
+}
+
+void zkit_defaults(zkit_options *options) {
+    zkit_options whole = default_options(options->size);
+    copy_options(options, &whole, whole.size);
+}
+
+/* The options that a program gives, with the defaults for those that it has not. */
+static zkit_options whole_options(const zkit_options *given) {
+    zkit_options whole = default_options(sizeof whole);
+    if (given)
+        copy_options(&whole, given, given->size);
+    return whole;
+}
+
+/* ---- opening and closing */
+
+static int has_room(const zkit_options *options) {
+    return options->room > 0 && options->room <= GREATEST_ROOM;
+}
+
+/* A game with a play, or null where there is none: tells why, or that there is no memory for it. */
+static zkit *game_with(struct zk_handle *play, uint32_t refused, uint32_t room, uint32_t *reason) {
+    zkit *game = NULL;
+    if (refused == ZKIT_OPENED) {
+        struct rattle_block block = rattle_alloc(sizeof(zkit), sizeof(void *));
+        if (block.is_there) {
+            game = block.at;
+            game->play = *play;
+            game->room = room;
+        } else {
+            zk_close(play);
+            refused = ZKIT_OPEN_NO_MEMORY;
+        }
+    }
+    if (reason)
+        *reason = refused;
+    return game;
+}
+
+zkit *zkit_open(const uint8_t *story, size_t length, const zkit_options *options, uint32_t *reason) {
+    zkit_options whole = whole_options(options);
+    struct zk_handle play = {NULL, 0};
+    uint32_t refused = ZKIT_BAD_LIMIT;
+    if (has_room(&whole))
+        refused = zk_open(&play, bytes_at(story), length, whole.seed, whole.frames, whole.words, whole.undo, whole.steps,
+                          whole.upper);
+    return game_with(&play, refused, whole.room, reason);
+}
+
+zkit *zkit_open_snapshot(const uint8_t *story, size_t length, const uint8_t *snapshot, size_t snapshot_length,
+                         const zkit_options *options, uint32_t *reason) {
+    zkit_options whole = whole_options(options);
+    struct zk_handle play = {NULL, 0};
+    uint32_t refused = ZKIT_BAD_LIMIT;
+    if (has_room(&whole))
+        refused = zk_open_snapshot(&play, bytes_at(story), length, bytes_at(snapshot), snapshot_length);
+    return game_with(&play, refused, whole.room, reason);
+}
+
+void zkit_close(zkit *game) {
+    if (!game)
+        return;
+    zk_close(&game->play);
+    rattle_dealloc(game);
+}
+
+/* ---- turns and text */
+
+uint32_t zkit_turn(zkit *game) {
+    return zk_turn(&game->play, UINT32_MAX, game->room);
+}
+
+uint32_t zkit_turn_for(zkit *game, uint32_t steps) {
+    return zk_turn(&game->play, steps, game->room);
+}
+
+size_t zkit_text(zkit *game, uint8_t *buffer, size_t length) {
+    return zk_text(&game->play, buffer_at(buffer), length);
+}
+
+size_t zkit_transcript(zkit *game, uint8_t *buffer, size_t length) {
+    return zk_transcript(&game->play, buffer_at(buffer), length);
+}
+
+uint32_t zkit_status(const zkit *game) {
+    return zk_status(play_of(game));
+}
+
+uint32_t zkit_reason(const zkit *game) {
+    return zk_reason(play_of(game));
+}
+
+uint32_t zkit_address(const zkit *game) {
+    return zk_address(play_of(game));
+}
+
+size_t zkit_text_of_reason(uint32_t status, uint32_t reason, uint8_t *buffer, size_t length) {
+    return zk_text_of_reason(status, reason, buffer_at(buffer), length);
+}
+
+/* ---- answers */
+
+uint32_t zkit_longest_line(const zkit *game) {
+    return zk_longest_line(play_of(game));
+}
+
+uint32_t zkit_line(zkit *game, const uint8_t *line, size_t length) {
+    return zk_line(&game->play, bytes_at(line), length);
+}
+
+uint32_t zkit_character(zkit *game, uint32_t character) {
+    return zk_character(&game->play, character);
+}
+
+uint32_t zkit_undo(zkit *game) {
+    return zk_undo(&game->play);
+}
+
+uint32_t zkit_image(zkit *game, uint8_t *buffer, size_t length, size_t *needed) {
+    return zk_image(&game->play, buffer_at(buffer), length, needed);
+}
+
+uint32_t zkit_saved(zkit *game, uint32_t kept) {
+    return zk_saved(&game->play, kept);
+}
+
+uint32_t zkit_restore(zkit *game, const uint8_t *file, size_t length) {
+    return zk_restore(&game->play, bytes_at(file), length);
+}
+
+uint32_t zkit_restore_none(zkit *game) {
+    return zk_restore_none(&game->play);
+}
+
+uint32_t zkit_snapshot(zkit *game, uint8_t *buffer, size_t length, size_t *needed) {
+    return zk_take_snapshot(&game->play, buffer_at(buffer), length, needed);
+}
+
+/* ---- the screen's upper part */
+
+void zkit_window_of(const zkit *game, zkit_window *window) {
+    zk_window(play_of(game), window);
+}
+
+size_t zkit_row(const zkit *game, uint32_t row, uint8_t *buffer, size_t length) {
+    return zk_row(play_of(game), row, buffer_at(buffer), length);
+}
+
+size_t zkit_tallest_row(const zkit *game, uint32_t row, uint8_t *buffer, size_t length) {
+    return zk_tallest_row(play_of(game), row, buffer_at(buffer), length);
+}
+
+void zkit_status_line(const zkit *game, zkit_figures *figures) {
+    zk_figures(play_of(game), figures);
+}
+
+size_t zkit_status_name(const zkit *game, uint8_t *buffer, size_t length) {
+    zkit_figures figures;
+    size_t count = 0, more;
+    zk_figures(play_of(game), &figures);
+    while ((more = zk_status_name(play_of(game), buffer_at(buffer) + count, length - count)) > 0)
+        count += more;
+    return count;
+}
+
+/* ---- about a story */
+
+void zkit_story_of(const zkit *game, zkit_story *story) {
+    struct zk_facts facts = {0, 0, 0};
+    uint8_t serial[sizeof story->serial] = {0};
+    zk_facts(play_of(game), &facts, serial, sizeof serial);
+    story->version = facts.version;
+    story->release = facts.release;
+    story->checksum = facts.checksum;
+    for (size_t i = 0; i < sizeof serial; i++)
+        story->serial[i] = serial[i];
+}
+
+uint32_t zkit_list(zkit *game, uint32_t listing) {
+    return zk_list(&game->play, listing);
+}
+
+size_t zkit_listing(zkit *game, uint8_t *buffer, size_t length) {
+    return zk_listing(&game->play, buffer_at(buffer), length);
+}
