@@ -75,10 +75,9 @@ static uint32_t first_character(const uint8_t *bytes, size_t length) {
 
 /* Keeps the saved game that waits for it, and tells whether it is kept. */
 static void keep(zkit *game, struct saved *saved) {
-    uint8_t none = 0;
     size_t length = 0;
     uint32_t kept = 0;
-    if (zkit_image(game, &none, 0, &length) == ZKIT_NO_ROOM) {
+    if (zkit_image(game, NULL, 0, &length) == ZKIT_NO_ROOM) {
         uint8_t *bytes = malloc(length);
         if (bytes && zkit_image(game, bytes, length, &length) == ZKIT_DONE) {
             free(saved->bytes);
@@ -106,16 +105,22 @@ static int answer_read(zkit *game, uint32_t asked) {
     return ANSWERED;
 }
 
-/* Answers what the story asks for. */
+/* Gives the story the saved game, if there is one. */
+static void restore(zkit *game, const struct saved *saved) {
+    if (saved->bytes)
+        zkit_restore(game, saved->bytes, saved->length);
+    else
+        zkit_restore_none(game);
+}
+
+/* Answers what the story asks for. Room for text it has again, now that its text was taken. */
 static int answer(zkit *game, uint32_t asked, struct saved *saved) {
     if (asked == ZKIT_AWAITS_LINE || asked == ZKIT_AWAITS_CHARACTER)
         return answer_read(game, asked);
     if (asked == ZKIT_AWAITS_SAVE)
         keep(game, saved);
-    else if (saved->bytes)
-        zkit_restore(game, saved->bytes, saved->length);
-    else
-        zkit_restore_none(game);
+    if (asked == ZKIT_AWAITS_RESTORE)
+        restore(game, saved);
     return ANSWERED;
 }
 
@@ -134,37 +139,36 @@ static int play(zkit *game) {
     return came;
 }
 
-/* Tells why the story has stopped, as `zkit play` does, and answers the status. */
-static int report(zkit *game, int came) {
+/* Tells why the story has stopped, and answers the status of `zkit play`. */
+static int report(const zkit *game, int came) {
+    uint8_t words[256];
     uint32_t status = zkit_status(game);
     if (came == NOT_READ) {
-        fprintf(stderr, "zkit: read failed\n");
+        fprintf(stderr, "play: read failed\n");
         return 4;
     }
-    if (status == ZKIT_FAULT || status == ZKIT_LIMIT)
-        fprintf(stderr, "zkit: %s %u at %05x\n", status == ZKIT_FAULT ? "fault" : "limit", (unsigned)zkit_reason(game),
-                (unsigned)zkit_address(game));
-    if (status == ZKIT_OUT_OF_MEMORY)
-        fprintf(stderr, "zkit: out of memory\n");
+    if (status != ZKIT_RUNS && status != ZKIT_QUIT) {
+        size_t count = zkit_text_of_reason(status, zkit_reason(game), words, sizeof words);
+        fprintf(stderr, "play: %.*s, at %05x\n", (int)count, (const char *)words, (unsigned)zkit_address(game));
+    }
     return status == ZKIT_QUIT ? 0 : (int)status;
 }
 
 int main(int count, char **words) {
-    zkit game = ZKIT_CLOSED;
     size_t length = 0;
+    uint32_t reason = ZKIT_OPENED;
     uint8_t *story = count == 2 ? read_story(words[1], &length) : NULL;
     if (!story) {
         fprintf(stderr, "usage: play STORY <LINES\n");
         return 4;
     }
-    uint32_t refused =
-        zkit_open(&game, story, length, 1, ZKIT_FRAMES, ZKIT_WORDS, ZKIT_UNDO, ZKIT_STEPS, 0);
+    zkit *game = zkit_open(story, length, NULL, &reason);
     free(story);
-    if (refused != ZKIT_OPENED) {
-        fprintf(stderr, "zkit: refused %u\n", (unsigned)refused);
+    if (!game) {
+        fprintf(stderr, "play: not opened, for reason %u\n", (unsigned)reason);
         return 1;
     }
-    int status = report(&game, play(&game));
-    zkit_close(&game);
+    int status = report(game, play(game));
+    zkit_close(game);
     return status;
 }

@@ -1,9 +1,10 @@
 #!/usr/bin/env python3
-"""Plays a story by a shared object of the library: lines of standard input answer it, standard output has its text.
+"""Plays a story by the library's shared object: lines of standard input answer it, standard output has its text.
 
-usage: play.py LIBRARY STORY <LINES
+usage: play.py STORY <LINES
 
-The last saved game is kept in memory. The status is that of `zkit play`.
+The shared object is dist/libzkit.so.1, so nothing has to be compiled. The last saved game is kept in memory. The status
+is that of `zkit play`.
 """
 
 from __future__ import annotations
@@ -13,9 +14,9 @@ import pathlib
 import sys
 from collections.abc import Callable, Iterator
 
-STOPPED, LINE, CHARACTER, SAVE, RESTORE = range(5)
-QUIT, FAULT, LIMIT, OUT_OF_MEMORY = 1, 2, 3, 5
-SETTINGS = {"seed": 1, "frames": 1024, "words": 16384, "undo": 16, "steps": 10_000_000, "upper": 0}
+LIBRARY = pathlib.Path(__file__).resolve().parent.parent.parent / "dist/libzkit.so.1"
+STOPPED, LINE, CHARACTER, SAVE, RESTORE, ROOM = range(6)
+QUIT = 1
 LONGEST_LINE = 65_535
 
 
@@ -23,52 +24,62 @@ class ReadFailed(Exception):
     """A line of the input is too long."""
 
 
-class Handle(ctypes.Structure):
-    """What `zkit.h` declares as `zkit`; as it is made, it is not open."""
+class Options(ctypes.Structure):
+    """What `zkit.h` declares as `zkit_options`: its size, and the fields that `zkit_defaults` sets."""
 
-    _fields_ = [("at", ctypes.c_void_p), ("is_open", ctypes.c_ubyte)]
-
-
-def load(path: str) -> ctypes.CDLL:
-    """The library, with the types of its functions."""
-    library = ctypes.CDLL(path)
-    game, number, size = ctypes.POINTER(Handle), ctypes.c_uint32, ctypes.c_size_t
-    content: list[type] = [ctypes.c_char_p, size]
-    functions: list[tuple[str, type | None, list[type]]] = [
-        ("open", number, [*content, ctypes.c_uint64, *5 * [number]]),
-        ("turn", number, []),
-        ("text", size, content),
-        ("transcript", size, content),
-        ("line", number, content),
-        ("character", number, [number]),
-        ("image", number, [*content, ctypes.POINTER(size)]),
-        ("saved", number, [number]),
-        ("restore", number, content),
-        ("restore_none", number, []),
-        ("status", number, []),
-        ("reason", number, []),
-        ("address", number, []),
-        ("close", None, []),
+    _fields_ = [("size", ctypes.c_size_t), ("seed", ctypes.c_uint64)] + [
+        (name, ctypes.c_uint32) for name in ("frames", "words", "undo", "steps", "room", "upper")
     ]
-    for name, result, others in functions:
+
+
+def load(path: pathlib.Path) -> ctypes.CDLL:
+    """The library, with the types of its functions."""
+    library = ctypes.CDLL(str(path))
+    game, number, size = ctypes.c_void_p, ctypes.c_uint32, ctypes.c_size_t
+    content: list[type] = [ctypes.c_char_p, size]
+    options, reason = ctypes.POINTER(Options), ctypes.POINTER(number)
+    functions: list[tuple[str, type | None, list[type]]] = [
+        ("defaults", None, [options]),
+        ("open", game, [*content, options, reason]),
+        ("close", None, [game]),
+        ("turn", number, [game]),
+        ("text", size, [game, *content]),
+        ("transcript", size, [game, *content]),
+        ("line", number, [game, *content]),
+        ("character", number, [game, number]),
+        ("image", number, [game, *content, ctypes.POINTER(size)]),
+        ("saved", number, [game, number]),
+        ("restore", number, [game, *content]),
+        ("restore_none", number, [game]),
+        ("status", number, [game]),
+        ("reason", number, [game]),
+        ("address", number, [game]),
+        ("text_of_reason", size, [number, number, *content]),
+    ]
+    for name, result, parameters in functions:
         function = getattr(library, "zkit_" + name)
-        function.restype, function.argtypes = result, [game, *others]
+        function.restype, function.argtypes = result, parameters
     return library
 
 
 class Game:
-    """A story that is played."""
+    """A story that is played. Where it can't be opened, `refused` is the reason."""
 
     def __init__(self, library: ctypes.CDLL, story: bytes, settings: dict[str, int]) -> None:
         self.library = library
-        self.handle = Handle()
         self.saved: bytes | None = None
-        self.refused = self.call("open", story, len(story), *settings.values())
+        options = Options(size=ctypes.sizeof(Options))
+        library.zkit_defaults(ctypes.byref(options))
+        for name, value in settings.items():
+            setattr(options, name, value)
+        reason = ctypes.c_uint32()
+        self.handle = library.zkit_open(story, len(story), ctypes.byref(options), ctypes.byref(reason))
+        self.refused = reason.value
 
     def call(self, name: str, *words: object) -> int:
-        """Calls a function of the library on the handle."""
+        """Calls a function of the library on the game."""
         function: Callable[..., int] = getattr(self.library, "zkit_" + name)
-        return function(ctypes.byref(self.handle), *words)
+        return function(self.handle, *words)
 
     def text(self, call: str = "text") -> bytes:
         """The text that was shown and not taken yet, or that of the transcript."""
@@ -81,7 +92,7 @@ class Game:
     def keep(self) -> None:
         """Keeps the saved game that waits for it."""
         length = ctypes.c_size_t()
-        self.call("image", b"", 0, ctypes.byref(length))
+        self.call("image", None, 0, ctypes.byref(length))
         buffer = ctypes.create_string_buffer(length.value)
         kept = self.call("image", buffer, len(buffer), ctypes.byref(length)) == 0
         if kept:
@@ -90,6 +101,8 @@ class Game:
 
     def answer(self, asked: int, lines: Iterator[bytes]) -> bool:
         """Answers what the story asks for, and says whether there was an answer."""
+        if asked == ROOM:
+            return True
         if asked == SAVE:
             self.keep()
         elif asked == RESTORE and self.saved is not None:
@@ -129,23 +142,22 @@ class Game:
         return asked
 
     def report(self) -> int:
-        """Tells why the story has stopped, as `zkit play` does, and answers the status."""
-        status = self.call("status")
-        if status in (FAULT, LIMIT):
-            word = "fault" if status == FAULT else "limit"
-            print(f"zkit: {word} {self.call('reason')} at {self.call('address'):05x}", file=sys.stderr)
-        if status == OUT_OF_MEMORY:
-            print("zkit: out of memory", file=sys.stderr)
+        """Tells why the story has stopped, and answers the status of `zkit play`."""
+        status, reason, address = (self.call(name) for name in ("status", "reason", "address"))
+        if status not in (0, QUIT):
+            buffer = ctypes.create_string_buffer(256)
+            count = self.library.zkit_text_of_reason(status, reason, buffer, len(buffer))
+            print(f"play.py: {buffer.raw[:count].decode()}, at {address:05x}", file=sys.stderr)
         return 0 if status == QUIT else status
 
 
 def main() -> int:
     """Plays the story that the command line names, and answers the status."""
-    if len(sys.argv) != 3:
+    if len(sys.argv) != 2:
         sys.exit(__doc__)
-    game = Game(load(sys.argv[1]), pathlib.Path(sys.argv[2]).read_bytes(), SETTINGS)
+    game = Game(load(LIBRARY), pathlib.Path(sys.argv[1]).read_bytes(), {})
     if game.refused:
-        print(f"zkit: refused {game.refused}", file=sys.stderr)
+        print(f"play.py: not opened, for reason {game.refused}", file=sys.stderr)
         return 1
     status = game.play(iter(sys.stdin.buffer))
     game.call("close")

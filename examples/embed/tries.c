@@ -1,40 +1,42 @@
-/* Tries what play.c does not: stories that fault or go past a limit, a saved game that another handle restores, calls that
- * are refused, and memory that is given back. It writes what comes of each.
+/* Tries what play.c does not: stories that fault or go past a limit, a saved game that another game restores, calls that are
+ * refused, slices and the room for text, the upper window, undo, snapshots, options, and memory that is given back. It writes what comes
+ * of each.
  *
- *     tries LIGHTHOUSE
+ *     tries LIGHTHOUSE OTHER
  *
- * LIGHTHOUSE is examples/lighthouse.z5. */
+ * These are examples/lighthouse.z5 and examples/lighthouse.z3. */
 #include <stdio.h>
 #include <stdlib.h>
 #include <string.h>
 
 #include "zkit.h"
+#include "zkit_heap.h"
 
 enum { SMALL = 4096, LONGEST_STORY = 524288 };
 
-/* The blocks of memory that this program and the library have. The linker puts these functions in place of malloc, realloc and
- * free, as `make` tells it to. */
+/* The blocks of memory that the library has: these three functions stand in place of those in the archive. */
 static long blocks = 0;
 
-void *__real_malloc(size_t size);
-void *__real_realloc(void *block, size_t size);
-void __real_free(void *block);
-
-void *__wrap_malloc(size_t size) {
-    void *block = __real_malloc(size);
-    blocks += block != NULL;
+static struct rattle_block block_at(void *at) {
+    static unsigned char nothing;
+    struct rattle_block block = {at != NULL, at ? at : &nothing};
     return block;
 }
 
-void *__wrap_realloc(void *block, size_t size) {
-    void *moved = __real_realloc(block, size);
-    blocks += block == NULL && moved != NULL;
-    return moved;
+struct rattle_block rattle_alloc(size_t size, size_t alignment) {
+    struct rattle_block block = block_at(malloc(size > 0 ? size : alignment));
+    blocks += block.is_there;
+    return block;
 }
 
-void __wrap_free(void *block) {
-    blocks -= block != NULL;
-    __real_free(block);
+struct rattle_block rattle_realloc(void *block, size_t kept, size_t size, size_t alignment) {
+    (void)kept;
+    return block_at(realloc(block, size > 0 ? size : alignment));
+}
+
+void rattle_dealloc(void *block) {
+    blocks--;
+    free(block);
 }
 
 /* A story of version 5 whose code stands at 00800. */
@@ -53,8 +55,38 @@ static void say(const char *call, size_t answer) {
     printf("  %s: %u\n", call, (unsigned)answer);
 }
 
-static uint32_t open_game(zkit *game, const uint8_t *story, size_t length) {
-    return zkit_open(game, story, length, 1, ZKIT_FRAMES, ZKIT_WORDS, ZKIT_UNDO, ZKIT_STEPS, 0);
+static zkit_options defaults(void) {
+    zkit_options options = {.size = sizeof options};
+    zkit_defaults(&options);
+    return options;
+}
+
+/* Opens a story that is one. */
+static zkit *opened(const uint8_t *story, size_t length, const zkit_options *options) {
+    uint32_t reason = 99;
+    zkit *game = zkit_open(story, length, options, &reason);
+    if (!game) {
+        say("not opened", reason);
+        exit(1);
+    }
+    return game;
+}
+
+/* The same for a story of some code. */
+static zkit *opened_code(const uint8_t *code, size_t count, const zkit_options *options) {
+    uint8_t story[SMALL];
+    make_story(story, code, count);
+    return opened(story, sizeof story, options);
+}
+
+/* Says why a story or its options are refused. */
+static void refuse_open(const char *what, const uint8_t *story, size_t length, const zkit_options *options) {
+    uint32_t reason = 99;
+    zkit *game = zkit_open(story, length, options, &reason);
+    say(what, reason);
+    if (game)
+        puts("  it is opened");
+    zkit_close(game);
 }
 
 /* Writes the text that waits, a line at a time behind a bar. */
@@ -74,23 +106,26 @@ static void show(zkit *game) {
 }
 
 static void tell(zkit *game) {
+    uint8_t words[80];
+    size_t count = zkit_text_of_reason(zkit_status(game), zkit_reason(game), words, sizeof words);
     show(game);
     say("status", zkit_status(game));
     say("reason", zkit_reason(game));
     printf("  address: %05x\n", (unsigned)zkit_address(game));
+    if (zkit_reason(game) != 0)
+        printf("  in words: %.*s\n", (int)count, (const char *)words);
 }
 
 /* Runs the story of some code to its stop, with so many steps at most. */
 static void run(const char *name, const uint8_t *code, size_t count, uint32_t steps) {
-    uint8_t story[SMALL];
-    zkit game = ZKIT_CLOSED;
-    make_story(story, code, count);
+    zkit_options options = defaults();
+    options.steps = steps;
     puts(name);
-    say("open", zkit_open(&game, story, sizeof story, 1, ZKIT_FRAMES, ZKIT_WORDS, ZKIT_UNDO, steps, 0));
-    say("turn", zkit_turn(&game));
-    say("another turn", zkit_turn(&game));
-    tell(&game);
-    zkit_close(&game);
+    zkit *game = opened_code(code, count, &options);
+    say("turn", zkit_turn(game));
+    say("another turn", zkit_turn(game));
+    tell(game);
+    zkit_close(game);
 }
 
 /* Types a line, and says what is awaited then. */
@@ -101,9 +136,8 @@ static void type(zkit *game, const char *line) {
 
 /* The file of a saved game that waits to be kept, or null. */
 static uint8_t *image_of(zkit *game, size_t *length) {
-    uint8_t none = 0;
     size_t again = 0;
-    say("image without room", zkit_image(game, &none, 0, length));
+    say("image without room", zkit_image(game, NULL, 0, length));
     uint8_t *file = malloc(*length);
     if (file) {
         say("image", zkit_image(game, file, *length, &again));
@@ -113,184 +147,394 @@ static uint8_t *image_of(zkit *game, size_t *length) {
     return file;
 }
 
-/* A saved game of one handle is restored by another, which plays the same story from its start. */
-static void save_and_restore(const uint8_t *story, size_t length) {
-    zkit first = ZKIT_CLOSED, second = ZKIT_CLOSED;
-    uint8_t byte;
-    size_t size = 0;
+/* Saves a game, and answers the file, or null. */
+static uint8_t *save(const uint8_t *story, size_t length, size_t *size) {
     puts("a saved game");
-    open_game(&first, story, length);
-    zkit_turn(&first);
-    type(&first, "open bag");
-    type(&first, "take letter");
-    type(&first, "save");
-    show(&first);
-    uint8_t *file = image_of(&first, &size);
-    if (!file)
-        return;
-    say("saved", zkit_saved(&first, 1));
-    say("turn", zkit_turn(&first));
-    show(&first);
-    zkit_close(&first);
-
-    puts("a game that is restored");
-    open_game(&second, story, length);
-    zkit_turn(&second);
-    type(&second, "restore");
-    say("no file", zkit_restore_none(&second));
-    say("turn", zkit_turn(&second));
-    type(&second, "restore");
-    say("half a file", zkit_restore(&second, file, size / 2));
-    say("turn", zkit_turn(&second));
-    type(&second, "restore");
-    while (zkit_text(&second, &byte, 1) > 0) {
-    }
-    say("the file", zkit_restore(&second, file, size));
-    say("turn", zkit_turn(&second));
-    type(&second, "inventory");
-    show(&second);
-    zkit_close(&second);
-    free(file);
+    zkit *game = opened(story, length, NULL);
+    say("turn", zkit_turn(game));
+    type(game, "open bag");
+    type(game, "take letter");
+    type(game, "save");
+    show(game);
+    uint8_t *file = image_of(game, size);
+    say("saved", zkit_saved(game, file != NULL));
+    say("turn", zkit_turn(game));
+    show(game);
+    zkit_close(game);
+    return file;
 }
 
-/* Calls on a handle that is not open. */
-static void refuse_closed(void) {
-    zkit game = ZKIT_CLOSED;
-    size_t needed = 7;
-    uint8_t byte = 9;
-    puts("a handle that is not open");
-    say("turn", zkit_turn(&game));
-    say("line", zkit_line(&game, &byte, 1));
-    say("text", zkit_text(&game, &byte, 1));
-    say("image", zkit_image(&game, &byte, 1, &needed));
-    say("status", zkit_status(&game));
-    zkit_close(&game);
+/* Has another game, of the same story from its start, restore the file. */
+static void restore(const uint8_t *story, size_t length, const uint8_t *file, size_t size) {
+    uint8_t byte;
+    puts("a game that is restored");
+    zkit *game = opened(story, length, NULL);
+    say("turn", zkit_turn(game));
+    type(game, "restore");
+    say("no file", zkit_restore_none(game));
+    say("turn", zkit_turn(game));
+    type(game, "restore");
+    say("half a file", zkit_restore(game, file, size / 2));
+    say("turn", zkit_turn(game));
+    type(game, "restore");
+    say("a file of no bytes", zkit_restore(game, NULL, 0));
+    say("turn", zkit_turn(game));
+    type(game, "restore");
+    while (zkit_text(game, &byte, 1) > 0) {
+    }
+    say("the file", zkit_restore(game, file, size));
+    say("turn", zkit_turn(game));
+    type(game, "inventory");
+    show(game);
+    zkit_close(game);
 }
 
 /* Calls that a story does not wait for, and answers that are none: all are refused, and the story goes on. */
 static void refuse(const uint8_t *story, size_t length) {
     static uint8_t line[65536];
-    zkit game = ZKIT_CLOSED;
     size_t needed = 7;
     uint8_t byte = 9;
     puts("calls that are refused");
-    open_game(&game, story, length);
-    say("a line before the first turn", zkit_line(&game, (const uint8_t *)"look", 4));
-    say("turn", zkit_turn(&game));
-    say("character", zkit_character(&game, 'l'));
-    say("image", zkit_image(&game, &byte, 1, &needed));
+    zkit *game = opened(story, length, NULL);
+    say("a line before the first turn", zkit_line(game, (const uint8_t *)"look", 4));
+    say("its longest line", zkit_longest_line(game));
+    say("undo", zkit_undo(game));
+    say("turn", zkit_turn(game));
+    say("the longest line", zkit_longest_line(game));
+    say("character", zkit_character(game, 'l'));
+    say("image", zkit_image(game, &byte, 1, &needed));
     say("its length is as it was", needed == 7);
     say("its buffer is as it was", byte == 9);
-    say("saved", zkit_saved(&game, 1));
-    say("restore", zkit_restore(&game, &byte, 1));
-    say("no file", zkit_restore_none(&game));
+    say("saved", zkit_saved(game, 1));
+    say("restore", zkit_restore(game, &byte, 1));
+    say("no file", zkit_restore_none(game));
+    say("undo", zkit_undo(game));
+    say("a listing that there is not", zkit_list(game, 9));
     memset(line, 'x', sizeof line);
-    say("a line with a new line", zkit_line(&game, (const uint8_t *)"a\nb", 3));
-    say("a line of 65536 bytes", zkit_line(&game, line, sizeof line));
-    say("turn", zkit_turn(&game));
-    say("a line of 65535 bytes", zkit_line(&game, line, sizeof line - 1));
-    say("turn", zkit_turn(&game));
-    zkit_close(&game);
+    say("a line with a new line", zkit_line(game, (const uint8_t *)"a\nb", 3));
+    say("a line of 65536 bytes", zkit_line(game, line, sizeof line));
+    say("turn", zkit_turn(game));
+    say("a line of 65535 bytes", zkit_line(game, line, sizeof line - 1));
+    say("turn", zkit_turn(game));
+    say("an empty line", zkit_line(game, NULL, 0));
+    say("turn", zkit_turn(game));
+    say("text without a buffer", zkit_text(game, NULL, 0));
+    say("a transcript without a buffer", zkit_transcript(game, NULL, 0));
+    zkit_close(game);
 }
 
 /* Bytes that are no story. */
 static void refuse_stories(void) {
     uint8_t story[SMALL];
     const uint8_t quit = 0xba;
-    zkit game = ZKIT_CLOSED;
     puts("what is no story");
     make_story(story, &quit, 1);
-    say("63 bytes", open_game(&game, story, 63));
+    refuse_open("no bytes", NULL, 0, NULL);
+    refuse_open("63 bytes", story, 63, NULL);
     story[0] = 6;
-    say("version 6", open_game(&game, story, sizeof story));
+    refuse_open("version 6", story, sizeof story, NULL);
     story[0] = 5;
-    say("cut off in dynamic memory", open_game(&game, story, 0x7ff));
+    refuse_open("cut off in dynamic memory", story, 0x7ff, NULL);
     story[0x06] = 0x10;
-    say("started past its end", open_game(&game, story, sizeof story));
+    refuse_open("started past its end", story, sizeof story, NULL);
+    say("without a reason", zkit_open(story, 63, NULL, NULL) == NULL);
+    zkit_close(NULL);
 }
 
-/* Limits out of their ranges, and a handle that stays as it was. */
-static void refuse_limits(const uint8_t *story, size_t length) {
-    zkit game = ZKIT_CLOSED;
-    puts("limits out of their ranges");
-    say("no frames", zkit_open(&game, story, length, 1, 0, 100, 0, 1, 0));
-    say("65536 frames", zkit_open(&game, story, length, 1, 65536, 100, 0, 1, 0));
-    say("65536 words", zkit_open(&game, story, length, 1, 1, 65536, 0, 1, 0));
-    say("65 states", zkit_open(&game, story, length, 1, 1, 100, 65, 1, 0));
-    say("256 states", zkit_open(&game, story, length, 1, 1, 100, 256, 1, 0));
-    say("no steps", zkit_open(&game, story, length, 1, 1, 100, 0, 0, 0));
-    say("1000000001 steps", zkit_open(&game, story, length, 1, 1, 100, 0, 1000000001, 0));
-    say("open", open_game(&game, story, length));
-    say("turn", zkit_turn(&game));
-    say("open of 63 bytes", open_game(&game, story, 63));
-    say("turn", zkit_turn(&game));
-    zkit_close(&game);
+/* Options of which one lies out of its range. */
+static void refuse_options(const uint8_t *story, size_t length) {
+    static const struct {
+        const char *what;
+        uint32_t frames, words, undo, steps, room;
+    } tries[] = {
+        {"no frames", 0, 100, 0, 1, 1},
+        {"65536 frames", 65536, 100, 0, 1, 1},
+        {"65536 words", 1, 65536, 0, 1, 1},
+        {"65 states", 1, 100, 65, 1, 1},
+        {"256 states", 1, 100, 256, 1, 1},
+        {"no steps", 1, 100, 0, 0, 1},
+        {"1000000001 steps", 1, 100, 0, 1000000001, 1},
+        {"no room", 1, 100, 0, 1, 0},
+        {"a room of 2147483648 bytes", 1, 100, 0, 1, 2147483648},
+        {"none of these", 1, 100, 0, 1, 2147483647},
+    };
+    zkit_options options = defaults();
+    puts("options out of their ranges");
+    for (size_t i = 0; i < sizeof tries / sizeof tries[0]; i++) {
+        options.frames = tries[i].frames;
+        options.words = tries[i].words;
+        options.undo = tries[i].undo;
+        options.steps = tries[i].steps;
+        options.room = tries[i].room;
+        refuse_open(tries[i].what, story, length, &options);
+    }
+    options.room = 0;
+    refuse_open("no room, for what is no story", story, 63, &options);
 }
 
-/* A handle that is open is given another story, which reads a character and has its transcript on. */
-static void type_character(const uint8_t *lighthouse, size_t length) {
+/* Options of which the program has fewer, or more, than the library. */
+static void size_options(const uint8_t *story, size_t length) {
+    struct {
+        zkit_options known;
+        uint8_t later[16];
+    } options = {.known = {.size = sizeof options}};
+    puts("options of other sizes");
+    memset(options.later, 0xff, sizeof options.later);
+    zkit_defaults(&options.known);
+    say("later fields are as they were", options.later[0] == 0xff);
+    say("the room", options.known.room);
+    refuse_open("with later fields", story, length, &options.known);
+    options.known.frames = 0;
+    refuse_open("a bad field", story, length, &options.known);
+    options.known.size = offsetof(zkit_options, frames);
+    refuse_open("the bad field is past the size", story, length, &options.known);
+    options.known.size = offsetof(zkit_options, frames) + 2;
+    refuse_open("half of it is", story, length, &options.known);
+    options.known.size = 0;
+    refuse_open("no size", story, length, &options.known);
+    options.known.seed = 7;
+    zkit_defaults(&options.known);
+    say("the seed", (size_t)options.known.seed);
+}
+
+/* A story that reads a character and has its transcript on. */
+static void type_character(void) {
     /* output_stream 2; read_char 1 -> global 16; print_char global 16; output_stream -2; quit */
     const uint8_t code[] = {0xf3, 0x7f, 0x02, 0xf6, 0x7f, 0x01, 0x10, 0xe5, 0xbf, 0x10, 0xf3, 0x3f, 0xff, 0xfe, 0xba};
-    uint8_t story[SMALL], buffer[16];
-    zkit game = ZKIT_CLOSED;
+    uint8_t buffer[16];
     puts("a character, and the transcript");
-    make_story(story, code, sizeof code);
-    open_game(&game, lighthouse, length);
-    zkit_turn(&game);
-    say("open", open_game(&game, story, sizeof story));
-    say("turn", zkit_turn(&game));
-    say("line", zkit_line(&game, buffer, 0));
-    say("character", zkit_character(&game, 0xe4));
-    say("turn", zkit_turn(&game));
-    size_t count = zkit_transcript(&game, buffer, sizeof buffer);
+    zkit *game = opened_code(code, sizeof code, NULL);
+    say("turn", zkit_turn(game));
+    say("line", zkit_line(game, buffer, 0));
+    say("the longest line", zkit_longest_line(game));
+    say("character", zkit_character(game, 0xe4));
+    say("turn", zkit_turn(game));
+    size_t count = zkit_transcript(game, buffer, sizeof buffer);
     printf("  transcript: %.*s\n", (int)count, (const char *)buffer);
-    say("more of it", zkit_transcript(&game, buffer, sizeof buffer));
-    tell(&game);
-    zkit_close(&game);
+    say("more of it", zkit_transcript(game, buffer, sizeof buffer));
+    tell(game);
+    zkit_close(game);
 }
 
-/* The memory of a play is given back where its handle gets another story, and where it is closed. */
-static void give_back(const uint8_t *story, size_t length) {
-    zkit game = ZKIT_CLOSED;
-    long before = blocks, open;
-    puts("memory that is given back");
-    open_game(&game, story, length);
-    zkit_turn(&game);
-    open = blocks - before;
-    say("an open handle has blocks", open > 0);
-    open_game(&game, story, length);
-    zkit_turn(&game);
-    say("with another story it has as many", blocks - before == open);
-    open_game(&game, story, 63);
-    say("so it has where one is refused", blocks - before == open);
-    zkit_close(&game);
-    say("a closed handle has none", blocks == before);
-    zkit_close(&game);
-    say("closed again it has none", blocks == before);
+/* A story that goes round for ever, in slices: the limit counts the instructions of all. */
+static void run_slices(void) {
+    const uint8_t code[] = {0x8c, 0xff, 0xff}; /* jump to itself */
+    zkit_options options = defaults();
+    options.steps = 250;
+    puts("slices");
+    zkit *game = opened_code(code, sizeof code, &options);
+    say("none", zkit_turn_for(game, 0));
+    say("100", zkit_turn_for(game, 100));
+    say("100", zkit_turn_for(game, 100));
+    say("100", zkit_turn_for(game, 100));
+    tell(game);
+    zkit_close(game);
+}
+
+/* A story that prints for ever, with room for ten bytes. */
+static void fill_room(void) {
+    const uint8_t code[] = {0xe5, 0x7f, 0x61, 0x8c, 0xff, 0xfc}; /* print_char 'a'; jump back to it */
+    zkit_options options = defaults();
+    uint8_t buffer[100];
+    options.room = 10;
+    puts("room for text");
+    zkit *game = opened_code(code, sizeof code, &options);
+    say("turn", zkit_turn(game));
+    say("status", zkit_status(game));
+    say("another turn", zkit_turn(game));
+    say("text", zkit_text(game, buffer, sizeof buffer));
+    say("turn", zkit_turn(game));
+    say("text", zkit_text(game, buffer, 4));
+    say("turn", zkit_turn(game));
+    say("text", zkit_text(game, buffer, sizeof buffer));
+    zkit_close(game);
+}
+
+static void show_row(const char *name, size_t count, const uint8_t *row) {
+    printf("  %s: '%.*s'\n", name, (int)count, (const char *)row);
+}
+
+static void show_window(zkit *game) {
+    zkit_window window;
+    uint8_t row[240];
+    zkit_window_of(game, &window);
+    say("height", window.height);
+    say("tallest", window.tallest);
+    say("selected", window.selected);
+    printf("  cursor: %u, %u\n", (unsigned)window.row, (unsigned)window.column);
+    show_row("first row", zkit_row(game, 1, row, sizeof row), row);
+    show_row("first row of the tallest", zkit_tallest_row(game, 1, row, sizeof row), row);
+    show_row("its first bytes", zkit_tallest_row(game, 1, row, 3), row);
+    show_row("its third row", zkit_tallest_row(game, 3, row, sizeof row), row);
+}
+
+/* A box that is drawn over the text: the story takes its rows away again before it reads. */
+static void draw_box(void) {
+    /* split_window 2; set_window 1; set_cursor 1 3; print_char 'a'; print_char 'b'; set_window 0; split_window 0;
+     * read_char 1 -> global 16; read_char 1 -> global 16; quit */
+    const uint8_t code[] = {0xea, 0x7f, 0x02, 0xeb, 0x7f, 0x01, 0xef, 0x5f, 0x01, 0x03, 0xe5, 0x7f, 0x61, 0xe5, 0x7f, 0x62,
+                            0xeb, 0x7f, 0x00, 0xea, 0x7f, 0x00, 0xf6, 0x7f, 0x01, 0x10, 0xf6, 0x7f, 0x01, 0x10, 0xba};
+    zkit_figures figures = {9, 9, 9};
+    puts("a box over the text");
+    zkit *game = opened_code(code, sizeof code, NULL);
+    say("turn", zkit_turn(game));
+    show_window(game);
+    zkit_status_line(game, &figures);
+    say("a status line", figures.kind);
+    say("character", zkit_character(game, 'x'));
+    say("turn", zkit_turn(game));
+    show_window(game);
+    zkit_close(game);
+}
+
+/* The status line of a story of version 3, in its parts. */
+static void show_status_line(const uint8_t *story, size_t length) {
+    zkit_figures figures = {9, 9, 9};
+    uint8_t name[240];
+    puts("a status line");
+    zkit *game = opened(story, length, NULL);
+    say("turn", zkit_turn(game));
+    zkit_status_line(game, &figures);
+    say("kind", figures.kind);
+    printf("  figures: %d, %d\n", (int)figures.first, (int)figures.second);
+    show_row("name", zkit_status_name(game, name, sizeof name), name);
+    show_row("its first bytes", zkit_status_name(game, name, 3), name);
+    zkit_close(game);
+}
+
+/* A program goes back to a state that the story has kept. */
+static void undo(void) {
+    /* save_undo -> global 16; print_num global 16; read_char 1 -> global 17; quit */
+    const uint8_t code[] = {0xbe, 0x09, 0xff, 0x10, 0xe6, 0xbf, 0x10, 0xf6, 0x7f, 0x01, 0x11, 0xba};
+    puts("undo");
+    zkit *game = opened_code(code, sizeof code, NULL);
+    say("turn", zkit_turn(game));
+    show(game);
+    say("undo", zkit_undo(game));
+    say("turn", zkit_turn(game));
+    show(game);
+    say("undo once more", zkit_undo(game));
+    zkit_close(game);
+}
+
+/* Says why a snapshot is refused, or that it is opened and awaits a line. */
+static void open_snapshot(const char *what, const uint8_t *story, size_t length, const uint8_t *kept, size_t size) {
+    uint32_t reason = 99;
+    zkit *game = zkit_open_snapshot(story, length, kept, size, NULL, &reason);
+    say(what, reason);
+    if (game)
+        say("turn", zkit_turn(game));
+    zkit_close(game);
+}
+
+/* Snapshots that are taken, opened and refused. */
+static void keep_snapshots(const uint8_t *story, size_t length, const uint8_t *other, size_t other_length) {
+    static uint8_t kept[SMALL * 16];
+    size_t size = 0;
+    puts("snapshots");
+    zkit *game = opened(story, length, NULL);
+    say("before a turn", zkit_snapshot(game, kept, sizeof kept, &size));
+    say("turn", zkit_turn(game));
+    say("without a buffer", zkit_snapshot(game, NULL, 0, &size));
+    say("one byte too short", zkit_snapshot(game, kept, size - 1, &size));
+    say("its first byte then", kept[0]);
+    say("just long enough", zkit_snapshot(game, kept, size, &size));
+    zkit_close(game);
+    open_snapshot("opened", story, length, kept, size);
+    open_snapshot("of another story", other, other_length, kept, size);
+    open_snapshot("one byte less", story, length, kept, size - 1);
+    open_snapshot("no bytes", story, length, NULL, 0);
+    kept[size / 2] ^= 1;
+    open_snapshot("another byte in it", story, length, kept, size);
+    kept[4]++;
+    open_snapshot("another version", story, length, kept, size);
+    kept[0]++;
+    open_snapshot("another name", story, length, kept, size);
+}
+
+/* What is to be known of a story. */
+static void tell_story(const uint8_t *story, size_t length) {
+    zkit_story facts;
+    uint8_t buffer[40];
+    puts("about a story");
+    zkit *game = opened(story, length, NULL);
+    zkit_story_of(game, &facts);
+    say("version", facts.version);
+    say("release", facts.release);
+    say("checksum", facts.checksum);
+    printf("  serial: %s\n", (const char *)facts.serial);
+    say("a listing", zkit_list(game, ZKIT_LIST_IFID));
+    say("its first bytes", zkit_listing(game, buffer, 3));
+    say("another one", zkit_list(game, ZKIT_LIST_IFID));
+    size_t count = zkit_listing(game, buffer, sizeof buffer);
+    printf("  it is: %.*s", (int)count, (const char *)buffer);
+    say("more of it", zkit_listing(game, buffer, sizeof buffer));
+    say("turn", zkit_turn(game));
+    zkit_close(game);
+}
+
+static int has_words(uint32_t status, uint32_t reason) {
+    uint8_t words[100];
+    return zkit_text_of_reason(status, reason, words, sizeof words) > 0;
+}
+
+/* Each fault and limit has words, and no other number of one. */
+static void name_reasons(void) {
+    uint8_t words[100];
+    uint32_t faults = 0, limits = 0;
+    puts("stops in words");
+    for (uint32_t reason = 1; reason <= 18; reason++)
+        faults += has_words(ZKIT_FAULT, reason);
+    for (uint32_t reason = 1; reason <= 4; reason++)
+        limits += has_words(ZKIT_LIMIT, reason);
+    say("faults", faults);
+    say("limits", limits);
+    say("no memory", has_words(ZKIT_OUT_OF_MEMORY, 0));
+    say("too much text", has_words(ZKIT_TOO_MUCH_TEXT, 0));
+    say("other ones", has_words(ZKIT_FAULT, 0) + has_words(ZKIT_FAULT, 19) + has_words(ZKIT_LIMIT, 0) +
+                          has_words(ZKIT_LIMIT, 5) + has_words(99, 1));
+    show_row("first bytes", zkit_text_of_reason(ZKIT_FAULT, ZKIT_DIVISION_BY_ZERO, words, 8), words);
+    say("without a buffer", zkit_text_of_reason(ZKIT_FAULT, ZKIT_DIVISION_BY_ZERO, NULL, 0));
+}
+
+/* Reads a story, and says its length: 0 where it can't be read. */
+static size_t read_story(const char *path, uint8_t *story) {
+    FILE *input = fopen(path, "rb");
+    size_t length = input ? fread(story, 1, LONGEST_STORY, input) : 0;
+    if (input)
+        fclose(input);
+    return length;
 }
 
 int main(int count, char **words) {
-    static uint8_t lighthouse[LONGEST_STORY];
-    FILE *file = count == 2 ? fopen(words[1], "rb") : NULL;
-    size_t length = file ? fread(lighthouse, 1, sizeof lighthouse, file) : 0;
-    if (file)
-        fclose(file);
+    static uint8_t lighthouse[LONGEST_STORY], other[LONGEST_STORY];
+    size_t size = 0, length = count == 3 ? read_story(words[1], lighthouse) : 0;
     if (length == 0)
         return 1;
 
+    say("the library is of this header's version", zkit_version() == ZKIT_VERSION);
     /* print_char 'a'; an opcode that there is not */
     run("a fault", (const uint8_t[]){0xe5, 0x7f, 0x61, 0x00, 0x01, 0x02, 0x00}, 7, ZKIT_STEPS);
     /* jump to itself */
     run("a limit on steps", (const uint8_t[]){0x8c, 0xff, 0xff}, 3, 1000);
     /* print_char 'b'; quit */
     run("an end", (const uint8_t[]){0xe5, 0x7f, 0x62, 0xba}, 4, ZKIT_STEPS);
-    save_and_restore(lighthouse, length);
-    refuse_closed();
+    uint8_t *file = save(lighthouse, length, &size);
+    restore(lighthouse, length, file, size);
+    free(file);
     refuse(lighthouse, length);
     refuse_stories();
-    refuse_limits(lighthouse, length);
-    type_character(lighthouse, length);
-    give_back(lighthouse, length);
-    say("blocks that are left of all", blocks);
+    refuse_options(lighthouse, length);
+    size_options(lighthouse, length);
+    type_character();
+    run_slices();
+    fill_room();
+    draw_box();
+    show_status_line(other, read_story(words[2], other));
+    undo();
+    keep_snapshots(lighthouse, length, other, read_story(words[2], other));
+    tell_story(lighthouse, length);
+    name_reasons();
+    say("blocks that are left of all", (size_t)blocks);
     return 0;
 }

@@ -1,0 +1,194 @@
+/* Plays a story with each of its requests for memory refused once: the first, in another play the second, and so on up to a
+ * play in which all are met. The lines of standard input answer the story.
+ *
+ *     refused STORY <LINES
+ *
+ * A call that says that there is no memory is made again. So each play shows the same text to its end, or a first part of it
+ * where the story has stopped for lack of memory, and in the end no block is left. Where that is so the status is 0. */
+#include <stdio.h>
+#include <stdlib.h>
+#include <string.h>
+
+#include "zkit.h"
+#include "zkit_heap.h"
+
+enum { LONGEST_STORY = 524289, MOST = 1 << 20 };
+
+struct bytes {
+    uint8_t at[MOST];
+    size_t length;
+};
+
+static uint8_t story[LONGEST_STORY];
+static size_t story_length;
+static struct bytes input, first_text, text;
+
+/* ---- the heap: it counts its blocks, and refuses one request */
+
+static long blocks, requests, refused_request;
+
+static struct rattle_block refusal(void) {
+    static unsigned char nothing;
+    struct rattle_block block = {0, &nothing};
+    return block;
+}
+
+static struct rattle_block got(void *at) {
+    struct rattle_block block = {1, at};
+    return at ? block : refusal();
+}
+
+struct rattle_block rattle_alloc(size_t size, size_t alignment) {
+    if (++requests == refused_request)
+        return refusal();
+    struct rattle_block block = got(malloc(size > 0 ? size : alignment));
+    blocks += block.is_there;
+    return block;
+}
+
+struct rattle_block rattle_realloc(void *block, size_t kept, size_t size, size_t alignment) {
+    (void)kept;
+    if (++requests == refused_request)
+        return refusal();
+    return got(realloc(block, size > 0 ? size : alignment));
+}
+
+void rattle_dealloc(void *block) {
+    blocks--;
+    free(block);
+}
+
+/* ---- a play */
+
+/* Opens the story, at the second try if memory is refused, and says whether it was. */
+static zkit *open_game(void) {
+    uint32_t reason = ZKIT_OPENED;
+    zkit *game = zkit_open(story, story_length, NULL, &reason);
+    if (!game && reason == ZKIT_OPEN_NO_MEMORY)
+        game = zkit_open(story, story_length, NULL, &reason);
+    return game;
+}
+
+static void take_text(zkit *game) {
+    size_t count;
+    while ((count = zkit_text(game, text.at + text.length, MOST - text.length)) > 0)
+        text.length += count;
+    while ((count = zkit_transcript(game, text.at + text.length, MOST - text.length)) > 0)
+        text.length += count;
+}
+
+/* Lists all that there is of the story, as long as it is there. */
+static void take_listings(zkit *game) {
+    for (uint32_t listing = ZKIT_LIST_HEADER; listing <= ZKIT_LIST_FINDINGS; listing++) {
+        size_t count;
+        if (zkit_list(game, listing) == ZKIT_NO_MEMORY)
+            zkit_list(game, listing);
+        while ((count = zkit_listing(game, text.at + text.length, MOST - text.length)) > 0)
+            text.length += count;
+    }
+}
+
+/* Puts the saved game into its place. */
+static void keep(zkit *game, struct bytes *saved) {
+    size_t needed = 0;
+    uint32_t came = zkit_image(game, saved->at, MOST, &needed);
+    if (came == ZKIT_NO_MEMORY)
+        came = zkit_image(game, saved->at, MOST, &needed);
+    saved->length = needed;
+    zkit_saved(game, came == ZKIT_DONE);
+}
+
+/* Answers a read by the next line, and says whether there was one. */
+static int answer_read(zkit *game, uint32_t asked, size_t *at) {
+    const uint8_t *line = input.at + *at;
+    const uint8_t *end = memchr(line, '\n', input.length - *at);
+    if (!end)
+        return 0;
+    *at += (size_t)(end - line) + 1;
+    if (asked == ZKIT_AWAITS_LINE)
+        zkit_line(game, line, (size_t)(end - line));
+    else
+        zkit_character(game, line[0]);
+    return 1;
+}
+
+/* Plays the story to its end. */
+static void play(zkit *game) {
+    static struct bytes saved;
+    size_t at = 0;
+    int goes_on = 1;
+    saved.length = 0;
+    while (goes_on) {
+        uint32_t asked = zkit_turn(game);
+        take_text(game);
+        if (asked == ZKIT_STOPPED)
+            break;
+        if (asked == ZKIT_AWAITS_SAVE)
+            keep(game, &saved);
+        else if (asked == ZKIT_AWAITS_RESTORE)
+            zkit_restore(game, saved.at, saved.length);
+        else if (asked != ZKIT_AWAITS_ROOM)
+            goes_on = answer_read(game, asked, &at);
+    }
+}
+
+/* Goes on from a snapshot where the story's first read is, each call at the second try if memory is refused. */
+static zkit *from_snapshot(zkit *game) {
+    static uint8_t kept[MOST];
+    size_t size = 0;
+    uint32_t reason = ZKIT_OPENED, asked = zkit_turn(game);
+    take_text(game);
+    if (asked != ZKIT_AWAITS_LINE && asked != ZKIT_AWAITS_CHARACTER)
+        return game;
+    if (zkit_snapshot(game, kept, sizeof kept, &size) == ZKIT_NO_MEMORY)
+        zkit_snapshot(game, kept, sizeof kept, &size);
+    zkit_close(game);
+    game = zkit_open_snapshot(story, story_length, kept, size, NULL, &reason);
+    if (!game && reason == ZKIT_OPEN_NO_MEMORY)
+        game = zkit_open_snapshot(story, story_length, kept, size, NULL, &reason);
+    return game;
+}
+
+/* Says whether the play is as it should be; the first one, in which nothing is refused, tells how its text is. */
+static int is_right(uint32_t status) {
+    if (refused_request == 0)
+        first_text = text;
+    int is_same = text.length == first_text.length && memcmp(text.at, first_text.at, text.length) == 0;
+    int is_part = text.length <= first_text.length && memcmp(text.at, first_text.at, text.length) == 0;
+    return blocks == 0 && (status == ZKIT_OUT_OF_MEMORY ? is_part : is_same);
+}
+
+/* Plays once, and says whether all was right. */
+static int plays(long *stopped) {
+    requests = 0;
+    text.length = 0;
+    zkit *game = open_game();
+    if (!game)
+        return 0;
+    take_listings(game);
+    game = from_snapshot(game);
+    if (!game)
+        return 0;
+    play(game);
+    uint32_t status = zkit_status(game);
+    zkit_close(game);
+    *stopped += status == ZKIT_OUT_OF_MEMORY;
+    return is_right(status);
+}
+
+int main(int count, char **words) {
+    FILE *file = count == 2 ? fopen(words[1], "rb") : NULL;
+    long stopped = 0;
+    if (!file)
+        return 2;
+    story_length = fread(story, 1, sizeof story, file);
+    fclose(file);
+    input.length = fread(input.at, 1, sizeof input.at, stdin);
+    for (refused_request = 0; refused_request == 0 || requests >= refused_request; refused_request++)
+        if (!plays(&stopped)) {
+            printf("request %ld refused: not as it should be\n", refused_request);
+            return 1;
+        }
+    printf("requests that were refused: %ld; plays that stopped for that: %ld\n", refused_request - 1, stopped);
+    return 0;
+}
