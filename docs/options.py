@@ -4,7 +4,7 @@
 usage: docs/options.py [--write]
 
 The table is crates/zk_command/src/options.rt. From it come the usage in README.md, docs/manual/playing.md and
-docs/zkit.1, the ranges and defaults in the manual's table and in the page for man, and the defaults in include/zkit.h.
+docs/zkit.1, and the ranges and defaults in the manual's table, in the page for man and in include/zkit.h.
 Without --write it tells which of these say something else, and the status is then 1.
 """
 
@@ -96,10 +96,12 @@ def with_synopsis(text: str, command: str, options: list[Option]) -> str:
 
 
 def with_constants(text: str, options: list[Option]) -> str:
-    """The header of the library for C with the defaults."""
+    """The header of the library for C with the defaults, and the ranges in the comments of its options."""
     for it in options:
         if it.default is not None:
             text = re.sub(rf"(#define ZKIT_{it.name.upper()} )\d+", lambda found: f"{found[1]}{it.default}", text)
+            field = rf"(uint32_t {it.name}; +/\*[^*]*: )[\d,]+ to [\d,]+( \*/)"
+            text = re.sub(field, lambda found: f"{found[1]}{it.least:,} to {it.most:,}{found[2]}", text)
     return text
 
 
