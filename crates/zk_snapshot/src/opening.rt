@@ -94,28 +94,17 @@ fn machine_in(
         (λ m. HasSnapshot m × (m.state.game.memory.file ≡ memory.file))) }
 {
     let mut reader = Reader::new(bytes);
-    let Some(front) = front_in(&mut reader) else {
-        return Ok(None);
-    };
+    let front = front_in(&mut reader);
     if front.limits.frames == 0 {
         return Ok(None);
     }
     let mut windows = Windows::new(alloc)?;
     let mut frames = Frames::new(alloc, front.limits.frames, front.limits.words)?;
-    let Some(()) = fill_windows(&mut reader, &mut windows) else {
-        return Ok(None);
-    };
-    let Some(()) = fill_memory(&mut reader, &mut memory) else {
-        return Ok(None);
-    };
-    let Some(()) = fill_frames(&mut reader, &mut frames) else {
-        return Ok(None);
-    };
+    fill_windows(&mut reader, &mut windows);
+    fill_memory(&mut reader, &mut memory);
+    fill_frames(&mut reader, &mut frames);
     let game = game_of(front, memory, frames, windows);
-    let Some(machine) = waiting_machine(alloc, front, undo, game)? else {
-        return Ok(None);
-    };
-    Ok(Some(machine))
+    waiting_machine(alloc, front, undo, game)
 }
 
 /// A game state that is made of its parts. No table of stream 3 is open.

@@ -14,7 +14,8 @@ use zk_term::windows::{Window, Windows};
 use zk_vm::limits::Limits;
 use zk_vm::machine::parts::Place;
 
-/// Bytes that are still to be read.
+/// Bytes that are still to be read. Zeros come after the last one, and a number that is out of its range comes out as
+/// another: a machine that is made of either has other bytes as its snapshot.
 #[derive(Drop)]
 pub(crate) struct Reader<'a> {
     rest: &'a [u8],
@@ -26,48 +27,41 @@ impl<'a> Reader<'a> {
         Reader { rest: bytes }
     }
 
-    /// The next bytes, so many of them; none where fewer are left.
-    pub(crate) fn take(&mut self, count: usize) -> Option<&'a [u8]>
-        ensures { IfSome result (λ taken. length taken.now ≡ count) }
+    /// The next bytes, so many of them, or as many as are left.
+    pub(crate) fn take(&mut self, count: usize) -> &'a [u8]
+        ensures { length result.now ≤ count }
     {
-        let rest = self.rest;
-        if rest.len() < count {
-            return None;
-        }
-        self.rest = &rest[count..];
-        Some(&rest[..count])
+        let (taken, rest) = self.rest.split_at(count.min(self.rest.len()));
+        self.rest = rest;
+        taken
     }
 
     /// The next byte.
-    pub(crate) fn byte(&mut self) -> Option<u8> {
-        let taken = self.take(1)?;
-        Some(taken[0])
+    pub(crate) fn byte(&mut self) -> u8 {
+        self.take(1).first().copied().unwrap_or(0)
     }
 
     /// The next number of two bytes.
-    pub(crate) fn word(&mut self) -> Option<u16> {
-        let taken = self.take(2)?;
-        Some(taken[0] as u16 * 256 + taken[1] as u16)
+    pub(crate) fn word(&mut self) -> u16 {
+        let high = self.byte();
+        high as u16 * 256 + self.byte() as u16
     }
 
     /// The next number of four bytes.
-    pub(crate) fn number(&mut self) -> Option<u32> {
-        let high = self.word()?;
-        let low = self.word()?;
-        Some(high as u32 * 65536 + low as u32)
+    pub(crate) fn number(&mut self) -> u32 {
+        let high = self.word();
+        high as u32 * 65536 + self.word() as u32
     }
 
     /// The next number of eight bytes.
-    fn long(&mut self) -> Option<u64> {
-        let high = self.number()?;
-        let low = self.number()?;
-        Some(high as u64 * 4_294_967_296 + low as u64)
+    fn long(&mut self) -> u64 {
+        let high = self.number();
+        high as u64 * 4_294_967_296 + self.number() as u64
     }
 
     /// The next byte as a truth.
-    fn truth(&mut self) -> Option<bool> {
-        let byte = self.byte()?;
-        Some(byte == 1)
+    fn truth(&mut self) -> bool {
+        self.byte() == 1
     }
 }
 
@@ -84,92 +78,84 @@ pub(crate) struct Front {
 }
 
 /// Limits.
-fn limits_in(reader: &mut Reader<'_>) -> Option<Limits> {
-    let frames = reader.word()?;
-    let words = reader.word()?;
-    let undo = reader.byte()?;
-    let steps = reader.number()?;
-    Some(Limits {
-        frames,
-        words,
-        undo,
-        steps,
-    })
+fn limits_in(reader: &mut Reader<'_>) -> Limits {
+    Limits {
+        frames: reader.word(),
+        words: reader.word(),
+        undo: reader.byte(),
+        steps: reader.number(),
+    }
 }
 
 /// Where a run stands.
-fn place_in(reader: &mut Reader<'_>) -> Option<Place> {
-    let pc = reader.number()?;
-    let steps = reader.number()?;
-    let reads = reader.number()?;
-    Some(Place { pc, steps, reads })
+fn place_in(reader: &mut Reader<'_>) -> Place {
+    Place {
+        pc: reader.number(),
+        steps: reader.number(),
+        reads: reader.number(),
+    }
 }
 
 /// The line or the character that is waited for.
-fn event_in(reader: &mut Reader<'_>) -> Option<Event>
-    ensures { IfSome result (λ event. is_read event ≡ true) }
+fn event_in(reader: &mut Reader<'_>) -> Event
+    ensures { is_read result ≡ true }
 {
-    let kind = reader.byte()?;
-    let text = reader.word()?;
-    let parse = reader.word()?;
+    let kind = reader.byte();
+    let text = reader.word();
+    let parse = reader.word();
     if kind == 1 {
-        return Some(Event::Line(text, parse));
+        return Event::Line(text, parse);
     }
-    Some(Event::Char)
+    Event::Char
 }
 
 /// The variable that takes a result.
-fn store_in(reader: &mut Reader<'_>) -> Option<Option<u8>> {
-    let taken = reader.truth()?;
-    let variable = reader.byte()?;
-    Some(if taken { Some(variable) } else { None })
+fn store_in(reader: &mut Reader<'_>) -> Option<u8> {
+    let taken = reader.truth();
+    let variable = reader.byte();
+    if taken { Some(variable) } else { None }
 }
 
 /// The random numbers.
-fn generators_in(reader: &mut Reader<'_>) -> Option<Generators> {
-    let free = reader.long()?;
-    let open = reader.truth()?;
-    let state = reader.long()?;
-    Some(Generators {
+fn generators_in(reader: &mut Reader<'_>) -> Generators {
+    let free = reader.long();
+    let open = reader.truth();
+    let state = reader.long();
+    Generators {
         free,
         predictable: if open { Some(state) } else { None },
-    })
+    }
 }
 
 /// What comes before the upper window.
-pub(crate) fn front_in(reader: &mut Reader<'_>) -> Option<Front>
-    ensures { IfSome result (λ front. is_read front.event ≡ true) }
+pub(crate) fn front_in(reader: &mut Reader<'_>) -> Front
+    ensures { is_read result.event ≡ true }
 {
-    let limits = limits_in(reader)?;
-    let place = place_in(reader)?;
-    let event = event_in(reader)?;
+    let limits = limits_in(reader);
+    let place = place_in(reader);
+    let event = event_in(reader);
     // the instruction that waits is the one at its address
-    let _ = reader.number()?;
-    let _ = store_in(reader)?;
-    let upper = reader.truth()?;
-    let at_line_start = reader.truth()?;
-    let screen = reader.truth()?;
-    let generators = generators_in(reader)?;
-    Some(Front {
+    reader.number();
+    store_in(reader);
+    let upper = reader.truth();
+    Front {
         limits,
         place,
         event,
         view: if upper { View::Upper } else { View::Plain },
-        at_line_start,
-        screen,
-        generators,
-    })
+        at_line_start: reader.truth(),
+        screen: reader.truth(),
+        generators: generators_in(reader),
+    }
 }
 
 /// Puts a row's characters into the upper window.
-fn fill_row(reader: &mut Reader<'_>, windows: &mut Windows, row: u16) -> Option<()> {
-    let count = reader.byte()?;
+fn fill_row(reader: &mut Reader<'_>, windows: &mut Windows, row: u16) {
+    let count = reader.byte();
     windows.set_cursor(row, 1);
     for _i in 0..count {
-        let c = char::from_u32(reader.number()?)?;
-        windows.put(c);
+        windows.put(char::from_u32(reader.number()).unwrap_or(' '));
     }
-    Some(())
 }
 
 /// Puts the cursor where it stood, which may be past the last row or column.
@@ -187,20 +173,19 @@ fn put_cursor(windows: &mut Windows, row: u16, column: u8) {
 }
 
 /// Fills an upper window that is new.
-pub(crate) fn fill_windows(reader: &mut Reader<'_>, windows: &mut Windows) -> Option<()> {
-    let height = reader.byte()?;
-    let row = reader.word()?;
-    let column = reader.byte()?;
-    let upper = reader.truth()?;
+pub(crate) fn fill_windows(reader: &mut Reader<'_>, windows: &mut Windows) {
+    let height = reader.byte();
+    let row = reader.word();
+    let column = reader.byte();
+    let upper = reader.truth();
     windows.split(4, height as u16);
     if upper {
         windows.select(Window::Upper);
     }
     for number in 0..255u16 {
-        fill_row(reader, windows, number + 1)?;
+        fill_row(reader, windows, number + 1);
     }
     put_cursor(windows, row, column);
-    Some(())
 }
 
 /// Gives dynamic memory its bytes.
@@ -216,53 +201,42 @@ fn put_bytes(memory: &mut Memory, bytes: &[u8])
 
 /// Reads dynamic memory.
 #[tactic(auto, using(crate::proofs::Filled::same_file, crate::proofs::Filled::same_undo))]
-pub(crate) fn fill_memory(reader: &mut Reader<'_>, memory: &mut Memory) -> Option<()>
+pub(crate) fn fill_memory(reader: &mut Reader<'_>, memory: &mut Memory)
     ensures file { memory.new.file ≡ memory.old.file }
     ensures undo { memory.new.undo_states ≡ memory.old.undo_states }
 {
     let count = memory.dynamic().len();
-    let bytes = reader.take(count)?;
-    put_bytes(memory, bytes);
-    Some(())
+    put_bytes(memory, reader.take(count));
 }
 
 /// Reads the words of the current frame: its local variables, and its evaluation stack.
-fn fill_frame(reader: &mut Reader<'_>, frames: &mut Frames, locals: u8, words: u16) -> Option<()>
-    requires { locals ≤ 15 }
-{
+fn fill_frame(reader: &mut Reader<'_>, frames: &mut Frames, locals: u8, words: u16) {
     for k in 0..locals {
-        let value = reader.word()?;
-        frames.set_local_at(k, value).ok()?;
+        let _ = frames.set_local_at(k, reader.word());
     }
     for _i in 0..words {
-        let value = reader.word()?;
-        frames.push(value).ok()?;
+        let _ = frames.push(reader.word());
     }
-    Some(())
 }
 
 /// Reads a frame; the first one is there before.
-fn next_frame(reader: &mut Reader<'_>, frames: &mut Frames, is_first: bool) -> Option<()> {
-    let pc = reader.number()?;
-    let result = store_in(reader)?;
-    let supplied = reader.byte()?;
-    let locals = reader.byte()?;
-    let words = reader.word()?;
-    if locals > 15 || supplied > 7 || pc >= 16_777_216 {
-        return None;
-    }
+fn next_frame(reader: &mut Reader<'_>, frames: &mut Frames, is_first: bool) {
+    let pc = reader.number() % 16_777_216;
+    let result = store_in(reader);
+    let supplied = reader.byte() % 8;
+    let locals = reader.byte() % 16;
+    let words = reader.word();
     if !is_first {
-        frames.call_with(locals, &[], pc, result, supplied).ok()?;
+        let _ = frames.call_with(locals, &[], pc, result, supplied);
     }
-    fill_frame(reader, frames, locals, words)
+    fill_frame(reader, frames, locals, words);
 }
 
 /// Reads all frames.
-pub(crate) fn fill_frames(reader: &mut Reader<'_>, frames: &mut Frames) -> Option<()> {
-    let waiting = reader.word()?;
-    next_frame(reader, frames, true)?;
+pub(crate) fn fill_frames(reader: &mut Reader<'_>, frames: &mut Frames) {
+    let waiting = reader.word();
+    next_frame(reader, frames, true);
     for _i in 0..waiting {
-        next_frame(reader, frames, false)?;
+        next_frame(reader, frames, false);
     }
-    Some(())
 }
