@@ -1,0 +1,558 @@
+// @ts-check
+// Plays and inspects stories by zkit.wasm: the functions of include/zkit.h for a page and for Node.
+// SPDX-License-Identifier: MIT OR Apache-2.0
+//
+// A call that traps leaves the module unusable: drop it with all its games, and make a new one.
+
+/** @typedef {"stopped"|"line"|"character"|"save"|"restore"|"room"|"time"} Awaited */
+
+/**
+ * How a story is played; what is left out is as `zkit_defaults` says.
+ * @typedef {object} Options
+ * @property {bigint} [seed]
+ * @property {number} [frames]
+ * @property {number} [words]
+ * @property {number} [undo]
+ * @property {number} [steps]
+ * @property {number} [room]
+ * @property {boolean} [upper]
+ */
+
+/** @typedef {{height: number, tallest: number, row: number, column: number, selected: boolean}} Window */
+/** @typedef {{kind: "score"|"time", name: string, first: number, second: number}} StatusLine */
+/** @typedef {{version: number, release: number, checksum: number, serial: string}} Story */
+
+/**
+ * What the module exports. Addresses and sizes are of 64 bits, so they come as BigInt.
+ * @typedef {object} Calls
+ * @property {WebAssembly.Memory} memory
+ * @property {(size: bigint) => bigint} zkit_take
+ * @property {(at: bigint) => void} zkit_give
+ * @property {() => number} zkit_version
+ * @property {(options: bigint) => void} zkit_defaults
+ * @property {(story: bigint, length: bigint, options: bigint, reason: bigint) => bigint} zkit_open
+ * @property {(story: bigint, length: bigint, snapshot: bigint, snapshot_length: bigint, options: bigint,
+ *     reason: bigint) => bigint} zkit_open_snapshot
+ * @property {(game: bigint) => void} zkit_close
+ * @property {(game: bigint) => number} zkit_turn
+ * @property {(game: bigint, steps: number) => number} zkit_turn_for
+ * @property {Taking} zkit_text
+ * @property {Taking} zkit_transcript
+ * @property {(game: bigint) => number} zkit_status
+ * @property {(game: bigint) => number} zkit_reason
+ * @property {(game: bigint) => number} zkit_address
+ * @property {(status: number, reason: number, buffer: bigint, length: bigint) => bigint} zkit_text_of_reason
+ * @property {(game: bigint) => number} zkit_longest_line
+ * @property {Giving} zkit_line
+ * @property {(game: bigint, character: number) => number} zkit_character
+ * @property {(game: bigint) => number} zkit_undo
+ * @property {Copying} zkit_image
+ * @property {(game: bigint, kept: number) => number} zkit_saved
+ * @property {Giving} zkit_restore
+ * @property {(game: bigint) => number} zkit_restore_none
+ * @property {Copying} zkit_snapshot
+ * @property {(game: bigint, window: bigint) => void} zkit_window_of
+ * @property {(game: bigint, row: number, buffer: bigint, length: bigint) => bigint} zkit_row
+ * @property {(game: bigint, row: number, buffer: bigint, length: bigint) => bigint} zkit_tallest_row
+ * @property {(game: bigint, figures: bigint) => void} zkit_status_line
+ * @property {Taking} zkit_status_name
+ * @property {(game: bigint, story: bigint) => void} zkit_story_of
+ * @property {(game: bigint, listing: number) => number} zkit_list
+ * @property {Taking} zkit_listing
+ */
+/** @typedef {(game: bigint, buffer: bigint, length: bigint) => bigint} Taking */
+/** @typedef {(game: bigint, bytes: bigint, length: bigint) => number} Giving */
+/** @typedef {(game: bigint, buffer: bigint, length: bigint, needed: bigint) => number} Copying */
+
+/** What `list` lists, in the order of the constants ZKIT_LIST_HEADER and so on. */
+export const LISTINGS = [
+    "header", "map", "abbreviations", "dictionary", "objects", "tree", "ifid", "code", "findings",
+];
+
+/** @type {Awaited[]} */
+const AWAITED = ["stopped", "line", "character", "save", "restore", "room", "time"];
+
+const DONE = 0;
+const NO_ROOM = 3;
+const OUT_OF_MEMORY = 6;
+const FAULT = 2;
+const LIMIT = 3;
+const NO_MEMORY_LEFT = 5;
+const TOO_MUCH_TEXT = 6;
+
+/** Why nothing is opened, by its number, in the words of `zkit play`; {} is the story's version. */
+const REFUSALS = [
+    "",
+    "the file is shorter than a header",
+    "version {} is not played",
+    "the file is too long for its version",
+    "static memory begins inside the header or past the file",
+    "the first instruction lies past the file",
+    "out of memory",
+    "a limit is out of its range",
+    "the bytes are no snapshot",
+    "the snapshot is of another version",
+    "the snapshot is of another story",
+    "the snapshot is damaged",
+];
+const LAST_OF_STORY = 5;
+
+/**
+ * What a file that is no story begins as, in the words of `zkit play`.
+ * @type {[RegExp, string][]}
+ */
+const BEGINNINGS = [
+    [/^FORM[^]{4}IFRS/, "it begins as a Blorb resource file; unpack its ZCOD part"],
+    [/^Glul/, "it begins as a Glulx story, which is for another machine"],
+    [/^\x1f\x8b/, "it is compressed by gzip; unpack it"],
+    [/^PK\x03\x04/, "it is a zip archive; unpack it"],
+    [/^[\t\n\r -~\x80-\xff]+$/, "it begins as a plain text"],
+];
+const LEAD = 64;
+
+/** A file of more bytes is refused as one of so many is: no version allows as many. */
+const LONGEST_STORY = 524_289;
+
+const BUFFER = 16_384;
+const OPTIONS_SIZE = 40;
+const GREATEST = 0xffff_ffff;
+
+/**
+ * Why a story or a snapshot is not opened, in words.
+ * @param {number} number
+ * @param {Uint8Array} story
+ */
+function words_of_refusal(number, story) {
+    const lead = String.fromCharCode(...story.subarray(0, LEAD));
+    const found = BEGINNINGS.find(([pattern]) => pattern.test(lead));
+    if (number <= LAST_OF_STORY && found)
+        return found[1];
+    return REFUSALS[number].replace("{}", String(story[0]));
+}
+
+/**
+ * A number as C takes it. What is no whole number of 32 bits becomes the greatest one, which lies out of each range.
+ * @param {number} number
+ */
+function whole(number) {
+    return Number.isInteger(number) && number >= 0 && number <= GREATEST ? number : GREATEST;
+}
+
+/** @param {Uint8Array[]} parts */
+function joined(parts) {
+    const all = new Uint8Array(parts.reduce((sum, part) => sum + part.length, 0));
+    let at = 0;
+    for (const part of parts) {
+        all.set(part, at);
+        at += part.length;
+    }
+    return all;
+}
+
+/** A decoder that keeps each character, U+FEFF at the start too. */
+function decoder() {
+    return new TextDecoder("utf-8", { ignoreBOM: true });
+}
+
+/** Why a story or a snapshot is not opened: the constant of zkit.h, and the words. */
+export class Refused extends Error {
+    /**
+     * @param {number} number
+     * @param {Uint8Array} story
+     */
+    constructor(number, story) {
+        super(words_of_refusal(number, story));
+        this.name = "Refused";
+        this.number = number;
+    }
+}
+
+/** The module, which all its games share. */
+export class Module {
+    /** @param {WebAssembly.Instance} instance */
+    constructor(instance) {
+        this.calls = /** @type {Calls} */ (/** @type {unknown} */ (instance.exports));
+    }
+
+    /**
+     * Makes the module of the bytes of zkit.wasm.
+     * @param {BufferSource} bytes
+     */
+    static async of(bytes) {
+        return new Module((await WebAssembly.instantiate(bytes)).instance);
+    }
+
+    version() {
+        return this.calls.zkit_version();
+    }
+
+    /**
+     * Opens a story at its start, or throws Refused.
+     * @param {Uint8Array} story
+     * @param {Options} [options]
+     */
+    open(story, options = {}) {
+        return this.game(story, [story.subarray(0, LONGEST_STORY)], options);
+    }
+
+    /**
+     * Opens a game that goes on from a snapshot, or throws Refused. Of the options `room` alone is used.
+     * @param {Uint8Array} story
+     * @param {Uint8Array} snapshot
+     * @param {Options} [options]
+     */
+    openSnapshot(story, snapshot, options = {}) {
+        return this.game(story, [story.subarray(0, LONGEST_STORY), snapshot], options);
+    }
+
+    /**
+     * @param {Uint8Array} story
+     * @param {Uint8Array[]} files
+     * @param {Options} options
+     */
+    game(story, files, options) {
+        const buffer = this.calls.zkit_take(BigInt(BUFFER));
+        if (buffer === 0n)
+            throw new Refused(OUT_OF_MEMORY, story);
+        const { game, reason } = this.opened(files, options, buffer);
+        if (game !== 0n)
+            return new Game(this, game, buffer);
+        this.calls.zkit_give(buffer);
+        throw new Refused(reason, story);
+    }
+
+    /**
+     * The address of a game of a story and perhaps a snapshot; 0 and the reason where none is opened.
+     * @param {Uint8Array[]} files
+     * @param {Options} options
+     * @param {bigint} buffer
+     */
+    opened(files, options, buffer) {
+        const at = files.map((file) => this.copied(file));
+        const sizes = files.map((file) => BigInt(file.length));
+        let game = 0n;
+        let reason = OUT_OF_MEMORY;
+        if (!at.includes(0n)) {
+            const words = this.options_at(buffer, options);
+            const told = buffer + BigInt(OPTIONS_SIZE);
+            game = at.length === 1 ? this.calls.zkit_open(at[0], sizes[0], words, told)
+                : this.calls.zkit_open_snapshot(at[0], sizes[0], at[1], sizes[1], words, told);
+            reason = this.view(told, 4).getUint32(0, true);
+        }
+        at.filter((place) => place !== 0n).forEach((place) => this.calls.zkit_give(place));
+        return { game, reason };
+    }
+
+    /**
+     * Writes a `zkit_options` to an address, and answers that.
+     * @param {bigint} at
+     * @param {Options} options
+     */
+    options_at(at, options) {
+        this.view(at, OPTIONS_SIZE).setBigUint64(0, BigInt(OPTIONS_SIZE), true);
+        this.calls.zkit_defaults(at);
+        const view = this.view(at, OPTIONS_SIZE);
+        if (options.seed !== undefined)
+            view.setBigUint64(8, BigInt.asUintN(64, options.seed), true);
+        [options.frames, options.words, options.undo, options.steps, options.room].forEach((number, i) => {
+            if (number !== undefined)
+                view.setUint32(16 + 4 * i, whole(number), true);
+        });
+        view.setUint32(36, options.upper ? 1 : 0, true);
+        return at;
+    }
+
+    /**
+     * The address of a copy of bytes, for zkit_give; 0 where there is no memory.
+     * @param {Uint8Array} bytes
+     */
+    copied(bytes) {
+        const at = this.calls.zkit_take(BigInt(bytes.length));
+        if (at !== 0n)
+            this.bytes(at, bytes.length).set(bytes);
+        return at;
+    }
+
+    /**
+     * Bytes of the module's memory. They are no longer there after a call that lets it grow: ask anew.
+     * @param {bigint} at
+     * @param {number} length
+     */
+    bytes(at, length) {
+        return new Uint8Array(this.calls.memory.buffer, Number(at), length);
+    }
+
+    /**
+     * The same as numbers.
+     * @param {bigint} at
+     * @param {number} length
+     */
+    view(at, length) {
+        return new DataView(this.calls.memory.buffer, Number(at), length);
+    }
+}
+
+/** A story that is played. `Module.open` makes it, and `close` gives its memory back. */
+export class Game {
+    /**
+     * @param {Module} module
+     * @param {bigint} handle
+     * @param {bigint} buffer
+     */
+    constructor(module, handle, buffer) {
+        this.module = module;
+        this.calls = module.calls;
+        this.handle = handle;
+        this.buffer = buffer;
+        this.decoder = decoder();
+        this.script_decoder = decoder();
+    }
+
+    /** The game's address, while it is open. */
+    get at() {
+        if (this.handle === 0n)
+            throw new Error("the game is closed");
+        return this.handle;
+    }
+
+    /**
+     * Runs the story until it awaits something, or for so many instructions at most, and answers what it awaits.
+     * @param {number} [steps]
+     * @returns {Awaited}
+     */
+    turn(steps) {
+        const awaited = steps === undefined ? this.calls.zkit_turn(this.at)
+            : this.calls.zkit_turn_for(this.at, whole(steps));
+        return AWAITED[awaited];
+    }
+
+    /** All text that waits. */
+    text() {
+        return this.decoder.decode(this.textBytes(), { stream: true });
+    }
+
+    /** All text that waits for the transcript. */
+    transcript() {
+        return this.script_decoder.decode(this.transcriptBytes(), { stream: true });
+    }
+
+    textBytes() {
+        return this.taken(this.calls.zkit_text);
+    }
+
+    transcriptBytes() {
+        return this.taken(this.calls.zkit_transcript);
+    }
+
+    /**
+     * All bytes that a call gives part by part.
+     * @param {Taking} take
+     */
+    taken(take) {
+        const parts = [];
+        let count;
+        while ((count = take(this.at, this.buffer, BigInt(BUFFER))) > 0n)
+            parts.push(this.module.bytes(this.buffer, Number(count)).slice());
+        return joined(parts);
+    }
+
+    longestLine() {
+        return this.calls.zkit_longest_line(this.at);
+    }
+
+    /**
+     * Answers a line without its end, and says whether it was taken.
+     * @param {string | Uint8Array} line
+     */
+    line(line) {
+        return this.given(typeof line === "string" ? new TextEncoder().encode(line) : line, this.calls.zkit_line);
+    }
+
+    /**
+     * Answers a character by its number in Unicode, and says whether it was taken.
+     * @param {number} code
+     */
+    character(code) {
+        return this.calls.zkit_character(this.at, whole(code)) === DONE;
+    }
+
+    /** Goes back to the newest state that the story has kept, and says whether there was one. */
+    undo() {
+        return this.calls.zkit_undo(this.at) === DONE;
+    }
+
+    /** The file of the saved game that is to be kept, or null. */
+    image() {
+        return this.copied(this.calls.zkit_image);
+    }
+
+    /**
+     * Tells the story whether its saved game was kept.
+     * @param {boolean} kept
+     */
+    saved(kept) {
+        return this.calls.zkit_saved(this.at, kept ? 1 : 0) === DONE;
+    }
+
+    /**
+     * Answers a story that awaits a saved game by its file, or by null where there is none.
+     * @param {Uint8Array | null} file
+     */
+    restore(file) {
+        return file ? this.given(file, this.calls.zkit_restore) : this.calls.zkit_restore_none(this.at) === DONE;
+    }
+
+    /** A snapshot of the play, or null. Take the text first. */
+    snapshot() {
+        return this.copied(this.calls.zkit_snapshot);
+    }
+
+    /**
+     * Passes bytes to a call, and says whether they were taken.
+     * @param {Uint8Array} bytes
+     * @param {Giving} give
+     */
+    given(bytes, give) {
+        const handle = this.at;
+        const at = this.module.copied(bytes);
+        if (at === 0n)
+            return false;
+        const answer = give(handle, at, BigInt(bytes.length));
+        this.calls.zkit_give(at);
+        return answer === DONE;
+    }
+
+    /**
+     * The bytes of a file that a call copies out, or null where there is none or no memory.
+     * @param {Copying} copy
+     */
+    copied(copy) {
+        if (copy(this.at, 0n, 0n, this.buffer) !== NO_ROOM)
+            return null;
+        const size = this.module.view(this.buffer, 8).getBigUint64(0, true);
+        const at = this.calls.zkit_take(size);
+        if (at === 0n)
+            return null;
+        const answer = copy(this.at, at, size, this.buffer);
+        const bytes = answer === DONE ? this.module.bytes(at, Number(size)).slice() : null;
+        this.calls.zkit_give(at);
+        return bytes;
+    }
+
+    /**
+     * How the upper window stands.
+     * @returns {Window}
+     */
+    window() {
+        this.calls.zkit_window_of(this.at, this.buffer);
+        const [height, tallest, row, column, selected] = this.numbers(5);
+        return { height, tallest, row, column, selected: selected !== 0 };
+    }
+
+    /** The rows of the upper window, without the spaces at their ends. */
+    rows() {
+        return this.rows_of(this.window().height, this.calls.zkit_row);
+    }
+
+    /** The rows of the tallest grid since the last answer to a read. */
+    tallestRows() {
+        return this.rows_of(this.window().tallest, this.calls.zkit_tallest_row);
+    }
+
+    /**
+     * @param {number} height
+     * @param {(game: bigint, row: number, buffer: bigint, length: bigint) => bigint} put
+     */
+    rows_of(height, put) {
+        return Array.from({ length: height }, (_, i) =>
+            this.string(put(this.at, i + 1, this.buffer, BigInt(BUFFER))));
+    }
+
+    /**
+     * The status line of a story of version 3; else null.
+     * @returns {StatusLine | null}
+     */
+    statusLine() {
+        this.calls.zkit_status_line(this.at, this.buffer);
+        const [kind, first, second] = this.numbers(3);
+        if (kind === 0)
+            return null;
+        const name = this.string(this.calls.zkit_status_name(this.at, this.buffer, BigInt(BUFFER)));
+        return { kind: kind === 1 ? "score" : "time", name, first: first | 0, second: second | 0 };
+    }
+
+    /**
+     * What the story's file says of it.
+     * @returns {Story}
+     */
+    story() {
+        this.calls.zkit_story_of(this.at, this.buffer);
+        const [version, release, checksum] = this.numbers(3);
+        const serial = String.fromCharCode(...this.module.bytes(this.buffer + 12n, 6));
+        return { version, release, checksum, serial };
+    }
+
+    /**
+     * A listing, one of LISTINGS; null where there is no such one, or no memory.
+     * @param {string} listing
+     */
+    list(listing) {
+        if (this.calls.zkit_list(this.at, whole(LISTINGS.indexOf(listing))) !== DONE)
+            return null;
+        return decoder().decode(this.taken(this.calls.zkit_listing));
+    }
+
+    /**
+     * The first numbers of the buffer.
+     * @param {number} count
+     */
+    numbers(count) {
+        const view = this.module.view(this.buffer, 4 * count);
+        return Array.from({ length: count }, (_, i) => view.getUint32(4 * i, true));
+    }
+
+    /**
+     * The first bytes of the buffer as text.
+     * @param {bigint} count
+     */
+    string(count) {
+        return decoder().decode(this.module.bytes(this.buffer, Number(count)));
+    }
+
+    status() {
+        return this.calls.zkit_status(this.at);
+    }
+
+    reason() {
+        return this.calls.zkit_reason(this.at);
+    }
+
+    /** Where the instruction lies with the fault or limit that has stopped the story. */
+    address() {
+        return this.calls.zkit_address(this.at) >>> 0;
+    }
+
+    /** Why the story has stopped, in words; "" where it has not. */
+    words() {
+        return this.string(this.calls.zkit_text_of_reason(this.status(), this.reason(), this.buffer, BigInt(BUFFER)));
+    }
+
+    /** The line that `zkit play` writes last on standard error: "" where the story has ended by itself, or has not. */
+    lastLine() {
+        const status = this.status();
+        if (status === FAULT || status === LIMIT) {
+            const place = this.address().toString(16).padStart(5, "0");
+            return `zkit: ${status === FAULT ? "fault" : "limit"} ${this.reason()} at ${place}`;
+        }
+        return status === NO_MEMORY_LEFT || status === TOO_MUCH_TEXT ? `zkit: ${this.words()}` : "";
+    }
+
+    /** Gives all memory of the game back. It is not used any more. */
+    close() {
+        if (this.handle === 0n)
+            return;
+        this.calls.zkit_close(this.handle);
+        this.calls.zkit_give(this.buffer);
+        this.handle = 0n;
+    }
+}
