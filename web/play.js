@@ -1,0 +1,135 @@
+#!/usr/bin/env node
+// Plays a story in Node by zkit.wasm: the lines of standard input answer it, its text goes to standard output.
+// SPDX-License-Identifier: MIT OR Apache-2.0
+import fs from "fs";
+import { fileURLToPath } from "url";
+import { lines_of, play } from "./player.js";
+import { Module, Refused } from "./zkit.js";
+
+const USAGE = `usage: web/play.js [--module FILE] [--seed n] [--frames n] [--words n] [--undo n] [--steps n] [--upper]
+                   [--save FILE] [--script FILE] STORY
+
+The module is dist/zkit.wasm, or FILE. The other options, the last line on standard error and the status are those of
+zkit play.`;
+const MODULE = fileURLToPath(new URL("../dist/zkit.wasm", import.meta.url));
+const NUMBERS = ["--frames", "--words", "--undo", "--steps"];
+const FILES = ["--module", "--save", "--script"];
+const USAGE_STATUS = 1;
+const REFUSED_STATUS = 1;
+const READ_FAILED = 4;
+const WRITE_FAILED = 4;
+const NO_MEMORY = 5;
+const OUT_OF_MEMORY = 6;
+const PART = 65_536;
+
+/** Ends with lines on standard error. */
+class Ended extends Error {
+    constructor(status, ...told) {
+        super(told.join("\n"));
+        this.status = status;
+    }
+}
+
+/** What the words of the command line say. */
+function read_words(words) {
+    const said = { module: MODULE, save: null, script: null, story: null, options: {} };
+    while (words.length > 0) {
+        const word = words.shift();
+        if (word === "--upper")
+            said.options.upper = true;
+        else if (word === "--seed" && /^\d+$/.test(words[0]))
+            said.options.seed = BigInt(words.shift());
+        else if (NUMBERS.includes(word) && /^\d+$/.test(words[0]))
+            said.options[word.slice(2)] = Number(words.shift());
+        else if (FILES.includes(word) && words.length > 0)
+            said[word.slice(2)] = words.shift();
+        else if (!word.startsWith("-") && said.story === null)
+            said.story = word;
+        else
+            throw new Ended(USAGE_STATUS, USAGE);
+    }
+    if (said.story === null)
+        throw new Ended(USAGE_STATUS, USAGE);
+    return said;
+}
+
+/** The bytes of the story. */
+function read_story(path) {
+    try {
+        return fs.readFileSync(path);
+    } catch (error) {
+        throw new Ended(READ_FAILED, `zkit: ${path}: ${error.message}`, "zkit: read failed");
+    }
+}
+
+/** Opens the story, or tells why it is none. */
+function open(module, path, story, options) {
+    try {
+        return module.open(story, options);
+    } catch (error) {
+        if (!(error instanceof Refused))
+            throw error;
+        if (error.number === OUT_OF_MEMORY)
+            throw new Ended(NO_MEMORY, "zkit: out of memory");
+        throw new Ended(REFUSED_STATUS, `zkit: ${path}: not a story: ${error.message}`, `zkit: refused ${error.number}`);
+    }
+}
+
+/** Standard input, part by part. */
+function* input() {
+    const part = Buffer.alloc(PART);
+    for (let count; (count = fs.readSync(0, part)) > 0;)
+        yield part.subarray(0, count);
+}
+
+/** Writes all bytes to a file that is open. */
+function write(file, bytes) {
+    try {
+        for (let at = 0; at < bytes.length;)
+            at += fs.writeSync(file, bytes, at);
+    } catch (error) {
+        throw new Ended(WRITE_FAILED, `zkit: ${error.message}`, "zkit: write failed");
+    }
+}
+
+/** Keeps a saved game in a file, if there is one for it, and says whether it did. */
+function keep(path, file) {
+    if (path === null)
+        return false;
+    try {
+        fs.writeFileSync(path, file);
+        return true;
+    } catch (error) {
+        process.stderr.write(`zkit: ${path}: not saved: ${error.message}\n`);
+        return false;
+    }
+}
+
+function devices_of({ save, script }) {
+    const transcript = script === null ? null : fs.openSync(script, "w");
+    return {
+        lines: lines_of(input()),
+        show: (text) => write(1, text),
+        script: (text) => transcript === null || write(transcript, text),
+        keep: (file) => keep(save, file),
+        kept: () => (save !== null && fs.existsSync(save) ? fs.readFileSync(save) : null),
+    };
+}
+
+async function main(words) {
+    const said = read_words(words);
+    const story = read_story(said.story);
+    const module = await Module.of(fs.readFileSync(said.module));
+    const game = open(module, said.story, story, said.options);
+    const { status, told } = play(game, devices_of(said));
+    game.close();
+    if (status !== 0)
+        throw new Ended(status, ...told);
+}
+
+main(process.argv.slice(2)).catch((error) => {
+    if (!(error instanceof Ended))
+        throw error;
+    process.stderr.write(error.message + "\n");
+    process.exitCode = error.status;
+});

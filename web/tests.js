@@ -1,0 +1,374 @@
+#!/usr/bin/env node
+// Tests of zkit.wasm in Node, beside the program. web/test makes what they take, and runs them.
+// SPDX-License-Identifier: MIT OR Apache-2.0
+//
+// usage: web/tests.js MODULE PROGRAM FOLDER COUNT
+//
+// FOLDER has COUNT generated stories, the stories of large_stories.py and, where there is a C compiler, the program kept.
+import { spawnSync } from "child_process";
+import fs from "fs";
+import path from "path";
+import { fileURLToPath } from "url";
+import { lines_of, play } from "./player.js";
+import { LISTINGS, Module, Refused } from "./zkit.js";
+
+const [MODULE, PROGRAM, FOLDER, COUNT] = process.argv.slice(2);
+const EXAMPLES = fileURLToPath(new URL("../examples", import.meta.url));
+const VERSIONS = [3, 4, 5, 8];
+const CAP = 64 << 20;
+const PAGE = 65_536;
+const TOO_MUCH_TEXT = 6;
+const LONGEST = 512 << 20;
+
+const code = fs.readFileSync(MODULE);
+let bad = 0;
+let looks = 0;
+
+function want(holds, what) {
+    looks++;
+    if (holds)
+        return;
+    bad++;
+    process.stderr.write(`differs: ${what}\n`);
+}
+
+const same = (one, other) => Buffer.compare(one, other) === 0;
+const example = (name) => fs.readFileSync(path.join(EXAMPLES, name));
+const made = (name) => fs.readFileSync(path.join(FOLDER, name));
+const size_of = (module) => module.calls.memory.buffer.byteLength;
+
+/** Plays a story by the module; `kept` is the saved game that is there before. */
+function by_module(module, story, options, input, kept = null, slice = undefined) {
+    const shown = [];
+    const script = [];
+    let saved = kept;
+    const game = module.open(story, options);
+    const ending = play(game, {
+        lines: lines_of([input]),
+        show: (text) => shown.push(text),
+        script: (text) => script.push(text),
+        keep: (file) => { saved = file; return true; },
+        kept: () => saved,
+    }, slice);
+    game.close();
+    return { shown: Buffer.concat(shown), script: Buffer.concat(script), saved, status: ending.status,
+        last: ending.told.slice(-1).join() };
+}
+
+function run(words, input = Buffer.alloc(0)) {
+    const { stdout, stderr, status } = spawnSync(PROGRAM, words, { input, maxBuffer: LONGEST, timeout: 60_000 });
+    return { shown: stdout, status, told: String(stderr).trimEnd().split("\n") };
+}
+
+/** What is at a path, if anything; it goes away. */
+function taken(file) {
+    if (!fs.existsSync(file))
+        return null;
+    const bytes = fs.readFileSync(file);
+    fs.unlinkSync(file);
+    return bytes;
+}
+
+/** Plays a story by the program, with files for its saved game and its transcript. */
+function by_program(story, words, input) {
+    const [file, save, script] = ["played", "played.save", "played.script"].map((name) => path.join(FOLDER, name));
+    fs.writeFileSync(file, story);
+    const { shown, status, told } = run(["play", ...words, "--save", save, "--script", script, file], input);
+    const last = /^zkit: (refused|fault|limit|read|write|out) /.test(told[told.length - 1]) ? told[told.length - 1] : "";
+    return { shown, script: taken(script) ?? Buffer.alloc(0), saved: taken(save), status, last };
+}
+
+/** Tells where two plays differ, if they do. */
+function want_same(came, wanted, what) {
+    if (came.status === TOO_MUCH_TEXT)
+        return want(same(wanted.shown.subarray(0, came.shown.length), came.shown), `${what}: the text up to its stop`);
+    want(same(came.shown, wanted.shown), `${what}: the text`);
+    want(same(came.script, wanted.script), `${what}: the transcript`);
+    want(same(came.saved ?? "", wanted.saved ?? ""), `${what}: the saved game`);
+    want(came.last === wanted.last && came.status === wanted.status, `${what}: ${came.last} for ${wanted.last}`);
+}
+
+/** The game by its walkthrough and its saves, whole and in slices with little room, and with a game of dfrotz. */
+function game_of(module, version) {
+    const name = `lighthouse.z${version}`;
+    const story = example(name);
+    for (const [lines, text] of [["walkthrough", "txt"], ["saves", "saves.txt"]]) {
+        const wanted = example(`${name}.${text}`);
+        const input = example(`lighthouse.${lines}`);
+        want(same(by_module(module, story, {}, input).shown, wanted), `${name}: ${text}`);
+        want(same(by_module(module, story, { room: 64 }, input, null, 1000).shown, wanted), `${name}: ${text} in slices`);
+    }
+    const { shown } = by_module(module, story, {}, Buffer.from("restore\ninventory\nlook\n"), example(`${name}.dfrotz`));
+    want(shown.includes(">You have with you:\n  a letter\n  a postbag\n\n>Shore Path\n"), `${name}, saved by dfrotz`);
+}
+
+function examples(module) {
+    VERSIONS.forEach((version) => game_of(module, version));
+    const none = Buffer.alloc(0);
+    want(same(by_module(module, example("streams.z5"), {}, none).shown, example("streams.z5.txt")), "streams.z5");
+    for (const name of fs.readdirSync(EXAMPLES).filter((file) => /\.z[3458]$/.test(file))) {
+        const story = example(name);
+        const came = by_module(module, story, { upper: true, seed: 7n }, example("lighthouse.walkthrough"));
+        const words = ["--upper", "--seed", "7"];
+        want_same(came, by_program(story, words, example("lighthouse.walkthrough")), `${name} with its upper window`);
+    }
+}
+
+/** What is drawn beside the text. */
+function windows(module) {
+    const box = module.open(example("box.z5"));
+    want(box.turn() === "line" && box.window().height === 1 && box.window().tallest > 4, "the box: its height");
+    want(box.tallestRows().some((row) => row.includes("Through me the way into the city of woe,")), "the box: its rows");
+    want(box.rows().join() === " The gate".padEnd(69) + "Turns: 0", "the box: the row that is left");
+    box.close();
+    const game = module.open(example("lighthouse.z3"));
+    want(game.turn() === "line" && game.text().includes("Jetty"), "the game of version 3 begins");
+    want(JSON.stringify(game.statusLine()) === '{"kind":"score","name":"Jetty","first":0,"second":0}', "its status line");
+    want(game.story().version === 3 && game.story().serial === "261122" && game.longestLine() > 20, "its story");
+    want(!game.character(65) && game.image() === null && game.words() === "" && game.lastLine() === "", "it awaits a line");
+    game.close();
+    want(module.version() === 0x000100, "the version");
+}
+
+/** The lines of a listing by the program. */
+function by_program_listed(listing, file) {
+    if (listing === "code")
+        return run(["disasm", file]).shown.toString();
+    if (listing === "findings")
+        return run(["check", file]).shown.toString();
+    return run(["info", `--${listing}`, file]).shown.toString().replace(/^\[[a-z]+\]\n/, "");
+}
+
+function listings_of(module, file) {
+    const game = module.open(fs.readFileSync(file));
+    for (const listing of LISTINGS)
+        want(game.list(listing) === by_program_listed(listing, file), `${path.basename(file)}: ${listing}`);
+    want(game.list("nothing") === null, "there is no such listing");
+    game.close();
+}
+
+function listings(module) {
+    for (const name of fs.readdirSync(EXAMPLES).filter((file) => /\.z[3458]$/.test(file)))
+        listings_of(module, path.join(EXAMPLES, name));
+    for (let number = 0; number < Math.min(COUNT, 40); number++)
+        if (run(["info", "--ifid", path.join(FOLDER, `${number}.story`)]).status === 0)
+            listings_of(module, path.join(FOLDER, `${number}.story`));
+}
+
+function refusal_of(open) {
+    try {
+        open().close();
+    } catch (error) {
+        if (error instanceof Refused)
+            return error;
+        throw error;
+    }
+    return { number: 0, message: "" };
+}
+
+function refused_as_by_program(module, name, story) {
+    const file = path.join(FOLDER, "refused");
+    fs.writeFileSync(file, story);
+    const { told } = run(["play", file]);
+    const { number, message } = refusal_of(() => module.open(story));
+    want(told[0] === `zkit: ${file}: not a story: ${message}` && told[1] === `zkit: refused ${number}`, `refused: ${name}`);
+}
+
+function refusals(module) {
+    const story = example("lighthouse.z5");
+    const set = (...bytes) => bytes.reduce((all, [at, byte]) => (all[at] = byte, all), Buffer.from(story));
+    refused_as_by_program(module, "no bytes", Buffer.alloc(0));
+    refused_as_by_program(module, "too short", story.subarray(0, 63));
+    refused_as_by_program(module, "version 6", set([0, 6]));
+    refused_as_by_program(module, "too long", Buffer.concat([story, Buffer.alloc(300_000)]));
+    refused_as_by_program(module, "very long", Buffer.concat([story, Buffer.alloc(80 << 20)]));
+    refused_as_by_program(module, "static base", set([14, 0], [15, 16]));
+    refused_as_by_program(module, "start", set([6, 255], [7, 255]));
+    refused_as_by_program(module, "Blorb", Buffer.concat([Buffer.from("FORM0000IFRS"), story]));
+    refused_as_by_program(module, "Glulx", Buffer.concat([Buffer.from("Glul"), story]));
+    refused_as_by_program(module, "gzip", Buffer.concat([Buffer.from([31, 139]), story]));
+    refused_as_by_program(module, "zip", Buffer.concat([Buffer.from("PK\x03\x04"), story]));
+    refused_as_by_program(module, "text", Buffer.from("Dear reader, this is no story at all.\n".repeat(9)));
+    for (const options of [{ frames: 0 }, { frames: 65_536 }, { undo: 65 }, { steps: 2 ** 32 }, { room: 0 }, { words: -1 }])
+        want(refusal_of(() => module.open(story, options)).number === 7, `refused: ${JSON.stringify(options)}`);
+}
+
+/** Plays a story where each line is answered by a game of its own. `next` answers one. */
+function from_snapshots(lines, next) {
+    let shown = "";
+    let snapshot = null;
+    for (const line of [null, ...lines]) {
+        const step = next(snapshot, line);
+        shown += step.shown;
+        snapshot = step.snapshot;
+        if (snapshot === null)
+            break;
+    }
+    return shown;
+}
+
+/** Answers a line, and plays up to the next read. */
+function next_by_module(module, story, snapshot, line) {
+    const game = snapshot === null ? module.open(story) : module.openSnapshot(story, snapshot);
+    if (line !== null && game.turn() === "line")
+        game.line(line);
+    else if (line !== null)
+        game.character(line.codePointAt(0) ?? 10);
+    let shown = "";
+    let awaited;
+    do {
+        awaited = game.turn();
+        shown += game.text();
+    } while (awaited === "save" ? game.saved(false) : awaited === "restore" ? game.restore(null) : awaited === "room");
+    const taken_of_it = awaited === "stopped" ? null : game.snapshot();
+    game.close();
+    return { shown, snapshot: taken_of_it };
+}
+
+/** The same by examples/embed/kept.c, which is linked with the library for C. */
+function next_by_library(file, snapshot, line) {
+    const kept = path.join(FOLDER, "snapshot");
+    if (snapshot !== null)
+        fs.writeFileSync(kept, snapshot);
+    const words = [file, kept, ...(line === null ? [] : [line])];
+    const { stdout } = spawnSync(path.join(FOLDER, "kept"), words);
+    return { shown: stdout.toString(), snapshot: taken(kept) };
+}
+
+function snapshots(module) {
+    const lines = example("lighthouse.walkthrough").toString().split("\n").filter((line) => line !== "undo");
+    const has_library = fs.existsSync(path.join(FOLDER, "kept"));
+    for (const version of VERSIONS) {
+        const file = path.join(EXAMPLES, `lighthouse.z${version}`);
+        const story = fs.readFileSync(file);
+        const wanted = run(["play", file], Buffer.from(lines.join("\n"))).shown.toString();
+        const here = (snapshot, line) => next_by_module(module, story, snapshot, line);
+        let turn = 0;
+        const both = (snapshot, line) =>
+            (turn++ % 2 ? next_by_library(file, snapshot, line) : here(snapshot, line));
+        want(from_snapshots(lines, here) === wanted, `${file} from snapshots`);
+        want(!has_library || from_snapshots(lines, both) === wanted, `${file} from the library's snapshots and back`);
+    }
+    if (!has_library)
+        console.log("left out, as there is no command cc: snapshots that the library for C opens");
+}
+
+function snapshot_refusals(module) {
+    const story = example("lighthouse.z5");
+    const { snapshot } = next_by_module(module, story, null, null);
+    const refused = (bytes, of = story) => refusal_of(() => module.openSnapshot(of, bytes)).number;
+    want(refused(snapshot) === 0, "a snapshot is opened");
+    want(refused(Buffer.from("no snapshot at all, but a text")) === 8, "what is no snapshot is refused");
+    want(refused(snapshot, example("lighthouse.z4")) === 10, "a snapshot of another story is refused");
+    want(refused(snapshot.map((byte, at) => (at === 900 ? byte ^ 1 : byte))) === 11, "a damaged snapshot is refused");
+    want(refused(snapshot.subarray(0, 1000)) === 11, "a snapshot that is cut off is refused");
+}
+
+/** Looks whether all that the memory has grown by can be had in one piece: then no game has kept any of it. */
+function want_all_free(module, first, what) {
+    const grown = size_of(module) - first;
+    const all = module.calls.zkit_take(BigInt(grown - 16));
+    want(all !== 0n && size_of(module) === first + grown, `${what}: all memory is free again`);
+    module.calls.zkit_give(all);
+}
+
+/** Opens, plays and closes a thousand games. */
+function thousand(module) {
+    const first = size_of(module);
+    const lines = example("lighthouse.walkthrough").subarray(0, 400);
+    const stories = ["lighthouse.z3", "lighthouse.z5", "lighthouse.z8", "streams.z5", "box.z5"].map(example);
+    let grown = 0;
+    for (let number = 0; number < 1000; number++) {
+        by_module(module, stories[number % stories.length], { seed: BigInt(number), undo: number % 17 }, lines);
+        if (number === 99)
+            grown = size_of(module);
+    }
+    want(size_of(module) === grown, `a thousand games: ${grown} bytes, and then ${size_of(module)}`);
+    want_all_free(module, first, "a thousand games");
+    console.log(`        ${grown} bytes of memory after a hundred games and after a thousand`);
+}
+
+/** A story that prints without end: its text is taken or left, in whole turns and in slices. */
+function loop(module) {
+    const game = module.open(made("loop.z5"));
+    let count = 0;
+    for (let turn = 0; turn < 100; turn++) {
+        want(game.turn() === "room", "a story that prints without end awaits room");
+        count += game.textBytes().length;
+    }
+    want(count >= 100 << 20 && size_of(module) < CAP / 8, `it has printed ${count} bytes`);
+    want(game.turn() === "room" && game.turn() === "room", "it waits where its text is left");
+    game.text();
+    for (let turn = 0; turn < 1000; turn++)
+        want(game.turn(1000) === "time", "it gives the time back");
+    game.close();
+}
+
+/** An instruction that prints a thousand million letters, and a listing of as many. */
+function gigabyte(module) {
+    const game = module.open(made("gigabyte.z5"));
+    want(game.turn() === "stopped" && game.status() === TOO_MUCH_TEXT, "too much text of one instruction stops a story");
+    want(game.list("code") === null, "there is no memory for a listing of a gigabyte");
+    want(game.list("header") !== null, "another one is listed after it");
+    game.close();
+}
+
+/** The greatest story, which keeps as many states as it may. */
+function greatest(module) {
+    const game = module.open(made("greatest.z8"), { undo: 64, frames: 65_535, words: 65_535 });
+    for (let turn = 0; turn < 80; turn++)
+        want(game.turn() === "character" && game.character(97), "the greatest story reads on");
+    want(game.undo() && game.snapshot() !== null, "it goes back");
+    game.close();
+}
+
+function large(module) {
+    const first = size_of(module);
+    for (const look of [loop, greatest, gigabyte]) {
+        look(module);
+        want(size_of(module) <= CAP, `${look.name}: at most 64 MB`);
+        console.log(`        ${look.name}: ${size_of(module)} bytes of memory`);
+    }
+    want_all_free(module, first, "large stories");
+}
+
+/** Plays a generated story by the module; a story that is refused ends as the program does. */
+function generated_by_module(module, story, options, input) {
+    try {
+        return by_module(module, story, options, input);
+    } catch (error) {
+        if (!(error instanceof Refused))
+            throw error;
+        const none = Buffer.alloc(0);
+        return { shown: none, script: none, saved: null, status: 1, last: `zkit: refused ${error.number}` };
+    }
+}
+
+async function generated(module) {
+    const ends = {};
+    for (let number = 0; number < COUNT; number++) {
+        const story = made(`${number}.story`);
+        const input = made(`${number}.input`);
+        const upper = number % 3 === 0;
+        const words = ["--seed", `${number}`, "--steps", "100000", "--undo", "2", ...(upper ? ["--upper"] : [])];
+        const options = { seed: BigInt(number), steps: 100_000, undo: 2, upper };
+        const came = generated_by_module(module, story, options, input);
+        want_same(came, by_program(story, words, input), `generated story ${number}`);
+        const end = came.last.replace(/ at .*/, "") || (came.status === 0 ? "no last line" : "too much text");
+        ends[end] = (ends[end] ?? 0) + 1;
+    }
+    console.log("        " + Object.entries(ends).sort().map(([end, count]) => `${count} ${end}`).join(", "));
+}
+
+async function main() {
+    for (const test of [examples, windows, listings, refusals, snapshots, snapshot_refusals, thousand, large, generated]) {
+        const begin = performance.now();
+        const before = looks;
+        await test(await Module.of(code));
+        console.log(`${test.name}: ${looks - before} looks, ${((performance.now() - begin) / 1000).toFixed(1)} s`);
+    }
+    process.exitCode = bad > 0 ? 1 : 0;
+    console.log(`${looks - bad} of ${looks} looks are as they should be`);
+}
+
+await main();
