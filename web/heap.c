@@ -1,8 +1,8 @@
 /* heap.c - the memory of zkit.wasm: the three functions of zkit_heap.h, and room for what a page passes to a call.
  * SPDX-License-Identifier: MIT OR Apache-2.0
  *
- * Blocks lie one after the other from where the memory ended at first. Free ones are in a list by their address, and two
- * that touch are made one: where no block is in use, all is one free block again. One thread uses it. */
+ * Blocks lie one after the other from where the memory ended at first. Free ones are in a list by their address, and
+ * two that touch are made one: where no block is in use, all is one free block again. One thread uses it. */
 #include <stddef.h>
 #include <stdint.h>
 
@@ -81,8 +81,8 @@ static size_t free_at_end(void) {
     return last != &free_blocks && end_of(last) == end ? last->size : 0;
 }
 
-/* Lets the memory grow so that a block fits at its end, and says whether it did. Where it can't grow, the answer is -1, of
- * which the lowering to a memory of 32 bits leaves the low half. */
+/* Lets the memory grow so that a block fits at its end, and says whether it did. Where it can't grow, the answer is -1,
+ * of which the lowering to a memory of 32 bits leaves the low half. */
 static int grow(size_t size) {
     size_t pages = (size - free_at_end() + PAGE - 1) / PAGE;
     if (pages < LEAST_PAGES)

@@ -59,7 +59,7 @@ static size_t random_size(void) {
     return random_below(kind < 80 ? 300 : kind < 99 ? 200000 : 9000000);
 }
 
-/* Looks through the list: by address, no two blocks touch, all of them in the memory. Answers the sum of their sizes. */
+/* Looks through the list: by address, no two blocks touch, all lie in the memory. Answers the sum of their sizes. */
 static size_t look_at_free(void) {
     size_t sum = 0;
     uint8_t *last = memory + FIRST_PAGES * PAGE - 1;
@@ -228,7 +228,8 @@ static void growing(void) {
         want(block.is_there, "a block grows up to a quarter of the memory");
     }
     block = rattle_realloc(block.at, 1, 1, 1);
-    want(block.is_there && look_at_free() + 2 * UNIT == (pages_there - FIRST_PAGES) * PAGE, "what shrinks frees its rest");
+    want(block.is_there, "a block may shrink");
+    want(look_at_free() + 2 * UNIT == (pages_there - FIRST_PAGES) * PAGE, "what shrinks frees its rest");
     rattle_dealloc(block.at);
     look_at_one_free();
 }

@@ -71,7 +71,8 @@ function open(module, path, story, options) {
             throw error;
         if (error.number === OUT_OF_MEMORY)
             throw new Ended(NO_MEMORY, "zkit: out of memory");
-        throw new Ended(REFUSED_STATUS, `zkit: ${path}: not a story: ${error.message}`, `zkit: refused ${error.number}`);
+        const words = `zkit: ${path}: not a story: ${error.message}`;
+        throw new Ended(REFUSED_STATUS, words, `zkit: refused ${error.number}`);
     }
 }
 

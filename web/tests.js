@@ -4,7 +4,7 @@
 //
 // usage: web/tests.js MODULE PROGRAM FOLDER COUNT
 //
-// FOLDER has COUNT generated stories, the stories of large_stories.py and, where there is a C compiler, the program kept.
+// FOLDER has COUNT generated stories, those of large_stories.py and, where there is a C compiler, the program kept.
 import { spawnSync } from "child_process";
 import fs from "fs";
 import path from "path";
@@ -19,6 +19,7 @@ const CAP = 64 << 20;
 const PAGE = 65_536;
 const TOO_MUCH_TEXT = 6;
 const LONGEST = 512 << 20;
+const LAST_LINE = /^zkit: (refused|fault|limit) \d|^zkit: (read failed|write failed|out of memory)$/;
 
 const code = fs.readFileSync(MODULE);
 let bad = 0;
@@ -51,8 +52,8 @@ function by_module(module, story, options, input, kept = null, slice = undefined
         kept: () => saved,
     }, slice);
     game.close();
-    return { shown: Buffer.concat(shown), script: Buffer.concat(script), saved, status: ending.status,
-        last: ending.told.slice(-1).join() };
+    const last = ending.told.slice(-1).join();
+    return { shown: Buffer.concat(shown), script: Buffer.concat(script), saved, status: ending.status, last };
 }
 
 function run(words, input = Buffer.alloc(0)) {
@@ -74,7 +75,7 @@ function by_program(story, words, input) {
     const [file, save, script] = ["played", "played.save", "played.script"].map((name) => path.join(FOLDER, name));
     fs.writeFileSync(file, story);
     const { shown, status, told } = run(["play", ...words, "--save", save, "--script", script, file], input);
-    const last = /^zkit: (refused|fault|limit|read|write|out) /.test(told[told.length - 1]) ? told[told.length - 1] : "";
+    const last = LAST_LINE.test(told[told.length - 1]) ? told[told.length - 1] : "";
     return { shown, script: taken(script) ?? Buffer.alloc(0), saved: taken(save), status, last };
 }
 
@@ -96,9 +97,11 @@ function game_of(module, version) {
         const wanted = example(`${name}.${text}`);
         const input = example(`lighthouse.${lines}`);
         want(same(by_module(module, story, {}, input).shown, wanted), `${name}: ${text}`);
-        want(same(by_module(module, story, { room: 64 }, input, null, 1000).shown, wanted), `${name}: ${text} in slices`);
+        const sliced = by_module(module, story, { room: 64 }, input, null, 1000);
+        want(same(sliced.shown, wanted), `${name}: ${text} in slices`);
     }
-    const { shown } = by_module(module, story, {}, Buffer.from("restore\ninventory\nlook\n"), example(`${name}.dfrotz`));
+    const input = Buffer.from("restore\ninventory\nlook\n");
+    const { shown } = by_module(module, story, {}, input, example(`${name}.dfrotz`));
     want(shown.includes(">You have with you:\n  a letter\n  a postbag\n\n>Shore Path\n"), `${name}, saved by dfrotz`);
 }
 
@@ -118,14 +121,15 @@ function examples(module) {
 function windows(module) {
     const box = module.open(example("box.z5"));
     want(box.turn() === "line" && box.window().height === 1 && box.window().tallest > 4, "the box: its height");
-    want(box.tallestRows().some((row) => row.includes("Through me the way into the city of woe,")), "the box: its rows");
+    want(box.tallestRows().some((row) => row.includes("Through me the way into the city")), "the box: its text");
     want(box.rows().join() === " The gate".padEnd(69) + "Turns: 0", "the box: the row that is left");
     box.close();
     const game = module.open(example("lighthouse.z3"));
     want(game.turn() === "line" && game.text().includes("Jetty"), "the game of version 3 begins");
-    want(JSON.stringify(game.statusLine()) === '{"kind":"score","name":"Jetty","first":0,"second":0}', "its status line");
+    const { kind, name, first, second } = game.statusLine() ?? {};
+    want([kind, name, first, second].join() === "score,Jetty,0,0", "its status line");
     want(game.story().version === 3 && game.story().serial === "261122" && game.longestLine() > 20, "its story");
-    want(!game.character(65) && game.image() === null && game.words() === "" && game.lastLine() === "", "it awaits a line");
+    want(!game.character(65) && game.image() === null && game.words() + game.lastLine() === "", "it awaits a line");
     game.close();
     want(module.version() === 0x000100, "the version");
 }
@@ -171,7 +175,8 @@ function refused_as_by_program(module, name, story) {
     fs.writeFileSync(file, story);
     const { told } = run(["play", file]);
     const { number, message } = refusal_of(() => module.open(story));
-    want(told[0] === `zkit: ${file}: not a story: ${message}` && told[1] === `zkit: refused ${number}`, `refused: ${name}`);
+    const words = [`zkit: ${file}: not a story: ${message}`, `zkit: refused ${number}`];
+    want(told.join("\n") === words.join("\n"), `refused: ${name}`);
 }
 
 function refusals(module) {
@@ -189,7 +194,8 @@ function refusals(module) {
     refused_as_by_program(module, "gzip", Buffer.concat([Buffer.from([31, 139]), story]));
     refused_as_by_program(module, "zip", Buffer.concat([Buffer.from("PK\x03\x04"), story]));
     refused_as_by_program(module, "text", Buffer.from("Dear reader, this is no story at all.\n".repeat(9)));
-    for (const options of [{ frames: 0 }, { frames: 65_536 }, { undo: 65 }, { steps: 2 ** 32 }, { room: 0 }, { words: -1 }])
+    const out_of_range = [{ frames: 0 }, { frames: 65_536 }, { undo: 65 }, { steps: 2 ** 32 }, { room: 0 }, { words: -1 }];
+    for (const options of out_of_range)
         want(refusal_of(() => module.open(story, options)).number === 7, `refused: ${JSON.stringify(options)}`);
 }
 
@@ -307,7 +313,7 @@ function loop(module) {
 /** An instruction that prints a thousand million letters, and a listing of as many. */
 function gigabyte(module) {
     const game = module.open(made("gigabyte.z5"));
-    want(game.turn() === "stopped" && game.status() === TOO_MUCH_TEXT, "too much text of one instruction stops a story");
+    want(game.turn() === "stopped" && game.status() === TOO_MUCH_TEXT, "too much text of an instruction stops it");
     want(game.list("code") === null, "there is no memory for a listing of a gigabyte");
     want(game.list("header") !== null, "another one is listed after it");
     game.close();
@@ -361,7 +367,8 @@ async function generated(module) {
 }
 
 async function main() {
-    for (const test of [examples, windows, listings, refusals, snapshots, snapshot_refusals, thousand, large, generated]) {
+    const tests = [examples, windows, listings, refusals, snapshots, snapshot_refusals, thousand, large, generated];
+    for (const test of tests) {
         const begin = performance.now();
         const before = looks;
         await test(await Module.of(code));
