@@ -194,8 +194,8 @@ function refusals(module) {
     refused_as_by_program(module, "gzip", Buffer.concat([Buffer.from([31, 139]), story]));
     refused_as_by_program(module, "zip", Buffer.concat([Buffer.from("PK\x03\x04"), story]));
     refused_as_by_program(module, "text", Buffer.from("Dear reader, this is no story at all.\n".repeat(9)));
-    const out_of_range = [{ frames: 0 }, { frames: 65536 }, { words: -1 }, { undo: 65 }, { steps: 2 ** 32 }, { room: 0 }];
-    for (const options of out_of_range)
+    const limits = [{ frames: 0 }, { frames: 65_536 }, { words: -1 }, { undo: 65 }, { steps: 2 ** 32 }, { room: 0 }];
+    for (const options of limits)
         want(refusal_of(() => module.open(story, options)).number === 7, `refused: ${JSON.stringify(options)}`);
 }
 
