@@ -19,6 +19,7 @@ const CAP = 64 << 20;
 const PAGE = 65_536;
 const TOO_MUCH_TEXT = 6;
 const LONGEST = 512 << 20;
+const NONE = Buffer.alloc(0);
 const LAST_LINE = /^zkit: (refused|fault|limit) \d|^zkit: (read failed|write failed|out of memory)$/;
 
 const code = fs.readFileSync(MODULE);
@@ -38,6 +39,8 @@ const example = (name) => fs.readFileSync(path.join(EXAMPLES, name));
 const made = (name) => fs.readFileSync(path.join(FOLDER, name));
 const size_of = (module) => module.calls.memory.buffer.byteLength;
 
+const seconds_since = (begin) => `${((performance.now() - begin) / 1000).toFixed(1)} s`;
+
 /** Plays a story by the module; `kept` is the saved game that is there before. */
 function by_module(module, story, options, input, kept = null, slice = undefined) {
     const shown = [];
@@ -56,7 +59,7 @@ function by_module(module, story, options, input, kept = null, slice = undefined
     return { shown: Buffer.concat(shown), script: Buffer.concat(script), saved, status: ending.status, last };
 }
 
-function run(words, input = Buffer.alloc(0)) {
+function run(words, input = NONE) {
     const { stdout, stderr, status } = spawnSync(PROGRAM, words, { input, maxBuffer: LONGEST, timeout: 60_000 });
     return { shown: stdout, status, told: String(stderr).trimEnd().split("\n") };
 }
@@ -76,7 +79,7 @@ function by_program(story, words, input) {
     fs.writeFileSync(file, story);
     const { shown, status, told } = run(["play", ...words, "--save", save, "--script", script, file], input);
     const last = LAST_LINE.test(told[told.length - 1]) ? told[told.length - 1] : "";
-    return { shown, script: taken(script) ?? Buffer.alloc(0), saved: taken(save), status, last };
+    return { shown, script: taken(script) ?? NONE, saved: taken(save), status, last };
 }
 
 /** Tells where two plays differ, if they do. */
@@ -85,7 +88,7 @@ function want_same(came, wanted, what) {
         return want(same(wanted.shown.subarray(0, came.shown.length), came.shown), `${what}: the text up to its stop`);
     want(same(came.shown, wanted.shown), `${what}: the text`);
     want(same(came.script, wanted.script), `${what}: the transcript`);
-    want(same(came.saved ?? "", wanted.saved ?? ""), `${what}: the saved game`);
+    want(same(came.saved ?? NONE, wanted.saved ?? NONE), `${what}: the saved game`);
     want(came.last === wanted.last && came.status === wanted.status, `${what}: ${came.last} for ${wanted.last}`);
 }
 
@@ -107,8 +110,7 @@ function game_of(module, version) {
 
 function examples(module) {
     VERSIONS.forEach((version) => game_of(module, version));
-    const none = Buffer.alloc(0);
-    want(same(by_module(module, example("streams.z5"), {}, none).shown, example("streams.z5.txt")), "streams.z5");
+    want(same(by_module(module, example("streams.z5"), {}, NONE).shown, example("streams.z5.txt")), "streams.z5");
     for (const name of fs.readdirSync(EXAMPLES).filter((file) => /\.z[3458]$/.test(file))) {
         const story = example(name);
         const came = by_module(module, story, { upper: true, seed: 7n }, example("lighthouse.walkthrough"));
@@ -182,7 +184,7 @@ function refused_as_by_program(module, name, story) {
 function refusals(module) {
     const story = example("lighthouse.z5");
     const set = (...bytes) => bytes.reduce((all, [at, byte]) => (all[at] = byte, all), Buffer.from(story));
-    refused_as_by_program(module, "no bytes", Buffer.alloc(0));
+    refused_as_by_program(module, "no bytes", NONE);
     refused_as_by_program(module, "too short", story.subarray(0, 63));
     refused_as_by_program(module, "version 6", set([0, 6]));
     refused_as_by_program(module, "too long", Buffer.concat([story, Buffer.alloc(300_000)]));
@@ -294,19 +296,21 @@ function thousand(module) {
     console.log(`        ${grown} bytes of memory after a hundred games and after a thousand`);
 }
 
+/** Asks for something again and again, up to the first time that it is not so. */
+function want_each(count, holds, what) {
+    let turn = 0;
+    while (turn < count && holds())
+        turn++;
+    want(turn === count, `${what}: ${turn} times of ${count}`);
+}
+
 /** A story that prints without end: its text is taken or left, in whole turns and in slices. */
 function loop(module) {
-    const game = module.open(made("loop.z5"));
-    let count = 0;
-    for (let turn = 0; turn < 100; turn++) {
-        want(game.turn() === "room", "a story that prints without end awaits room");
-        count += game.textBytes().length;
-    }
-    want(count >= 100 << 20 && size_of(module) < CAP / 8, `it has printed ${count} bytes`);
-    want(game.turn() === "room" && game.turn() === "room", "it waits where its text is left");
-    game.text();
-    for (let turn = 0; turn < 1000; turn++)
-        want(game.turn(1000) === "time", "it gives the time back");
+    const game = module.open(made("loop.z5"), { steps: 1_000_000_000 });
+    want_each(30, () => game.turn() === "room" && game.textBytes().length >= 1 << 20, "it prints, and awaits room");
+    want_each(100, () => game.turn() === "room", "it waits where its text is left");
+    game.textBytes();
+    want_each(1000, () => game.turn(1000) === "time", "it gives the time back");
     game.close();
 }
 
@@ -322,18 +326,18 @@ function gigabyte(module) {
 /** The greatest story, which keeps as many states as it may. */
 function greatest(module) {
     const game = module.open(made("greatest.z8"), { undo: 64, frames: 65_535, words: 65_535 });
-    for (let turn = 0; turn < 80; turn++)
-        want(game.turn() === "character" && game.character(97), "the greatest story reads on");
-    want(game.undo() && game.snapshot() !== null, "it goes back");
+    want_each(80, () => game.turn() === "character" && game.character(97), "it reads on");
+    want(game.turn() === "character" && game.snapshot() !== null && game.undo(), "it goes back");
     game.close();
 }
 
 function large(module) {
     const first = size_of(module);
     for (const look of [loop, greatest, gigabyte]) {
+        const begin = performance.now();
         look(module);
         want(size_of(module) <= CAP, `${look.name}: at most 64 MB`);
-        console.log(`        ${look.name}: ${size_of(module)} bytes of memory`);
+        console.log(`        ${look.name}: ${size_of(module)} bytes of memory, ${seconds_since(begin)}`);
     }
     want_all_free(module, first, "large stories");
 }
@@ -345,8 +349,7 @@ function generated_by_module(module, story, options, input) {
     } catch (error) {
         if (!(error instanceof Refused))
             throw error;
-        const none = Buffer.alloc(0);
-        return { shown: none, script: none, saved: null, status: 1, last: `zkit: refused ${error.number}` };
+        return { shown: NONE, script: NONE, saved: null, status: 1, last: `zkit: refused ${error.number}` };
     }
 }
 
@@ -372,7 +375,7 @@ async function main() {
         const begin = performance.now();
         const before = looks;
         await test(await Module.of(code));
-        console.log(`${test.name}: ${looks - before} looks, ${((performance.now() - begin) / 1000).toFixed(1)} s`);
+        console.log(`${test.name}: ${looks - before} looks, ${seconds_since(begin)}`);
     }
     process.exitCode = bad > 0 ? 1 : 0;
     console.log(`${looks - bad} of ${looks} looks are as they should be`);
