@@ -4,7 +4,8 @@
 usage: generated.py FOLDER COUNT [FIRST]
 
 Story number n is the same each time: n.story and n.input, from FIRST on. Of four stories one is the game of examples
-with some bytes changed, two are stories of conformance with some bytes changed, and one is random code.
+with some bytes changed, two are stories of conformance with some bytes changed, and one is random code. To these comes
+long.z5, one instruction of which prints forty million letters.
 """
 
 from __future__ import annotations
@@ -15,14 +16,16 @@ import sys
 
 TOP = pathlib.Path(__file__).resolve().parent.parent
 sys.dont_write_bytecode = True
-sys.path.insert(0, str(TOP / "conformance"))
+sys.path[:0] = [str(TOP / "conformance"), str(TOP / "examples/embed")]
 
-import program  # noqa: E402: it stands in the folder that was just named
+import large_stories  # noqa: E402: these stand in the folders that were just named
+import program  # noqa: E402
 import run  # noqa: E402
 
 EXAMPLES = TOP / "examples"
 VERSIONS = (3, 4, 5, 8)
 LENGTH, CODE = 0x1000, 0x40
+WORDS = 3000  # of the text in long.z5
 OBJECTS, GLOBALS, STATIC = 0x400, 0x600, 0x800
 LINES = [b"look", b"inventory", b"save", b"restore", b"undo", b"open the bag", b"north", b"a", b"", "Skærvø".encode()]
 
@@ -87,6 +90,8 @@ def main() -> int:
         story, lines = made(number, rows)
         (folder / f"{number}.story").write_bytes(story)
         (folder / f"{number}.input").write_bytes(lines)
+    large_stories.WORDS = WORDS
+    (folder / "long.z5").write_bytes(large_stories.gigabyte())
     return 0
 
 

@@ -4,7 +4,8 @@
 //
 // usage: web/tests.js MODULE PROGRAM FOLDER COUNT
 //
-// FOLDER has COUNT generated stories, those of large_stories.py and, where there is a C compiler, the program kept.
+// FOLDER has what rows.py, generated.py with COUNT and large_stories.py write and, where there is a C compiler, the
+// program kept.
 import { spawnSync } from "child_process";
 import fs from "fs";
 import path from "path";
@@ -41,17 +42,19 @@ const size_of = (module) => module.calls.memory.buffer.byteLength;
 
 const seconds_since = (begin) => `${((performance.now() - begin) / 1000).toFixed(1)} s`;
 
-/** Plays a story by the module; `kept` is the saved game that is there before. */
-function by_module(module, story, options, input, kept = null, slice = undefined) {
+/**
+ * Plays a story by the module. `saved` is the saved game that is there before, `keeps` says whether there is a place
+ * for one, and `slice` how many instructions a turn has.
+ */
+function by_module(module, story, options, input, { saved = null, keeps = true, slice = undefined } = {}) {
     const shown = [];
     const script = [];
-    let saved = kept;
     const game = module.open(story, options);
     const ending = play(game, {
         lines: lines_of([input]),
         show: (text) => shown.push(text),
         script: (text) => script.push(text),
-        keep: (file) => { saved = file; return true; },
+        keep: (file) => (keeps ? (saved = file, true) : false),
         kept: () => saved,
     }, slice);
     game.close();
@@ -82,6 +85,16 @@ function by_program(story, words, input) {
     return { shown, script: taken(script) ?? NONE, saved: taken(save), status, last };
 }
 
+/** Plays each row in both of its ways. */
+function rows(module) {
+    const plays = JSON.parse(String(made("rows.json")));
+    for (const { name, story, input, options, save, screen, script, status, line } of plays) {
+        const came = may_be_refused(module, made(story), options, made(input), save);
+        const is_same = String(came.shown) === screen && (script === null || String(came.script) === script);
+        want(is_same && came.status === status && came.last === line, `row ${name}`);
+    }
+}
+
 /** Tells where two plays differ, if they do. */
 function want_same(came, wanted, what) {
     if (came.status === TOO_MUCH_TEXT)
@@ -100,11 +113,11 @@ function game_of(module, version) {
         const wanted = example(`${name}.${text}`);
         const input = example(`lighthouse.${lines}`);
         want(same(by_module(module, story, {}, input).shown, wanted), `${name}: ${text}`);
-        const sliced = by_module(module, story, { room: 64 }, input, null, 1000);
+        const sliced = by_module(module, story, { room: 64 }, input, { slice: 1000 });
         want(same(sliced.shown, wanted), `${name}: ${text} in slices`);
     }
     const input = Buffer.from("restore\ninventory\nlook\n");
-    const { shown } = by_module(module, story, {}, input, example(`${name}.dfrotz`));
+    const { shown } = by_module(module, story, {}, input, { saved: example(`${name}.dfrotz`) });
     want(shown.includes(">You have with you:\n  a letter\n  a postbag\n\n>Shore Path\n"), `${name}, saved by dfrotz`);
 }
 
@@ -307,18 +320,18 @@ function want_each(count, holds, what) {
 /** A story that prints without end: its text is taken or left, in whole turns and in slices. */
 function loop(module) {
     const game = module.open(made("loop.z5"), { steps: 1_000_000_000 });
-    want_each(30, () => game.turn() === "room" && game.textBytes().length >= 1 << 20, "it prints, and awaits room");
+    want_each(6, () => game.turn() === "room" && game.textBytes().length >= 1 << 20, "it prints, and awaits room");
     want_each(100, () => game.turn() === "room", "it waits where its text is left");
     game.textBytes();
     want_each(1000, () => game.turn(1000) === "time", "it gives the time back");
     game.close();
 }
 
-/** An instruction that prints a thousand million letters, and a listing of as many. */
-function gigabyte(module) {
-    const game = module.open(made("gigabyte.z5"));
+/** An instruction that prints forty million letters, and a listing of as many. */
+function long(module) {
+    const game = module.open(made("long.z5"));
     want(game.turn() === "stopped" && game.status() === TOO_MUCH_TEXT, "too much text of an instruction stops it");
-    want(game.list("code") === null, "there is no memory for a listing of a gigabyte");
+    want(game.list("code") === null, "there is no memory for a listing of so many letters");
     want(game.list("header") !== null, "another one is listed after it");
     game.close();
 }
@@ -333,7 +346,7 @@ function greatest(module) {
 
 function large(module) {
     const first = size_of(module);
-    for (const look of [loop, greatest, gigabyte]) {
+    for (const look of [loop, greatest, long]) {
         const begin = performance.now();
         look(module);
         want(size_of(module) <= CAP, `${look.name}: at most 64 MB`);
@@ -342,10 +355,10 @@ function large(module) {
     want_all_free(module, first, "large stories");
 }
 
-/** Plays a generated story by the module; a story that is refused ends as the program does. */
-function generated_by_module(module, story, options, input) {
+/** Plays a story by the module; one that is refused ends as the program does. */
+function may_be_refused(module, story, options, input, keeps = true) {
     try {
-        return by_module(module, story, options, input);
+        return by_module(module, story, options, input, { keeps });
     } catch (error) {
         if (!(error instanceof Refused))
             throw error;
@@ -353,7 +366,7 @@ function generated_by_module(module, story, options, input) {
     }
 }
 
-async function generated(module) {
+function generated(module) {
     const ends = {};
     for (let number = 0; number < COUNT; number++) {
         const story = made(`${number}.story`);
@@ -361,7 +374,7 @@ async function generated(module) {
         const upper = number % 3 === 0;
         const words = ["--seed", `${number}`, "--steps", "100000", "--undo", "2", ...(upper ? ["--upper"] : [])];
         const options = { seed: BigInt(number), steps: 100_000, undo: 2, upper };
-        const came = generated_by_module(module, story, options, input);
+        const came = may_be_refused(module, story, options, input);
         want_same(came, by_program(story, words, input), `generated story ${number}`);
         const end = came.last.replace(/ at .*/, "") || (came.status === 0 ? "no last line" : "too much text");
         ends[end] = (ends[end] ?? 0) + 1;
@@ -370,7 +383,9 @@ async function generated(module) {
 }
 
 async function main() {
-    const tests = [examples, windows, listings, refusals, snapshots, snapshot_refusals, thousand, large, generated];
+    const tests = [
+        rows, examples, windows, listings, refusals, snapshots, snapshot_refusals, thousand, large, generated,
+    ];
     for (const test of tests) {
         const begin = performance.now();
         const before = looks;
