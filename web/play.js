@@ -16,8 +16,7 @@ const NUMBERS = ["--frames", "--words", "--undo", "--steps"];
 const FILES = ["--module", "--save", "--script"];
 const USAGE_STATUS = 1;
 const REFUSED_STATUS = 1;
-const READ_FAILED = 4;
-const WRITE_FAILED = 4;
+const DEVICE_FAILED = 4;
 const NO_MEMORY = 5;
 const OUT_OF_MEMORY = 6;
 const PART = 65_536;
@@ -53,14 +52,17 @@ function read_words(words) {
     return said;
 }
 
-/** The bytes of the story. */
-function read_story(path) {
+/** What a call of the system answers; where it fails, that is told in a last line. */
+function attempt(call, last) {
     try {
-        return fs.readFileSync(path);
+        return call();
     } catch (error) {
-        throw new Ended(READ_FAILED, `zkit: ${path}: ${error.message}`, "zkit: read failed");
+        throw new Ended(DEVICE_FAILED, `zkit: ${error.message}`, last);
     }
 }
+
+const read = (call) => attempt(call, "zkit: read failed");
+const written = (call) => attempt(call, "zkit: write failed");
 
 /** Opens the story, or tells why it is none. */
 function open(module, path, story, options) {
@@ -79,18 +81,14 @@ function open(module, path, story, options) {
 /** Standard input, part by part. */
 function* input() {
     const part = Buffer.alloc(PART);
-    for (let count; (count = fs.readSync(0, part)) > 0;)
+    for (let count; (count = read(() => fs.readSync(0, part))) > 0;)
         yield part.subarray(0, count);
 }
 
 /** Writes all bytes to a file that is open. */
 function write(file, bytes) {
-    try {
-        for (let at = 0; at < bytes.length;)
-            at += fs.writeSync(file, bytes, at);
-    } catch (error) {
-        throw new Ended(WRITE_FAILED, `zkit: ${error.message}`, "zkit: write failed");
-    }
+    for (let at = 0; at < bytes.length;)
+        at += written(() => fs.writeSync(file, bytes, at));
 }
 
 /** Keeps a saved game in a file, if there is one for it, and says whether it did. */
@@ -101,26 +99,36 @@ function keep(path, file) {
         fs.writeFileSync(path, file);
         return true;
     } catch (error) {
-        process.stderr.write(`zkit: ${path}: not saved: ${error.message}\n`);
+        process.stderr.write(`zkit: ${error.message}\n`);
         return false;
     }
 }
 
+/** The saved game, if there is one. */
+function kept(path) {
+    try {
+        return path === null ? null : fs.readFileSync(path);
+    } catch (error) {
+        process.stderr.write(`zkit: ${error.message}\n`);
+        return null;
+    }
+}
+
 function devices_of({ save, script }) {
-    const transcript = script === null ? null : fs.openSync(script, "w");
+    const transcript = script === null ? null : written(() => fs.openSync(script, "w"));
     return {
         lines: lines_of(input()),
         show: (text) => write(1, text),
         script: (text) => transcript === null || write(transcript, text),
         keep: (file) => keep(save, file),
-        kept: () => (save !== null && fs.existsSync(save) ? fs.readFileSync(save) : null),
+        kept: () => kept(save),
     };
 }
 
 async function main(words) {
     const said = read_words(words);
-    const story = read_story(said.story);
-    const module = await Module.of(fs.readFileSync(said.module));
+    const story = read(() => fs.readFileSync(said.story));
+    const module = await Module.of(read(() => fs.readFileSync(said.module)));
     const game = open(module, said.story, story, said.options);
     const { status, told } = play(game, devices_of(said));
     game.close();

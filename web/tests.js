@@ -25,10 +25,10 @@ const LAST_LINE = /^zkit: (refused|fault|limit) \d|^zkit: (read failed|write fai
 
 const code = fs.readFileSync(MODULE);
 let bad = 0;
-let looks = 0;
+let checks = 0;
 
 function want(holds, what) {
-    looks++;
+    checks++;
     if (holds)
         return;
     bad++;
@@ -355,6 +355,39 @@ function large(module) {
     want_all_free(module, first, "large stories");
 }
 
+/** Takes all memory that there is, from large pieces to small ones. */
+function take_all(module) {
+    const taken_pieces = [];
+    for (let size = 1 << 24; size >= 1;) {
+        const at = module.calls.zkit_take(BigInt(size));
+        if (at === 0n)
+            size = Math.floor(size / 4);
+        else
+            taken_pieces.push(at);
+    }
+    return taken_pieces;
+}
+
+/** What comes of calls where there is no memory, and after it is there again. */
+function full(module) {
+    const first = size_of(module);
+    const story = example("lighthouse.z5");
+    const [game, other] = [module.open(story), module.open(story)];
+    want(game.turn() === "line" && game.text() !== "" && other.turn() === "line", "two games begin");
+    const pieces = take_all(module);
+    want(size_of(module) > CAP - (1 << 20) && size_of(module) <= CAP, "all memory is taken");
+    want(refusal_of(() => module.open(story)).number === 6, "a story is refused");
+    want(game.snapshot() === null && game.list("code") === null && !game.line("look"), "calls are refused");
+    module.calls.zkit_give(pieces.pop());
+    for (let turn = 0; turn < 1000 && other.line("x") && other.turn() === "line";)
+        turn++;
+    want(other.lastLine() === "zkit: out of memory", "a story stops where there is no room for its text");
+    pieces.forEach((at) => module.calls.zkit_give(at));
+    want(game.line("look") && game.turn() === "line" && game.text().includes("The planks"), "the other one goes on");
+    [game, other].forEach((one) => one.close());
+    want_all_free(module, first, "a full memory");
+}
+
 /** Plays a story by the module; one that is refused ends as the program does. */
 function may_be_refused(module, story, options, input, keeps = true) {
     try {
@@ -384,16 +417,16 @@ function generated(module) {
 
 async function main() {
     const tests = [
-        rows, examples, windows, listings, refusals, snapshots, snapshot_refusals, thousand, large, generated,
+        rows, examples, windows, listings, refusals, snapshots, snapshot_refusals, thousand, large, full, generated,
     ];
     for (const test of tests) {
         const begin = performance.now();
-        const before = looks;
+        const before = checks;
         await test(await Module.of(code));
-        console.log(`${test.name}: ${looks - before} looks, ${seconds_since(begin)}`);
+        console.log(`${test.name}: ${checks - before} checks, ${seconds_since(begin)}`);
     }
     process.exitCode = bad > 0 ? 1 : 0;
-    console.log(`${looks - bad} of ${looks} looks are as they should be`);
+    console.log(`${checks - bad} of ${checks} checks hold`);
 }
 
 await main();
