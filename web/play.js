@@ -3,7 +3,7 @@
 // SPDX-License-Identifier: MIT OR Apache-2.0
 import fs from "fs";
 import { fileURLToPath } from "url";
-import { lines_of, play } from "./player.js";
+import { linesOf, play } from "./player.js";
 import { Module, Refused } from "./zkit.js";
 
 const USAGE = `usage: web/play.js [--module FILE] [--seed n] [--frames n] [--words n] [--undo n] [--steps n] [--upper]
@@ -30,7 +30,7 @@ class Ended extends Error {
 }
 
 /** What the words of the command line say. */
-function read_words(words) {
+function readWords(words) {
     const said = { module: MODULE, save: null, script: null, story: null, options: {} };
     while (words.length > 0) {
         const word = words.shift();
@@ -114,10 +114,10 @@ function kept(path) {
     }
 }
 
-function devices_of({ save, script }) {
+function devicesOf({ save, script }) {
     const transcript = script === null ? null : written(() => fs.openSync(script, "w"));
     return {
-        lines: lines_of(input()),
+        lines: linesOf(input()),
         show: (text) => write(1, text),
         script: (text) => transcript === null || write(transcript, text),
         keep: (file) => keep(save, file),
@@ -126,11 +126,11 @@ function devices_of({ save, script }) {
 }
 
 async function main(words) {
-    const said = read_words(words);
+    const said = readWords(words);
     const story = read(() => fs.readFileSync(said.story));
     const module = await Module.of(read(() => fs.readFileSync(said.module)));
     const game = open(module, said.story, story, said.options);
-    const { status, told } = play(game, devices_of(said));
+    const { status, told } = play(game, devicesOf(said));
     game.close();
     if (status !== 0)
         throw new Ended(status, ...told);

@@ -45,7 +45,7 @@ function joined(one, other) {
  * The lines of bytes that have an end. A return before it is none of a line. Answers the bytes after the last end.
  * @param {Uint8Array} bytes
  */
-function* whole_lines(bytes) {
+function* wholeLines(bytes) {
     let begin = 0;
     for (let end; (end = bytes.indexOf(NEW_LINE, begin)) >= 0; begin = end + 1)
         yield bytes.subarray(begin, end > begin && bytes[end - 1] === RETURN ? end - 1 : end);
@@ -56,10 +56,10 @@ function* whole_lines(bytes) {
  * The lines of an input that comes in parts.
  * @param {Iterable<Uint8Array>} parts
  */
-export function* lines_of(parts) {
+export function* linesOf(parts) {
     let rest = new Uint8Array(0);
     for (const part of parts)
-        rest = yield* whole_lines(joined(rest, part));
+        rest = yield* wholeLines(joined(rest, part));
     if (rest.length > 0)
         yield rest;
 }
@@ -68,7 +68,7 @@ export function* lines_of(parts) {
  * The number of a line's first character, and that of a new line where it has none.
  * @param {Uint8Array} line
  */
-function first_character(line) {
+function firstCharacter(line) {
     const text = new TextDecoder("utf-8", { ignoreBOM: true }).decode(line.subarray(0, 4));
     return text.codePointAt(0) ?? NEW_LINE;
 }
@@ -79,13 +79,13 @@ function first_character(line) {
  * @param {Awaited} awaited
  * @param {Devices} devices
  */
-function answer_read(game, awaited, devices) {
+function answerRead(game, awaited, devices) {
     const { done, value } = devices.lines.next();
     if (done)
         return false;
     if (value.length > LONGEST_LINE)
         throw new TooLong();
-    return awaited === "line" ? game.line(value) : game.character(first_character(value));
+    return awaited === "line" ? game.line(value) : game.character(firstCharacter(value));
 }
 
 /**
@@ -108,7 +108,7 @@ function answer(game, awaited, devices) {
     switch (awaited) {
         case "save": return keep(game, devices);
         case "restore": return game.restore(devices.kept());
-        case "line": case "character": return answer_read(game, awaited, devices);
+        case "line": case "character": return answerRead(game, awaited, devices);
         default: return awaited !== "stopped";
     }
 }
@@ -148,11 +148,11 @@ function ending(game) {
  */
 export function play(game, devices, slice) {
     try {
-        let goes_on = true;
-        while (goes_on) {
+        let goesOn = true;
+        while (goesOn) {
             const awaited = game.turn(slice);
             show(game, devices);
-            goes_on = answer(game, awaited, devices);
+            goesOn = answer(game, awaited, devices);
         }
     } catch (error) {
         if (error instanceof TooLong)

@@ -10,7 +10,7 @@ import { spawnSync } from "child_process";
 import fs from "fs";
 import path from "path";
 import { fileURLToPath } from "url";
-import { lines_of, play } from "./player.js";
+import { linesOf, play } from "./player.js";
 import { LISTINGS, Module, Refused } from "./zkit.js";
 
 const [MODULE, PROGRAM, FOLDER, COUNT] = process.argv.slice(2);
@@ -38,20 +38,20 @@ function want(holds, what) {
 const same = (one, other) => Buffer.compare(one, other) === 0;
 const example = (name) => fs.readFileSync(path.join(EXAMPLES, name));
 const made = (name) => fs.readFileSync(path.join(FOLDER, name));
-const size_of = (module) => module.calls.memory.buffer.byteLength;
+const sizeOf = (module) => module.calls.memory.buffer.byteLength;
 
-const seconds_since = (begin) => `${((performance.now() - begin) / 1000).toFixed(1)} s`;
+const secondsSince = (begin) => `${((performance.now() - begin) / 1000).toFixed(1)} s`;
 
 /**
  * Plays a story by the module. `saved` is the saved game that is there before, `keeps` says whether there is a place
  * for one, and `slice` how many instructions a turn has.
  */
-function by_module(module, story, options, input, { saved = null, keeps = true, slice = undefined } = {}) {
+function byModule(module, story, options, input, { saved = null, keeps = true, slice = undefined } = {}) {
     const shown = [];
     const script = [];
     const game = module.open(story, options);
     const ending = play(game, {
-        lines: lines_of([input]),
+        lines: linesOf([input]),
         show: (text) => shown.push(text),
         script: (text) => script.push(text),
         keep: (file) => (keeps ? (saved = file, true) : false),
@@ -77,7 +77,7 @@ function taken(file) {
 }
 
 /** Plays a story by the program, with files for its saved game and its transcript. */
-function by_program(story, words, input) {
+function byProgram(story, words, input) {
     const [file, save, script] = ["played", "played.save", "played.script"].map((name) => path.join(FOLDER, name));
     fs.writeFileSync(file, story);
     const { shown, status, told } = run(["play", ...words, "--save", save, "--script", script, file], input);
@@ -89,14 +89,14 @@ function by_program(story, words, input) {
 function rows(module) {
     const plays = JSON.parse(String(made("rows.json")));
     for (const { name, story, input, options, save, screen, script, status, line } of plays) {
-        const came = may_be_refused(module, made(story), options, made(input), save);
-        const is_same = String(came.shown) === screen && (script === null || String(came.script) === script);
-        want(is_same && came.status === status && came.last === line, `row ${name}`);
+        const came = mayBeRefused(module, made(story), options, made(input), save);
+        const isSame = String(came.shown) === screen && (script === null || String(came.script) === script);
+        want(isSame && came.status === status && came.last === line, `row ${name}`);
     }
 }
 
 /** Tells where two plays differ, if they do. */
-function want_same(came, wanted, what) {
+function wantSame(came, wanted, what) {
     if (came.status === TOO_MUCH_TEXT)
         return want(same(wanted.shown.subarray(0, came.shown.length), came.shown), `${what}: the text up to its stop`);
     want(same(came.shown, wanted.shown), `${what}: the text`);
@@ -106,29 +106,29 @@ function want_same(came, wanted, what) {
 }
 
 /** The game by its walkthrough and its saves, whole and in slices with little room, and with a game of dfrotz. */
-function game_of(module, version) {
+function gameOf(module, version) {
     const name = `lighthouse.z${version}`;
     const story = example(name);
     for (const [lines, text] of [["walkthrough", "txt"], ["saves", "saves.txt"]]) {
         const wanted = example(`${name}.${text}`);
         const input = example(`lighthouse.${lines}`);
-        want(same(by_module(module, story, {}, input).shown, wanted), `${name}: ${text}`);
-        const sliced = by_module(module, story, { room: 64 }, input, { slice: 1000 });
+        want(same(byModule(module, story, {}, input).shown, wanted), `${name}: ${text}`);
+        const sliced = byModule(module, story, { room: 64 }, input, { slice: 1000 });
         want(same(sliced.shown, wanted), `${name}: ${text} in slices`);
     }
     const input = Buffer.from("restore\ninventory\nlook\n");
-    const { shown } = by_module(module, story, {}, input, { saved: example(`${name}.dfrotz`) });
+    const { shown } = byModule(module, story, {}, input, { saved: example(`${name}.dfrotz`) });
     want(shown.includes(">You have with you:\n  a letter\n  a postbag\n\n>Shore Path\n"), `${name}, saved by dfrotz`);
 }
 
 function examples(module) {
-    VERSIONS.forEach((version) => game_of(module, version));
-    want(same(by_module(module, example("streams.z5"), {}, NONE).shown, example("streams.z5.txt")), "streams.z5");
+    VERSIONS.forEach((version) => gameOf(module, version));
+    want(same(byModule(module, example("streams.z5"), {}, NONE).shown, example("streams.z5.txt")), "streams.z5");
     for (const name of fs.readdirSync(EXAMPLES).filter((file) => /\.z[3458]$/.test(file))) {
         const story = example(name);
-        const came = by_module(module, story, { upper: true, seed: 7n }, example("lighthouse.walkthrough"));
+        const came = byModule(module, story, { upper: true, seed: 7n }, example("lighthouse.walkthrough"));
         const words = ["--upper", "--seed", "7"];
-        want_same(came, by_program(story, words, example("lighthouse.walkthrough")), `${name} with its upper window`);
+        wantSame(came, byProgram(story, words, example("lighthouse.walkthrough")), `${name} with its upper window`);
     }
 }
 
@@ -150,7 +150,7 @@ function windows(module) {
 }
 
 /** The lines of a listing by the program. */
-function by_program_listed(listing, file) {
+function byProgramListed(listing, file) {
     if (listing === "code")
         return run(["disasm", file]).shown.toString();
     if (listing === "findings")
@@ -158,23 +158,23 @@ function by_program_listed(listing, file) {
     return run(["info", `--${listing}`, file]).shown.toString().replace(/^\[[a-z]+\]\n/, "");
 }
 
-function listings_of(module, file) {
+function listingsOf(module, file) {
     const game = module.open(fs.readFileSync(file));
     for (const listing of LISTINGS)
-        want(game.list(listing) === by_program_listed(listing, file), `${path.basename(file)}: ${listing}`);
+        want(game.list(listing) === byProgramListed(listing, file), `${path.basename(file)}: ${listing}`);
     want(game.list("nothing") === null, "there is no such listing");
     game.close();
 }
 
 function listings(module) {
     for (const name of fs.readdirSync(EXAMPLES).filter((file) => /\.z[3458]$/.test(file)))
-        listings_of(module, path.join(EXAMPLES, name));
+        listingsOf(module, path.join(EXAMPLES, name));
     for (let number = 0; number < Math.min(COUNT, 40); number++)
         if (run(["info", "--ifid", path.join(FOLDER, `${number}.story`)]).status === 0)
-            listings_of(module, path.join(FOLDER, `${number}.story`));
+            listingsOf(module, path.join(FOLDER, `${number}.story`));
 }
 
-function refusal_of(open) {
+function refusalOf(open) {
     try {
         open().close();
     } catch (error) {
@@ -185,11 +185,11 @@ function refusal_of(open) {
     return { number: 0, message: "" };
 }
 
-function refused_as_by_program(module, name, story) {
+function refusedAsByProgram(module, name, story) {
     const file = path.join(FOLDER, "refused");
     fs.writeFileSync(file, story);
     const { told } = run(["play", file]);
-    const { number, message } = refusal_of(() => module.open(story));
+    const { number, message } = refusalOf(() => module.open(story));
     const words = [`zkit: ${file}: not a story: ${message}`, `zkit: refused ${number}`];
     want(told.join("\n") === words.join("\n"), `refused: ${name}`);
 }
@@ -197,25 +197,25 @@ function refused_as_by_program(module, name, story) {
 function refusals(module) {
     const story = example("lighthouse.z5");
     const set = (...bytes) => bytes.reduce((all, [at, byte]) => (all[at] = byte, all), Buffer.from(story));
-    refused_as_by_program(module, "no bytes", NONE);
-    refused_as_by_program(module, "too short", story.subarray(0, 63));
-    refused_as_by_program(module, "version 6", set([0, 6]));
-    refused_as_by_program(module, "too long", Buffer.concat([story, Buffer.alloc(300_000)]));
-    refused_as_by_program(module, "very long", Buffer.concat([story, Buffer.alloc(80 << 20)]));
-    refused_as_by_program(module, "static base", set([14, 0], [15, 16]));
-    refused_as_by_program(module, "start", set([6, 255], [7, 255]));
-    refused_as_by_program(module, "Blorb", Buffer.concat([Buffer.from("FORM0000IFRS"), story]));
-    refused_as_by_program(module, "Glulx", Buffer.concat([Buffer.from("Glul"), story]));
-    refused_as_by_program(module, "gzip", Buffer.concat([Buffer.from([31, 139]), story]));
-    refused_as_by_program(module, "zip", Buffer.concat([Buffer.from("PK\x03\x04"), story]));
-    refused_as_by_program(module, "text", Buffer.from("Dear reader, this is no story at all.\n".repeat(9)));
+    refusedAsByProgram(module, "no bytes", NONE);
+    refusedAsByProgram(module, "too short", story.subarray(0, 63));
+    refusedAsByProgram(module, "version 6", set([0, 6]));
+    refusedAsByProgram(module, "too long", Buffer.concat([story, Buffer.alloc(300_000)]));
+    refusedAsByProgram(module, "very long", Buffer.concat([story, Buffer.alloc(80 << 20)]));
+    refusedAsByProgram(module, "static base", set([14, 0], [15, 16]));
+    refusedAsByProgram(module, "start", set([6, 255], [7, 255]));
+    refusedAsByProgram(module, "Blorb", Buffer.concat([Buffer.from("FORM0000IFRS"), story]));
+    refusedAsByProgram(module, "Glulx", Buffer.concat([Buffer.from("Glul"), story]));
+    refusedAsByProgram(module, "gzip", Buffer.concat([Buffer.from([31, 139]), story]));
+    refusedAsByProgram(module, "zip", Buffer.concat([Buffer.from("PK\x03\x04"), story]));
+    refusedAsByProgram(module, "text", Buffer.from("Dear reader, this is no story at all.\n".repeat(9)));
     const limits = [{ frames: 0 }, { frames: 65_536 }, { words: -1 }, { undo: 65 }, { steps: 2 ** 32 }, { room: 0 }];
     for (const options of limits)
-        want(refusal_of(() => module.open(story, options)).number === 7, `refused: ${JSON.stringify(options)}`);
+        want(refusalOf(() => module.open(story, options)).number === 7, `refused: ${JSON.stringify(options)}`);
 }
 
 /** Plays a story where each line is answered by a game of its own. `next` answers one. */
-function from_snapshots(lines, next) {
+function fromSnapshots(lines, next) {
     let shown = "";
     let snapshot = null;
     for (const line of [null, ...lines]) {
@@ -229,7 +229,7 @@ function from_snapshots(lines, next) {
 }
 
 /** Answers a line, and plays up to the next read. */
-function next_by_module(module, story, snapshot, line) {
+function nextByModule(module, story, snapshot, line) {
     const game = snapshot === null ? module.open(story) : module.openSnapshot(story, snapshot);
     if (line !== null && game.turn() === "line")
         game.line(line);
@@ -241,13 +241,13 @@ function next_by_module(module, story, snapshot, line) {
         awaited = game.turn();
         shown += game.text();
     } while (awaited === "save" ? game.saved(false) : awaited === "restore" ? game.restore(null) : awaited === "room");
-    const taken_of_it = awaited === "stopped" ? null : game.snapshot();
+    const takenOfIt = awaited === "stopped" ? null : game.snapshot();
     game.close();
-    return { shown, snapshot: taken_of_it };
+    return { shown, snapshot: takenOfIt };
 }
 
 /** The same by examples/embed/kept.c, which is linked with the library for C. */
-function next_by_library(file, snapshot, line) {
+function nextByLibrary(file, snapshot, line) {
     const kept = path.join(FOLDER, "snapshot");
     if (snapshot !== null)
         fs.writeFileSync(kept, snapshot);
@@ -258,26 +258,26 @@ function next_by_library(file, snapshot, line) {
 
 function snapshots(module) {
     const lines = example("lighthouse.walkthrough").toString().split("\n").filter((line) => line !== "undo");
-    const has_library = fs.existsSync(path.join(FOLDER, "kept"));
+    const hasLibrary = fs.existsSync(path.join(FOLDER, "kept"));
     for (const version of VERSIONS) {
         const file = path.join(EXAMPLES, `lighthouse.z${version}`);
         const story = fs.readFileSync(file);
         const wanted = run(["play", file], Buffer.from(lines.join("\n"))).shown.toString();
-        const here = (snapshot, line) => next_by_module(module, story, snapshot, line);
+        const here = (snapshot, line) => nextByModule(module, story, snapshot, line);
         let turn = 0;
         const both = (snapshot, line) =>
-            (turn++ % 2 ? next_by_library(file, snapshot, line) : here(snapshot, line));
-        want(from_snapshots(lines, here) === wanted, `${file} from snapshots`);
-        want(!has_library || from_snapshots(lines, both) === wanted, `${file} from the library's snapshots and back`);
+            (turn++ % 2 ? nextByLibrary(file, snapshot, line) : here(snapshot, line));
+        want(fromSnapshots(lines, here) === wanted, `${file} from snapshots`);
+        want(!hasLibrary || fromSnapshots(lines, both) === wanted, `${file} from the library's snapshots and back`);
     }
-    if (!has_library)
+    if (!hasLibrary)
         console.log("left out, as there is no command cc: snapshots that the library for C opens");
 }
 
-function snapshot_refusals(module) {
+function snapshotRefusals(module) {
     const story = example("lighthouse.z5");
-    const { snapshot } = next_by_module(module, story, null, null);
-    const refused = (bytes, of = story) => refusal_of(() => module.openSnapshot(of, bytes)).number;
+    const { snapshot } = nextByModule(module, story, null, null);
+    const refused = (bytes, of = story) => refusalOf(() => module.openSnapshot(of, bytes)).number;
     want(refused(snapshot) === 0, "a snapshot is opened");
     want(refused(Buffer.from("no snapshot at all, but a text")) === 8, "what is no snapshot is refused");
     want(refused(snapshot, example("lighthouse.z4")) === 10, "a snapshot of another story is refused");
@@ -286,31 +286,31 @@ function snapshot_refusals(module) {
 }
 
 /** Looks whether all that the memory has grown by can be had in one piece: then no game has kept any of it. */
-function want_all_free(module, first, what) {
-    const grown = size_of(module) - first;
+function wantAllFree(module, first, what) {
+    const grown = sizeOf(module) - first;
     const all = module.calls.zkit_take(BigInt(grown - 16));
-    want(all !== 0n && size_of(module) === first + grown, `${what}: all memory is free again`);
+    want(all !== 0n && sizeOf(module) === first + grown, `${what}: all memory is free again`);
     module.calls.zkit_give(all);
 }
 
 /** Opens, plays and closes a thousand games. */
 function thousand(module) {
-    const first = size_of(module);
+    const first = sizeOf(module);
     const lines = example("lighthouse.walkthrough").subarray(0, 400);
     const stories = ["lighthouse.z3", "lighthouse.z5", "lighthouse.z8", "streams.z5", "box.z5"].map(example);
     let grown = 0;
     for (let number = 0; number < 1000; number++) {
-        by_module(module, stories[number % stories.length], { seed: BigInt(number), undo: number % 17 }, lines);
+        byModule(module, stories[number % stories.length], { seed: BigInt(number), undo: number % 17 }, lines);
         if (number === 99)
-            grown = size_of(module);
+            grown = sizeOf(module);
     }
-    want(size_of(module) === grown, `a thousand games: ${grown} bytes, and then ${size_of(module)}`);
-    want_all_free(module, first, "a thousand games");
+    want(sizeOf(module) === grown, `a thousand games: ${grown} bytes, and then ${sizeOf(module)}`);
+    wantAllFree(module, first, "a thousand games");
     console.log(`        ${grown} bytes of memory after a hundred games and after a thousand`);
 }
 
 /** Asks for something again and again, up to the first time that it is not so. */
-function want_each(count, holds, what) {
+function wantEach(count, holds, what) {
     let turn = 0;
     while (turn < count && holds())
         turn++;
@@ -320,10 +320,10 @@ function want_each(count, holds, what) {
 /** A story that prints without end: its text is taken or left, in whole turns and in slices. */
 function loop(module) {
     const game = module.open(made("loop.z5"), { steps: 1_000_000_000 });
-    want_each(6, () => game.turn() === "room" && game.textBytes().length >= 1 << 20, "it prints, and awaits room");
-    want_each(100, () => game.turn() === "room", "it waits where its text is left");
+    wantEach(6, () => game.turn() === "room" && game.textBytes().length >= 1 << 20, "it prints, and awaits room");
+    wantEach(100, () => game.turn() === "room", "it waits where its text is left");
     game.textBytes();
-    want_each(1000, () => game.turn(1000) === "time", "it gives the time back");
+    wantEach(1000, () => game.turn(1000) === "time", "it gives the time back");
     game.close();
 }
 
@@ -339,44 +339,44 @@ function long(module) {
 /** The greatest story, which keeps as many states as it may. */
 function greatest(module) {
     const game = module.open(made("greatest.z8"), { undo: 64, frames: 65_535, words: 65_535 });
-    want_each(80, () => game.turn() === "character" && game.character(97), "it reads on");
+    wantEach(80, () => game.turn() === "character" && game.character(97), "it reads on");
     want(game.turn() === "character" && game.snapshot() !== null && game.undo(), "it goes back");
     game.close();
 }
 
 function large(module) {
-    const first = size_of(module);
+    const first = sizeOf(module);
     for (const look of [loop, greatest, long]) {
         const begin = performance.now();
         look(module);
-        want(size_of(module) <= CAP, `${look.name}: at most 64 MB`);
-        console.log(`        ${look.name}: ${size_of(module)} bytes of memory, ${seconds_since(begin)}`);
+        want(sizeOf(module) <= CAP, `${look.name}: at most 64 MB`);
+        console.log(`        ${look.name}: ${sizeOf(module)} bytes of memory, ${secondsSince(begin)}`);
     }
-    want_all_free(module, first, "large stories");
+    wantAllFree(module, first, "large stories");
 }
 
 /** Takes all memory that there is, from large pieces to small ones. */
-function take_all(module) {
-    const taken_pieces = [];
+function takeAll(module) {
+    const takenPieces = [];
     for (let size = 1 << 24; size >= 1;) {
         const at = module.calls.zkit_take(BigInt(size));
         if (at === 0n)
             size = Math.floor(size / 4);
         else
-            taken_pieces.push(at);
+            takenPieces.push(at);
     }
-    return taken_pieces;
+    return takenPieces;
 }
 
 /** What comes of calls where there is no memory, and after it is there again. */
 function full(module) {
-    const first = size_of(module);
+    const first = sizeOf(module);
     const story = example("lighthouse.z5");
     const [game, other] = [module.open(story), module.open(story)];
     want(game.turn() === "line" && game.text() !== "" && other.turn() === "line", "two games begin");
-    const pieces = take_all(module);
-    want(size_of(module) > CAP - (1 << 20) && size_of(module) <= CAP, "all memory is taken");
-    want(refusal_of(() => module.open(story)).number === 6, "a story is refused");
+    const pieces = takeAll(module);
+    want(sizeOf(module) > CAP - (1 << 20) && sizeOf(module) <= CAP, "all memory is taken");
+    want(refusalOf(() => module.open(story)).number === 6, "a story is refused");
     want(game.snapshot() === null && game.list("code") === null && !game.line("look"), "calls are refused");
     module.calls.zkit_give(pieces.pop());
     for (let turn = 0; turn < 1000 && other.line("x") && other.turn() === "line";)
@@ -385,13 +385,13 @@ function full(module) {
     pieces.forEach((at) => module.calls.zkit_give(at));
     want(game.line("look") && game.turn() === "line" && game.text().includes("The planks"), "the other one goes on");
     [game, other].forEach((one) => one.close());
-    want_all_free(module, first, "a full memory");
+    wantAllFree(module, first, "a full memory");
 }
 
 /** Plays a story by the module; one that is refused ends as the program does. */
-function may_be_refused(module, story, options, input, keeps = true) {
+function mayBeRefused(module, story, options, input, keeps = true) {
     try {
-        return by_module(module, story, options, input, { keeps });
+        return byModule(module, story, options, input, { keeps });
     } catch (error) {
         if (!(error instanceof Refused))
             throw error;
@@ -407,8 +407,8 @@ function generated(module) {
         const upper = number % 3 === 0;
         const words = ["--seed", `${number}`, "--steps", "100000", "--undo", "2", ...(upper ? ["--upper"] : [])];
         const options = { seed: BigInt(number), steps: 100_000, undo: 2, upper };
-        const came = may_be_refused(module, story, options, input);
-        want_same(came, by_program(story, words, input), `generated story ${number}`);
+        const came = mayBeRefused(module, story, options, input);
+        wantSame(came, byProgram(story, words, input), `generated story ${number}`);
         const end = came.last.replace(/ at .*/, "") || (came.status === 0 ? "no last line" : "too much text");
         ends[end] = (ends[end] ?? 0) + 1;
     }
@@ -417,13 +417,13 @@ function generated(module) {
 
 async function main() {
     const tests = [
-        rows, examples, windows, listings, refusals, snapshots, snapshot_refusals, thousand, large, full, generated,
+        rows, examples, windows, listings, refusals, snapshots, snapshotRefusals, thousand, large, full, generated,
     ];
     for (const test of tests) {
         const begin = performance.now();
         const before = checks;
         await test(await Module.of(code));
-        console.log(`${test.name}: ${checks - before} checks, ${seconds_since(begin)}`);
+        console.log(`${test.name}: ${checks - before} checks, ${secondsSince(begin)}`);
     }
     process.exitCode = bad > 0 ? 1 : 0;
     console.log(`${checks - bad} of ${checks} checks hold`);

@@ -31,7 +31,7 @@
  * @property {() => number} zkit_version
  * @property {(options: bigint) => void} zkit_defaults
  * @property {(story: bigint, length: bigint, options: bigint, reason: bigint) => bigint} zkit_open
- * @property {(story: bigint, length: bigint, snapshot: bigint, snapshot_length: bigint, options: bigint,
+ * @property {(story: bigint, length: bigint, snapshot: bigint, snapshotLength: bigint, options: bigint,
  *     reason: bigint) => bigint} zkit_open_snapshot
  * @property {(game: bigint) => void} zkit_close
  * @property {(game: bigint) => number} zkit_turn
@@ -122,7 +122,7 @@ const GREATEST = 0xffff_ffff;
  * @param {number} number
  * @param {Uint8Array} story
  */
-function words_of_refusal(number, story) {
+function wordsOfRefusal(number, story) {
     const lead = String.fromCharCode(...story.subarray(0, LEAD));
     const found = BEGINNINGS.find(([pattern]) => pattern.test(lead));
     if (number <= LAST_OF_STORY && found)
@@ -161,7 +161,7 @@ export class Refused extends Error {
      * @param {Uint8Array} story
      */
     constructor(number, story) {
-        super(words_of_refusal(number, story));
+        super(wordsOfRefusal(number, story));
         this.name = "Refused";
         this.number = number;
     }
@@ -233,7 +233,7 @@ export class Module {
         let game = 0n;
         let reason = OUT_OF_MEMORY;
         if (!at.includes(0n)) {
-            const words = this.options_at(buffer, options);
+            const words = this.optionsAt(buffer, options);
             const told = buffer + BigInt(OPTIONS_SIZE);
             game = at.length === 1 ? this.calls.zkit_open(at[0], sizes[0], words, told)
                 : this.calls.zkit_open_snapshot(at[0], sizes[0], at[1], sizes[1], words, told);
@@ -248,7 +248,7 @@ export class Module {
      * @param {bigint} at
      * @param {Options} options
      */
-    options_at(at, options) {
+    optionsAt(at, options) {
         this.view(at, OPTIONS_SIZE).setBigUint64(0, BigInt(OPTIONS_SIZE), true);
         this.calls.zkit_defaults(at);
         const view = this.view(at, OPTIONS_SIZE);
@@ -305,7 +305,7 @@ export class Game {
         this.handle = handle;
         this.buffer = buffer;
         this.decoder = decoder();
-        this.script_decoder = decoder();
+        this.scriptDecoder = decoder();
     }
 
     /** The game's address, while it is open. */
@@ -333,7 +333,7 @@ export class Game {
 
     /** All text that waits for the transcript. */
     transcript() {
-        return this.script_decoder.decode(this.transcriptBytes(), { stream: true });
+        return this.scriptDecoder.decode(this.transcriptBytes(), { stream: true });
     }
 
     textBytes() {
@@ -451,19 +451,19 @@ export class Game {
 
     /** The rows of the upper window, without the spaces at their ends. */
     rows() {
-        return this.rows_of(this.window().height, this.calls.zkit_row);
+        return this.rowsOf(this.window().height, this.calls.zkit_row);
     }
 
     /** The rows of the tallest grid since the last answer to a read. */
     tallestRows() {
-        return this.rows_of(this.window().tallest, this.calls.zkit_tallest_row);
+        return this.rowsOf(this.window().tallest, this.calls.zkit_tallest_row);
     }
 
     /**
      * @param {number} height
      * @param {(game: bigint, row: number, buffer: bigint, length: bigint) => bigint} put
      */
-    rows_of(height, put) {
+    rowsOf(height, put) {
         return Array.from({ length: height }, (_, i) =>
             this.string(put(this.at, i + 1, this.buffer, BigInt(BUFFER))));
     }
