@@ -17,8 +17,8 @@ const FILES = ["--module", "--save", "--script"];
 const USAGE_STATUS = 1;
 const REFUSED_STATUS = 1;
 const DEVICE_FAILED = 4;
-const NO_MEMORY = 5;
-const OUT_OF_MEMORY = 6;
+const OUT_OF_MEMORY = 5;
+const OPEN_NO_MEMORY = 6;
 const PART = 65_536;
 
 /** Ends with lines on standard error. */
@@ -71,8 +71,8 @@ function open(module, path, story, options) {
     } catch (error) {
         if (!(error instanceof Refused))
             throw error;
-        if (error.number === OUT_OF_MEMORY)
-            throw new Ended(NO_MEMORY, "zkit: out of memory");
+        if (error.number === OPEN_NO_MEMORY)
+            throw new Ended(OUT_OF_MEMORY, "zkit: out of memory");
         const words = `zkit: ${path}: not a story: ${error.message}`;
         throw new Ended(REFUSED_STATUS, words, `zkit: refused ${error.number}`);
     }

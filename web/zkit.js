@@ -72,12 +72,14 @@ export const LISTINGS = [
 /** @type {Awaited[]} */
 const AWAITED = ["stopped", "line", "character", "save", "restore", "room", "time"];
 
+// What the functions that answer a story answer.
 const DONE = 0;
 const NO_ROOM = 3;
-const OUT_OF_MEMORY = 6;
+
+// Why a story has stopped.
 const FAULT = 2;
 const LIMIT = 3;
-const NO_MEMORY_LEFT = 5;
+const OUT_OF_MEMORY = 5;
 const TOO_MUCH_TEXT = 6;
 
 /** Why nothing is opened, by its number, in the words of `zkit play`; {} is the story's version. */
@@ -96,6 +98,7 @@ const REFUSALS = [
     "the snapshot is damaged",
 ];
 const LAST_OF_STORY = 5;
+const OPEN_NO_MEMORY = 6;
 
 /**
  * What a file that is no story begins as, in the words of `zkit play`.
@@ -213,7 +216,7 @@ export class Module {
     game(story, files, options) {
         const buffer = this.calls.zkit_take(BigInt(BUFFER));
         if (buffer === 0n)
-            throw new Refused(OUT_OF_MEMORY, story);
+            throw new Refused(OPEN_NO_MEMORY, story);
         const { game, reason } = this.opened(files, options, buffer);
         if (game !== 0n)
             return new Game(this, game, buffer);
@@ -231,7 +234,7 @@ export class Module {
         const at = files.map((file) => this.copied(file));
         const sizes = files.map((file) => BigInt(file.length));
         let game = 0n;
-        let reason = OUT_OF_MEMORY;
+        let reason = OPEN_NO_MEMORY;
         if (!at.includes(0n)) {
             const words = this.optionsAt(buffer, options);
             const told = buffer + BigInt(OPTIONS_SIZE);
@@ -544,7 +547,7 @@ export class Game {
             const place = this.address().toString(16).padStart(5, "0");
             return `zkit: ${status === FAULT ? "fault" : "limit"} ${this.reason()} at ${place}`;
         }
-        return status === NO_MEMORY_LEFT || status === TOO_MUCH_TEXT ? `zkit: ${this.words()}` : "";
+        return status === OUT_OF_MEMORY || status === TOO_MUCH_TEXT ? `zkit: ${this.words()}` : "";
     }
 
     /** Gives all memory of the game back. It is not used any more. */
