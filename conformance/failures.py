@@ -21,6 +21,8 @@ import tempfile
 from collections.abc import Iterator, Sequence
 from typing import NamedTuple
 
+from program import takes_preloaded
+
 SECONDS = 20
 EXAMPLES = pathlib.Path(__file__).resolve().parent.parent / "examples"
 # Of a run with more allocations than this some are left out.
@@ -325,6 +327,9 @@ def main() -> None:
     compiler = shutil.which("cc") or shutil.which("gcc") or shutil.which("clang")
     if not compiler:
         print("left out, as there is no C compiler: the runs with refused memory")
+        return
+    if not takes_preloaded([str(command)]):
+        print("left out, as the program is static: the runs with refused memory")
         return
     with tempfile.TemporaryDirectory() as place:
         counts = check_all(command, compile_preloaded(compiler, pathlib.Path(place)), verbose)

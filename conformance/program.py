@@ -1203,6 +1203,12 @@ def check_listing(command: list[str]) -> str | None:
     return first_difference(wanted, ended(command, ["info", *options, "lighthouse.z5"], EXAMPLES))
 
 
+def takes_preloaded(command: list[str]) -> bool:
+    """Whether what is loaded before a program comes to it: not to a static one, or one that an emulator runs."""
+    start = Path(command[0]).read_bytes()[:4096]
+    return len(command) == 1 and (not start.startswith(b"\x7fELF") or b"/ld-linux" in start)
+
+
 def check_refusals(command: list[str], folder: Path) -> str | None:
     """A save in which any call of the system is refused leaves the old game or the new one, whole."""
     code, library, kept = folder / "refusing.c", folder / "refusing.so", folder / "kept"
@@ -1332,7 +1338,7 @@ def results(command: list[str], folder: Path) -> Iterator[Result]:
     yield "play --echo examples/lighthouse.z5", check_echo(command)
     yield "info of examples/lighthouse.z5", check_listing(command)
     yield from check_game_saves(command, folder)
-    if shutil.which("cc"):
+    if shutil.which("cc") and takes_preloaded(command):
         yield "play --save kept saves_on.z3, with each call of the system refused", check_refusals(command, folder)
 
 

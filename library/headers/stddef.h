@@ -6,5 +6,6 @@
 #define offsetof(type, member) __builtin_offsetof(type, member)
 
 typedef __SIZE_TYPE__ size_t;
+typedef __PTRDIFF_TYPE__ ptrdiff_t;
 
 #endif
