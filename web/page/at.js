@@ -1,0 +1,135 @@
+// What all parts of the page use: its elements, files, and base64.
+
+/**
+ * The page's element of an id.
+ * @param {string} id
+ */
+export function at(id) {
+    const element = document.getElementById(id);
+    if (!element)
+        throw new Error(`the page has no ${id}`);
+    return element;
+}
+
+/** @param {string} id */
+export function field(id) {
+    return /** @type {HTMLInputElement} */ (at(id));
+}
+
+/** @param {string} id */
+export function dialog(id) {
+    return /** @type {HTMLDialogElement} */ (at(id));
+}
+
+/**
+ * A new element with a class and a text.
+ * @param {string} tag
+ * @param {string} [kind]
+ * @param {string} [text]
+ */
+export function made(tag, kind = "", text = "") {
+    const element = document.createElement(tag);
+    if (kind)
+        element.className = kind;
+    if (text)
+        element.textContent = text;
+    return element;
+}
+
+/**
+ * A new button that does something.
+ * @param {string} kind
+ * @param {string} text
+ * @param {() => void} does
+ */
+export function made_button(kind, text, does) {
+    const button = /** @type {HTMLButtonElement} */ (made("button", kind, text));
+    button.type = "button";
+    button.addEventListener("click", does);
+    return button;
+}
+
+/**
+ * Shows a dialog, and answers the value that it was closed with: "none" where it was left.
+ * @param {HTMLDialogElement} it
+ * @returns {Promise<string>}
+ */
+export function closed(it) {
+    it.returnValue = "none";
+    it.showModal();
+    return new Promise((resolve) =>
+        it.addEventListener("close", () => resolve(it.returnValue || "none"), { once: true }));
+}
+
+/**
+ * Asks a question that is answered by yes or no.
+ * @param {string} head
+ * @param {string} words
+ * @param {string} [yes]
+ * @param {string} [no]
+ */
+export async function agreed(head, words, yes = "Yes", no = "No") {
+    at("asking-head").textContent = head;
+    at("asking-words").textContent = words;
+    at("asking-yes").textContent = yes;
+    at("asking-no").textContent = no;
+    return await closed(dialog("asking")) === "yes";
+}
+
+/**
+ * Says something short in the page's line for it.
+ * @param {string} words
+ * @param {boolean} [is_alarm]
+ */
+export function tell(words, is_alarm = false) {
+    at("told").textContent = words;
+    at("told").classList.toggle("alarm", is_alarm);
+}
+
+/**
+ * Gives the reader a file.
+ * @param {BlobPart} content
+ * @param {string} name
+ */
+export function give_file(content, name) {
+    const link = document.createElement("a");
+    link.href = URL.createObjectURL(new Blob([content], { type: "application/octet-stream" }));
+    link.download = name;
+    link.click();
+    setTimeout(() => URL.revokeObjectURL(link.href), 10_000);
+}
+
+/**
+ * The file that was chosen in a field for files, which is emptied, so that the same one can be chosen again.
+ * @param {HTMLInputElement} input
+ */
+export function chosen_file(input) {
+    const file = input.files ? input.files[0] : null;
+    return file || null;
+}
+
+/** @param {Blob} file */
+export async function bytes_of(file) {
+    return new Uint8Array(await file.arrayBuffer());
+}
+
+/**
+ * A file's name without what is after its last dot.
+ * @param {string} name
+ */
+export function stem(name) {
+    return name.replace(/\.[^.]*$/, "") || "story";
+}
+
+/** @param {string} text */
+export function from_base64(text) {
+    return Uint8Array.from(atob(text.trim()), (character) => character.charCodeAt(0));
+}
+
+/** @param {Uint8Array} bytes */
+export function to_base64(bytes) {
+    let text = "";
+    for (const byte of bytes)
+        text += String.fromCharCode(byte);
+    return btoa(text);
+}

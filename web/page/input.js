@@ -1,0 +1,115 @@
+// What the reader types: a line with those before it, or a character.
+
+import { at, field } from "./at.js";
+
+const line = field("line");
+const form = /** @type {HTMLFormElement} */ (at("ask"));
+const scroller = at("scroller");
+const ENTER = 10;
+const SPACE = 32;
+
+/** A prompt of more characters than this stands above the field. */
+const SHORT = 12;
+
+export class Input {
+    /** @param {(answer: string | number) => void} answer */
+    constructor(answer) {
+        this.answer = answer;
+        /** @type {"line" | "character" | ""} */
+        this.awaits = "";
+        /** @type {string[]} */
+        this.lines = [];
+        this.place = 0;
+        form.addEventListener("submit", (event) => this.submit(event));
+        line.addEventListener("input", () => this.take_character());
+        line.addEventListener("keydown", (event) => this.key_in_line(event));
+        at("space").addEventListener("click", () => this.give(SPACE));
+        document.addEventListener("keydown", (event) => this.key_anywhere(event));
+    }
+
+    /**
+     * @param {"line" | "character"} what
+     * @param {string} prompt
+     * @param {number} longest
+     */
+    await(what, prompt, longest) {
+        const is_line = what === "line";
+        const words = prompt.trim();
+        this.awaits = what;
+        at("prompt").textContent = is_line && words && words.length <= SHORT ? words : "›";
+        at("asked").textContent = !is_line ? "Press a key" : words.length > SHORT ? words : "What do you do?";
+        at("space").hidden = is_line;
+        line.value = "";
+        line.maxLength = is_line ? Math.max(1, longest) : 2;
+        form.hidden = false;
+        this.place = this.lines.length;
+        if (!document.querySelector("dialog[open]"))
+            line.focus({ preventScroll: true });
+    }
+
+    /** Awaits nothing. */
+    rest() {
+        this.awaits = "";
+        form.hidden = true;
+    }
+
+    /** @param {string | number} answer */
+    give(answer) {
+        if (this.awaits === (typeof answer === "string" ? "line" : "character"))
+            this.answer(answer);
+    }
+
+    /** @param {Event} event */
+    submit(event) {
+        event.preventDefault();
+        if (this.awaits === "character") {
+            this.give(line.value.codePointAt(0) ?? ENTER);
+            return;
+        }
+        const text = line.value;
+        if (text && this.lines[this.lines.length - 1] !== text)
+            this.lines.push(text);
+        this.give(text);
+    }
+
+    take_character() {
+        const code = line.value.codePointAt(0);
+        if (this.awaits === "character" && code !== undefined)
+            this.give(code);
+    }
+
+    /** @param {KeyboardEvent} event */
+    key_in_line(event) {
+        const up = { ArrowUp: -1, ArrowDown: 1 }[event.key];
+        const page = { PageUp: -1, PageDown: 1 }[event.key];
+        if (page) {
+            event.preventDefault();
+            scroller.scrollBy(0, page * (scroller.clientHeight - 40));
+        }
+        if (up && this.awaits === "line") {
+            event.preventDefault();
+            this.place = Math.max(0, Math.min(this.lines.length, this.place + up));
+            line.value = this.lines[this.place] ?? "";
+        }
+    }
+
+    /**
+     * A key that is pressed where nothing else takes it goes into the line, or to a story that awaits a character.
+     * @param {KeyboardEvent} event
+     */
+    key_anywhere(event) {
+        const target = /** @type {HTMLElement} */ (event.target);
+        const is_taken = target.closest("input, button, select, a, summary, dialog") || document.querySelector("dialog[open]");
+        if (is_taken || event.ctrlKey || event.metaKey || event.altKey || event.isComposing || !this.awaits)
+            return;
+        const code = event.key === "Enter" ? ENTER : [...event.key].length === 1 ? event.key.codePointAt(0) : undefined;
+        if (code === undefined)
+            return;
+        if (this.awaits === "character") {
+            event.preventDefault();
+            this.give(code);
+        } else if (target !== scroller || code !== SPACE) {
+            line.focus({ preventScroll: true });
+        }
+    }
+}

@@ -1,0 +1,289 @@
+// The text of the story. All of it is kept as blocks of pieces, one block for each answer or each screenful; only the
+// newest blocks stand in the page, and older ones come back where the reader scrolls up to them.
+
+import { at, made } from "./at.js";
+import { Width } from "./reflow.js";
+
+/** @typedef {"text" | "prompt" | "typed" | "note" | "box"} Kind */
+/** @typedef {{kind: Kind, text: string}} Piece */
+/** @typedef {{blocks: number, held: string}} Mark */
+
+/** So many characters a block has at most, about. */
+const BLOCK = 6_000;
+
+/** So many blocks stand in the page, and so many more come at a time. */
+const SHOWN = 40;
+
+/** So many characters are kept for a reload at most. */
+const KEPT = 1_000_000;
+
+const scroller = at("scroller");
+const older = at("older");
+const log = at("log");
+
+export class Log {
+    constructor() {
+        /** @type {Piece[][]} */
+        this.blocks = [];
+        /** The part of a line after which the story reads. */
+        this.held = "";
+        this.width = new Width();
+        /** The first block that stands in the page, and the first in the part for screen readers. */
+        this.first = 0;
+        this.first_new = 0;
+        /** The block that the newest answer began. */
+        this.turn = 0;
+        this.is_due = false;
+        scroller.addEventListener("scroll", () => this.scrolled());
+    }
+
+    clear() {
+        this.blocks = [];
+        this.held = "";
+        this.width = new Width();
+        this.first = this.first_new = this.turn = 0;
+        older.replaceChildren();
+        log.replaceChildren();
+    }
+
+    /**
+     * @param {Kind} kind
+     * @param {string} text
+     */
+    add(kind, text) {
+        if (!text)
+            return;
+        const block = this.blocks[this.blocks.length - 1] || this.new_block();
+        const last = block[block.length - 1];
+        if (last && last.kind === kind && kind === "text")
+            last.text += text;
+        else
+            block.push({ kind, text });
+        this.due();
+    }
+
+    new_block() {
+        /** @type {Piece[]} */
+        const block = [];
+        this.blocks.push(block);
+        return block;
+    }
+
+    /**
+     * Adds what the story has written.
+     * @param {string} text
+     */
+    text(text) {
+        this.release();
+        this.width.see(text);
+        for (let rest = text; rest;) {
+            const size = (this.blocks[this.blocks.length - 1] || []).reduce((sum, piece) => sum + piece.text.length, 0);
+            const part = rest.slice(0, Math.max(BLOCK - size, 1));
+            const end = part.length < rest.length ? part.lastIndexOf("\n") + 1 || part.length : part.length;
+            this.add("text", rest.slice(0, end));
+            rest = rest.slice(end);
+            if (rest)
+                this.new_block();
+        }
+    }
+
+    /** Holds the part of a line that stands before the reader's own. */
+    hold() {
+        const block = this.blocks[this.blocks.length - 1] || [];
+        const last = block[block.length - 1];
+        if (!last || last.kind !== "text" || this.held)
+            return;
+        this.held = last.text.slice(last.text.lastIndexOf("\n") + 1);
+        last.text = last.text.slice(0, last.text.length - this.held.length);
+        this.due();
+    }
+
+    /** Begins a block with what was held. */
+    release() {
+        const held = this.held;
+        this.held = "";
+        if (held) {
+            this.new_block();
+            this.add("prompt", held);
+        }
+    }
+
+    /**
+     * Adds a line that the reader typed.
+     * @param {string} line
+     */
+    typed(line) {
+        if (this.held)
+            this.release();
+        else
+            this.new_block();
+        this.turn = this.blocks.length - 1;
+        this.add("typed", line + "\n");
+    }
+
+    /** Begins the part that a key brings. */
+    pressed() {
+        this.new_block();
+        this.turn = this.blocks.length - 1;
+    }
+
+    /**
+     * Adds the page's own words.
+     * @param {string} words
+     */
+    note(words) {
+        this.new_block();
+        this.add("note", words);
+    }
+
+    /**
+     * Adds a box that the story drew over its text.
+     * @param {string[]} rows
+     */
+    box(rows) {
+        this.new_block();
+        this.add("box", rows.join("\n"));
+    }
+
+    /** @returns {Mark} */
+    mark() {
+        return { blocks: this.blocks.length, held: this.held };
+    }
+
+    /**
+     * Takes away what came after a mark.
+     * @param {Mark} mark
+     */
+    cut(mark) {
+        this.blocks.length = Math.min(this.blocks.length, mark.blocks);
+        this.held = mark.held;
+        this.turn = Math.max(0, this.blocks.length - 1);
+        this.show_end();
+    }
+
+    /** The newest text, for a reload. */
+    kept() {
+        let size = 0;
+        let first = this.blocks.length;
+        while (first > 0 && size < KEPT)
+            size += this.blocks[--first].reduce((sum, piece) => sum + piece.text.length, 0);
+        return { blocks: this.blocks.slice(first), held: this.held };
+    }
+
+    /** @param {{blocks: Piece[][], held: string}} it */
+    fill(it) {
+        this.clear();
+        this.blocks = it.blocks;
+        this.held = it.held;
+        for (const piece of it.blocks.flat().filter((one) => one.kind === "text"))
+            this.width.see(piece.text);
+        this.show_end();
+    }
+
+    /** The story's text with the lines that were typed. */
+    transcript() {
+        const told = this.blocks.flat().filter(({ kind }) => kind === "text" || kind === "prompt" || kind === "typed");
+        return told.map((piece) => piece.text).join("") + this.held;
+    }
+
+    /** Draws soon what has changed. */
+    due() {
+        if (this.is_due)
+            return;
+        this.is_due = true;
+        setTimeout(() => {
+            this.is_due = false;
+            this.draw();
+        }, 0);
+    }
+
+    /** Draws the newest blocks that do not stand in the page yet, and the last one anew. */
+    draw() {
+        const is_low = scroller.scrollHeight - scroller.scrollTop - scroller.clientHeight < 80;
+        const shown = log.children.length;
+        const from = Math.max(this.first_new, this.first_new + shown - 1);
+        if (this.blocks.length - from > 2 * SHOWN) {
+            this.show_end();
+            return;
+        }
+        if (shown > 0)
+            this.draw_block(from, /** @type {HTMLElement} */ (log.lastElementChild));
+        for (let i = this.first_new + shown; i < this.blocks.length; i++)
+            log.append(this.draw_block(i, made("div", "turn")));
+        if (is_low || this.turn >= from)
+            this.trim();
+        this.go_to_turn();
+    }
+
+    /** Shows the newest blocks alone. */
+    show_end() {
+        this.first = this.first_new = Math.max(0, this.blocks.length - SHOWN);
+        older.replaceChildren();
+        log.replaceChildren();
+        for (let i = this.first_new; i < this.blocks.length; i++)
+            log.append(this.draw_block(i, made("div", "turn")));
+        this.go_to_turn();
+    }
+
+    /** Takes out what is no longer looked at. */
+    trim() {
+        older.replaceChildren();
+        while (log.children.length > SHOWN && log.firstElementChild) {
+            log.firstElementChild.remove();
+            this.first_new++;
+        }
+        this.first = this.first_new;
+    }
+
+    /** Scrolls so that the newest answer's text is read from its start. */
+    go_to_turn() {
+        const element = /** @type {HTMLElement | null} */ (log.children[this.turn - this.first_new] || null);
+        const bottom = scroller.scrollHeight - scroller.clientHeight;
+        scroller.scrollTop = element ? Math.min(bottom, element.offsetTop - scroller.offsetTop - 16) : bottom;
+    }
+
+    /** Puts older blocks back where the reader comes near them. */
+    scrolled() {
+        if (scroller.scrollTop > scroller.clientHeight || this.first === 0)
+            return;
+        const from = Math.max(0, this.first - SHOWN);
+        const height = scroller.scrollHeight;
+        const top = scroller.scrollTop;
+        const back = [];
+        for (let i = from; i < this.first; i++)
+            back.push(this.draw_block(i, made("div", "turn")));
+        older.prepend(...back);
+        this.first = from;
+        scroller.scrollTop = top + scroller.scrollHeight - height;
+    }
+
+    /**
+     * @param {number} i
+     * @param {HTMLElement} element
+     */
+    draw_block(i, element) {
+        const pieces = this.blocks[i].map(({ kind, text }) => this.draw_piece(kind, text));
+        element.replaceChildren(...pieces);
+        return element;
+    }
+
+    /**
+     * @param {Kind} kind
+     * @param {string} text
+     */
+    draw_piece(kind, text) {
+        const element = made("span", kind);
+        if (kind !== "text") {
+            element.textContent = text;
+            return element;
+        }
+        const lines = text.split("\n");
+        lines.forEach((line, i) => {
+            element.append(line);
+            if (i < lines.length - 1)
+                element.append(this.width.joins(line, lines[i + 1]) ? made("span", "soft", "\n") : "\n");
+        });
+        element.normalize();
+        return element;
+    }
+}

@@ -1,0 +1,145 @@
+// The page's side of the worker that runs a story: calls that answer promises.
+
+import { at, from_base64 } from "./at.js";
+
+/** @typedef {string | number | {saved: boolean} | {restored: string | null} | {undo: true} | {fresh: true}} Answer */
+/** @typedef {{kind: "score" | "time", name: string, first: number, second: number}} StatusLine */
+
+/**
+ * How a story stands after it has run.
+ * @typedef {object} Standing
+ * @property {"stopped" | "line" | "character" | "save" | "restore" | "pause" | "halt" | "refused"} awaits
+ * @property {string[]} rows
+ * @property {string[] | null} box the rows of a grid that was taken away again before the read
+ * @property {StatusLine | null} status
+ * @property {number} longest
+ * @property {string} last
+ * @property {string} words
+ * @property {Uint8Array | null} snapshot
+ */
+
+/** @typedef {{version: number, release: number, checksum: number, serial: string, ifid: string}} About */
+
+/** The machine's words on a story or a snapshot that it does not open. */
+export class NotOpened extends Error {}
+
+/** The module has failed: the worker is of no use any more. */
+export class Trapped extends Error {}
+
+/** The bytes of the module, which stand in the page. */
+export function module_bytes() {
+    return from_base64(at("module-bytes").textContent || "");
+}
+
+let source = "";
+
+/** The address of the worker's script, which stands in the page too. */
+function worker_address() {
+    source = source || URL.createObjectURL(
+        new Blob([at("worker-source").textContent || ""], { type: "text/javascript" }));
+    return source;
+}
+
+/** A worker with a module. */
+export class Machine {
+    constructor() {
+        /** @type {Map<number, {resolve: (it: any) => void, reject: (error: Error) => void}>} */
+        this.waiting = new Map();
+        this.number = 0;
+        /** @type {(text: string, script: string) => void} */
+        this.on_text = () => {};
+        this.worker = new Worker(worker_address());
+        this.worker.onmessage = (event) => this.heard(event.data);
+        this.worker.onerror = (event) => this.fail(event.message || "the worker has failed");
+        this.begun = this.call("begin", { bytes: module_bytes() });
+    }
+
+    /** @param {any} data */
+    heard(data) {
+        if (data.number === undefined) {
+            this.on_text(data.text, data.script);
+            return;
+        }
+        const call = this.waiting.get(data.number);
+        this.waiting.delete(data.number);
+        if (!call)
+            return;
+        if (data.refused !== undefined)
+            call.reject(new NotOpened(data.refused));
+        else if (data.trapped !== undefined)
+            call.reject(new Trapped(data.trapped));
+        else
+            call.resolve(data.result);
+    }
+
+    /** @param {string} words */
+    fail(words) {
+        for (const call of this.waiting.values())
+            call.reject(new Trapped(words));
+        this.waiting.clear();
+    }
+
+    /**
+     * @param {string} call
+     * @param {object} [values]
+     * @returns {Promise<any>}
+     */
+    call(call, values = {}) {
+        const number = ++this.number;
+        this.worker.postMessage({ number, call, values });
+        return new Promise((resolve, reject) => this.waiting.set(number, { resolve, reject }));
+    }
+
+    /**
+     * @param {Uint8Array} story
+     * @param {object} options
+     * @returns {Promise<About>}
+     */
+    open(story, options) {
+        return this.call("open", { story, options });
+    }
+
+    /**
+     * @param {Uint8Array} story
+     * @param {Uint8Array} snapshot
+     * @returns {Promise<About>}
+     */
+    resume(story, snapshot) {
+        return this.call("resume", { story, snapshot });
+    }
+
+    /**
+     * Gives the story an answer, if any, and runs it.
+     * @param {Answer | null} answer
+     * @param {(text: string, script: string) => void} on_text
+     * @returns {Promise<Standing>}
+     */
+    run(answer, on_text) {
+        this.on_text = on_text;
+        return this.call("run", { answer });
+    }
+
+    /** Lets a run end soon. */
+    stop() {
+        this.worker.postMessage({ call: "stop" });
+    }
+
+    /** @returns {Promise<Uint8Array | null>} */
+    image() {
+        return this.call("image");
+    }
+
+    /**
+     * @param {string} listing
+     * @returns {Promise<string | null>}
+     */
+    list(listing) {
+        return this.call("list", { listing });
+    }
+
+    /** Ends the worker, whatever it does. */
+    drop() {
+        this.worker.terminate();
+        this.fail("the worker was ended");
+    }
+}

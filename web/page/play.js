@@ -1,0 +1,500 @@
+// A play: the story that runs, what was answered, and the ways back. What is answered is recorded, since the same
+// answers give the same play: that is what a link has, and how the reader goes back to any line.
+
+import { at, tell, to_base64 } from "./at.js";
+import { Machine, Trapped } from "./machine.js";
+import { box_text } from "./screen.js";
+import { sum_of } from "./sums.js";
+
+/** @typedef {import("./machine.js").Answer} Answer */
+/** @typedef {import("./machine.js").Standing} Standing */
+/** @typedef {import("./machine.js").About} About */
+/** @typedef {import("./resume.js").Kept} Kept */
+/** @typedef {{name: string, bytes: Uint8Array}} File */
+
+/**
+ * A place to go back to: how all stood at a read.
+ * @typedef {object} Mark
+ * @property {Uint8Array | null} snapshot
+ * @property {number} answers
+ * @property {import("./log.js").Mark} log
+ * @property {string} chain
+ * @property {number} turns
+ */
+
+/**
+ * What a play asks the reader for and tells the page.
+ * @typedef {object} Reader
+ * @property {(image: Uint8Array) => Promise<boolean>} save
+ * @property {() => Promise<{image: Uint8Array, turn: number} | null>} restore
+ * @property {() => void} changed
+ */
+
+/** The reader can stop a story at any time, so it may run for longer than `zkit play` lets it by itself. */
+const OPTIONS = { steps: 1_000_000_000 };
+
+/** So many states to go back to are kept. */
+const MARKS = 32;
+
+/** After so many milliseconds the page says that the story runs. */
+const SOON = 300;
+
+/** A run whose play was left meanwhile. */
+class Left extends Error {}
+
+export class Play {
+    /**
+     * @param {import("./log.js").Log} log
+     * @param {import("./screen.js").Screen} screen
+     * @param {import("./input.js").Input} input
+     * @param {Reader} reader
+     */
+    constructor(log, screen, input, reader) {
+        this.log = log;
+        this.screen = screen;
+        this.input = input;
+        this.reader = reader;
+        /** @type {Machine | null} */
+        this.machine = null;
+        /** @type {File | null} */
+        this.story = null;
+        this.ifid = "";
+        this.sum = "";
+        this.seed = "1";
+        /** @type {Standing | null} */
+        this.standing = null;
+        this.is_busy = false;
+        this.round = 0;
+        this.script = "";
+        /** @type {About | null} */
+        this.about = null;
+        /** @type {Answer[]} */
+        this.answers = [];
+        /** @type {Mark[]} */
+        this.marks = [];
+        /** @type {Mark | null} */
+        this.here = null;
+        this.chain = "";
+        this.turns = 0;
+        this.turn_text = "";
+        /** @type {string[]} */
+        this.last_rows = [];
+        at("stop").addEventListener("click", () => this.machine && this.machine.stop());
+        at("go-on").addEventListener("click", () => this.go(null));
+        at("step-back").addEventListener("click", () => this.back());
+        at("over-back").addEventListener("click", () => this.back());
+    }
+
+    /** Nothing was answered yet. */
+    empty() {
+        this.answers = [];
+        this.marks = [];
+        this.here = null;
+        this.chain = "";
+        this.turns = 0;
+        this.turn_text = "";
+        this.last_rows = [];
+    }
+
+    /** A machine that does nothing at the moment. */
+    async idle_machine() {
+        this.round++;
+        if (this.machine && this.is_busy) {
+            this.machine.drop();
+            this.machine = null;
+        }
+        this.is_busy = false;
+        this.machine = this.machine || new Machine();
+        await this.machine.begun;
+        return this.machine;
+    }
+
+    /**
+     * Opens a story at its start and gives it answers. Where it is not opened, NotOpened is thrown and the play before
+     * it goes on.
+     * @param {File} story
+     * @param {string} seed
+     * @param {Answer[]} [answers]
+     */
+    async start(story, seed, answers = []) {
+        const machine = await this.idle_machine();
+        const about = await machine.open(story.bytes, { ...OPTIONS, seed: BigInt(seed) });
+        this.take(story, about, seed);
+        this.log.clear();
+        this.empty();
+        this.reader.changed();
+        await this.guarded(() => this.replay(answers));
+    }
+
+    /**
+     * Goes on with a play that was kept.
+     * @param {File} story
+     * @param {Kept} play
+     */
+    async resume(story, play) {
+        const machine = await this.idle_machine();
+        const about = await machine.resume(story.bytes, /** @type {Uint8Array} */ (play.snapshot));
+        this.take(story, about, play.seed);
+        this.empty();
+        this.log.fill(play.log);
+        this.answers = play.answers;
+        this.chain = play.chain;
+        this.turns = play.turns;
+        this.last_rows = play.box;
+        this.freshened();
+        await this.guarded(async () => this.settle(await this.step(null)));
+    }
+
+    /**
+     * @param {File} story
+     * @param {About} about
+     * @param {string} seed
+     */
+    take(story, about, seed) {
+        this.story = story;
+        this.about = about;
+        this.ifid = about.ifid;
+        this.sum = sum_of(story.bytes);
+        this.seed = seed;
+        this.script = "";
+    }
+
+    /** Notes that the states are gone that the story's own UNDO goes back to. */
+    freshened() {
+        const last = this.answers[this.answers.length - 1];
+        const is_noted = typeof last === "object" && "fresh" in last;
+        if (this.answers.length > 0 && !is_noted)
+            this.answers.push({ fresh: true });
+    }
+
+    /**
+     * Does something with the machine; where that fails, goes on from the last read with a new one.
+     * @param {() => Promise<void>} does
+     */
+    async guarded(does) {
+        try {
+            await does();
+        } catch (error) {
+            if (error instanceof Left)
+                return;
+            if (!(error instanceof Trapped))
+                throw error;
+            if (this.machine)
+                this.machine.drop();
+            this.machine = null;
+            this.is_busy = false;
+            this.show_running("");
+            tell(`The interpreter has failed (${error.message}), and was started anew.`, true);
+            if (this.here)
+                await this.back_to(this.here);
+        }
+    }
+
+    /**
+     * Gives the story an answer and runs it.
+     * @param {Answer | null} answer
+     */
+    async step(answer) {
+        const round = this.round;
+        const machine = /** @type {Machine} */ (this.machine);
+        this.is_busy = true;
+        this.input.rest();
+        this.hide_over();
+        const soon = setTimeout(() => this.show_running("The story is running."), SOON);
+        try {
+            const standing = await machine.run(answer, (text, script) => this.written(round, text, script));
+            if (round !== this.round)
+                throw new Left();
+            return standing;
+        } catch (error) {
+            throw round === this.round ? error : new Left();
+        } finally {
+            clearTimeout(soon);
+            if (round === this.round) {
+                this.is_busy = false;
+                this.show_running("");
+            }
+        }
+    }
+
+    /**
+     * @param {number} round
+     * @param {string} text
+     * @param {string} script
+     */
+    written(round, text, script) {
+        if (round !== this.round)
+            return;
+        this.turn_text += text;
+        this.script += script;
+        this.log.text(text);
+    }
+
+    /**
+     * Takes the reader's answer to a read.
+     * @param {string | number} answer
+     */
+    async give(answer) {
+        if (this.is_busy || !this.here)
+            return;
+        tell("");
+        await this.go(answer);
+    }
+
+    /**
+     * Gives an answer, if any, and goes on to the next read.
+     * @param {Answer | null} answer
+     */
+    async go(answer) {
+        await this.guarded(async () => {
+            if (answer !== null)
+                this.note(answer);
+            let standing = await this.step(answer);
+            while (standing.awaits === "save" || standing.awaits === "restore") {
+                const next = await this.file_answer(standing.awaits);
+                this.answers.push(next);
+                standing = await this.step(next);
+            }
+            this.settle(standing);
+        });
+    }
+
+    /**
+     * What is answered where the story saves or restores.
+     * @param {"save" | "restore"} what
+     * @returns {Promise<Answer>}
+     */
+    async file_answer(what) {
+        if (what === "save") {
+            const image = await /** @type {Machine} */ (this.machine).image();
+            return { saved: image !== null && await this.reader.save(image) };
+        }
+        const found = await this.reader.restore();
+        if (found && found.turn >= 0)
+            this.turns = found.turn;
+        return { restored: found && to_base64(found.image) };
+    }
+
+    /**
+     * Records an answer to a read, and shows it.
+     * @param {Answer} answer
+     */
+    note(answer) {
+        if (this.here) {
+            this.marks.push(this.here);
+            this.marks.splice(0, this.marks.length - MARKS);
+        }
+        this.answers.push(answer);
+        if (typeof answer === "string") {
+            this.turns++;
+            this.log.typed(answer);
+        } else {
+            this.log.pressed();
+        }
+    }
+
+    /**
+     * Gives a story that was opened all answers of a record, as far as they fit.
+     * @param {Answer[]} answers
+     */
+    async replay(answers) {
+        let standing = await this.run_on(null);
+        for (const answer of answers) {
+            const is_read = standing.awaits === "line" || standing.awaits === "character";
+            if (!this.fits(standing.awaits, answer))
+                break;
+            if (is_read) {
+                this.reach(standing);
+                this.note(answer);
+            } else {
+                this.answers.push(answer);
+            }
+            standing = await this.run_on(answer);
+        }
+        if (standing.awaits === "save" || standing.awaits === "restore")
+            standing = await this.run_on(standing.awaits === "save" ? { saved: false } : { restored: null });
+        this.settle(standing);
+    }
+
+    /**
+     * A step that goes on by itself where much was written.
+     * @param {Answer | null} answer
+     */
+    async run_on(answer) {
+        let standing = await this.step(answer);
+        while (standing.awaits === "pause")
+            standing = await this.step(null);
+        return standing;
+    }
+
+    /**
+     * Whether an answer answers what is awaited.
+     * @param {string} awaits
+     * @param {Answer} answer
+     */
+    fits(awaits, answer) {
+        if (typeof answer !== "object")
+            return awaits === (typeof answer === "string" ? "line" : "character");
+        if ("saved" in answer || "restored" in answer)
+            return awaits === ("saved" in answer ? "save" : "restore");
+        return awaits === "line" || awaits === "character";
+    }
+
+    /**
+     * Notes that the story reads, or has ended.
+     * @param {Standing} standing
+     */
+    reach(standing) {
+        if (this.turn_text)
+            this.chain = sum_of(this.chain + this.turn_text);
+        this.turn_text = "";
+        if (standing.awaits === "line")
+            this.log.hold();
+        if (standing.box)
+            this.show_box(standing.box, standing.rows.length);
+        this.last_rows = standing.box || standing.rows;
+        if (standing.awaits === "stopped")
+            return;
+        this.here = {
+            snapshot: standing.snapshot, answers: this.answers.length, log: this.log.mark(), chain: this.chain,
+            turns: this.turns,
+        };
+    }
+
+    /**
+     * Shows a box once: not again where it stood there at the read before.
+     * @param {string[]} rows
+     * @param {number} height
+     */
+    show_box(rows, height) {
+        const text = box_text(rows.slice(height));
+        if (text.length && rows.join("\n") !== this.last_rows.join("\n"))
+            this.log.box(text);
+    }
+
+    /**
+     * Shows how the story stands after a run.
+     * @param {Standing} standing
+     */
+    settle(standing) {
+        this.standing = standing;
+        this.screen.show(standing.rows, standing.status);
+        const { awaits } = standing;
+        if (awaits === "line" || awaits === "character") {
+            this.reach(standing);
+            this.input.await(awaits, this.log.held, standing.longest);
+        } else if (awaits === "stopped") {
+            this.reach(standing);
+            this.show_over(standing);
+        } else {
+            this.show_running(awaits === "pause" ? "The story has written very much without asking for anything."
+                : "You have stopped the story.", true);
+        }
+        this.reader.changed();
+    }
+
+    /**
+     * Says that the story runs, or has paused; "" for neither.
+     * @param {string} words
+     * @param {boolean} [has_paused]
+     */
+    show_running(words, has_paused = false) {
+        at("running").hidden = words === "";
+        at("running-words").textContent = words;
+        at("stop").hidden = has_paused;
+        at("go-on").hidden = !has_paused;
+        at("step-back").hidden = !has_paused || !this.here;
+        if (has_paused)
+            at("go-on").focus();
+    }
+
+    /** @param {Standing} standing */
+    show_over(standing) {
+        const why = standing.words || standing.last;
+        at("over").hidden = false;
+        at("over-words").textContent = standing.last ? `The story has stopped: ${why} (${standing.last}).` : "The story has ended.";
+        at("over-back").hidden = !this.here;
+        at("over-again").focus();
+    }
+
+    hide_over() {
+        at("over").hidden = true;
+    }
+
+    /** Goes back to before the last answer: by the story's own state, or else by a snapshot of the read before. */
+    async undo() {
+        const awaits = this.standing ? this.standing.awaits : "stopped";
+        if (this.is_busy || (awaits !== "line" && awaits !== "character")) {
+            await this.back();
+            return;
+        }
+        await this.guarded(async () => {
+            const standing = await this.step({ undo: true });
+            if (standing.awaits === "refused") {
+                await this.back_to_last();
+                return;
+            }
+            this.note({ undo: true });
+            this.turns = Math.max(0, this.turns - 1);
+            this.settle(standing);
+        });
+    }
+
+    /** Back to the last read, from a story that has stopped or was stopped. */
+    async back() {
+        if (this.here)
+            await this.back_to(this.here);
+    }
+
+    async back_to_last() {
+        const mark = this.marks.pop();
+        if (mark) {
+            await this.back_to(mark);
+            return;
+        }
+        tell("There is nothing to go back to.");
+        this.settle(await this.step(null));
+    }
+
+    /** @param {Mark} mark */
+    async back_to(mark) {
+        const story = /** @type {File} */ (this.story);
+        const answers = this.answers.slice(0, mark.answers);
+        if (!mark.snapshot) {
+            await this.start(story, this.seed, answers);
+            return;
+        }
+        const machine = await this.idle_machine();
+        await machine.resume(story.bytes, mark.snapshot);
+        this.answers = answers;
+        this.freshened();
+        this.log.cut(mark.log);
+        this.chain = mark.chain;
+        this.turns = mark.turns;
+        this.turn_text = "";
+        this.here = null;
+        await this.guarded(async () => this.settle(await this.step(null)));
+        tell("Gone back to before that.");
+    }
+
+    /**
+     * What is kept for a reload.
+     * @param {string} module
+     * @returns {Kept | null}
+     */
+    kept(module) {
+        if (!this.here || this.is_busy)
+            return null;
+        return {
+            module, story: this.sum, ifid: this.ifid, seed: this.seed, answers: this.answers.slice(0, this.here.answers),
+            chain: this.here.chain, turns: this.here.turns, snapshot: this.here.snapshot, log: this.log.kept(),
+            box: this.last_rows, date: Date.now(),
+        };
+    }
+
+    /** @returns {import("./link.js").Shared} */
+    shared() {
+        const { name } = /** @type {File} */ (this.story);
+        return { zkit: 1, ifid: this.ifid, name, story: this.sum.slice(0, 16), seed: this.seed, told: this.chain.slice(0, 16), answers: this.answers };
+    }
+}

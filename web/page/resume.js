@@ -1,0 +1,92 @@
+// What a reload goes on with: the story, the text, and a snapshot of the last read, each with the sums of the module and
+// the story that it was made by.
+
+import { forget, keep, kept, names } from "./store.js";
+import { sum_of } from "./sums.js";
+
+/** @typedef {import("./machine.js").Answer} Answer */
+/** @typedef {{name: string, ifid: string, bytes: Uint8Array}} Story */
+
+/**
+ * A play as it is kept.
+ * @typedef {object} Kept
+ * @property {string} module the sum of the module
+ * @property {string} story the sum of the story
+ * @property {string} ifid
+ * @property {string} seed
+ * @property {Answer[]} answers
+ * @property {string} chain the sum of all text
+ * @property {number} turns
+ * @property {Uint8Array | null} snapshot
+ * @property {any} log
+ * @property {string[]} box
+ * @property {number} date
+ */
+
+const LAST = "last";
+
+/** So many stories are kept with a play at most. */
+const MOST = 12;
+
+/**
+ * @param {string} ifid
+ * @param {string} sum
+ */
+function story_key(ifid, sum) {
+    return `${ifid} ${sum}`;
+}
+
+/**
+ * @param {Story} story
+ * @param {string} sum
+ */
+export async function keep_story(story, sum) {
+    await keep("stories", story_key(story.ifid, sum), story);
+}
+
+/** @param {Kept} play */
+export async function keep_play(play) {
+    await keep("plays", play.story, play);
+    await keep("plays", LAST, { story: play.story, ifid: play.ifid });
+}
+
+/** Forgets the oldest plays, and stories without one. */
+export async function tidy() {
+    const sums = (await names("plays")).filter((name) => name !== LAST);
+    const plays = await Promise.all(sums.map((sum) => kept("plays", sum)));
+    const old = plays.filter((play) => play).sort((a, b) => b.date - a.date).slice(MOST);
+    await Promise.all(old.map((play) => forget("plays", play.story)));
+    await Promise.all(old.map((play) => forget("stories", story_key(play.ifid, play.story))));
+}
+
+/**
+ * The play of a story that is kept, if any.
+ * @param {string} sum
+ * @returns {Promise<Kept | null>}
+ */
+export function kept_play(sum) {
+    return kept("plays", sum);
+}
+
+/**
+ * The play that the reader was in, with its story, whose sum is looked at; null where there is none.
+ * @returns {Promise<{play: Kept, story: Story} | null>}
+ */
+export async function last_play() {
+    const last = await kept("plays", LAST);
+    if (!last)
+        return null;
+    const play = await kept_play(last.story);
+    const story = await kept("stories", story_key(last.ifid, last.story));
+    return play && story && sum_of(story.bytes) === play.story ? { play, story } : null;
+}
+
+/**
+ * A story that is kept, by its IFID.
+ * @param {string} ifid
+ * @returns {Promise<Story | null>}
+ */
+export async function story_of(ifid) {
+    const [key] = await names("stories", `${ifid} `);
+    return key ? kept("stories", key) : null;
+}

@@ -1,0 +1,208 @@
+// Saved games: slots with names in the browser, and Quetzal files for other interpreters.
+
+import { agreed, at, bytes_of, chosen_file, closed, dialog, field, give_file, made, made_button, stem, tell } from "./at.js";
+import { forget, keep, kept, names } from "./store.js";
+
+/** @typedef {{name: string, game: string, place: string, turn: number, date: number, image: Uint8Array}} Slot */
+/** @typedef {{sum: string, game: string, place: string, turn: number}} Of */
+
+const saving = dialog("saving");
+const restoring = dialog("restoring");
+
+/**
+ * @param {string} sum
+ * @param {string} name
+ */
+function key_of(sum, name) {
+    return `${sum} ${name}`;
+}
+
+/**
+ * The slots of a story, the newest first.
+ * @param {string} sum
+ * @returns {Promise<Slot[]>}
+ */
+async function slots_of(sum) {
+    const keys = await names("saves", key_of(sum, ""));
+    const slots = await Promise.all(keys.map((key) => kept("saves", key)));
+    return slots.filter((slot) => slot).sort((a, b) => b.date - a.date);
+}
+
+/** @param {Slot} slot */
+function words_on(slot) {
+    const date = new Date(slot.date).toLocaleString([], { dateStyle: "medium", timeStyle: "short" });
+    const turn = slot.turn >= 0 ? `turn ${slot.turn}` : "turn not known";
+    return [slot.place, turn, `${slot.image.length.toLocaleString()} bytes`, date].filter((word) => word).join(" · ");
+}
+
+/**
+ * A slot's name and what is known of it.
+ * @param {Slot} slot
+ * @param {HTMLElement} element
+ */
+function described(slot, element) {
+    element.append(made("b", "name", slot.name), made("span", "", `${slot.game} · ${words_on(slot)}`));
+    return element;
+}
+
+/**
+ * Whether a slot may be written: it is free, or the reader agrees.
+ * @param {Of} of
+ * @param {string} name
+ */
+async function may_write(of, name) {
+    const old = await kept("saves", key_of(of.sum, name));
+    return !old || await agreed("Replace the saved game?", `${name}: ${words_on(old)}`, "Replace it", "Keep it");
+}
+
+/**
+ * @param {Of} of
+ * @param {string} name
+ * @param {Uint8Array} image
+ */
+async function write(of, name, image) {
+    const slot = { name, game: of.game, place: of.place, turn: of.turn, date: Date.now(), image };
+    const is_kept = await keep("saves", key_of(of.sum, name), slot);
+    if (!is_kept)
+        tell("The browser has no room for the saved game. Save it as a file.", true);
+    return is_kept;
+}
+
+/**
+ * Asks where a game is to be saved, and tells whether it was.
+ * @param {Of} of
+ * @param {Uint8Array} image
+ */
+export async function ask_save(of, image) {
+    const slots = await slots_of(of.sum);
+    field("save-name").value = `${of.place || "Game"}, turn ${of.turn}`;
+    at("saving-list-head").hidden = slots.length === 0;
+    at("saving-slots").replaceChildren(...slots.map((slot) => {
+        const item = made("li");
+        item.append(described(slot, made_button("pick", "", () => {
+            field("save-name").value = slot.name;
+            saving.close("keep");
+        })));
+        return item;
+    }));
+    for (;;) {
+        const how = await closed(saving);
+        const name = field("save-name").value.trim() || "Game";
+        if (how === "file")
+            give_file(image, `${stem(of.game)}.qzl`);
+        if (how !== "keep")
+            return how === "file";
+        if (await may_write(of, name))
+            return write(of, name, image);
+    }
+}
+
+/**
+ * A line of the list of saved games.
+ * @param {Of} of
+ * @param {Slot} slot
+ * @param {((slot: Slot) => void) | null} pick
+ */
+function listed(of, slot, pick) {
+    const item = made("li");
+    const out = made_button("", "File", () => give_file(slot.image, `${stem(slot.name)}.qzl`));
+    const drop = made_button("", "Remove", async () => {
+        if (!await agreed("Remove the saved game?", `${slot.name}: ${words_on(slot)}`, "Remove it", "Keep it"))
+            return;
+        await forget("saves", key_of(of.sum, slot.name));
+        item.remove();
+    });
+    out.setAttribute("aria-label", `Save ${slot.name} as a file`);
+    drop.setAttribute("aria-label", `Remove ${slot.name}`);
+    item.append(described(slot, pick ? made_button("pick", "", () => pick(slot)) : made("div", "pick")), out, drop);
+    return item;
+}
+
+/**
+ * @param {Of} of
+ * @param {string} head
+ * @param {((slot: Slot) => void) | null} pick
+ */
+async function fill_list(of, head, pick) {
+    const slots = await slots_of(of.sum);
+    at("restoring-head").textContent = head;
+    at("no-slots").hidden = slots.length > 0;
+    at("restore-none").hidden = pick === null;
+    at("slots").replaceChildren(...slots.map((slot) => listed(of, slot, pick)));
+}
+
+/**
+ * What becomes of a file that is chosen while the list is open.
+ * @param {(file: File) => void} take
+ */
+function await_file(take) {
+    field("saved-file").onchange = () => {
+        const file = chosen_file(field("saved-file"));
+        if (file)
+            take(file);
+    };
+}
+
+/**
+ * Asks which game is to be restored: its file and its turn; null where none is.
+ * @param {Of} of
+ * @returns {Promise<{image: Uint8Array, turn: number} | null>}
+ */
+export async function ask_restore(of) {
+    /** @type {{image: Uint8Array, turn: number} | null} */
+    let found = null;
+    await fill_list(of, "Restore a game", (slot) => {
+        found = slot;
+        restoring.close("kept");
+    });
+    await_file(async (file) => {
+        found = { image: await bytes_of(file), turn: -1 };
+        restoring.close("file");
+    });
+    await closed(restoring);
+    return found;
+}
+
+/** @param {Uint8Array} bytes */
+function is_quetzal(bytes) {
+    const letters = String.fromCharCode(...bytes.subarray(0, 12));
+    return letters.startsWith("FORM") && letters.endsWith("IFZS");
+}
+
+/**
+ * Keeps a file of another interpreter in a slot.
+ * @param {Of} of
+ * @param {File} file
+ */
+async function bring_in(of, file) {
+    const image = await bytes_of(file);
+    const name = stem(file.name);
+    if (!is_quetzal(image)) {
+        restoring.close();
+        tell(`${file.name} is no saved game in the format Quetzal.`, true);
+    } else if (await may_write(of, name)) {
+        await write({ ...of, place: "", turn: -1 }, name, image);
+        await fill_list(of, "Saved games", null);
+    }
+}
+
+/**
+ * Shows the saved games of a story.
+ * @param {Of} of
+ */
+export async function show_saves(of) {
+    await fill_list(of, "Saved games", null);
+    await_file((file) => bring_in(of, file));
+    await closed(restoring);
+}
+
+/** Makes the buttons of both dialogs work. */
+export function prepare_saves() {
+    at("save-out").addEventListener("click", () => saving.close("file"));
+    at("save-none").addEventListener("click", () => saving.close("none"));
+    at("restore-none").addEventListener("click", () => restoring.close("none"));
+    at("save-in").addEventListener("click", () => {
+        field("saved-file").value = "";
+        field("saved-file").click();
+    });
+}

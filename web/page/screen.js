@@ -1,0 +1,104 @@
+// The status line and the upper window, above the text: a grid of characters, or in a narrow page a bar where the rows
+// have few parts.
+
+import { at, made } from "./at.js";
+
+/** @typedef {import("./machine.js").StatusLine} StatusLine */
+
+const COLUMNS = 80;
+
+/** The smallest and the greatest height of the grid's letters, in pixels. */
+const SMALLEST = 11;
+const GREATEST = 14;
+
+const upper = at("upper");
+
+/**
+ * The parts of a row: what stands between three spaces and more.
+ * @param {string} row
+ */
+function parts(row) {
+    return row.trim().split(/ {3,}/).filter((part) => part);
+}
+
+/**
+ * The rows of a status line.
+ * @param {StatusLine} status
+ */
+function status_parts(status) {
+    const { kind, name, first, second } = status;
+    const minutes = String(second).padStart(2, "0");
+    return [name, kind === "time" ? `Time: ${first}:${minutes}` : `Score: ${first}`, kind === "time" ? "" : `Turns: ${second}`];
+}
+
+/**
+ * The rows of a box without what is empty around its text.
+ * @param {string[]} rows
+ */
+export function box_text(rows) {
+    const first = rows.findIndex((row) => row.trim());
+    if (first < 0)
+        return [];
+    const last = rows.length - [...rows].reverse().findIndex((row) => row.trim());
+    const inner = rows.slice(first, last).map((row) => row.trimEnd());
+    const margin = Math.min(...inner.filter((row) => row).map((row) => row.length - row.trimStart().length));
+    return inner.map((row) => row.slice(margin));
+}
+
+export class Screen {
+    constructor() {
+        /** @type {string[]} */
+        this.rows = [];
+        /** @type {StatusLine | null} */
+        this.status = null;
+        addEventListener("resize", () => this.draw());
+    }
+
+    /**
+     * @param {string[]} rows
+     * @param {StatusLine | null} status
+     */
+    show(rows, status) {
+        this.rows = rows;
+        this.status = status;
+        this.draw();
+    }
+
+    /** What the status says of where the reader is. */
+    place() {
+        if (this.status)
+            return this.status.name;
+        return parts(this.rows[0] || "")[0] || "";
+    }
+
+    draw() {
+        const is_empty = !this.status && !this.rows.some((row) => row.trim());
+        upper.hidden = is_empty;
+        upper.replaceChildren();
+        if (is_empty)
+            return;
+        if (this.status)
+            upper.append(this.bar(status_parts(this.status)));
+        if (this.rows.length)
+            this.draw_rows();
+    }
+
+    draw_rows() {
+        const size = Math.min(GREATEST, (upper.clientWidth - 24) / COLUMNS / 0.603);
+        const is_bar = size < SMALLEST && this.rows.length <= 2 && this.rows.every((row) => parts(row).length <= 3);
+        if (is_bar) {
+            upper.append(...this.rows.map((row) => this.bar(parts(row))));
+            return;
+        }
+        const grid = made("pre", "grid", this.rows.join("\n"));
+        grid.style.fontSize = `${Math.max(SMALLEST, size)}px`;
+        upper.append(grid);
+    }
+
+    /** @param {string[]} texts */
+    bar(texts) {
+        const bar = made("div", "bar");
+        bar.append(...texts.filter((text) => text).map((text) => made("span", "", text)));
+        return bar;
+    }
+}

@@ -1,0 +1,163 @@
+// The machine, in a worker: it runs a story by slices, so that a message to stop is heard at any time.
+
+import { Module, Refused } from "../zkit.js";
+
+/** @typedef {string | number | {saved: boolean} | {restored: string | null} | {undo: true} | {fresh: true}} Answer */
+
+/** So many instructions run between two looks at the messages. */
+const SLICE = 500_000;
+
+/** So much text waits at most in the module; it is posted as it comes. */
+const ROOM = 32_768;
+
+/** So many characters come at most before the reader is asked whether to go on. */
+const PAUSE = 200_000;
+
+/** @type {any} */
+const page = self;
+
+/** @type {Module | null} */
+let module = null;
+/** @type {any} */
+let game = null;
+let story = new Uint8Array();
+let is_stopped = false;
+
+/** Lets messages in. */
+function breath() {
+    return new Promise((resolve) => {
+        const channel = new MessageChannel();
+        channel.port1.onmessage = () => {
+            channel.port1.close();
+            resolve(null);
+        };
+        channel.port2.postMessage(null);
+    });
+}
+
+/** @param {string} text */
+function from_base64(text) {
+    return Uint8Array.from(atob(text), (character) => character.charCodeAt(0));
+}
+
+/**
+ * Puts a game in the place of the one that is played.
+ * @param {(module: Module) => any} open
+ */
+function replace(open) {
+    if (!module)
+        throw new Error("there is no module yet");
+    const other = open(module);
+    if (game)
+        game.close();
+    game = other;
+}
+
+/** The same game without the states to go back to, as a snapshot has it. */
+function freshen() {
+    const snapshot = game.snapshot();
+    if (snapshot)
+        replace((it) => it.openSnapshot(story, snapshot, { room: ROOM }));
+    return snapshot !== null;
+}
+
+/**
+ * Gives the story an answer, and tells whether it took it.
+ * @param {Answer} answer
+ */
+function give(answer) {
+    if (typeof answer === "string")
+        return game.line(answer);
+    if (typeof answer === "number")
+        return game.character(answer);
+    if ("saved" in answer)
+        return game.saved(answer.saved);
+    if ("restored" in answer)
+        return game.restore(answer.restored === null ? null : from_base64(answer.restored));
+    return "undo" in answer ? game.undo() : freshen();
+}
+
+/**
+ * How the story stands after it has run.
+ * @param {string} awaits
+ */
+function standing(awaits) {
+    const reads = awaits === "line" || awaits === "character";
+    const { height, tallest } = game.window();
+    return {
+        awaits,
+        rows: game.rows(),
+        box: reads && tallest > height ? game.tallestRows() : null,
+        status: game.statusLine(),
+        longest: awaits === "line" ? game.longestLine() : 0,
+        last: awaits === "stopped" ? game.lastLine() : "",
+        words: awaits === "stopped" ? game.words() : "",
+        snapshot: reads ? game.snapshot() : null,
+    };
+}
+
+/** Posts what the story has written, and answers how much. */
+function post_text() {
+    const text = game.text();
+    const script = game.transcript();
+    if (text || script)
+        page.postMessage({ text, script });
+    return text.length;
+}
+
+/**
+ * Runs the story until it awaits something, has written very much, or is stopped.
+ * @param {Answer | null} answer
+ */
+async function run(answer) {
+    is_stopped = false;
+    if (answer !== null && !give(answer))
+        return { ...standing("refused"), snapshot: null };
+    let written = 0;
+    for (;;) {
+        const awaits = game.turn(SLICE);
+        written += post_text();
+        if (awaits !== "time" && awaits !== "room")
+            return standing(awaits);
+        if (written >= PAUSE)
+            return standing("pause");
+        await breath();
+        if (is_stopped)
+            return standing("halt");
+    }
+}
+
+/** @type {Record<string, (values: any) => any>} */
+const CALLS = {
+    begin: async ({ bytes }) => {
+        module = await Module.of(bytes);
+        return module.version();
+    },
+    open: ({ story: bytes, options }) => {
+        replace((it) => it.open(bytes, { ...options, room: ROOM }));
+        story = bytes;
+        return { ...game.story(), ifid: (game.list("ifid") || "").trim() };
+    },
+    resume: ({ story: bytes, snapshot }) => {
+        replace((it) => it.openSnapshot(bytes, snapshot, { room: ROOM }));
+        story = bytes;
+        return { ...game.story(), ifid: (game.list("ifid") || "").trim() };
+    },
+    run: ({ answer }) => run(answer),
+    image: () => game.image(),
+    list: ({ listing }) => game.list(listing),
+};
+
+page.onmessage = async (/** @type {MessageEvent} */ event) => {
+    const { number, call, values } = event.data;
+    if (call === "stop") {
+        is_stopped = true;
+        return;
+    }
+    try {
+        page.postMessage({ number, result: await CALLS[call](values) });
+    } catch (error) {
+        const words = error instanceof Error ? error.message : String(error);
+        page.postMessage({ number, [error instanceof Refused ? "refused" : "trapped"]: words });
+    }
+};
