@@ -20,6 +20,11 @@ export class Input {
         /** @type {string[]} */
         this.lines = [];
         this.place = 0;
+        /**
+         * Lines that the reader has sent before the story asked for them.
+         * @type {string[]}
+         */
+        this.early = [];
         form.addEventListener("submit", (event) => this.submit(event));
         line.addEventListener("input", () => this.take_character());
         line.addEventListener("keydown", (event) => this.key_in_line(event));
@@ -39,43 +44,70 @@ export class Input {
         at("prompt").textContent = is_line && words && words.length <= SHORT ? words : "›";
         at("asked").textContent = !is_line ? "Press a key" : words.length > SHORT ? words : "What do you do?";
         at("space").hidden = is_line;
-        line.value = "";
         line.maxLength = is_line ? Math.max(1, longest) : 2;
-        form.hidden = false;
         this.place = this.lines.length;
+        if (form.hidden || document.activeElement === document.body)
+            this.show();
+        const early = is_line ? this.early.shift() : undefined;
+        if (early === undefined)
+            this.early = [];
+        else
+            this.give(early);
+    }
+
+    show() {
+        form.hidden = false;
         if (!document.querySelector("dialog[open]"))
             line.focus({ preventScroll: true });
     }
 
-    /** Awaits nothing. */
+    /** Awaits nothing for now; what is typed meanwhile stays. */
     rest() {
         this.awaits = "";
+    }
+
+    /** Awaits nothing any more. */
+    hide() {
+        this.awaits = "";
+        this.early = [];
+        line.value = "";
         form.hidden = true;
     }
 
     /** @param {string | number} answer */
     give(answer) {
-        if (this.awaits === (typeof answer === "string" ? "line" : "character"))
-            this.answer(answer);
+        if (this.awaits !== (typeof answer === "string" ? "line" : "character"))
+            return;
+        this.answer(answer);
     }
 
     /** @param {Event} event */
     submit(event) {
         event.preventDefault();
-        if (this.awaits === "character") {
-            this.give(line.value.codePointAt(0) ?? ENTER);
-            return;
-        }
         const text = line.value;
+        line.value = "";
+        if (this.awaits === "character")
+            this.give(text.codePointAt(0) ?? ENTER);
+        else
+            this.take_line(text);
+    }
+
+    /** @param {string} text */
+    take_line(text) {
         if (text && this.lines[this.lines.length - 1] !== text)
             this.lines.push(text);
-        this.give(text);
+        if (this.awaits === "line")
+            this.give(text);
+        else
+            this.early.push(text);
     }
 
     take_character() {
         const code = line.value.codePointAt(0);
-        if (this.awaits === "character" && code !== undefined)
-            this.give(code);
+        if (this.awaits !== "character" || code === undefined)
+            return;
+        line.value = "";
+        this.give(code);
     }
 
     /** @param {KeyboardEvent} event */

@@ -202,6 +202,8 @@ export async function show_inside(it) {
     machine = new Machine();
     const end = closed(dialog("inside"));
     at("inside-head").textContent = `Inside ${it.name}`;
+    choose_tab("findings");
+    at("tab-findings").focus();
     try {
         await machine.begun;
         await machine.open(it.bytes, {});

@@ -96,6 +96,12 @@ export class Play {
         this.last_rows = [];
     }
 
+    /** @param {boolean} is_busy */
+    be_busy(is_busy) {
+        this.is_busy = is_busy;
+        at("log").setAttribute("aria-busy", String(is_busy));
+    }
+
     /** A machine that does nothing at the moment. */
     async idle_machine() {
         this.round++;
@@ -103,7 +109,7 @@ export class Play {
             this.machine.drop();
             this.machine = null;
         }
-        this.is_busy = false;
+        this.be_busy(false);
         this.machine = this.machine || new Machine();
         await this.machine.begun;
         return this.machine;
@@ -177,12 +183,12 @@ export class Play {
         } catch (error) {
             if (error instanceof Left)
                 return;
+            this.be_busy(false);
             if (!(error instanceof Trapped))
                 throw error;
             if (this.machine)
                 this.machine.drop();
             this.machine = null;
-            this.is_busy = false;
             this.show_running("");
             tell(`The interpreter has failed (${error.message}), and was started anew.`, true);
             if (this.here)
@@ -197,7 +203,7 @@ export class Play {
     async step(answer) {
         const round = this.round;
         const machine = /** @type {Machine} */ (this.machine);
-        this.is_busy = true;
+        this.be_busy(true);
         this.input.rest();
         this.hide_over();
         const soon = setTimeout(() => this.show_running("The story is running."), SOON);
@@ -210,10 +216,8 @@ export class Play {
             throw round === this.round ? error : new Left();
         } finally {
             clearTimeout(soon);
-            if (round === this.round) {
-                this.is_busy = false;
+            if (round === this.round)
                 this.show_running("");
-            }
         }
     }
 
@@ -378,6 +382,7 @@ export class Play {
      */
     settle(standing) {
         this.standing = standing;
+        this.be_busy(false);
         this.screen.show(standing.rows, standing.status);
         const { awaits } = standing;
         if (awaits === "line" || awaits === "character") {
@@ -387,6 +392,7 @@ export class Play {
             this.reach(standing);
             this.show_over(standing);
         } else {
+            this.input.hide();
             this.show_running(awaits === "pause" ? "The story has written very much without asking for anything."
                 : "You have stopped the story.", true);
         }
@@ -411,6 +417,7 @@ export class Play {
     /** @param {Standing} standing */
     show_over(standing) {
         const why = standing.words || standing.last;
+        this.input.hide();
         at("over").hidden = false;
         at("over-words").textContent = standing.last ? `The story has stopped: ${why} (${standing.last}).` : "The story has ended.";
         at("over-back").hidden = !this.here;
@@ -431,6 +438,7 @@ export class Play {
         await this.guarded(async () => {
             const standing = await this.step({ undo: true });
             if (standing.awaits === "refused") {
+                this.be_busy(false);
                 await this.back_to_last();
                 return;
             }

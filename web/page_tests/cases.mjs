@@ -1,0 +1,553 @@
+// What is tested, each by the page's own controls.
+
+import { contrast, named } from "./access.mjs";
+import { EXAMPLES, MENU, basename, holds, join, lines_of, native, pause, readFileSync, same, same_with_keys } from "./page.mjs";
+
+const z = (version) => join(EXAMPLES, `lighthouse.z${version}`);
+const WALKTHROUGH = join(EXAMPLES, "lighthouse.walkthrough");
+const SAVES = join(EXAMPLES, "lighthouse.saves");
+const LISTINGS = {
+    findings: ["check"], header: ["info", "--header"], map: ["info", "--map"], objects: ["info", "--objects"],
+    tree: ["info", "--tree"], dictionary: ["info", "--dictionary"], abbreviations: ["info", "--abbreviations"], code: ["disasm"],
+};
+
+function joined(lines) {
+    return lines.map((line) => `${line}\n`).join("");
+}
+
+/** What the program lists, without the section's name. */
+function listed(words, story) {
+    return native([...words, story]).text.replace(/^\[\w+\]\n/, "");
+}
+
+/** A Blorb file around a story. */
+function blorb(story) {
+    const chunk = (name, data) => {
+        const head = Buffer.alloc(8);
+        head.write(name, "latin1");
+        head.writeUInt32BE(data.length, 4);
+        return Buffer.concat([head, data, Buffer.alloc(data.length % 2)]);
+    };
+    const index = Buffer.alloc(16);
+    index.writeUInt32BE(1);
+    index.write("Exec", 4, "latin1");
+    index.writeUInt32BE(12 + 24 + 12, 12);
+    const body = Buffer.concat([Buffer.from("IFRS"), chunk("RIdx", index), chunk("AUTH", Buffer.from("odd")), chunk("ZCOD", story)]);
+    return chunk("FORM", body);
+}
+
+async function starts(page) {
+    const began = Date.now();
+    await page.browser.go(page.url);
+    await page.ready();
+    const ready = Date.now() - began;
+    await page.click("#example");
+    await page.until(() => document.getElementById("log").textContent.includes("Jetty") && !document.getElementById("ask").hidden);
+    const room = Date.now() - began;
+    holds(room < 2000, `the first room came after ${room} ms`);
+    return `ready after ${ready} ms, the first room after ${room} ms`;
+}
+
+async function fetches_nothing(page) {
+    const tries = await page.run(() => fetch("https://example.org/").then(() => "went out", () => "refused"));
+    same(tries, "refused");
+    const policy = await page.run(() => document.querySelector("meta[http-equiv]").content);
+    holds(policy.startsWith("default-src 'none'") && !policy.includes("unsafe-inline"), policy);
+    const others = await page.run(() => performance.getEntriesByType("resource").filter((it) => !/^(blob|data):/.test(it.name)).length);
+    same(others, 0, "the number of files that were fetched");
+}
+
+async function walkthrough(page, version) {
+    await page.fresh();
+    await page.open(z(version));
+    const lines = lines_of(WALKTHROUGH);
+    await page.say_all(lines);
+    same(await page.text("over-words"), "The story has ended.");
+    const wanted = native(["play", "--echo", z(version)], joined(lines)).text;
+    same_with_keys(await page.transcript(), wanted, 1);
+    return `${lines.length} lines`;
+}
+
+async function older_text(page) {
+    await walkthrough(page, 5);
+    const before = await page.run(() => document.querySelectorAll(".turn").length);
+    holds(before <= 41, `${before} blocks stand in the page`);
+    await page.until(() => {
+        const scroller = document.getElementById("scroller");
+        const is_first = document.querySelector(".turn").textContent.startsWith("It is November");
+        scroller.scrollTop = 0;
+        scroller.dispatchEvent(new Event("scroll"));
+        return is_first;
+    });
+    const all = (await page.shown_text()).trimStart();
+    same(all, readFileSync(join(EXAMPLES, "lighthouse.z5.txt"), "utf8").trimStart(), "the text in the page");
+    return `${before} blocks before, ${await page.run(() => document.querySelectorAll(".turn").length)} after`;
+}
+
+async function game(page, path, commands) {
+    await page.fresh();
+    await page.open(path);
+    const lines = lines_of(commands);
+    await page.say_all(lines);
+    const wanted = native(["play", "--echo", path], joined(lines)).text;
+    same_with_keys(await page.transcript(), wanted, 5);
+    return `${lines.length} lines`;
+}
+
+async function save_and_restore(page, version) {
+    await page.fresh();
+    await page.open(z(version));
+    for (const line of lines_of(SAVES)) {
+        await page.say(line);
+        if (line === "save") {
+            await page.shown("saving");
+            await page.run(() => { document.getElementById("save-name").value = "before the path"; });
+            await page.click("#keep");
+            await page.rests();
+        } else if (line === "restore") {
+            await page.until(() => document.querySelector("#slots .pick"));
+            await page.click("#slots .pick");
+            await page.until(() => !document.getElementById("restoring").open);
+            await page.rests();
+        }
+    }
+    const text = (await page.shown_text());
+    same(text, readFileSync(join(EXAMPLES, `lighthouse.z${version}.saves.txt`), "utf8"), "the text");
+}
+
+async function replaced_slot(page) {
+    await page.fresh();
+    await page.open(z(5));
+    const save = async () => {
+        await page.say("save");
+        await page.shown("saving");
+        await page.run(() => { document.getElementById("save-name").value = "one"; });
+        await page.click("#keep");
+    };
+    await save();
+    await page.until(() => !document.getElementById("saving").open);
+    await page.say("open bag");
+    await save();
+    await page.shown("asking");
+    holds((await page.text("asking-words")).includes("Jetty · turn 1 ·"), await page.text("asking-words"));
+    await page.click("#asking-no");
+    await page.shown("saving");
+    await page.click("#keep");
+    await page.shown("asking");
+    await page.click("#asking-yes");
+    await page.until(() => !document.querySelector("dialog[open]"));
+    await page.rests();
+    await page.click("#show-saves");
+    await page.shown("restoring");
+    same(await page.run(() => document.querySelectorAll("#slots li").length), 1, "the number of slots");
+    holds((await page.text("slots")).includes("turn 3"), await page.text("slots"));
+    await page.click("#slots li button:last-child");
+    await page.shown("asking");
+    await page.click("#asking-yes");
+    await page.until(() => document.querySelectorAll("#slots li").length === 0);
+}
+
+async function quetzal_out(page) {
+    await page.fresh();
+    await page.open(z(5));
+    await page.say_all(["open bag", "take letter", "north", "save"]);
+    await page.shown("saving");
+    const file = await page.file_after(() => page.click("#save-out"));
+    await page.rests();
+    const text = native(["play", "--save", file, z(5)], "restore\nlook\ninventory\n").text;
+    holds(text.includes("Shore Path") && text.includes("a letter"), text.slice(-300));
+    return basename(file);
+}
+
+async function quetzal_in(page, version) {
+    await page.fresh();
+    await page.open(z(version));
+    await page.say("restore");
+    await page.shown("restoring");
+    await page.choose(join(EXAMPLES, `lighthouse.z${version}.dfrotz`), "saved-file");
+    await page.until(() => !document.getElementById("restoring").open);
+    await page.rests();
+    await page.say_all(["look", "inventory"]);
+    const { text } = native(["play", "--save", join(EXAMPLES, `lighthouse.z${version}.dfrotz`), z(version)], "restore\nlook\ninventory\n");
+    same(await page.shown_text() + await page.run(() => ""), text.slice(0, -1) + "", "the text");
+}
+
+async function reload(page) {
+    await page.fresh();
+    await page.open(MENU);
+    await page.say_all(["roll", "hello", "roll"]);
+    const before = await page.text("log");
+    await page.reload();
+    await page.rests();
+    same(await page.text("log"), before, "the log after a reload");
+    same(await page.text("title"), "menu.z5");
+    await page.say("roll");
+    same(await page.transcript(), native(["play", "--echo", MENU], "roll\nhello\nroll\nroll\n").text, "the transcript");
+}
+
+async function reload_of_another_module(page) {
+    await page.fresh();
+    await page.open(MENU);
+    await page.say_all(["roll", "roll"]);
+    await page.run(() => new Promise((resolve) => {
+        const request = indexedDB.open("zkit");
+        request.onsuccess = () => {
+            const store = request.result.transaction("plays", "readwrite").objectStore("plays");
+            store.openCursor().onsuccess = (event) => {
+                const cursor = event.target.result;
+                if (!cursor)
+                    return resolve(request.result.close());
+                cursor.update({ ...cursor.value, module: "another" });
+                return cursor.continue();
+            };
+        };
+    }));
+    await page.reload();
+    await page.rests();
+    await page.say("roll");
+    same(await page.transcript(), native(["play", "--echo", MENU], "roll\nroll\nroll\n").text, "the transcript");
+}
+
+async function link(page) {
+    await page.fresh();
+    await page.run(() => { document.getElementById("seed").value = "7"; });
+    await page.open(MENU);
+    await page.say_all(["roll", "é", "roll", "m", "n", "q", "roll"]);
+    const text = await page.transcript();
+    await page.click("#show-lines");
+    await page.shown("lines");
+    await page.click("#copy-link");
+    const address = await page.until(() => location.hash.startsWith("#play=") && location.hash);
+    await page.fresh(address);
+    holds((await page.text("invitation")).includes("IFID"), "the page does not ask for the story");
+    await page.open(MENU);
+    await page.until(() => document.getElementById("told").textContent.includes("letter by letter"));
+    same(await page.transcript(), text, "the transcript of the link");
+    await page.click("#show-lines");
+    await page.shown("lines");
+    await page.run(() => [...document.querySelectorAll("#line-list button")].at(-1).click());
+    await page.until(() => !document.getElementById("log").textContent.includes(">roll\nA 1"));
+    await page.rests();
+    await page.say("hello");
+    const wanted = native(["play", "--echo", "--seed", "7", MENU], "roll\né\nroll\nm\nn\nq\nhello\n").text;
+    const found = await page.transcript();
+    same(found.slice(found.indexOf("Back in")), wanted.slice(wanted.indexOf("Back in")), "the transcript that goes on");
+    return `${address.length} characters`;
+}
+
+async function play_file(page) {
+    await page.fresh();
+    await page.open(MENU);
+    await page.say_all(["roll", "roll"]);
+    const text = await page.transcript();
+    await page.click("#show-lines");
+    await page.shown("lines");
+    const file = await page.file_after(() => page.click("#play-file"));
+    const bytes = readFileSync(file);
+    await page.fresh();
+    await page.drop(bytes, basename(file));
+    await page.until(() => document.getElementById("invitation").textContent.includes("IFID"));
+    await page.open(MENU);
+    await page.until(() => document.getElementById("told").textContent.includes("letter by letter"));
+    same(await page.transcript(), text, "the transcript of the file");
+}
+
+async function bad_link(page) {
+    await page.fresh("#play=1abc");
+    holds((await page.told()).includes("can't be read"), await page.told());
+}
+
+async function box(page) {
+    await page.fresh();
+    await page.open(join(EXAMPLES, "box.z5"));
+    const text = await page.run(() => [...document.querySelectorAll(".box")].map((it) => it.textContent).join("|"));
+    holds(text.startsWith("Through me the way into the city of woe,\n") && text.includes("-- Dante, Inferno"), JSON.stringify(text));
+    same((await page.text("upper")).replace(/\s+/g, " ").trim(), "The gate Turns: 0", "the status line");
+    await page.say("look");
+    same(await page.run(() => document.querySelectorAll(".box").length), 1, "the number of boxes");
+}
+
+async function menu(page) {
+    await page.fresh();
+    await page.open(MENU);
+    await page.say("menu");
+    same(await page.text("asked"), "Press a key");
+    holds((await page.text("upper")).includes("      > How to walk\n        Who made it"), await page.text("upper"));
+    await page.browser.press("n");
+    await page.until(() => document.getElementById("upper").textContent.includes("> Who made it"));
+    await page.browser.press("Enter");
+    await page.until(() => document.getElementById("log").textContent.includes("A test did."));
+    await page.browser.press("q");
+    await page.until(() => document.getElementById("asked").textContent !== "Press a key");
+    same((await page.text("upper")).trim(), "The hall" + " ".repeat(60) + "Turns: 0");
+    same(await page.run(() => document.querySelectorAll(".box").length), 0, "the number of boxes");
+}
+
+async function blorb_file(page) {
+    await page.fresh();
+    const file = blorb(readFileSync(z(8)));
+    await page.drop(file, "lighthouse.zblorb");
+    await page.until(() => document.getElementById("title").textContent === "lighthouse.zblorb");
+    await page.rests();
+    holds((await page.text("log")).includes("Jetty"), "the story does not begin");
+    await page.drop(file.subarray(0, 9000), "cut.zblorb");
+    await page.until(() => document.getElementById("told").textContent.includes("cut off"));
+    await page.say("look");
+}
+
+async function damaged(page) {
+    await page.fresh();
+    await page.drop(Buffer.from("Once upon a time there was a text. ".repeat(9)), "tale.txt");
+    await page.until(() => document.getElementById("told").textContent === "tale.txt: not a story: it begins as a plain text");
+    await page.drop(Buffer.alloc(2000, 6), "six.z6");
+    await page.until(() => document.getElementById("told").textContent === "six.z6: not a story: version 6 is not played");
+    const hello = readFileSync(join(EXAMPLES, "hello.z3"));
+    hello[hello.readUInt16BE(6)] = 0;
+    await page.drop(hello, "hello.z3");
+    await page.until(() => !document.getElementById("over").hidden);
+    const words = await page.text("over-words");
+    holds(words.includes("no such opcode in this version (zkit: fault 2 at "), words);
+    await page.click("#show-inside");
+    await page.until(() => document.getElementById("drawing").textContent.includes("C10:"));
+    return words;
+}
+
+async function without_end(page) {
+    await page.fresh();
+    await page.open(MENU);
+    await page.say("turn");
+    await page.until(() => !document.getElementById("stop").hidden && !document.getElementById("running").hidden);
+    await page.browser.press("a");
+    await page.click("#stop");
+    await page.until(() => document.getElementById("running-words").textContent.includes("stopped"));
+    await page.click("#step-back");
+    await page.until(() => !document.getElementById("ask").hidden);
+    await page.say("print");
+    await page.until(() => document.getElementById("running-words").textContent.includes("very much"));
+    await page.click("#go-on");
+    await page.until(() => document.getElementById("log").getAttribute("aria-busy") === "false");
+    await page.until(() => document.getElementById("running-words").textContent.includes("very much"));
+    const blocks = await page.run(() => document.querySelectorAll(".turn").length);
+    holds(blocks <= 41, `${blocks} blocks stand in the page`);
+    await page.click("#step-back");
+    await page.until(() => !document.getElementById("ask").hidden);
+    await page.say("roll");
+    same(await page.transcript(), native(["play", "--echo", MENU], "roll\n").text, "the transcript");
+}
+
+async function undo(page, version) {
+    await page.fresh();
+    await page.open(z(version));
+    await page.say_all(["open bag", "north"]);
+    await page.click("#undo");
+    await page.rests();
+    await page.until(() => !document.getElementById("log").textContent.includes("Shore Path"));
+    await page.say("look");
+    same(await page.transcript(), native(["play", "--echo", z(version)], "open bag\nlook\n").text, "the transcript");
+}
+
+async function undo_of_story(page) {
+    await page.fresh();
+    await page.open(z(5));
+    await page.say_all(["undo on", "north"]);
+    await page.click("#undo");
+    await page.until(() => document.querySelectorAll("#log .turn").length > 3);
+    await page.rests();
+    await page.say("look");
+    holds((await page.transcript()).includes("Jetty\nThe planks"), "the story is not where it was");
+}
+
+async function restart_and_seed(page) {
+    await page.fresh();
+    await page.open(MENU);
+    await page.say("roll");
+    await page.run(() => { document.getElementById("seed").value = "12"; });
+    await page.click("#restart");
+    await page.click_shown("asking-yes");
+    await page.until(() => !document.getElementById("log").textContent.includes("roll"));
+    await page.rests();
+    await page.say("roll");
+    same(await page.transcript(), native(["play", "--echo", "--seed", "12", MENU], "roll\n").text, "the transcript");
+}
+
+async function settings(page) {
+    await page.fresh();
+    await page.open(MENU);
+    const choose = (id, value) => page.run((name, it) => {
+        const select = document.getElementById(name);
+        select.value = it;
+        select.dispatchEvent(new Event("change"));
+    }, id, value);
+    const looks = () => page.run(() => [getComputedStyle(document.body).backgroundColor, getComputedStyle(document.getElementById("log")).fontSize].join(" "));
+    const before = await looks();
+    await choose("theme", "dark");
+    await choose("size", "1.5");
+    const after = await looks();
+    await page.reload();
+    await page.rests();
+    same(await looks(), after, "how the page looks after a reload");
+    holds(before !== after, before);
+    return `${before} to ${after}`;
+}
+
+async function inside(page, path) {
+    await page.fresh();
+    await page.open(path);
+    await page.click("#show-inside");
+    for (const [name, words] of Object.entries(LISTINGS)) {
+        await page.click(`#tab-${name}`);
+        await page.until(() => document.getElementById("panel").getAttribute("aria-busy") === "false");
+        const wanted = listed(words, path);
+        if (wanted)
+            same(readFileSync(await page.file_after(() => page.click("#listing-out")), "utf8"), wanted, name);
+        const text = await page.run(async () => {
+            const listing = document.getElementById("listing");
+            for (const part of listing.children) {
+                part.scrollIntoView();
+                for (let i = 0; i < 100 && part.childElementCount === 0; i++)
+                    await new Promise((resolve) => setTimeout(resolve, 10));
+            }
+            return listing.textContent;
+        });
+        same(text, wanted, `${name} in the page`);
+    }
+}
+
+async function inside_works(page) {
+    await page.fresh();
+    await page.open(z(5));
+    await page.click("#show-inside");
+    await page.until(() => document.getElementById("drawing").textContent.includes("Nothing is wrong"));
+    await page.click("#tab-map");
+    await page.until(() => document.querySelectorAll(".scale i").length === 8);
+    const widths = await page.run(() => [...document.querySelectorAll(".scale i")].map((it) => parseFloat(it.style.width)));
+    holds(Math.abs(widths.reduce((sum, it) => sum + it, 0) - 100) < 0.01, `the bar is ${widths}`);
+    await page.click("#tab-tree");
+    await page.until(() => document.querySelector("#listing .fold"));
+    await page.click("#listing .fold");
+    await page.until(() => !document.getElementById("listing").textContent.includes("postbag"));
+    await page.click("#listing .fold");
+    await page.until(() => document.getElementById("listing").textContent.includes("postbag"));
+    await page.click("#tab-dictionary");
+    await page.until(() => document.getElementById("panel").getAttribute("aria-busy") === "false");
+    await page.run(() => document.getElementById("find").focus());
+    await page.browser.write("lantern");
+    await page.until(() => document.querySelectorAll("#listing .row-line").length === 1);
+    await page.click("#tab-code");
+    await page.until(() => document.querySelector("#listing a"));
+    const wanted = await page.run(() => document.querySelector("#listing a").getAttribute("href").slice(1));
+    await page.click("#listing a");
+    const found = await page.until(() => document.querySelector(".meant")?.textContent);
+    same(found.slice(0, 5), wanted, "the line of a link");
+    const bad = await page.run(() => [...document.querySelectorAll("#listing a")].filter((it) => !/^#[0-9a-f]{5}$/.test(it.getAttribute("href"))).length);
+    same(bad, 0, "the number of links to nowhere");
+}
+
+async function keyboard(page) {
+    await page.fresh();
+    const walk = async (id) => {
+        for (let i = 0; i < 30; i++) {
+            await page.browser.press("Tab");
+            if (await page.run((name) => document.activeElement?.id === name, id))
+                return;
+        }
+        throw new Error(`Tab does not lead to ${id}`);
+    };
+    await walk("example");
+    await page.browser.press("Enter");
+    await page.until(() => document.activeElement?.id === "line");
+    await page.browser.write("inventory");
+    await page.browser.press("Enter");
+    await page.rests();
+    await page.browser.write("look");
+    await page.browser.press("Enter");
+    await page.rests();
+    await page.browser.press("ArrowUp");
+    await page.browser.press("ArrowUp");
+    same(await page.run(() => document.getElementById("line").value), "inventory", "the line before the last");
+    await page.browser.press("ArrowDown");
+    same(await page.run(() => document.getElementById("line").value), "look", "the last line");
+    await walk("show-menu");
+    await page.browser.press("Enter");
+    await page.shown("menu");
+    await walk("menu-inside");
+    await page.browser.press("Enter");
+    await page.until(() => document.activeElement?.id === "tab-findings");
+    await page.browser.press("ArrowRight");
+    same(await page.run(() => document.activeElement.id), "tab-header", "the tab after the first");
+    await page.browser.press("Escape");
+    await page.until(() => !document.querySelector("dialog[open]"));
+    await walk("scroller");
+    await page.browser.write("x");
+    same(await page.run(() => document.activeElement.id), "line", "where a letter goes");
+}
+
+async function narrow(page) {
+    await page.browser.size(360, 640);
+    const fits = async (what) => {
+        const wide = await page.run(() => [document.documentElement, ...document.querySelectorAll("dialog[open]")]
+            .map((it) => it.scrollWidth - it.clientWidth).filter((it) => it > 0));
+        holds(wide.length === 0, `${what} is ${wide} pixels too wide`);
+    };
+    try {
+        await page.fresh();
+        await fits("the first page");
+        await page.open(MENU);
+        await page.say("menu");
+        await fits("a menu");
+        await page.browser.press("q");
+        await page.rests();
+        await page.say("hello");
+        await fits("the play");
+        for (const [button, window] of [["show-menu", "menu"], ["show-lines", "lines"], ["show-saves", "restoring"], ["show-inside", "inside"]]) {
+            await page.click(`#${button}`);
+            await page.shown(window);
+            await pause(200);
+            await fits(window);
+            await page.run((id) => document.getElementById(id).close(), window);
+        }
+    } finally {
+        await page.browser.size(1100, 800);
+    }
+}
+
+export const CASES = [
+    ["starts", starts],
+    ["fetches nothing", fetches_nothing],
+    ...[3, 4, 5, 8].map((version) => [`walkthrough of version ${version}`, (page) => walkthrough(page, version)]),
+    ["older text comes back", older_text],
+    ...[3, 4, 5, 8].map((version) => [`save and restore in version ${version}`, (page) => save_and_restore(page, version)]),
+    ["a slot is replaced only where the reader agrees", replaced_slot],
+    ["a saved game goes out as a file", quetzal_out],
+    ...[3, 4, 5, 8].map((version) => [`a game that dfrotz saved, version ${version}`, (page) => quetzal_in(page, version)]),
+    ["a reload goes on", reload],
+    ["a reload goes on where the module is another", reload_of_another_module],
+    ["a link", link],
+    ["a play as a file", play_file],
+    ["a link that is cut off", bad_link],
+    ["a box", box],
+    ["a menu", menu],
+    ["a Blorb file", blorb_file],
+    ["damaged files", damaged],
+    ["stories without end", without_end],
+    ["undo in version 3", (page) => undo(page, 3)],
+    ["undo in version 5", (page) => undo(page, 5)],
+    ["undo by the story's states", undo_of_story],
+    ["restart and seed", restart_and_seed],
+    ["text size, and dark", settings],
+    ["listings of version 5", (page) => inside(page, z(5))],
+    ["listings of version 3", (page) => inside(page, z(3))],
+    ["drawings, folds, search and links inside", inside_works],
+    ["keyboard alone", keyboard],
+    ["360 pixels wide", narrow],
+    ["contrast of all texts", contrast],
+    ["roles and names", named],
+];
+
+export function games_in(folder, files) {
+    const stories = files.filter((name) => /\.z[3458]$/.test(name));
+    return stories.map((name) => {
+        const commands = join(folder, `${name.replace(/[-.].*/, "")}.txt`);
+        return [`the game ${name}`, (page) => game(page, join(folder, name), commands)];
+    });
+}

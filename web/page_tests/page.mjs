@@ -1,0 +1,199 @@
+// The page as the tests use it: by its own controls.
+
+import { execFileSync, spawnSync } from "node:child_process";
+import { existsSync, readFileSync, readdirSync, rmSync, statSync } from "node:fs";
+import { basename, join, resolve } from "node:path";
+import { fileURLToPath } from "node:url";
+
+export const ROOT = resolve(fileURLToPath(import.meta.url), "../../..");
+export const EXAMPLES = join(ROOT, "examples");
+export const MENU = join(ROOT, "web/page_tests/menu.z5");
+const ZKIT = join(ROOT, "dist/zkit");
+const LONGEST_WAIT = 20_000;
+
+export const pause = (time) => new Promise((resolve) => setTimeout(resolve, time));
+
+/** What the program says: standard output, whatever its status. */
+export function native(words, input = "") {
+    const it = spawnSync(ZKIT, words, { input, maxBuffer: 1 << 28 });
+    return { text: it.stdout.toString(), last: it.stderr.toString().trim().split("\n").pop() };
+}
+
+export function lines_of(path) {
+    return readFileSync(path, "utf8").split("\n").slice(0, -1);
+}
+
+export function same(found, wanted, what = "it") {
+    if (found === wanted)
+        return;
+    const [a, b] = [String(found), String(wanted)];
+    let at = 0;
+    while (at < a.length && a[at] === b[at])
+        at++;
+    const part = (text) => JSON.stringify(text.slice(Math.max(0, at - 30), at + 90));
+    throw new Error(`${what} differs at ${at}: ${part(a)} and not ${part(b)}`);
+}
+
+export function holds(condition, words) {
+    if (!condition)
+        throw new Error(words);
+}
+
+export class Page {
+    constructor(browser, file) {
+        this.browser = browser;
+        this.url = `file://${file}`;
+    }
+
+    run(does, ...values) {
+        return this.browser.run(does, ...values);
+    }
+
+    async until(does, ...values) {
+        const end = Date.now() + LONGEST_WAIT;
+        for (let wait = 2; Date.now() < end; wait = Math.min(100, wait * 2)) {
+            // (while a page is loading there is nothing to run in)
+            const it = await this.run(does, ...values).catch(() => null);
+            if (it)
+                return it;
+            await pause(wait);
+        }
+        throw new Error(`this never held: ${does} of ${JSON.stringify(values)}; the page says: ${await this.told()}`);
+    }
+
+    ready() {
+        return this.until(() => document.documentElement.dataset.ready === "yes");
+    }
+
+    /** Opens the page as one that was never here. */
+    async fresh(hash = "") {
+        await this.browser.go(this.url);
+        await this.ready();
+        await this.run(() => new Promise((resolve) => {
+            localStorage.clear();
+            const request = indexedDB.open("zkit");
+            request.onsuccess = () => {
+                const all = [...request.result.objectStoreNames];
+                const clearing = all.length ? request.result.transaction(all, "readwrite") : null;
+                all.forEach((name) => clearing.objectStore(name).clear());
+                const done = () => (request.result.close(), resolve(true));
+                clearing ? clearing.oncomplete = done : done();
+            };
+        }));
+        await this.browser.go(this.url + hash);
+        await this.ready();
+    }
+
+    async reload() {
+        await this.browser.reload();
+        await this.ready();
+    }
+
+    told() {
+        return this.text("told");
+    }
+
+    text(id) {
+        return this.run((name) => document.getElementById(name).textContent, id);
+    }
+
+    is_shown(id) {
+        return this.run((name) => document.getElementById(name).getClientRects().length > 0, id);
+    }
+
+    shown(id) {
+        return this.until((name) => document.getElementById(name).getClientRects().length > 0, id);
+    }
+
+    click(selector) {
+        return this.run((it) => document.querySelector(it).click(), selector);
+    }
+
+    async click_shown(id) {
+        await this.shown(id);
+        await this.click(`#${id}`);
+    }
+
+    /** Until the story awaits a line or a key, or has ended. */
+    rests() {
+        return this.until(() => document.getElementById("log").getAttribute("aria-busy") === "false"
+            && ["ask", "over", "running"].some((id) => !document.getElementById(id).hidden)
+            || document.querySelector("dialog[open]") !== null);
+    }
+
+    async choose(path, id = "story-file") {
+        await this.browser.choose(id, path);
+    }
+
+    /** Opens a story by the page's field for files, and waits for its first read. */
+    async open(path) {
+        await this.choose(path);
+        await this.until((name) => document.getElementById("title").textContent === name, basename(path));
+        await this.rests();
+    }
+
+    /** Drops bytes as a file. */
+    drop(bytes, name) {
+        return this.run((content, title) => {
+            const file = new File([Uint8Array.from(atob(content), (it) => it.charCodeAt(0))], title);
+            const data = new DataTransfer();
+            data.items.add(file);
+            dispatchEvent(new DragEvent("drop", { dataTransfer: data, bubbles: true, cancelable: true }));
+        }, Buffer.from(bytes).toString("base64"), name);
+    }
+
+    /** Types a line into the field, and waits for what the story does. */
+    async say(line) {
+        await this.run(() => document.getElementById("line").focus());
+        if (line)
+            await this.browser.write(line);
+        await this.browser.press("Enter");
+        await this.rests();
+    }
+
+    async say_all(lines) {
+        for (const line of lines)
+            await this.say(line);
+    }
+
+    /** The file that the page has given after something was done. */
+    async file_after(does) {
+        const folder = this.browser.folder;
+        const files = () => readdirSync(folder).filter((name) => name !== "profile");
+        files().forEach((name) => rmSync(join(folder, name), { recursive: true }));
+        await does();
+        for (const end = Date.now() + LONGEST_WAIT; Date.now() < end; await pause(10)) {
+            const found = files().filter((name) => /\.(txt|qzl|json)$/.test(name) && statSync(join(folder, name)).isFile());
+            const is_whole = !files().some((name) => /\.(part|crdownload)$/.test(name));
+            if (found.length && is_whole && (found[0].endsWith("findings.txt") || statSync(join(folder, found[0])).size))
+                return join(folder, found[0]);
+        }
+        throw new Error("no file came");
+    }
+
+    async transcript() {
+        return readFileSync(await this.file_after(() => this.click("#transcript")), "utf8");
+    }
+
+    /** The text of the log in the page, without what was typed. */
+    shown_text() {
+        return this.run(() => [...document.querySelectorAll("#older .turn span.text, #older .turn span.prompt, #log .turn span.text, #log .turn span.prompt")]
+            .map((span) => span.textContent).join(""));
+    }
+}
+
+/** Compares the page's transcript with `zkit play --echo`, which shows an empty line for Enter where a key is awaited. */
+export function same_with_keys(found, wanted, keys) {
+    let rest = wanted;
+    for (let i = 0; i < keys; i++) {
+        let at = 0;
+        while (at < found.length && found[at] === rest[at])
+            at++;
+        if (at === rest.length || rest[at] !== "\n")
+            break;
+        rest = rest.slice(0, at) + rest.slice(at + 1);
+    }
+    same(found, rest, "the transcript");
+}
+
+export { basename, execFileSync, existsSync, join, readFileSync, readdirSync };

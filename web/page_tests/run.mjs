@@ -1,0 +1,76 @@
+// Runs the tests in each browser that is here, both at a time.
+
+import { existsSync, readdirSync } from "node:fs";
+import { join, resolve } from "node:path";
+import * as chromium from "./chromium.mjs";
+import * as firefox from "./firefox.mjs";
+import { CASES, games_in } from "./cases.mjs";
+import { Page, ROOT } from "./page.mjs";
+import { take_pictures } from "./pictures.mjs";
+
+const BROWSERS = [[chromium.Chromium, chromium.program()], [firefox.Firefox, firefox.program()]];
+const SIZE = [1100, 800];
+
+function options_of(words) {
+    const options = { page: join(ROOT, "dist/zkit.html"), only: "", case: "", pictures: "", games: "" };
+    for (let i = 0; i < words.length; i++) {
+        const name = words[i].replace(/^--/, "");
+        if (name !== words[i] && name in options)
+            options[name] = words[++i];
+        else
+            options.games = words[i];
+    }
+    options.page = resolve(options.page);
+    return options;
+}
+
+async function run_case(page, name, does) {
+    const began = Date.now();
+    try {
+        const words = await does(page);
+        return [true, `${name}${words ? `: ${words}` : ""} (${Date.now() - began} ms)`];
+    } catch (error) {
+        return [false, `${name}: ${error.message}`];
+    }
+}
+
+async function run_browser(Browser, options, cases) {
+    const browser = await Browser.launch();
+    const version = await browser.version();
+    let failed = 0;
+    try {
+        await browser.size(...SIZE);
+        for (const [name, does] of cases) {
+            const [passed, words] = await run_case(new Page(browser, options.page), name, does);
+            failed += passed ? 0 : 1;
+            console.log(`${passed ? "ok  " : "FAIL"} ${version}: ${words}`);
+        }
+        for (const error of browser.errors().filter((it) => !it.includes("Content Security Policy"))) {
+            failed++;
+            console.log(`FAIL ${version}: an error in the page: ${error}`);
+        }
+    } finally {
+        await browser.close();
+    }
+    return failed;
+}
+
+export async function main(words) {
+    const options = options_of(words);
+    if (!existsSync(options.page)) {
+        console.log(`The page ${options.page} is not there: nothing is tested.`);
+        return 1;
+    }
+    const wanted = BROWSERS.filter(([Browser]) => !options.only || Browser.name.toLowerCase() === options.only);
+    wanted.filter(([, program]) => !program).forEach(([{ name }]) => console.log(`Left out: ${name} is not here.`));
+    const here = wanted.filter(([, program]) => program);
+    if (options.pictures)
+        return take_pictures(here[0][0], options.page, options.pictures);
+    const games = options.games ? games_in(options.games, readdirSync(options.games)) : [];
+    const cases = [...CASES, ...games].filter(([name]) => name.includes(options.case));
+    const began = Date.now();
+    const failed = await Promise.all(here.map(([Browser]) => run_browser(Browser, options, cases)));
+    const sum = failed.reduce((all, count) => all + count, 0);
+    console.log(`${here.length} browsers, ${cases.length} tests each, ${sum} failed, ${Math.round((Date.now() - began) / 1000)} s`);
+    return sum > 0 ? 1 : 0;
+}
