@@ -7,6 +7,7 @@ const form = /** @type {HTMLFormElement} */ (at("ask"));
 const scroller = at("scroller");
 const ENTER = 10;
 const SPACE = 32;
+const LONGEST = 255;
 
 /** A prompt of more characters than this stands above the field. */
 const SHORT = 12;
@@ -44,7 +45,7 @@ export class Input {
         at("prompt").textContent = is_line && words && words.length <= SHORT ? words : "›";
         at("asked").textContent = !is_line ? "Press a key" : words.length > SHORT ? words : "What do you do?";
         at("space").hidden = is_line;
-        line.maxLength = is_line ? Math.max(1, longest) : 2;
+        line.maxLength = is_line ? Math.max(1, longest) : LONGEST;
         this.place = this.lines.length;
         if (form.hidden || document.activeElement === document.body)
             this.show();
@@ -53,6 +54,7 @@ export class Input {
             this.early = [];
         else
             this.give(early);
+        this.take_character();
     }
 
     show() {
@@ -102,12 +104,13 @@ export class Input {
             this.early.push(text);
     }
 
+    /** Gives the first character of the field to a story that awaits one; those after it wait for the next time. */
     take_character() {
-        const code = line.value.codePointAt(0);
-        if (this.awaits !== "character" || code === undefined)
+        const [first, ...rest] = line.value;
+        if (this.awaits !== "character" || first === undefined)
             return;
-        line.value = "";
-        this.give(code);
+        line.value = rest.join("");
+        this.give(/** @type {number} */ (first.codePointAt(0)));
     }
 
     /** @param {KeyboardEvent} event */

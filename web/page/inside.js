@@ -30,6 +30,8 @@ const listing = new Listing(at("listing"));
 let story = null;
 /** @type {Machine | null} */
 let machine = null;
+/** Until the machine has opened the story. */
+let opening = Promise.resolve();
 /** @type {Map<string, Promise<string | null>>} */
 let listings = new Map();
 let shown = "";
@@ -47,7 +49,7 @@ let code = null;
  */
 function listed(name) {
     const before = listings.get(name);
-    const now = before || (machine ? machine.list(name) : Promise.resolve(null));
+    const now = before || opening.then(() => machine ? machine.list(name) : null);
     listings.set(name, now);
     return now;
 }
@@ -146,9 +148,22 @@ async function show(name) {
     at("panel-words").textContent = "This is being listed.";
     at("listing").replaceChildren();
     at("drawing").hidden = true;
-    const found = await listed(name);
-    if (shown !== name)
-        return;
+    try {
+        const found = await listed(name);
+        if (shown === name)
+            await fill(name, found);
+    } catch (error) {
+        at("panel-words").textContent = `This can't be listed: ${error instanceof Error ? error.message : error}.`;
+    }
+    at("panel").setAttribute("aria-busy", String(shown !== name));
+}
+
+/**
+ * Shows a listing that was made; null where there was no memory for it.
+ * @param {string} name
+ * @param {string | null} found
+ */
+async function fill(name, found) {
     text = found || "";
     lines = text.split("\n").slice(0, -1);
     folded = new Set();
@@ -160,7 +175,6 @@ async function show(name) {
     at("listing").scrollTop = 0;
     show_lines();
     await draw_above();
-    at("panel").setAttribute("aria-busy", "false");
 }
 
 /** @param {KeyboardEvent} event */
@@ -199,19 +213,14 @@ export function prepare_inside() {
 export async function show_inside(it) {
     story = it;
     listings = new Map();
-    machine = new Machine();
+    const own = new Machine();
+    machine = own;
+    opening = own.begun.then(() => own.open(it.bytes, {})).then(() => {});
     const end = closed(dialog("inside"));
     at("inside-head").textContent = `Inside ${it.name}`;
-    choose_tab("findings");
+    show("findings");
     at("tab-findings").focus();
-    try {
-        await machine.begun;
-        await machine.open(it.bytes, {});
-        await show("findings");
-    } catch (error) {
-        at("panel-words").textContent = `Nothing can be listed: ${error instanceof Error ? error.message : error}.`;
-    }
     await end;
-    machine.drop();
+    own.drop();
     machine = null;
 }

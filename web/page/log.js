@@ -210,7 +210,7 @@ export class Log {
             this.draw_block(from, /** @type {HTMLElement} */ (log.lastElementChild));
         for (let i = this.first_new + shown; i < this.blocks.length; i++)
             log.append(this.draw_block(i, made("div", "turn")));
-        if (is_low || this.turn >= from)
+        if (is_low || this.turn >= from || log.children.length > 2 * SHOWN)
             this.trim();
         this.go_to_turn();
     }

@@ -102,14 +102,15 @@ export class Play {
         at("log").setAttribute("aria-busy", String(is_busy));
     }
 
-    /** A machine that does nothing at the moment. */
+    /** A machine that does nothing at the moment. Whatever ran before is left. */
     async idle_machine() {
         this.round++;
         if (this.machine && this.is_busy) {
             this.machine.drop();
             this.machine = null;
         }
-        this.be_busy(false);
+        this.be_busy(true);
+        this.show_running("");
         this.machine = this.machine || new Machine();
         await this.machine.begun;
         return this.machine;
@@ -123,13 +124,28 @@ export class Play {
      * @param {Answer[]} [answers]
      */
     async start(story, seed, answers = []) {
+        const was_busy = this.is_busy;
         const machine = await this.idle_machine();
-        const about = await machine.open(story.bytes, { ...OPTIONS, seed: BigInt(seed) });
-        this.take(story, about, seed);
+        try {
+            this.take(story, await machine.open(story.bytes, { ...OPTIONS, seed: BigInt(seed) }), seed);
+        } catch (error) {
+            await this.stay(was_busy);
+            throw error;
+        }
         this.log.clear();
         this.empty();
         this.reader.changed();
         await this.guarded(() => this.replay(answers));
+    }
+
+    /**
+     * Goes on with the play before, where another one was not opened.
+     * @param {boolean} was_busy
+     */
+    async stay(was_busy) {
+        this.be_busy(false);
+        if (was_busy && this.here)
+            await this.back_to(this.here);
     }
 
     /**
@@ -139,7 +155,8 @@ export class Play {
      */
     async resume(story, play) {
         const machine = await this.idle_machine();
-        const about = await machine.resume(story.bytes, /** @type {Uint8Array} */ (play.snapshot));
+        const about = await machine.resume(story.bytes, /** @type {Uint8Array} */ (play.snapshot))
+            .finally(() => this.be_busy(false));
         this.take(story, about, play.seed);
         this.empty();
         this.log.fill(play.log);

@@ -57,19 +57,8 @@ async function fetches_nothing(page) {
     same(others, 0, "the number of files that were fetched");
 }
 
-async function walkthrough(page, version) {
-    await page.fresh();
-    await page.open(z(version));
-    const lines = lines_of(WALKTHROUGH);
-    await page.say_all(lines);
-    same(await page.text("over-words"), "The story has ended.");
-    const wanted = native(["play", "--echo", z(version)], joined(lines)).text;
-    same_with_keys(await page.transcript(), wanted, 1);
-    return `${lines.length} lines`;
-}
-
-async function older_text(page) {
-    await walkthrough(page, 5);
+/** Scrolls up to the first text, and compares all of it. */
+async function older_text(page, version) {
     const before = await page.run(() => document.querySelectorAll(".turn").length);
     holds(before <= 41, `${before} blocks stand in the page`);
     await page.until(() => {
@@ -79,9 +68,19 @@ async function older_text(page) {
         scroller.dispatchEvent(new Event("scroll"));
         return is_first;
     });
-    const all = (await page.shown_text()).trimStart();
-    same(all, readFileSync(join(EXAMPLES, "lighthouse.z5.txt"), "utf8").trimStart(), "the text in the page");
-    return `${before} blocks before, ${await page.run(() => document.querySelectorAll(".turn").length)} after`;
+    same(await page.shown_text(), readFileSync(join(EXAMPLES, `lighthouse.z${version}.txt`), "utf8"), "the text in the page");
+}
+
+async function walkthrough(page, version) {
+    await page.fresh();
+    await page.open(z(version));
+    const lines = lines_of(WALKTHROUGH);
+    await page.say_all(lines);
+    same(await page.text("over-words"), "The story has ended.");
+    const wanted = native(["play", "--echo", z(version)], joined(lines)).text;
+    same_with_keys(await page.transcript(), wanted, 1);
+    await older_text(page, version);
+    return `${lines.length} lines`;
 }
 
 async function game(page, path, commands) {
@@ -169,7 +168,7 @@ async function quetzal_in(page, version) {
     await page.rests();
     await page.say_all(["look", "inventory"]);
     const { text } = native(["play", "--save", join(EXAMPLES, `lighthouse.z${version}.dfrotz`), z(version)], "restore\nlook\ninventory\n");
-    same(await page.shown_text() + await page.run(() => ""), text.slice(0, -1) + "", "the text");
+    same(await page.shown_text(), text.slice(0, -1), "the text");
 }
 
 async function reload(page) {
@@ -212,7 +211,12 @@ async function link(page) {
     await page.fresh();
     await page.run(() => { document.getElementById("seed").value = "7"; });
     await page.open(MENU);
-    await page.say_all(["roll", "é", "roll", "m", "n", "q", "roll"]);
+    await page.say_all(["roll", "é", "roll", "menu"]);
+    for (const key of ["n", "Enter", "q"]) {
+        await page.browser.press(key);
+        await page.rests();
+    }
+    await page.say("roll");
     const text = await page.transcript();
     await page.click("#show-lines");
     await page.shown("lines");
@@ -226,12 +230,9 @@ async function link(page) {
     await page.click("#show-lines");
     await page.shown("lines");
     await page.run(() => [...document.querySelectorAll("#line-list button")].at(-1).click());
-    await page.until(() => !document.getElementById("log").textContent.includes(">roll\nA 1"));
     await page.rests();
     await page.say("hello");
-    const wanted = native(["play", "--echo", "--seed", "7", MENU], "roll\né\nroll\nm\nn\nq\nhello\n").text;
-    const found = await page.transcript();
-    same(found.slice(found.indexOf("Back in")), wanted.slice(wanted.indexOf("Back in")), "the transcript that goes on");
+    same(await page.transcript(), text.replace(/roll\n[^>]*>$/, "hello\nNothing happens.\n\n>"), "the transcript that goes on");
     return `${address.length} characters`;
 }
 
@@ -272,7 +273,7 @@ async function menu(page) {
     await page.open(MENU);
     await page.say("menu");
     same(await page.text("asked"), "Press a key");
-    holds((await page.text("upper")).includes("      > How to walk\n        Who made it"), await page.text("upper"));
+    holds((await page.text("upper")).includes("     > How to walk\n       Who made it"), await page.text("upper"));
     await page.browser.press("n");
     await page.until(() => document.getElementById("upper").textContent.includes("> Who made it"));
     await page.browser.press("Enter");
@@ -315,9 +316,8 @@ async function damaged(page) {
 async function without_end(page) {
     await page.fresh();
     await page.open(MENU);
-    await page.say("turn");
+    await page.send("turn");
     await page.until(() => !document.getElementById("stop").hidden && !document.getElementById("running").hidden);
-    await page.browser.press("a");
     await page.click("#stop");
     await page.until(() => document.getElementById("running-words").textContent.includes("stopped"));
     await page.click("#step-back");
@@ -328,7 +328,7 @@ async function without_end(page) {
     await page.until(() => document.getElementById("log").getAttribute("aria-busy") === "false");
     await page.until(() => document.getElementById("running-words").textContent.includes("very much"));
     const blocks = await page.run(() => document.querySelectorAll(".turn").length);
-    holds(blocks <= 41, `${blocks} blocks stand in the page`);
+    holds(blocks <= 81, `${blocks} blocks stand in the page`);
     await page.click("#step-back");
     await page.until(() => !document.getElementById("ask").hidden);
     await page.say("roll");
@@ -364,7 +364,7 @@ async function restart_and_seed(page) {
     await page.run(() => { document.getElementById("seed").value = "12"; });
     await page.click("#restart");
     await page.click_shown("asking-yes");
-    await page.until(() => !document.getElementById("log").textContent.includes("roll"));
+    await page.until(() => !document.getElementById("log").textContent.includes(">roll"));
     await page.rests();
     await page.say("roll");
     same(await page.transcript(), native(["play", "--echo", "--seed", "12", MENU], "roll\n").text, "the transcript");
@@ -445,9 +445,9 @@ async function inside_works(page) {
 
 async function keyboard(page) {
     await page.fresh();
-    const walk = async (id) => {
+    const walk = async (id, is_back = false) => {
         for (let i = 0; i < 30; i++) {
-            await page.browser.press("Tab");
+            await page.browser.press("Tab", is_back);
             if (await page.run((name) => document.activeElement?.id === name, id))
                 return;
         }
@@ -467,7 +467,7 @@ async function keyboard(page) {
     same(await page.run(() => document.getElementById("line").value), "inventory", "the line before the last");
     await page.browser.press("ArrowDown");
     same(await page.run(() => document.getElementById("line").value), "look", "the last line");
-    await walk("show-menu");
+    await walk("show-menu", true);
     await page.browser.press("Enter");
     await page.shown("menu");
     await walk("menu-inside");
@@ -515,7 +515,6 @@ export const CASES = [
     ["starts", starts],
     ["fetches nothing", fetches_nothing],
     ...[3, 4, 5, 8].map((version) => [`walkthrough of version ${version}`, (page) => walkthrough(page, version)]),
-    ["older text comes back", older_text],
     ...[3, 4, 5, 8].map((version) => [`save and restore in version ${version}`, (page) => save_and_restore(page, version)]),
     ["a slot is replaced only where the reader agrees", replaced_slot],
     ["a saved game goes out as a file", quetzal_out],

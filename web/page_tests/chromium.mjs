@@ -110,9 +110,9 @@ export class Chromium {
         await this.call("Input.insertText", { text });
     }
 
-    async press(key) {
+    async press(key, is_shifted = false) {
         const [code, number, text] = KEYS[key] || [`Key${key.toUpperCase()}`, key.toUpperCase().charCodeAt(0), key];
-        const it = { key, code, windowsVirtualKeyCode: number };
+        const it = { key, code, windowsVirtualKeyCode: number, modifiers: is_shifted ? 8 : 0 };
         await this.call("Input.dispatchKeyEvent", { type: text ? "keyDown" : "rawKeyDown", text: text || undefined, ...it });
         await this.call("Input.dispatchKeyEvent", { type: "keyUp", ...it });
     }

@@ -11,6 +11,7 @@ const KEYS = {
     Enter: "\uE007", Tab: "\uE004", Escape: "\uE00C", ArrowUp: "\uE013", ArrowDown: "\uE015", ArrowRight: "\uE014",
     PageUp: "\uE00E", PageDown: "\uE00F", Home: "\uE011", End: "\uE010",
 };
+const SHIFT = "\uE008";
 const ELEMENT = "element-6066-11e4-a52e-4f735466cecf";
 
 export function program() {
@@ -125,8 +126,9 @@ export class Firefox {
         return (await this.wire.send("WebDriver:ExecuteScript", { script, args: values })).value;
     }
 
-    async keys(text) {
-        const actions = [...text].flatMap((value) => [{ type: "keyDown", value }, { type: "keyUp", value }]);
+    async keys(text, before = [], after = []) {
+        const pressed = [...text].flatMap((value) => [{ type: "keyDown", value }, { type: "keyUp", value }]);
+        const actions = [...before, ...pressed, ...after];
         await this.wire.send("WebDriver:PerformActions", { actions: [{ type: "key", id: "keys", actions }] });
     }
 
@@ -134,8 +136,9 @@ export class Firefox {
         await this.keys(text);
     }
 
-    async press(key) {
-        await this.keys(KEYS[key] || key);
+    async press(key, is_shifted = false) {
+        const shift = [{ type: "keyDown", value: SHIFT }];
+        await this.keys(KEYS[key] || key, is_shifted ? shift : [], is_shifted ? [{ ...shift[0], type: "keyUp" }] : []);
     }
 
     async choose(id, path) {

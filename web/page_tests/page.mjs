@@ -142,12 +142,17 @@ export class Page {
         }, Buffer.from(bytes).toString("base64"), name);
     }
 
-    /** Types a line into the field, and waits for what the story does. */
-    async say(line) {
+    /** Types a line into the field. */
+    async send(line) {
         await this.run(() => document.getElementById("line").focus());
         if (line)
             await this.browser.write(line);
         await this.browser.press("Enter");
+    }
+
+    /** The same, and waits for what the story does. */
+    async say(line) {
+        await this.send(line);
         await this.rests();
     }
 
