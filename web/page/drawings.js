@@ -38,7 +38,7 @@ export function draw_map(lines, length) {
         const end = i + 1 < lines.length ? starts[i + 1] : length;
         const size = Math.max(0, end - starts[i]);
         const bar = made("i");
-        const entry = made("li", "", `${line.slice(6)} ${size.toLocaleString()}`);
+        const entry = made("li", "", `${line.slice(6)}, ${size.toLocaleString()} ${size === 1 ? "byte" : "bytes"}`);
         bar.style.left = `${100 * starts[i] / length}%`;
         bar.style.width = `${100 * size / length}%`;
         for (const element of [bar, entry])

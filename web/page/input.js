@@ -134,11 +134,8 @@ export class Input {
      */
     key_anywhere(event) {
         const target = /** @type {HTMLElement} */ (event.target);
-        const is_taken = target.closest("input, button, select, a, summary, dialog") || document.querySelector("dialog[open]");
-        if (is_taken || event.ctrlKey || event.metaKey || event.altKey || event.isComposing || !this.awaits)
-            return;
-        const code = event.key === "Enter" ? ENTER : [...event.key].length === 1 ? event.key.codePointAt(0) : undefined;
-        if (code === undefined)
+        const code = code_of(event);
+        if (code === null || !this.awaits || is_taken(target))
             return;
         if (this.awaits === "character") {
             event.preventDefault();
@@ -147,4 +144,24 @@ export class Input {
             line.focus({ preventScroll: true });
         }
     }
+}
+
+/**
+ * The character of a key, or null where it has none.
+ * @param {KeyboardEvent} event
+ */
+function code_of(event) {
+    if (event.ctrlKey || event.metaKey || event.altKey || event.isComposing)
+        return null;
+    if (event.key === "Enter")
+        return ENTER;
+    return [...event.key].length === 1 ? event.key.codePointAt(0) ?? null : null;
+}
+
+/**
+ * Whether something else takes the keys that are pressed.
+ * @param {HTMLElement} target
+ */
+function is_taken(target) {
+    return target.closest("input, button, select, a, dialog") !== null || document.querySelector("dialog[open]") !== null;
 }

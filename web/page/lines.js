@@ -11,7 +11,7 @@ const KEYS = new Map([[10, "Enter"], [13, "Enter"], [32, "Space"]]);
  * What a list shows for an answer to a read; null for what the reader did not type.
  * @param {Answer} answer
  */
-export function words_of(answer) {
+function words_of(answer) {
     if (typeof answer === "string")
         return answer || "(an empty line)";
     if (typeof answer === "number")

@@ -7,7 +7,7 @@ import { from_base64, to_base64 } from "./at.js";
 /** @typedef {{zkit: 1, ifid: string, name: string, story: string, seed: string, told: string, answers: Answer[]}} Shared */
 
 export const LONGEST_LINK = 8192;
-const LONGEST_PLAY = 4_000_000;
+const LONGEST_PLAY = 4000000;
 const FRONT = "#play=";
 
 /**
@@ -36,7 +36,7 @@ async function all_of(stream) {
  */
 function packer(name) {
     try {
-        return new (/** @type {any} */ (globalThis)[name])("deflate-raw");
+        return new (/** @type {any} */ (self)[name])("deflate-raw");
     } catch {
         return null;
     }

@@ -9,13 +9,13 @@ import { Width } from "./reflow.js";
 /** @typedef {{blocks: number, held: string}} Mark */
 
 /** So many characters a block has at most, about. */
-const BLOCK = 6_000;
+const BLOCK = 6000;
 
 /** So many blocks stand in the page, and so many more come at a time. */
 const SHOWN = 40;
 
 /** So many characters are kept for a reload at most. */
-const KEPT = 1_000_000;
+const KEPT = 1000000;
 
 const scroller = at("scroller");
 const older = at("older");

@@ -41,7 +41,7 @@ let awaited = null;
 /** What a saved game says of where it was saved. */
 function of_play() {
     const game = play.story ? play.story.name : "";
-    return { sum: play.sum, game, place: screen.place(), turn: play.turns };
+    return { sum: play.sum, game, place: screen.place(), line: play.reads() };
 }
 
 /** Shows and keeps what has changed in the play. */
@@ -203,7 +203,7 @@ async function open_link() {
 
 async function restart() {
     const { story } = play;
-    if (story && (play.turns === 0 || await agreed("Restart?", "The story begins anew.", "Restart", "Go on")))
+    if (story && (play.reads() === 0 || await agreed("Restart?", "The story begins anew.", "Restart", "Go on")))
         await start(story);
 }
 
@@ -229,11 +229,11 @@ function on_click(id, does) {
     });
 }
 
-function lines() {
+function open_lines() {
     show_lines(play, go_to);
 }
 
-function inside() {
+function open_inside() {
     if (play.story)
         show_inside(play.story);
 }
@@ -250,14 +250,14 @@ function prepare_buttons() {
     on_click("undo", () => play.undo());
     on_click("restart", restart);
     on_click("over-again", () => play.story && start(play.story));
-    on_click("show-lines", lines);
-    on_click("menu-lines", lines);
-    on_click("show-inside", inside);
-    on_click("menu-inside", inside);
+    on_click("show-lines", open_lines);
+    on_click("menu-lines", open_lines);
+    on_click("show-inside", open_inside);
+    on_click("menu-inside", open_inside);
     on_click("show-saves", () => show_saves(of_play()));
     on_click("transcript", () => give_file(log.transcript(), `${stem(of_play().game)}.txt`));
     at("show-menu").addEventListener("click", () => {
-        at("about").textContent = `${of_play().game}, release ${play.about ? play.about.release : ""}, IFID ${play.ifid}, turn ${play.turns}`;
+        at("about").textContent = `${of_play().game}, release ${play.about ? play.about.release : ""}, IFID ${play.ifid}, line ${play.reads()}`;
         dialog("menu").showModal();
     });
     field("story-file").addEventListener("change", () => {

@@ -19,25 +19,32 @@ import { sum_of } from "./sums.js";
  * @property {number} answers
  * @property {import("./log.js").Mark} log
  * @property {string} chain
- * @property {number} turns
  */
 
 /**
  * What a play asks the reader for and tells the page.
  * @typedef {object} Reader
  * @property {(image: Uint8Array) => Promise<boolean>} save
- * @property {() => Promise<{image: Uint8Array, turn: number} | null>} restore
+ * @property {() => Promise<Uint8Array | null>} restore
  * @property {() => void} changed
  */
 
 /** The reader can stop a story at any time, so it may run for longer than `zkit play` lets it by itself. */
-const OPTIONS = { steps: 1_000_000_000 };
+const OPTIONS = { steps: 1000000000 };
 
 /** So many states to go back to are kept. */
 const MARKS = 32;
 
 /** After so many milliseconds the page says that the story runs. */
 const SOON = 300;
+
+/**
+ * Whether an answer is the reader's to a read, and so one of the lines of the play.
+ * @param {Answer} answer
+ */
+export function is_read(answer) {
+    return typeof answer !== "object" || "undo" in answer;
+}
 
 /** A run whose play was left meanwhile. */
 class Left extends Error {}
@@ -75,7 +82,6 @@ export class Play {
         /** @type {Mark | null} */
         this.here = null;
         this.chain = "";
-        this.turns = 0;
         this.turn_text = "";
         /** @type {string[]} */
         this.last_rows = [];
@@ -91,9 +97,13 @@ export class Play {
         this.marks = [];
         this.here = null;
         this.chain = "";
-        this.turns = 0;
         this.turn_text = "";
         this.last_rows = [];
+    }
+
+    /** How many lines and keys the reader has given. */
+    reads() {
+        return this.answers.filter(is_read).length;
     }
 
     /** @param {boolean} is_busy */
@@ -162,7 +172,6 @@ export class Play {
         this.log.fill(play.log);
         this.answers = play.answers;
         this.chain = play.chain;
-        this.turns = play.turns;
         this.last_rows = play.box;
         this.freshened();
         await this.guarded(async () => this.settle(await this.step(null)));
@@ -290,10 +299,8 @@ export class Play {
             const image = await /** @type {Machine} */ (this.machine).image();
             return { saved: image !== null && await this.reader.save(image) };
         }
-        const found = await this.reader.restore();
-        if (found && found.turn >= 0)
-            this.turns = found.turn;
-        return { restored: found && to_base64(found.image) };
+        const image = await this.reader.restore();
+        return { restored: image && to_base64(image) };
     }
 
     /**
@@ -307,7 +314,6 @@ export class Play {
         }
         this.answers.push(answer);
         if (typeof answer === "string") {
-            this.turns++;
             this.log.typed(answer);
         } else {
             this.log.pressed();
@@ -321,10 +327,10 @@ export class Play {
     async replay(answers) {
         let standing = await this.run_on(null);
         for (const answer of answers) {
-            const is_read = standing.awaits === "line" || standing.awaits === "character";
+            const reads = standing.awaits === "line" || standing.awaits === "character";
             if (!this.fits(standing.awaits, answer))
                 break;
-            if (is_read) {
+            if (reads) {
                 this.reach(standing);
                 this.note(answer);
             } else {
@@ -378,7 +384,6 @@ export class Play {
             return;
         this.here = {
             snapshot: standing.snapshot, answers: this.answers.length, log: this.log.mark(), chain: this.chain,
-            turns: this.turns,
         };
     }
 
@@ -460,7 +465,6 @@ export class Play {
                 return;
             }
             this.note({ undo: true });
-            this.turns = Math.max(0, this.turns - 1);
             this.settle(standing);
         });
     }
@@ -495,7 +499,6 @@ export class Play {
         this.freshened();
         this.log.cut(mark.log);
         this.chain = mark.chain;
-        this.turns = mark.turns;
         this.turn_text = "";
         this.here = null;
         await this.guarded(async () => this.settle(await this.step(null)));
@@ -512,7 +515,7 @@ export class Play {
             return null;
         return {
             module, story: this.sum, ifid: this.ifid, seed: this.seed, answers: this.answers.slice(0, this.here.answers),
-            chain: this.here.chain, turns: this.here.turns, snapshot: this.here.snapshot, log: this.log.kept(),
+            chain: this.here.chain, snapshot: this.here.snapshot, log: this.log.kept(),
             box: this.last_rows, date: Date.now(),
         };
     }

@@ -16,7 +16,6 @@ import { sum_of } from "./sums.js";
  * @property {string} seed
  * @property {Answer[]} answers
  * @property {string} chain the sum of all text
- * @property {number} turns
  * @property {Uint8Array | null} snapshot
  * @property {any} log
  * @property {string[]} box
@@ -44,10 +43,15 @@ export async function keep_story(story, sum) {
     await keep("stories", story_key(story.ifid, sum), story);
 }
 
+/** The story whose play was kept last. */
+let last_story = "";
+
 /** @param {Kept} play */
 export async function keep_play(play) {
     await keep("plays", play.story, play);
-    await keep("plays", LAST, { story: play.story, ifid: play.ifid });
+    if (last_story !== play.story)
+        await keep("plays", LAST, { story: play.story, ifid: play.ifid });
+    last_story = play.story;
 }
 
 /** Forgets the oldest plays, and stories without one. */

@@ -3,8 +3,8 @@
 import { agreed, at, bytes_of, chosen_file, closed, dialog, field, give_file, made, made_button, stem, tell } from "./at.js";
 import { forget, keep, kept, names } from "./store.js";
 
-/** @typedef {{name: string, game: string, place: string, turn: number, date: number, image: Uint8Array}} Slot */
-/** @typedef {{sum: string, game: string, place: string, turn: number}} Of */
+/** @typedef {{name: string, game: string, place: string, line: number, date: number, image: Uint8Array}} Slot */
+/** @typedef {{sum: string, game: string, place: string, line: number}} Of */
 
 const saving = dialog("saving");
 const restoring = dialog("restoring");
@@ -31,8 +31,8 @@ async function slots_of(sum) {
 /** @param {Slot} slot */
 function words_on(slot) {
     const date = new Date(slot.date).toLocaleString([], { dateStyle: "medium", timeStyle: "short" });
-    const turn = slot.turn >= 0 ? `turn ${slot.turn}` : "turn not known";
-    return [slot.place, turn, `${slot.image.length.toLocaleString()} bytes`, date].filter((word) => word).join(" · ");
+    const line = slot.line >= 0 ? `line ${slot.line}` : "";
+    return [slot.place, line, `${slot.image.length.toLocaleString()} bytes`, date].filter((word) => word).join(" · ");
 }
 
 /**
@@ -61,7 +61,7 @@ async function may_write(of, name) {
  * @param {Uint8Array} image
  */
 async function write(of, name, image) {
-    const slot = { name, game: of.game, place: of.place, turn: of.turn, date: Date.now(), image };
+    const slot = { name, game: of.game, place: of.place, line: of.line, date: Date.now(), image };
     const is_kept = await keep("saves", key_of(of.sum, name), slot);
     if (!is_kept)
         tell("The browser has no room for the saved game. Save it as a file.", true);
@@ -75,7 +75,7 @@ async function write(of, name, image) {
  */
 export async function ask_save(of, image) {
     const slots = await slots_of(of.sum);
-    field("save-name").value = `${of.place || "Game"}, turn ${of.turn}`;
+    field("save-name").value = `${of.place || "Game"}, line ${of.line}`;
     at("saving-list-head").hidden = slots.length === 0;
     at("saving-slots").replaceChildren(...slots.map((slot) => {
         const item = made("li");
@@ -144,19 +144,19 @@ function await_file(take) {
 }
 
 /**
- * Asks which game is to be restored: its file and its turn; null where none is.
+ * Asks which game is to be restored: its file, or null where none is.
  * @param {Of} of
- * @returns {Promise<{image: Uint8Array, turn: number} | null>}
+ * @returns {Promise<Uint8Array | null>}
  */
 export async function ask_restore(of) {
-    /** @type {{image: Uint8Array, turn: number} | null} */
+    /** @type {Uint8Array | null} */
     let found = null;
     await fill_list(of, "Restore a game", (slot) => {
-        found = slot;
+        found = slot.image;
         restoring.close("kept");
     });
     await_file(async (file) => {
-        found = { image: await bytes_of(file), turn: -1 };
+        found = await bytes_of(file);
         restoring.close("file");
     });
     await closed(restoring);
@@ -181,7 +181,7 @@ async function bring_in(of, file) {
         restoring.close();
         tell(`${file.name} is no saved game in the format Quetzal.`, true);
     } else if (await may_write(of, name)) {
-        await write({ ...of, place: "", turn: -1 }, name, image);
+        await write({ ...of, place: "", line: -1 }, name, image);
         await fill_list(of, "Saved games", null);
     }
 }

@@ -5,13 +5,13 @@ import { Module, Refused } from "../zkit.js";
 /** @typedef {string | number | {saved: boolean} | {restored: string | null} | {undo: true} | {fresh: true}} Answer */
 
 /** So many instructions run between two looks at the messages. */
-const SLICE = 500_000;
+const SLICE = 500000;
 
 /** So much text waits at most in the module; it is posted as it comes. */
-const ROOM = 32_768;
+const ROOM = 32768;
 
 /** So many characters come at most before the reader is asked whether to go on. */
-const PAUSE = 200_000;
+const PAUSE = 200000;
 
 /** @type {any} */
 const page = self;

@@ -83,13 +83,35 @@ async function walkthrough(page, version) {
     return `${lines.length} lines`;
 }
 
+/** Whether a line is the name of a saved game, which other interpreters ask for by a line. */
+function is_name(lines, i) {
+    return /^(save|restore)$/.test(lines[i - 1] || "") && /\.\w+$/.test(lines[i]);
+}
+
+/** Saves or restores by the window that has opened. */
+async function by_window(page) {
+    const is_saving = await page.is_shown("saving");
+    await page.click(is_saving ? "#keep" : "#slots .pick");
+    await page.until(() => document.getElementById("asking").open || !document.querySelector("dialog[open]"));
+    if (await page.is_shown("asking"))
+        await page.click("#asking-yes");
+    await page.until(() => !document.querySelector("dialog[open]"));
+    await page.rests();
+}
+
 async function game(page, path, commands) {
     await page.fresh();
     await page.open(path);
-    const lines = lines_of(commands);
-    await page.say_all(lines);
-    const wanted = native(["play", "--echo", path], joined(lines)).text;
-    same_with_keys(await page.transcript(), wanted, 5);
+    const all = lines_of(commands);
+    const lines = all.filter((_, i) => !is_name(all, i));
+    for (const line of lines) {
+        await page.say(line);
+        if (await page.run(() => document.querySelector("dialog[open]") !== null))
+            await by_window(page);
+    }
+    const saved = join(page.browser.folder, "profile", "native.qzl");
+    const wanted = native(["play", "--echo", "--save", saved, path], joined(lines)).text;
+    same_with_keys(await page.transcript(), wanted, 9);
     return `${lines.length} lines`;
 }
 
@@ -128,7 +150,7 @@ async function replaced_slot(page) {
     await page.say("open bag");
     await save();
     await page.shown("asking");
-    holds((await page.text("asking-words")).includes("Jetty · turn 1 ·"), await page.text("asking-words"));
+    holds((await page.text("asking-words")).includes("Jetty · line 1 ·"), await page.text("asking-words"));
     await page.click("#asking-no");
     await page.shown("saving");
     await page.click("#keep");
@@ -139,7 +161,7 @@ async function replaced_slot(page) {
     await page.click("#show-saves");
     await page.shown("restoring");
     same(await page.run(() => document.querySelectorAll("#slots li").length), 1, "the number of slots");
-    holds((await page.text("slots")).includes("turn 3"), await page.text("slots"));
+    holds((await page.text("slots")).includes("line 3"), await page.text("slots"));
     await page.click("#slots li button:last-child");
     await page.shown("asking");
     await page.click("#asking-yes");
@@ -176,6 +198,8 @@ async function reload(page) {
     await page.open(MENU);
     await page.say_all(["roll", "hello", "roll"]);
     const before = await page.text("log");
+    // (the browser needs a moment to keep a play)
+    await pause(200);
     await page.reload();
     await page.rests();
     same(await page.text("log"), before, "the log after a reload");
@@ -188,6 +212,7 @@ async function reload_of_another_module(page) {
     await page.fresh();
     await page.open(MENU);
     await page.say_all(["roll", "roll"]);
+    await pause(200);
     await page.run(() => new Promise((resolve) => {
         const request = indexedDB.open("zkit");
         request.onsuccess = () => {

@@ -51,7 +51,9 @@ class Pipe {
 }
 
 export class Chromium {
-    static name = "Chromium";
+    static get name() {
+        return "Chromium";
+    }
 
     static async launch() {
         const folder = mkdtempSync(join(tmpdir(), "zkit-chromium-"));

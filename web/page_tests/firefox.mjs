@@ -81,7 +81,9 @@ class Wire {
 }
 
 export class Firefox {
-    static name = "Firefox";
+    static get name() {
+        return "Firefox";
+    }
 
     static async launch() {
         const folder = mkdtempSync(join(tmpdir(), "zkit-firefox-"));

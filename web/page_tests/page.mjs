@@ -1,15 +1,15 @@
 // The page as the tests use it: by its own controls.
 
-import { execFileSync, spawnSync } from "node:child_process";
-import { existsSync, readFileSync, readdirSync, rmSync, statSync } from "node:fs";
-import { basename, join, resolve } from "node:path";
+import { spawnSync } from "node:child_process";
+import { readFileSync, readdirSync, rmSync, statSync } from "node:fs";
+import { basename, join } from "node:path";
 import { fileURLToPath } from "node:url";
 
-export const ROOT = resolve(fileURLToPath(import.meta.url), "../../..");
+export const ROOT = join(fileURLToPath(import.meta.url), "../../..");
 export const EXAMPLES = join(ROOT, "examples");
 export const MENU = join(ROOT, "web/page_tests/menu.z5");
 const ZKIT = join(ROOT, "dist/zkit");
-const LONGEST_WAIT = 20_000;
+const LONGEST_WAIT = 20000;
 
 export const pause = (time) => new Promise((resolve) => setTimeout(resolve, time));
 
@@ -201,4 +201,4 @@ export function same_with_keys(found, wanted, keys) {
     same(found, rest, "the transcript");
 }
 
-export { basename, execFileSync, existsSync, join, readFileSync, readdirSync };
+export { basename, join, readFileSync };

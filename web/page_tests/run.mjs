@@ -1,5 +1,6 @@
 // Runs the tests in each browser that is here, both at a time.
 
+import { spawnSync } from "node:child_process";
 import { existsSync, readdirSync } from "node:fs";
 import { join, resolve } from "node:path";
 import * as chromium from "./chromium.mjs";
@@ -22,6 +23,26 @@ function options_of(words) {
     }
     options.page = resolve(options.page);
     return options;
+}
+
+/** The tools that look at the sources, and how they are called. */
+const TOOLS = [
+    ["the TypeScript compiler", "tsc", ["-p", join(ROOT, "web/page")]],
+    ["eslint", "eslint", ["-f", "unix", "--no-eslintrc", "-c", join(ROOT, "web/eslint.json"), "--ext", ".js,.mjs", join(ROOT, "web/page"),
+        join(ROOT, "web/page_tests")]],
+];
+
+/** Looks at the sources by a tool, if it is here. */
+function run_tool([name, program, words]) {
+    // (Debian's eslint finds its parts by this path where another Node is the first one)
+    const env = { ...process.env, NODE_PATH: "/usr/share/nodejs:/usr/lib/nodejs" };
+    const it = spawnSync(program, words, { encoding: "utf8", env });
+    if (it.error) {
+        console.log(`Left out: ${name} is not here.`);
+        return 0;
+    }
+    console.log(it.status === 0 ? `ok   ${name} finds nothing` : `FAIL ${name}:\n${it.stdout}${it.stderr}`);
+    return it.status === 0 ? 0 : 1;
 }
 
 async function run_case(page, name, does) {
@@ -69,8 +90,9 @@ export async function main(words) {
     const games = options.games ? games_in(options.games, readdirSync(options.games)) : [];
     const cases = [...CASES, ...games].filter(([name]) => name.includes(options.case));
     const began = Date.now();
+    const tools = options.case ? [] : TOOLS.map(run_tool);
     const failed = await Promise.all(here.map(([Browser]) => run_browser(Browser, options, cases)));
-    const sum = failed.reduce((all, count) => all + count, 0);
+    const sum = [...tools, ...failed].reduce((all, count) => all + count, 0);
     console.log(`${here.length} browsers, ${cases.length} tests each, ${sum} failed, ${Math.round((Date.now() - began) / 1000)} s`);
     return sum > 0 ? 1 : 0;
 }
