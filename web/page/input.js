@@ -47,14 +47,21 @@ export class Input {
         at("space").hidden = is_line;
         line.maxLength = is_line ? Math.max(1, longest) : LONGEST;
         this.place = this.lines.length;
-        if (form.hidden || document.activeElement === document.body)
-            this.show();
+        this.show();
         const early = is_line ? this.early.shift() : undefined;
         if (early === undefined)
             this.early = [];
         else
             this.give(early);
         this.take_character();
+    }
+
+    /**
+     * Has the lines of a play for the arrows.
+     * @param {import("./machine.js").Answer[]} answers
+     */
+    remember(answers) {
+        this.lines = /** @type {string[]} */ (answers.filter((answer) => typeof answer === "string" && answer !== ""));
     }
 
     show() {

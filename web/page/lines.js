@@ -33,21 +33,34 @@ async function copied(text) {
 }
 
 /**
+ * An entry of the list; one that came after where the play is now looks so.
+ * @param {string} words
+ * @param {boolean} is_later
+ * @param {() => void} does
+ */
+function line_of(words, is_later, does) {
+    const item = made("li", is_later ? "later" : "");
+    item.append(made_button("", words, () => {
+        dialog("lines").close();
+        does();
+    }));
+    return item;
+}
+
+/**
  * Shows the lines of a play and its link.
  * @param {import("./play.js").Play} play
- * @param {(answers: number) => void} go_to goes back to where so many answers were given
+ * @param {(answers: Answer[], count: number) => void} go_to goes to where the first ones of the answers were given
  */
 export async function show_lines(play, go_to) {
     const shared = play.shared();
-    const items = shared.answers.flatMap((answer, i) => {
+    const all = [...shared.answers, ...play.later];
+    const items = all.flatMap((answer, i) => {
         const words = words_of(answer);
-        const item = made("li");
-        item.append(made_button("", words || "", () => {
-            dialog("lines").close();
-            go_to(i);
-        }));
-        return words === null ? [] : [item];
+        return words === null ? [] : [line_of(words, i >= shared.answers.length, () => go_to(all, i))];
     });
+    if (play.later.length)
+        items.push(line_of("(the end of these lines)", true, () => go_to(all, all.length)));
     at("line-list").replaceChildren(...items);
     const address = location.href.replace(/#.*/, "") + await address_of(shared);
     const is_short = address.length <= LONGEST_LINK;

@@ -17,6 +17,17 @@ const SHOWN = 40;
 /** So many characters are kept for a reload at most. */
 const KEPT = 1000000;
 
+/**
+ * Where a text may be divided: after the last line that ends in so many characters, or after the first line.
+ * @param {string} text
+ * @param {number} most
+ */
+function end_of_part(text, most) {
+    if (text.length <= most)
+        return text.length;
+    return text.lastIndexOf("\n", most - 1) + 1 || text.indexOf("\n") + 1 || text.length;
+}
+
 const scroller = at("scroller");
 const older = at("older");
 const log = at("log");
@@ -78,8 +89,7 @@ export class Log {
         this.width.see(text);
         for (let rest = text; rest;) {
             const size = (this.blocks[this.blocks.length - 1] || []).reduce((sum, piece) => sum + piece.text.length, 0);
-            const part = rest.slice(0, Math.max(BLOCK - size, 1));
-            const end = part.length < rest.length ? part.lastIndexOf("\n") + 1 || part.length : part.length;
+            const end = end_of_part(rest, Math.max(BLOCK - size, 1));
             this.add("text", rest.slice(0, end));
             rest = rest.slice(end);
             if (rest)

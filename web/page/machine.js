@@ -130,6 +130,15 @@ export class Machine {
     }
 
     /**
+     * The IFID of a story, which is not played for that.
+     * @param {Uint8Array} story
+     * @returns {Promise<string>}
+     */
+    ifid(story) {
+        return this.call("ifid", { story });
+    }
+
+    /**
      * @param {string} listing
      * @returns {Promise<string | null>}
      */

@@ -9,7 +9,7 @@ import { is_link, play_at, play_of } from "./link.js";
 import { Log } from "./log.js";
 import { prepare_look } from "./look.js";
 import { NotOpened, module_bytes } from "./machine.js";
-import { Play } from "./play.js";
+import { Play, is_read } from "./play.js";
 import { keep_play, keep_story, kept_play, last_play, story_of, tidy } from "./resume.js";
 import { ask_restore, ask_save, prepare_saves, show_saves } from "./saves.js";
 import { Screen } from "./screen.js";
@@ -51,6 +51,9 @@ function changed() {
     document.title = `${name} · zkit`;
     at("welcome").hidden = true;
     at("play").hidden = at("tools").hidden = false;
+    at("script").hidden = play.script === "";
+    if (is_link(location.hash))
+        history.replaceState(null, "", location.href.replace(/#.*/, ""));
     const kept = play.kept(module_sum);
     if (kept)
         keep_play(kept);
@@ -102,20 +105,38 @@ async function start(story, answers = [], with_seed = seed()) {
 }
 
 /**
+ * Whether a story is opened: it is the one of the link that waits for it, or none waits, or the reader wants it all the same.
+ * @param {StoryFile} story
+ */
+async function is_wanted(story) {
+    if (!awaited)
+        return true;
+    const ifid = await play.ifid_of(story.bytes);
+    if (ifid === awaited.ifid || !await agreed("Another story", `Its IFID is ${ifid}, and the link's is ${awaited.ifid}.`, "Play it", "No"))
+        return ifid === awaited.ifid;
+    awaited = null;
+    return true;
+}
+
+/**
  * Opens a story: with the play of a link, or where the reader was before, or at its start.
  * @param {StoryFile} story
  */
 async function open(story) {
-    const before = await kept_play(sum_of(story.bytes));
-    if (awaited) {
-        const shared = awaited;
-        awaited = null;
-        await show_shared(shared, story);
-    } else if (before && before.answers.length && await agreed("Go on?", "You have played this story here before.", "Go on where I was", "Start anew")) {
-        await go_on(story, before);
-    } else {
-        await start(story);
-    }
+    await trying(story.name, async () => {
+        if (!await is_wanted(story))
+            return;
+        const before = await kept_play(sum_of(story.bytes));
+        if (awaited) {
+            const shared = awaited;
+            awaited = null;
+            await show_shared(shared, story);
+        } else if (before && before.answers.length && await agreed("Go on?", "You have played this story here before.", "Go on where I was", "Start anew")) {
+            await go_on(story, before);
+        } else {
+            await start(story);
+        }
+    });
 }
 
 /**
@@ -166,23 +187,28 @@ async function offer(shared) {
         return;
     }
     awaited = shared;
-    const lines = shared.answers.filter((answer) => typeof answer === "string").length;
-    at("invitation").textContent = `This link shows a play of ${shared.name} with ${lines} lines. Choose that story's file to see it; `
-        + `its IFID is ${shared.ifid}.`;
-    at("welcome").hidden = false;
-    at("play").hidden = at("tools").hidden = true;
+    const lines = shared.answers.filter(is_read).length;
+    const words = `This link shows a play of ${shared.name}, ${lines} lines long. Choose that story's file to see it; its IFID is ${shared.ifid}.`;
+    if (play.story)
+        tell(words);
+    else
+        at("invitation").textContent = words;
 }
 
 /**
+ * Shows a play that was shared, where the reader agrees that it takes the place of the own one.
  * @param {Shared} shared
  * @param {StoryFile} story
  */
 async function show_shared(shared, story) {
+    const own = await kept_play(sum_of(story.bytes));
+    const is_in_it = own && JSON.stringify(shared.answers).startsWith(JSON.stringify(own.answers).slice(0, -1));
+    const lines = own ? own.answers.filter(is_read).length : 0;
+    if (own && !is_in_it && !await agreed("Show the play of the link?", `It takes the place of your own play of this story, which has ${lines} lines.`, "Show it", "Keep mine"))
+        return;
     field("seed").value = shared.seed;
     await start(story, shared.answers, shared.seed);
-    if (play.ifid !== shared.ifid)
-        tell(`This is another story than the link's: its IFID is ${play.ifid}, and the link's ${shared.ifid}.`, true);
-    else if (play.chain.slice(0, 16) === shared.told)
+    if (play.chain.slice(0, 16) === shared.told)
         tell("This is the play of the link, letter by letter. Go on from here, or from any of its lines.");
     else
         tell("The story's text is not the link's. The story's file may be another one.", true);
@@ -208,13 +234,16 @@ async function restart() {
 }
 
 /**
- * Goes back to where so many answers were given.
- * @param {number} answers
+ * Goes to where the first ones of some answers were given; the others can still be gone to.
+ * @param {import("./machine.js").Answer[]} answers
+ * @param {number} count
  */
-async function go_to(answers) {
+async function go_to(answers, count) {
     const { story } = play;
-    if (story)
-        await start(story, play.answers.slice(0, answers), play.seed);
+    if (!story)
+        return;
+    await start(story, answers.slice(0, count), play.seed);
+    play.later = answers.slice(count);
 }
 
 /**
@@ -256,6 +285,7 @@ function prepare_buttons() {
     on_click("menu-inside", open_inside);
     on_click("show-saves", () => show_saves(of_play()));
     on_click("transcript", () => give_file(log.transcript(), `${stem(of_play().game)}.txt`));
+    on_click("script", () => give_file(play.script, `${stem(of_play().game)}.script.txt`));
     at("show-menu").addEventListener("click", () => {
         at("about").textContent = `${of_play().game}, release ${play.about ? play.about.release : ""}, IFID ${play.ifid}, line ${play.reads()}`;
         dialog("menu").showModal();

@@ -32,6 +32,9 @@ import { sum_of } from "./sums.js";
 /** The reader can stop a story at any time, so it may run for longer than `zkit play` lets it by itself. */
 const OPTIONS = { steps: 1000000000 };
 
+/** So often a play that is repeated goes on by itself where much was written. */
+const MOST_PAUSES = 20;
+
 /** So many states to go back to are kept. */
 const MARKS = 32;
 
@@ -71,6 +74,13 @@ export class Play {
         /** @type {Standing | null} */
         this.standing = null;
         this.is_busy = false;
+        /** Whether the reader has stopped what is repeated. */
+        this.is_halted = false;
+        /**
+         * The answers that came after the one that was gone back to.
+         * @type {Answer[]}
+         */
+        this.later = [];
         this.round = 0;
         this.script = "";
         /** @type {About | null} */
@@ -85,15 +95,22 @@ export class Play {
         this.turn_text = "";
         /** @type {string[]} */
         this.last_rows = [];
-        at("stop").addEventListener("click", () => this.machine && this.machine.stop());
+        at("stop").addEventListener("click", () => this.stop());
         at("go-on").addEventListener("click", () => this.go(null));
         at("step-back").addEventListener("click", () => this.back());
         at("over-back").addEventListener("click", () => this.back());
     }
 
+    stop() {
+        this.is_halted = true;
+        if (this.machine)
+            this.machine.stop();
+    }
+
     /** Nothing was answered yet. */
     empty() {
         this.answers = [];
+        this.later = [];
         this.marks = [];
         this.here = null;
         this.chain = "";
@@ -145,7 +162,19 @@ export class Play {
         this.log.clear();
         this.empty();
         this.reader.changed();
+        this.input.remember(answers);
         await this.guarded(() => this.replay(answers));
+    }
+
+    /**
+     * The IFID of a story; NotOpened is thrown where it is none. The play goes on meanwhile.
+     * @param {Uint8Array} bytes
+     * @returns {Promise<string>}
+     */
+    async ifid_of(bytes) {
+        this.machine = this.machine || new Machine();
+        await this.machine.begun;
+        return this.machine.ifid(bytes);
     }
 
     /**
@@ -171,6 +200,7 @@ export class Play {
         this.empty();
         this.log.fill(play.log);
         this.answers = play.answers;
+        this.input.remember(play.answers);
         this.chain = play.chain;
         this.last_rows = play.box;
         this.freshened();
@@ -216,9 +246,9 @@ export class Play {
                 this.machine.drop();
             this.machine = null;
             this.show_running("");
-            tell(`The interpreter has failed (${error.message}), and was started anew.`, true);
             if (this.here)
                 await this.back_to(this.here);
+            tell(`The interpreter has failed (${error.message}), and was started anew.`, true);
         }
     }
 
@@ -268,6 +298,7 @@ export class Play {
         if (this.is_busy || !this.here)
             return;
         tell("");
+        this.later = [];
         await this.go(answer);
     }
 
@@ -325,10 +356,28 @@ export class Play {
      * @param {Answer[]} answers
      */
     async replay(answers) {
-        let standing = await this.run_on(null);
+        this.is_halted = false;
+        const soon = setTimeout(() => this.show_running("The play is being repeated."), SOON);
+        let standing = await this.run_on(null).finally(() => clearTimeout(soon));
+        const again = setTimeout(() => this.show_running("The play is being repeated."), SOON);
+        try {
+            standing = await this.repeat(standing, answers);
+        } finally {
+            clearTimeout(again);
+        }
+        this.show_running("");
+        this.settle(standing);
+    }
+
+    /**
+     * Gives answers as far as they fit, until the reader stops it.
+     * @param {Standing} standing
+     * @param {Answer[]} answers
+     */
+    async repeat(standing, answers) {
         for (const answer of answers) {
             const reads = standing.awaits === "line" || standing.awaits === "character";
-            if (!this.fits(standing.awaits, answer))
+            if (this.is_halted || !this.fits(standing.awaits, answer))
                 break;
             if (reads) {
                 this.reach(standing);
@@ -340,7 +389,7 @@ export class Play {
         }
         if (standing.awaits === "save" || standing.awaits === "restore")
             standing = await this.run_on(standing.awaits === "save" ? { saved: false } : { restored: null });
-        this.settle(standing);
+        return standing;
     }
 
     /**
@@ -349,7 +398,7 @@ export class Play {
      */
     async run_on(answer) {
         let standing = await this.step(answer);
-        while (standing.awaits === "pause")
+        for (let i = 0; i < MOST_PAUSES && standing.awaits === "pause"; i++)
             standing = await this.step(null);
         return standing;
     }
@@ -511,7 +560,8 @@ export class Play {
      * @returns {Kept | null}
      */
     kept(module) {
-        if (!this.here || this.is_busy)
+        const awaits = this.standing ? this.standing.awaits : "stopped";
+        if (!this.here || this.is_busy || (awaits !== "line" && awaits !== "character"))
             return null;
         return {
             module, story: this.sum, ifid: this.ifid, seed: this.seed, answers: this.answers.slice(0, this.here.answers),

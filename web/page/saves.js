@@ -1,7 +1,7 @@
 // Saved games: slots with names in the browser, and Quetzal files for other interpreters.
 
 import { agreed, at, bytes_of, chosen_file, closed, dialog, field, give_file, made, made_button, stem, tell } from "./at.js";
-import { forget, keep, kept, names } from "./store.js";
+import { forget, is_lasting, keep, kept, names } from "./store.js";
 
 /** @typedef {{name: string, game: string, place: string, line: number, date: number, image: Uint8Array}} Slot */
 /** @typedef {{sum: string, game: string, place: string, line: number}} Of */
@@ -75,6 +75,7 @@ async function write(of, name, image) {
  */
 export async function ask_save(of, image) {
     const slots = await slots_of(of.sum);
+    at("not-lasting").hidden = await is_lasting();
     field("save-name").value = `${of.place || "Game"}, line ${of.line}`;
     at("saving-list-head").hidden = slots.length === 0;
     at("saving-slots").replaceChildren(...slots.map((slot) => {

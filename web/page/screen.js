@@ -81,6 +81,7 @@ export class Screen {
             upper.append(this.bar(status_parts(this.status)));
         if (this.rows.length)
             this.draw_rows();
+        upper.tabIndex = upper.scrollWidth > upper.clientWidth || upper.scrollHeight > upper.clientHeight ? 0 : -1;
     }
 
     draw_rows() {

@@ -74,7 +74,8 @@ export async function keep(shelf, name, value) {
  * @param {string} name
  */
 export async function kept(shelf, name) {
-    return await asked(shelf, "readonly", (store) => store.get(name)) ?? memory[shelf].get(name) ?? null;
+    const found = await asked(shelf, "readonly", (store) => store.get(name)).catch(() => null);
+    return found ?? memory[shelf].get(name) ?? null;
 }
 
 /**
@@ -83,7 +84,7 @@ export async function kept(shelf, name) {
  */
 export async function forget(shelf, name) {
     memory[shelf].delete(name);
-    await asked(shelf, "readwrite", (store) => store.delete(name));
+    await asked(shelf, "readwrite", (store) => store.delete(name)).catch(() => null);
 }
 
 /**
@@ -93,6 +94,6 @@ export async function forget(shelf, name) {
  * @returns {Promise<string[]>}
  */
 export async function names(shelf, front = "") {
-    const found = await asked(shelf, "readonly", (store) => store.getAllKeys()) ?? [];
+    const found = await asked(shelf, "readonly", (store) => store.getAllKeys()).catch(() => null) ?? [];
     return [...new Set([...found.map(String), ...memory[shelf].keys()])].filter((name) => name.startsWith(front)).sort();
 }

@@ -53,6 +53,14 @@ function replace(open) {
     game = other;
 }
 
+/**
+ * What a game's file says of its story.
+ * @param {any} it
+ */
+function about(it) {
+    return { ...it.story(), ifid: (it.list("ifid") || "").trim() };
+}
+
 /** The same game without the states to go back to, as a snapshot has it. */
 function freshen() {
     const snapshot = game.snapshot();
@@ -136,12 +144,18 @@ const CALLS = {
     open: ({ story: bytes, options }) => {
         replace((it) => it.open(bytes, { ...options, room: ROOM }));
         story = bytes;
-        return { ...game.story(), ifid: (game.list("ifid") || "").trim() };
+        return about(game);
+    },
+    ifid: ({ story: bytes }) => {
+        const other = /** @type {Module} */ (module).open(bytes, {});
+        const { ifid } = about(other);
+        other.close();
+        return ifid;
     },
     resume: ({ story: bytes, snapshot }) => {
         replace((it) => it.openSnapshot(bytes, snapshot, { room: ROOM }));
         story = bytes;
-        return { ...game.story(), ifid: (game.list("ifid") || "").trim() };
+        return about(game);
     },
     run: ({ answer }) => run(answer),
     image: () => game.image(),

@@ -1,5 +1,6 @@
 // What is tested, each by the page's own controls.
 
+import { writeFileSync } from "node:fs";
 import { contrast, named } from "./access.mjs";
 import { EXAMPLES, MENU, basename, holds, join, lines_of, native, pause, readFileSync, same, same_with_keys } from "./page.mjs";
 
@@ -258,7 +259,83 @@ async function link(page) {
     await page.rests();
     await page.say("hello");
     same(await page.transcript(), text.replace(/roll\n[^>]*>$/, "hello\nNothing happens.\n\n>"), "the transcript that goes on");
+    await page.click("#show-lines");
+    await page.shown("lines");
+    same(await page.run(() => document.querySelectorAll("#line-list .later").length), 0, "the number of later lines after an answer");
     return `${address.length} characters`;
+}
+
+async function lines_back_and_forth(page) {
+    await page.fresh();
+    await page.open(MENU);
+    await page.say_all(["roll", "roll", "roll"]);
+    const text = await page.transcript();
+    const choose = async (place) => {
+        await page.click("#show-lines");
+        await page.shown("lines");
+        await page.run((i) => [...document.querySelectorAll("#line-list button")][i].click(), place);
+        await page.until(() => !document.querySelector("dialog[open]"));
+        await page.rests();
+    };
+    await choose(1);
+    same(await page.transcript(), native(["play", "--echo", MENU], "roll\n").text, "the transcript before the second line");
+    await choose(3);
+    same(await page.transcript(), text, "the transcript at the end again");
+}
+
+async function link_of_own_story(page) {
+    await page.fresh();
+    await page.click("#example");
+    await page.rests();
+    await page.say("look");
+    await page.click("#show-lines");
+    await page.shown("lines");
+    await page.click("#copy-link");
+    const address = await page.until(() => location.hash.startsWith("#play=") && location.hash);
+    await page.run(() => document.getElementById("lines").close());
+    await page.say_all(["inventory", "north"]);
+    same(await page.run(() => location.hash), "", "the address after an answer");
+    await pause(200);
+    await page.browser.go(page.url + address);
+    await page.until(() => document.getElementById("asking").open);
+    holds((await page.text("asking-words")).includes("3 lines"), await page.text("asking-words"));
+    await page.click("#asking-yes");
+    await page.until(() => document.getElementById("told").textContent.includes("letter by letter"));
+    await page.say("inventory");
+    same(await page.transcript(), native(["play", "--echo", z(5)], "look\ninventory\n").text, "the transcript");
+}
+
+async function failure(page) {
+    await page.fresh();
+    await page.open(MENU);
+    await page.say("roll");
+    await page.run(() => {
+        const post = Worker.prototype.postMessage;
+        Worker.prototype.postMessage = function(message) {
+            Worker.prototype.postMessage = post;
+            post.call(this, { ...message, call: "nothing of the kind" });
+        };
+    });
+    await page.say("roll");
+    await page.until(() => document.getElementById("told").textContent.includes("was started anew"));
+    await page.rests();
+    await page.say("roll");
+    same(await page.transcript(), native(["play", "--echo", MENU], "roll\nroll\n").text, "the transcript");
+}
+
+async function script(page) {
+    await page.fresh();
+    const story = readFileSync(z(5));
+    story[17] |= 1;
+    await page.drop(story, "scripted.z5");
+    await page.until(() => document.getElementById("title").textContent === "scripted.z5");
+    await page.rests();
+    await page.say_all(["open the bag", "inventory"]);
+    const found = readFileSync(await page.file_after(() => page.click("#script")), "utf8");
+    const [file, wanted] = ["scripted.z5", "script.txt"].map((name) => join(page.browser.folder, "profile", name));
+    writeFileSync(file, story);
+    native(["play", "--script", wanted, file], "open the bag\ninventory\n");
+    same(found, readFileSync(wanted, "utf8"), "the story's transcript");
 }
 
 async function play_file(page) {
@@ -547,6 +624,8 @@ export const CASES = [
     ["a reload goes on", reload],
     ["a reload goes on where the module is another", reload_of_another_module],
     ["a link", link],
+    ["a link to a story with a play of one's own", link_of_own_story],
+    ["back to a line, and to the end again", lines_back_and_forth],
     ["a play as a file", play_file],
     ["a link that is cut off", bad_link],
     ["a box", box],
@@ -554,6 +633,8 @@ export const CASES = [
     ["a Blorb file", blorb_file],
     ["damaged files", damaged],
     ["stories without end", without_end],
+    ["a failure of the machine", failure],
+    ["the story's own transcript", script],
     ["undo in version 3", (page) => undo(page, 3)],
     ["undo in version 5", (page) => undo(page, 5)],
     ["undo by the story's states", undo_of_story],
