@@ -68,8 +68,10 @@ function depth(line) {
  * @returns {(Node | string)[]}
  */
 function tree_line(line) {
+    const indent = lines[line].slice(0, depth(line));
+    const rest = lines[line].slice(depth(line));
     if (line + 1 >= lines.length || depth(line + 1) <= depth(line))
-        return [made("span", "leaf"), lines[line]];
+        return [indent, made("span", "leaf"), rest];
     const button = made_button("fold", "", () => {
         if (!folded.delete(line))
             folded.add(line);
@@ -79,8 +81,8 @@ function tree_line(line) {
             again.focus();
     });
     button.setAttribute("aria-expanded", String(!folded.has(line)));
-    button.setAttribute("aria-label", `What is in ${lines[line].trim()}`);
-    return [button, lines[line]];
+    button.setAttribute("aria-label", `What is in ${rest}`);
+    return [indent, button, rest];
 }
 
 /** The lines of the tree that are not folded away. */

@@ -1,5 +1,6 @@
 // What is tested, each by the page's own controls.
 
+import { randomBytes } from "node:crypto";
 import { writeFileSync } from "node:fs";
 import { contrast, named } from "./access.mjs";
 import { EXAMPLES, MENU, basename, holds, join, lines_of, native, pause, readFileSync, same, same_with_keys } from "./page.mjs";
@@ -244,10 +245,7 @@ async function link(page) {
     }
     await page.say("roll");
     const text = await page.transcript();
-    await page.click("#show-lines");
-    await page.shown("lines");
-    await page.click("#copy-link");
-    const address = await page.until(() => location.hash.startsWith("#play=") && location.hash);
+    const address = await link_of(page);
     await page.fresh(address);
     holds((await page.text("invitation")).includes("IFID"), "the page does not ask for the story");
     await page.open(MENU);
@@ -263,6 +261,64 @@ async function link(page) {
     await page.shown("lines");
     same(await page.run(() => document.querySelectorAll("#line-list .later").length), 0, "the number of later lines after an answer");
     return `${address.length} characters`;
+}
+
+/** The address of a link to the play. */
+async function link_of(page) {
+    await page.click("#show-lines");
+    await page.shown("lines");
+    await page.click("#copy-link");
+    const address = await page.until(() => location.hash.startsWith("#play=") && location.hash);
+    await page.run(() => document.getElementById("lines").close());
+    return address;
+}
+
+async function link_with_saves(page) {
+    await page.fresh();
+    await page.open(z(5));
+    for (const [i, line] of [...lines_of(SAVES).slice(0, -2), "north", "save"].entries()) {
+        await page.say(line);
+        if (await page.run(() => document.querySelector("dialog[open]") !== null))
+            await by_window(page);
+        if (i === 8) {
+            await pause(200);
+            await page.reload();
+            await page.rests();
+        }
+    }
+    await page.click("#undo");
+    await page.rests();
+    const text = await page.transcript();
+    const address = await link_of(page);
+    await page.fresh(address);
+    await page.until(() => document.getElementById("told").textContent.includes("letter by letter"));
+    same(await page.transcript(), text, "the transcript of the link");
+    return `${address.length} characters`;
+}
+
+async function long_play(page) {
+    await page.fresh();
+    await page.open(MENU);
+    const file = JSON.parse(readFileSync(await page.file_after(async () => {
+        await page.click("#show-lines");
+        await page.shown("lines");
+        await page.click("#play-file");
+    })));
+    await page.run(() => document.getElementById("lines").close());
+    const lines = Array.from({ length: 1000 }, (_, i) => i % 2 ? "roll" : `x${randomBytes(20).toString("hex")}`);
+    await page.drop(Buffer.from(JSON.stringify({ ...file, answers: lines })), "long.play.json");
+    const began = Date.now();
+    await page.until(() => document.getElementById("told").textContent.includes("not the link's"));
+    const took = Date.now() - began;
+    same(await page.transcript(), native(["play", "--echo", MENU], joined(lines)).text, "the transcript");
+    await page.click("#show-lines");
+    await page.shown("lines");
+    same(await page.is_shown("copy-link"), false, "whether a link can be copied");
+    same(await page.run(() => document.querySelectorAll("#line-list li").length), 1000, "the number of lines");
+    await page.run(() => document.getElementById("lines").close());
+    const blocks = await page.run(() => document.querySelectorAll(".turn").length);
+    holds(blocks <= 81, `${blocks} blocks stand in the page`);
+    return `1000 lines in ${took} ms`;
 }
 
 async function lines_back_and_forth(page) {
@@ -288,11 +344,7 @@ async function link_of_own_story(page) {
     await page.click("#example");
     await page.rests();
     await page.say("look");
-    await page.click("#show-lines");
-    await page.shown("lines");
-    await page.click("#copy-link");
-    const address = await page.until(() => location.hash.startsWith("#play=") && location.hash);
-    await page.run(() => document.getElementById("lines").close());
+    const address = await link_of(page);
     await page.say_all(["inventory", "north"]);
     same(await page.run(() => location.hash), "", "the address after an answer");
     await pause(200);
@@ -624,7 +676,9 @@ export const CASES = [
     ["a reload goes on", reload],
     ["a reload goes on where the module is another", reload_of_another_module],
     ["a link", link],
+    ["a link to a play with saved games, a reload and undo", link_with_saves],
     ["a link to a story with a play of one's own", link_of_own_story],
+    ["a long play", long_play],
     ["back to a line, and to the end again", lines_back_and_forth],
     ["a play as a file", play_file],
     ["a link that is cut off", bad_link],

@@ -15,42 +15,46 @@ async function play(page, story, lines) {
 async function inside(page, tab) {
     await page.click("#show-inside");
     await page.until(() => document.getElementById("panel").getAttribute("aria-busy") === "false");
-    await page.click(`#tab-${tab}`);
+    await page.run((name) => {
+        const it = document.getElementById(`tab-${name}`);
+        it.focus();
+        it.click();
+    }, tab);
     await page.until(() => document.getElementById("panel").getAttribute("aria-busy") === "false");
 }
 
 /** Each picture: its name, its width and height, whether it is dark, and how the page comes to show it. */
 const PICTURES = [
-    ["first", 900, 560, false, (page) => page.fresh()],
-    ["wide", 900, 700, false, (page) => play(page, LIGHTHOUSE, LINES)],
-    ["dark", 900, 700, true, (page) => play(page, LIGHTHOUSE, LINES)],
+    ["first", 800, 440, false, (page) => page.fresh()],
+    ["wide", 800, 600, false, (page) => play(page, LIGHTHOUSE, LINES)],
+    ["dark", 800, 600, true, (page) => play(page, LIGHTHOUSE, LINES)],
     ["phone", 360, 640, false, (page) => play(page, LIGHTHOUSE, LINES)],
-    ["box", 900, 560, false, (page) => play(page, join(EXAMPLES, "box.z5"), [])],
-    ["menu", 900, 560, false, (page) => play(page, MENU, ["menu"])],
+    ["box", 800, 440, false, (page) => play(page, join(EXAMPLES, "box.z5"), [])],
+    ["menu", 800, 440, false, (page) => play(page, MENU, ["menu"])],
     ["phone-menu", 360, 640, true, (page) => play(page, MENU, ["menu"])],
-    ["options", 900, 700, false, async (page) => {
+    ["options", 800, 600, false, async (page) => {
         await play(page, LIGHTHOUSE, LINES);
         await page.click("#show-menu");
     }],
-    ["lines", 900, 700, false, async (page) => {
+    ["lines", 800, 600, false, async (page) => {
         await play(page, LIGHTHOUSE, LINES);
         await page.click("#show-lines");
     }],
-    ["saves", 900, 700, false, async (page) => {
+    ["saves", 800, 600, false, async (page) => {
         await play(page, LIGHTHOUSE, [...LINES, "save"]);
         await page.click("#keep");
         await page.rests();
         await page.say_all(["west", "save"]);
     }],
-    ["inside-map", 900, 700, false, async (page) => {
+    ["inside-map", 800, 600, false, async (page) => {
         await play(page, LIGHTHOUSE, LINES);
         await inside(page, "map");
     }],
-    ["inside-tree", 900, 700, true, async (page) => {
+    ["inside-tree", 800, 600, true, async (page) => {
         await play(page, LIGHTHOUSE, LINES);
         await inside(page, "tree");
     }],
-    ["inside-code", 900, 700, false, async (page) => {
+    ["inside-code", 800, 600, false, async (page) => {
         await play(page, LIGHTHOUSE, LINES);
         await inside(page, "code");
     }],
