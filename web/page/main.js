@@ -93,11 +93,12 @@ function seed() {
  * @param {StoryFile} story
  * @param {import("./machine.js").Answer[]} [answers]
  * @param {string} [with_seed]
+ * @param {import("./machine.js").Answer[]} [later]
  */
-async function start(story, answers = [], with_seed = seed()) {
+async function start(story, answers = [], with_seed = seed(), later = []) {
     await trying(story.name, async () => {
         tell("");
-        await play.start(story, with_seed, answers);
+        await play.start(story, with_seed, answers, later);
         await keep_story({ ...story, ifid: play.ifid }, play.sum);
         changed();
         await tidy();
@@ -240,10 +241,8 @@ async function restart() {
  */
 async function go_to(answers, count) {
     const { story } = play;
-    if (!story)
-        return;
-    await start(story, answers.slice(0, count), play.seed);
-    play.later = answers.slice(count);
+    if (story)
+        await start(story, answers.slice(0, count), play.seed, answers.slice(count));
 }
 
 /**

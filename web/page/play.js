@@ -149,8 +149,9 @@ export class Play {
      * @param {File} story
      * @param {string} seed
      * @param {Answer[]} [answers]
+     * @param {Answer[]} [later] the answers after these, for the list of lines
      */
-    async start(story, seed, answers = []) {
+    async start(story, seed, answers = [], later = []) {
         const was_busy = this.is_busy;
         const machine = await this.idle_machine();
         try {
@@ -161,6 +162,7 @@ export class Play {
         }
         this.log.clear();
         this.empty();
+        this.later = later;
         this.reader.changed();
         this.input.remember(answers);
         await this.guarded(() => this.replay(answers));

@@ -636,6 +636,20 @@ async function keyboard(page) {
     same(await page.run(() => document.activeElement.id), "line", "where a letter goes");
 }
 
+/** Lines that a story has wrapped are joined, and a story that wraps nothing stays as it is. */
+async function reflow(page) {
+    await page.fresh();
+    await page.open(z(5));
+    const joins = () => page.run(() => [...document.querySelectorAll("#log .soft")].length);
+    const count = await joins();
+    holds(count >= 5, `${count} lines were joined`);
+    const text = await page.run(() => document.getElementById("log").innerText);
+    holds(text.includes("Your boat tugs at its rope.") && text.includes("HELP gives help.\n"), text);
+    await page.open(MENU);
+    await page.say("hello");
+    same(await joins(), 0, "the number of joined lines of a story that does not wrap");
+}
+
 async function narrow(page) {
     await page.browser.size(360, 640);
     const fits = async (what) => {
@@ -698,6 +712,7 @@ export const CASES = [
     ["listings of version 3", (page) => inside(page, z(3))],
     ["drawings, folds, search and links inside", inside_works],
     ["keyboard alone", keyboard],
+    ["lines that a story has wrapped", reflow],
     ["360 pixels wide", narrow],
     ["contrast of all texts", contrast],
     ["roles and names", named],
