@@ -8,6 +8,8 @@ import { from_base64, to_base64 } from "./at.js";
 
 export const LONGEST_LINK = 8192;
 const LONGEST_PLAY = 4000000;
+const LONGEST_WORD = 300;
+const LAST_CHARACTER = 0x10ffff;
 const FRONT = "#play=";
 
 /**
@@ -72,13 +74,23 @@ export async function address_of(play) {
 }
 
 /** @param {any} it */
+function is_base64(it) {
+    try {
+        return typeof it === "string" && from_base64(it).length > 0;
+    } catch {
+        return false;
+    }
+}
+
+/** @param {any} it */
 function is_answer(it) {
-    if (typeof it === "string" || Number.isInteger(it))
+    if (typeof it === "string")
         return true;
+    if (typeof it === "number")
+        return Number.isInteger(it) && it >= 0 && it <= LAST_CHARACTER;
     if (!it || typeof it !== "object")
         return false;
-    return typeof it.saved === "boolean" || it.restored === null || typeof it.restored === "string"
-        || it.undo === true || it.fresh === true;
+    return typeof it.saved === "boolean" || it.restored === null || is_base64(it.restored) || it.undo === true || it.fresh === true;
 }
 
 /**
@@ -89,7 +101,8 @@ function is_answer(it) {
 export function play_of(text) {
     try {
         const it = JSON.parse(text);
-        const is_play = it.zkit === 1 && [it.ifid, it.name, it.story, it.seed, it.told].every((one) => typeof one === "string")
+        const words = [it.ifid, it.name, it.story, it.seed, it.told];
+        const is_play = it.zkit === 1 && words.every((one) => typeof one === "string" && one.length <= LONGEST_WORD)
             && /^\d{1,20}$/.test(it.seed) && Array.isArray(it.answers) && it.answers.every(is_answer);
         return is_play ? it : null;
     } catch {

@@ -1,7 +1,7 @@
 // A play: the story that runs, what was answered, and the ways back. What is answered is recorded, since the same
 // answers give the same play: that is what a link has, and how the reader goes back to any line.
 
-import { at, tell, to_base64 } from "./at.js";
+import { agreed, at, tell, to_base64 } from "./at.js";
 import { Machine, Trapped } from "./machine.js";
 import { box_text } from "./screen.js";
 import { sum_of } from "./sums.js";
@@ -31,6 +31,9 @@ import { sum_of } from "./sums.js";
 
 /** The reader can stop a story at any time, so it may run for longer than `zkit play` lets it by itself. */
 const OPTIONS = { steps: 1000000000 };
+
+/** So often a story asks for saved games before the reader is asked whether to go on. */
+const MOST_FILES = 3;
 
 /** So often a play that is repeated goes on by itself where much was written. */
 const MOST_PAUSES = 20;
@@ -312,14 +315,26 @@ export class Play {
         await this.guarded(async () => {
             if (answer !== null)
                 this.note(answer);
-            let standing = await this.step(answer);
-            while (standing.awaits === "save" || standing.awaits === "restore") {
-                const next = await this.file_answer(standing.awaits);
-                this.answers.push(next);
-                standing = await this.step(next);
-            }
-            this.settle(standing);
+            this.settle(await this.answer_files(await this.step(answer)));
         });
+    }
+
+    /**
+     * Saves and restores as the story asks for it, until it asks for something else. A reader who has enough of that can
+     * stop it.
+     * @param {Standing} standing
+     * @returns {Promise<Standing>}
+     */
+    async answer_files(standing) {
+        let now = standing;
+        for (let count = 1; now.awaits === "save" || now.awaits === "restore"; count++) {
+            if (count > MOST_FILES && !await agreed("Go on?", "The story asks for saved games again and again.", "Go on", "Stop it"))
+                return { ...now, awaits: "halt" };
+            const next = await this.file_answer(now.awaits);
+            this.answers.push(next);
+            now = await this.step(next);
+        }
+        return now;
     }
 
     /**
@@ -381,12 +396,12 @@ export class Play {
             const reads = standing.awaits === "line" || standing.awaits === "character";
             if (this.is_halted || !this.fits(standing.awaits, answer))
                 break;
-            if (reads) {
+            if (reads)
                 this.reach(standing);
+            if (is_read(answer))
                 this.note(answer);
-            } else {
+            else
                 this.answers.push(answer);
-            }
             standing = await this.run_on(answer);
         }
         if (standing.awaits === "save" || standing.awaits === "restore")
@@ -528,12 +543,15 @@ export class Play {
 
     async back_to_last() {
         const mark = this.marks.pop();
+        const last = this.answers.length - 1 - [...this.answers].reverse().findIndex(is_read);
         if (mark) {
             await this.back_to(mark);
-            return;
+        } else if (last < this.answers.length) {
+            await this.start(/** @type {File} */ (this.story), this.seed, this.answers.slice(0, last));
+        } else {
+            tell("There is nothing to go back to.");
+            this.settle(await this.step(null));
         }
-        tell("There is nothing to go back to.");
-        this.settle(await this.step(null));
     }
 
     /** @param {Mark} mark */

@@ -22,13 +22,11 @@ function parts(row) {
 }
 
 /**
- * The rows of a status line.
+ * The parts of a status line.
  * @param {StatusLine} status
  */
-function status_parts(status) {
-    const { kind, name, first, second } = status;
-    const minutes = String(second).padStart(2, "0");
-    return [name, kind === "time" ? `Time: ${first}:${minutes}` : `Score: ${first}`, kind === "time" ? "" : `Turns: ${second}`];
+function status_parts({ kind, name, first, second }) {
+    return [name, kind === "time" ? `Time: ${first}:${String(second).padStart(2, "0")}` : `Score: ${first}  Turns: ${second}`];
 }
 
 /**

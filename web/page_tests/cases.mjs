@@ -407,6 +407,16 @@ async function play_file(page) {
     same(await page.transcript(), text, "the transcript of the file");
 }
 
+async function bad_plays(page) {
+    await page.fresh();
+    const play = { zkit: 1, ifid: "ZCODE-1-261127-15E0", name: "x", story: "", seed: "1", told: "", answers: [] };
+    const bad = [{ answers: [-1] }, { answers: [{ restored: "%" }] }, { seed: "x" }, { answers: [[]] }, { name: "x".repeat(999) }, { zkit: 2 }];
+    for (const [i, part] of bad.entries()) {
+        await page.drop(Buffer.from(JSON.stringify({ ...play, ...part })), `bad${i}.json`);
+        await page.until((name) => document.getElementById("told").textContent === `${name}: not a story: it begins as a plain text`, `bad${i}.json`);
+    }
+}
+
 async function bad_link(page) {
     await page.fresh("#play=1abc");
     holds((await page.told()).includes("can't be read"), await page.told());
@@ -498,6 +508,22 @@ async function undo(page, version) {
     await page.until(() => !document.getElementById("log").textContent.includes("Shore Path"));
     await page.say("look");
     same(await page.transcript(), native(["play", "--echo", z(version)], "open bag\nlook\n").text, "the transcript");
+}
+
+async function undo_after_reload(page) {
+    await page.fresh();
+    await page.open(MENU);
+    await page.click("#undo");
+    await page.until(() => document.getElementById("told").textContent === "There is nothing to go back to.");
+    await page.say_all(["roll", "roll"]);
+    await pause(200);
+    await page.reload();
+    await page.rests();
+    await page.click("#undo");
+    await page.until(() => document.querySelectorAll("#log .typed").length === 1);
+    await page.rests();
+    await page.say("roll");
+    same(await page.transcript(), native(["play", "--echo", MENU], "roll\nroll\n").text, "the transcript");
 }
 
 async function undo_of_story(page) {
@@ -696,6 +722,7 @@ export const CASES = [
     ["back to a line, and to the end again", lines_back_and_forth],
     ["a play as a file", play_file],
     ["a link that is cut off", bad_link],
+    ["plays that are none", bad_plays],
     ["a box", box],
     ["a menu", menu],
     ["a Blorb file", blorb_file],
@@ -705,6 +732,7 @@ export const CASES = [
     ["the story's own transcript", script],
     ["undo in version 3", (page) => undo(page, 3)],
     ["undo in version 5", (page) => undo(page, 5)],
+    ["undo after a reload", undo_after_reload],
     ["undo by the story's states", undo_of_story],
     ["restart and seed", restart_and_seed],
     ["text size, and dark", settings],
