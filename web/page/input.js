@@ -58,7 +58,7 @@ export class Input {
 
     /**
      * Has the lines of a play for the arrows.
-     * @param {import("./machine.js").Answer[]} answers
+     * @param {import("./answers.js").Answer[]} answers
      */
     remember(answers) {
         this.lines = /** @type {string[]} */ (answers.filter((answer) => typeof answer === "string" && answer !== ""));

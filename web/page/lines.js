@@ -3,7 +3,7 @@
 import { at, closed, dialog, give_file, made, made_button, stem } from "./at.js";
 import { LONGEST_LINK, address_of } from "./link.js";
 
-/** @typedef {import("./machine.js").Answer} Answer */
+/** @typedef {import("./answers.js").Answer} Answer */
 
 const KEYS = new Map([[10, "Enter"], [13, "Enter"], [32, "Space"]]);
 

@@ -3,7 +3,7 @@
 
 import { from_base64, to_base64 } from "./at.js";
 
-/** @typedef {import("./machine.js").Answer} Answer */
+/** @typedef {import("./answers.js").Answer} Answer */
 /** @typedef {{zkit: 1, ifid: string, name: string, story: string, seed: string, told: string, answers: Answer[]}} Shared */
 
 export const LONGEST_LINK = 8192;

@@ -2,7 +2,7 @@
 
 import { at, from_base64 } from "./at.js";
 
-/** @typedef {string | number | {saved: boolean} | {restored: string | null} | {undo: true} | {fresh: true}} Answer */
+/** @typedef {import("./answers.js").Answer} Answer */
 /** @typedef {{kind: "score" | "time", name: string, first: number, second: number}} StatusLine */
 
 /**

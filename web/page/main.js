@@ -1,5 +1,6 @@
 // The page: opens stories, and lets its parts work together.
 
+import { is_read } from "./answers.js";
 import { agreed, at, bytes_of, chosen_file, dialog, field, from_base64, give_file, stem, tell } from "./at.js";
 import { is_blorb, story_in } from "./blorb.js";
 import { prepare_inside, show_inside } from "./inside.js";
@@ -9,7 +10,7 @@ import { is_link, play_at, play_of } from "./link.js";
 import { Log } from "./log.js";
 import { prepare_look } from "./look.js";
 import { NotOpened, module_bytes } from "./machine.js";
-import { Play, is_read } from "./play.js";
+import { Left, Play } from "./play.js";
 import { keep_play, keep_story, kept_play, last_play, story_of, tidy } from "./resume.js";
 import { ask_restore, ask_save, prepare_saves, show_saves } from "./saves.js";
 import { Screen } from "./screen.js";
@@ -72,6 +73,8 @@ async function trying(name, does) {
     try {
         await does();
     } catch (error) {
+        if (error instanceof Left)
+            return;
         if (!(error instanceof NotOpened)) {
             tell(`The page has failed: ${error instanceof Error ? error.message : error}`, true);
             throw error;
@@ -91,9 +94,9 @@ function seed() {
 /**
  * Starts a story and keeps it.
  * @param {StoryFile} story
- * @param {import("./machine.js").Answer[]} [answers]
+ * @param {import("./answers.js").Answer[]} [answers]
  * @param {string} [with_seed]
- * @param {import("./machine.js").Answer[]} [later]
+ * @param {import("./answers.js").Answer[]} [later]
  */
 async function start(story, answers = [], with_seed = seed(), later = []) {
     await trying(story.name, async () => {
@@ -236,7 +239,7 @@ async function restart() {
 
 /**
  * Goes to where the first ones of some answers were given; the others can still be gone to.
- * @param {import("./machine.js").Answer[]} answers
+ * @param {import("./answers.js").Answer[]} answers
  * @param {number} count
  */
 async function go_to(answers, count) {

@@ -2,11 +2,13 @@
 // answers give the same play: that is what a link has, and how the reader goes back to any line.
 
 import { agreed, at, tell, to_base64 } from "./at.js";
+import { fits, is_read } from "./answers.js";
+import { hide_over, show_over, show_paused, show_running } from "./bars.js";
 import { Machine, Trapped } from "./machine.js";
 import { box_text } from "./screen.js";
 import { sum_of } from "./sums.js";
 
-/** @typedef {import("./machine.js").Answer} Answer */
+/** @typedef {import("./answers.js").Answer} Answer */
 /** @typedef {import("./machine.js").Standing} Standing */
 /** @typedef {import("./machine.js").About} About */
 /** @typedef {import("./resume.js").Kept} Kept */
@@ -44,16 +46,8 @@ const MARKS = 32;
 /** After so many milliseconds the page says that the story runs. */
 const SOON = 300;
 
-/**
- * Whether an answer is the reader's to a read, and so one of the lines of the play.
- * @param {Answer} answer
- */
-export function is_read(answer) {
-    return typeof answer !== "object" || "undo" in answer;
-}
-
-/** A run whose play was left meanwhile. */
-class Left extends Error {}
+/** Something else was begun meanwhile. */
+export class Left extends Error {}
 
 export class Play {
     /**
@@ -132,6 +126,22 @@ export class Play {
         at("log").setAttribute("aria-busy", String(is_busy));
     }
 
+    /**
+     * What a promise gives, unless something else was begun meanwhile.
+     * @template T
+     * @param {Promise<T>} promise
+     * @returns {Promise<T>}
+     */
+    async unless_left(promise) {
+        const round = this.round;
+        const it = await promise.catch((error) => {
+            throw round === this.round ? error : new Left();
+        });
+        if (round !== this.round)
+            throw new Left();
+        return it;
+    }
+
     /** A machine that does nothing at the moment. Whatever ran before is left. */
     async idle_machine() {
         this.round++;
@@ -140,10 +150,11 @@ export class Play {
             this.machine = null;
         }
         this.be_busy(true);
-        this.show_running("");
-        this.machine = this.machine || new Machine();
-        await this.machine.begun;
-        return this.machine;
+        show_running("");
+        const machine = this.machine || new Machine();
+        this.machine = machine;
+        await this.unless_left(machine.begun);
+        return machine;
     }
 
     /**
@@ -158,9 +169,10 @@ export class Play {
         const was_busy = this.is_busy;
         const machine = await this.idle_machine();
         try {
-            this.take(story, await machine.open(story.bytes, { ...OPTIONS, seed: BigInt(seed) }), seed);
+            this.take(story, await this.unless_left(machine.open(story.bytes, { ...OPTIONS, seed: BigInt(seed) })), seed);
         } catch (error) {
-            await this.stay(was_busy);
+            if (!(error instanceof Left))
+                await this.stay(was_busy || error instanceof Trapped);
             throw error;
         }
         this.log.clear();
@@ -184,12 +196,25 @@ export class Play {
 
     /**
      * Goes on with the play before, where another one was not opened.
-     * @param {boolean} was_busy
+     * @param {boolean} is_lost whether the machine has it no more
      */
-    async stay(was_busy) {
-        this.be_busy(false);
-        if (was_busy && this.here)
+    async stay(is_lost) {
+        if (!is_lost) {
+            this.be_busy(false);
+            return;
+        }
+        this.drop_machine();
+        if (this.here)
             await this.back_to(this.here);
+    }
+
+    /** Ends the machine; the next use makes another one. */
+    drop_machine() {
+        if (this.machine)
+            this.machine.drop();
+        this.machine = null;
+        this.be_busy(false);
+        show_running("");
     }
 
     /**
@@ -199,8 +224,7 @@ export class Play {
      */
     async resume(story, play) {
         const machine = await this.idle_machine();
-        const about = await machine.resume(story.bytes, /** @type {Uint8Array} */ (play.snapshot))
-            .finally(() => this.be_busy(false));
+        const about = await this.unless_left(machine.resume(story.bytes, /** @type {Uint8Array} */ (play.snapshot)));
         this.take(story, about, play.seed);
         this.empty();
         this.log.fill(play.log);
@@ -244,13 +268,9 @@ export class Play {
         } catch (error) {
             if (error instanceof Left)
                 return;
-            this.be_busy(false);
+            this.drop_machine();
             if (!(error instanceof Trapped))
                 throw error;
-            if (this.machine)
-                this.machine.drop();
-            this.machine = null;
-            this.show_running("");
             if (this.here)
                 await this.back_to(this.here);
             tell(`The interpreter has failed (${error.message}), and was started anew.`, true);
@@ -266,19 +286,14 @@ export class Play {
         const machine = /** @type {Machine} */ (this.machine);
         this.be_busy(true);
         this.input.rest();
-        this.hide_over();
-        const soon = setTimeout(() => this.show_running("The story is running."), SOON);
+        hide_over();
+        const soon = setTimeout(() => show_running("The story is running."), SOON);
         try {
-            const standing = await machine.run(answer, (text, script) => this.written(round, text, script));
-            if (round !== this.round)
-                throw new Left();
-            return standing;
-        } catch (error) {
-            throw round === this.round ? error : new Left();
+            return await this.unless_left(machine.run(answer, (text, script) => this.written(round, text, script)));
         } finally {
             clearTimeout(soon);
             if (round === this.round)
-                this.show_running("");
+                show_running("");
         }
     }
 
@@ -374,15 +389,15 @@ export class Play {
      */
     async replay(answers) {
         this.is_halted = false;
-        const soon = setTimeout(() => this.show_running("The play is being repeated."), SOON);
+        const soon = setTimeout(() => show_running("The play is being repeated."), SOON);
         let standing = await this.run_on(null).finally(() => clearTimeout(soon));
-        const again = setTimeout(() => this.show_running("The play is being repeated."), SOON);
+        const again = setTimeout(() => show_running("The play is being repeated."), SOON);
         try {
             standing = await this.repeat(standing, answers);
         } finally {
             clearTimeout(again);
         }
-        this.show_running("");
+        show_running("");
         this.settle(standing);
     }
 
@@ -394,7 +409,7 @@ export class Play {
     async repeat(standing, answers) {
         for (const answer of answers) {
             const reads = standing.awaits === "line" || standing.awaits === "character";
-            if (this.is_halted || !this.fits(standing.awaits, answer))
+            if (this.is_halted || !fits(standing.awaits, answer))
                 break;
             if (reads)
                 this.reach(standing);
@@ -418,19 +433,6 @@ export class Play {
         for (let i = 0; i < MOST_PAUSES && standing.awaits === "pause"; i++)
             standing = await this.step(null);
         return standing;
-    }
-
-    /**
-     * Whether an answer answers what is awaited.
-     * @param {string} awaits
-     * @param {Answer} answer
-     */
-    fits(awaits, answer) {
-        if (typeof answer !== "object")
-            return awaits === (typeof answer === "string" ? "line" : "character");
-        if ("saved" in answer || "restored" in answer)
-            return awaits === ("saved" in answer ? "save" : "restore");
-        return awaits === "line" || awaits === "character";
     }
 
     /**
@@ -476,44 +478,18 @@ export class Play {
         if (awaits === "line" || awaits === "character") {
             this.reach(standing);
             this.input.await(awaits, this.log.held, standing.longest);
-        } else if (awaits === "stopped") {
+            this.reader.changed();
+            return;
+        }
+        this.input.hide();
+        if (awaits === "stopped") {
             this.reach(standing);
-            this.show_over(standing);
+            show_over(standing, this.here !== null);
         } else {
-            this.input.hide();
-            this.show_running(awaits === "pause" ? "The story has written very much without asking for anything."
-                : "You have stopped the story.", true);
+            show_paused(awaits === "pause" ? "The story has written very much without asking for anything." : "You have stopped the story.",
+                this.here !== null);
         }
         this.reader.changed();
-    }
-
-    /**
-     * Says that the story runs, or has paused; "" for neither.
-     * @param {string} words
-     * @param {boolean} [has_paused]
-     */
-    show_running(words, has_paused = false) {
-        at("running").hidden = words === "";
-        at("running-words").textContent = words;
-        at("stop").hidden = has_paused;
-        at("go-on").hidden = !has_paused;
-        at("step-back").hidden = !has_paused || !this.here;
-        if (has_paused)
-            at("go-on").focus();
-    }
-
-    /** @param {Standing} standing */
-    show_over(standing) {
-        const why = standing.words || standing.last;
-        this.input.hide();
-        at("over").hidden = false;
-        at("over-words").textContent = standing.last ? `The story has stopped: ${why} (${standing.last}).` : "The story has ended.";
-        at("over-back").hidden = !this.here;
-        at("over-again").focus();
-    }
-
-    hide_over() {
-        at("over").hidden = true;
     }
 
     /** Goes back to before the last answer: by the story's own state, or else by a snapshot of the read before. */
@@ -537,8 +513,9 @@ export class Play {
 
     /** Back to the last read, from a story that has stopped or was stopped. */
     async back() {
-        if (this.here)
-            await this.back_to(this.here);
+        const { here } = this;
+        if (here)
+            await this.guarded(() => this.back_to(here));
     }
 
     async back_to_last() {
@@ -563,7 +540,7 @@ export class Play {
             return;
         }
         const machine = await this.idle_machine();
-        await machine.resume(story.bytes, mark.snapshot);
+        await this.unless_left(machine.resume(story.bytes, mark.snapshot));
         this.answers = answers;
         this.freshened();
         this.log.cut(mark.log);

@@ -4,7 +4,7 @@
 import { forget, keep, kept, names } from "./store.js";
 import { sum_of } from "./sums.js";
 
-/** @typedef {import("./machine.js").Answer} Answer */
+/** @typedef {import("./answers.js").Answer} Answer */
 /** @typedef {{name: string, ifid: string, bytes: Uint8Array}} Story */
 
 /**

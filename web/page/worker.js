@@ -2,7 +2,7 @@
 
 import { Module, Refused } from "../zkit.js";
 
-/** @typedef {string | number | {saved: boolean} | {restored: string | null} | {undo: true} | {fresh: true}} Answer */
+/** @typedef {import("./answers.js").Answer} Answer */
 
 /** So many instructions run between two looks at the messages. */
 const SLICE = 500000;

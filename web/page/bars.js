@@ -1,0 +1,43 @@
+// What stands in the place of the line where the story runs, has paused, or has ended.
+
+import { at } from "./at.js";
+
+/**
+ * Says that the story runs; "" for no more.
+ * @param {string} words
+ */
+export function show_running(words) {
+    at("running").hidden = words === "";
+    at("running-words").textContent = words;
+    at("stop").hidden = false;
+    at("go-on").hidden = at("step-back").hidden = true;
+}
+
+/**
+ * Says that the story has paused.
+ * @param {string} words
+ * @param {boolean} has_way_back
+ */
+export function show_paused(words, has_way_back) {
+    show_running(words);
+    at("stop").hidden = true;
+    at("go-on").hidden = false;
+    at("step-back").hidden = !has_way_back;
+    at("go-on").focus();
+}
+
+/**
+ * Says that the story has ended, and why.
+ * @param {import("./machine.js").Standing} standing
+ * @param {boolean} has_way_back
+ */
+export function show_over({ words, last }, has_way_back) {
+    at("over").hidden = false;
+    at("over-words").textContent = last ? `The story has stopped: ${words || last} (${last}).` : "The story has ended.";
+    at("over-back").hidden = !has_way_back;
+    at("over-again").focus();
+}
+
+export function hide_over() {
+    at("over").hidden = true;
+}
