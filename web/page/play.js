@@ -477,6 +477,7 @@ export class Play {
         const { awaits } = standing;
         if (awaits === "line" || awaits === "character") {
             this.reach(standing);
+            this.log.draw();
             this.input.await(awaits, this.log.held, standing.longest);
             this.reader.changed();
             return;

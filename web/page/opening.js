@@ -1,0 +1,239 @@
+// Opening: a story from a file, a play of a link, or what the reader had open before.
+
+import { is_read } from "./answers.js";
+import { agreed, at, bytes_of, field, from_base64, tell } from "./at.js";
+import { is_blorb, story_in } from "./blorb.js";
+import { is_link, play_at, play_of } from "./link.js";
+import { NotOpened } from "./machine.js";
+import { Left } from "./play.js";
+import { keep_story, kept_play, last_play, story_of, tidy } from "./resume.js";
+import { sum_of } from "./sums.js";
+
+/** @typedef {import("./link.js").Shared} Shared */
+/** @typedef {import("./play.js").File} StoryFile */
+
+const EXAMPLE = { name: "lighthouse.z5", ifid: "ZCODE-1-261122-009F" };
+const SEED = "1";
+
+export function example() {
+    return { name: EXAMPLE.name, bytes: from_base64(at("example-bytes").textContent || "") };
+}
+
+/**
+ * Does what may find that a story is not opened, says so, and tells whether it was done.
+ * @param {string} name
+ * @param {() => Promise<void>} does
+ */
+async function trying(name, does) {
+    try {
+        await does();
+        return true;
+    } catch (error) {
+        if (error instanceof Left)
+            return false;
+        if (!(error instanceof NotOpened)) {
+            tell(`The page has failed: ${error instanceof Error ? error.message : error}`, true);
+            throw error;
+        }
+        tell(`${name}: not a story: ${error.message}`, true);
+        return false;
+    }
+}
+
+/** The seed that the reader has set, or the usual one where that is none. */
+function seed() {
+    const text = field("seed").value.trim();
+    const is_seed = /^\d{1,20}$/.test(text) && BigInt(text) < 2n ** 64n;
+    field("seed").value = is_seed ? text : SEED;
+    return field("seed").value;
+}
+
+export class Opening {
+    /**
+     * @param {import("./play.js").Play} play
+     * @param {string} module_sum
+     * @param {() => void} changed
+     */
+    constructor(play, module_sum, changed) {
+        this.play = play;
+        this.module_sum = module_sum;
+        this.changed = changed;
+        /**
+         * A play of a link whose story the reader has still to choose.
+         * @type {Shared | null}
+         */
+        this.awaited = null;
+    }
+
+    /**
+     * Starts a story and keeps it.
+     * @param {StoryFile} story
+     * @param {import("./answers.js").Answer[]} [answers]
+     * @param {string} [with_seed]
+     * @param {import("./answers.js").Answer[]} [later]
+     */
+    async start(story, answers = [], with_seed = seed(), later = []) {
+        return trying(story.name, async () => {
+            tell("");
+            await this.play.start(story, with_seed, answers, later);
+            await keep_story({ ...story, ifid: this.play.ifid }, this.play.sum);
+            this.changed();
+            await tidy();
+        });
+    }
+
+    /**
+     * Whether a story is opened: it is the one of the link that waits for it, or none waits, or the reader wants it all the same.
+     * @param {StoryFile} story
+     */
+    async is_wanted(story) {
+        if (!this.awaited)
+            return true;
+        const ifid = await this.play.ifid_of(story.bytes);
+        if (ifid === this.awaited.ifid || !await agreed("Another story", `Its IFID is ${ifid}, and the link's is ${this.awaited.ifid}.`, "Play it", "No"))
+            return ifid === this.awaited.ifid;
+        this.awaited = null;
+        return true;
+    }
+
+    /**
+     * Opens a story: with the play of a link, or where the reader was before, or at its start.
+     * @param {StoryFile} story
+     */
+    async open(story) {
+        await trying(story.name, async () => {
+            if (!await this.is_wanted(story))
+                return;
+            const before = await kept_play(sum_of(story.bytes));
+            if (this.awaited) {
+                const shared = this.awaited;
+                this.awaited = null;
+                await this.show_shared(shared, story);
+            } else if (before && before.answers.length && await agreed("Go on?", "You have played this story here before.", "Go on where I was", "Start anew")) {
+                await this.go_on(story, before);
+            } else {
+                await this.start(story);
+            }
+        });
+    }
+
+    /**
+     * Goes on with a play that was kept: by its snapshot, or where another module made it by its answers.
+     * @param {StoryFile} story
+     * @param {import("./resume.js").Kept} kept
+     */
+    async go_on(story, kept) {
+        field("seed").value = kept.seed;
+        try {
+            if (kept.module === this.module_sum && kept.snapshot) {
+                await this.play.resume(story, kept);
+                return;
+            }
+        } catch (error) {
+            if (!(error instanceof NotOpened))
+                throw error;
+        }
+        await this.start(story, kept.answers, kept.seed);
+    }
+
+    /**
+     * Opens what a file has: a story, a Blorb with one, or a play.
+     * @param {File} file
+     */
+    async open_file(file) {
+        const bytes = await bytes_of(file);
+        const shared = bytes[0] === 0x7b ? play_of(new TextDecoder().decode(bytes)) : null;
+        if (shared) {
+            await this.offer(shared);
+            return;
+        }
+        const story = is_blorb(bytes) ? story_in(bytes) : bytes;
+        if (story)
+            await this.open({ name: file.name, bytes: story });
+        else
+            tell(`${file.name}: there is no story in this Blorb file, or it was cut off.`, true);
+    }
+
+    /**
+     * Shows a play of a link or a file, if its story is here; else asks for that.
+     * @param {Shared} shared
+     */
+    async offer(shared) {
+        const story = shared.ifid === EXAMPLE.ifid ? example() : await story_of(shared.ifid);
+        if (story) {
+            await this.show_shared(shared, story);
+            return;
+        }
+        this.awaited = shared;
+        const lines = shared.answers.filter(is_read).length;
+        const words = `This link shows a play of ${shared.name}, ${lines} lines long. Choose that story's file to see it; its IFID is ${shared.ifid}.`;
+        if (this.play.story)
+            tell(words);
+        else
+            at("invitation").textContent = words;
+    }
+
+    /**
+     * Shows a play that was shared, where the reader agrees that it takes the place of the own one.
+     * @param {Shared} shared
+     * @param {StoryFile} story
+     */
+    async show_shared(shared, story) {
+        const own = await kept_play(sum_of(story.bytes));
+        const is_in_it = own && JSON.stringify(shared.answers).startsWith(JSON.stringify(own.answers).slice(0, -1));
+        const lines = own ? own.answers.filter(is_read).length : 0;
+        if (own && !is_in_it && !await agreed("Show the play of the link?", `It takes the place of your own play of this story, which has ${lines} lines.`, "Show it", "Keep mine")) {
+            if (!this.play.story)
+                await this.go_on(story, own);
+            return;
+        }
+        field("seed").value = shared.seed;
+        if (!await this.start(story, shared.answers, shared.seed))
+            return;
+        if (this.play.chain.slice(0, 16) === shared.told)
+            tell("This is the play of the link, letter by letter. Go on from here, or from any of its lines.");
+        else
+            tell("The story's text is not the link's. The story's file may be another one.", true);
+    }
+
+    /** Shows what the page begins with: the play of its address, or the last one, if there is one. */
+    async begin() {
+        addEventListener("hashchange", () => this.open_link());
+        field("seed").value = SEED;
+        if (await this.open_link())
+            return;
+        const last = await last_play();
+        if (last)
+            await this.go_on(last.story, last.play);
+    }
+
+    /** Shows the play that is in the page's address, and takes it from there. */
+    async open_link() {
+        if (!is_link(location.hash))
+            return false;
+        const shared = await play_at(location.hash);
+        history.replaceState(null, "", location.href.replace(/#.*/, ""));
+        if (shared)
+            await this.offer(shared);
+        else
+            tell("The link can't be read: it is cut off, or this browser is too old for it.", true);
+        return shared !== null;
+    }
+
+    async restart() {
+        const { story } = this.play;
+        if (story && (this.play.reads() === 0 || await agreed("Restart?", "The story begins anew.", "Restart", "Go on")))
+            await this.start(story);
+    }
+
+    /**
+     * Goes to where the first ones of some answers were given; the others can still be gone to.
+     * @param {import("./answers.js").Answer[]} answers
+     * @param {number} count
+     */
+    async go_to(answers, count) {
+        const { story } = this.play;
+        if (story)
+            await this.start(story, answers.slice(0, count), this.play.seed, answers.slice(count));
+    }
+}
