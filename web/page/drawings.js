@@ -10,9 +10,9 @@ const COLOURS = ["#7a8f5a", "#b4884a", "#4f7f92", "#9b5d5d", "#6d6aa0", "#4c8f78
  * @type {Record<string, string>}
  */
 const MEANINGS = {
-    C1: "The sum of the file's bytes is not the one in its header: bytes were changed or lost, or the compiler wrote none.",
+    C1: "The sum of the file's bytes is not the one in its header: bytes were changed, or the compiler wrote none.",
     C2: "The header states more bytes than the file has: it was cut off.",
-    C3: "The dictionary says that it is sorted, and an entry is not above the one before it. Other interpreters may miss words.",
+    C3: "The dictionary says that it is sorted, and is not. Other interpreters may miss words.",
     C4: "There is no dictionary at the address that the header names, or not all of it can be read.",
     C5: "A parent, a sibling or a child of an object has a number past the last object.",
     C6: "The children of an object go round.",
@@ -56,7 +56,8 @@ export function draw_map(lines, length) {
 export function draw_meanings(lines) {
     const kinds = [...new Set(lines.map((line) => line.split(" ")[0]))];
     const list = made("ul", "meaning");
-    list.append(...kinds.map((kind) => made("li", "", `${kind}: ${MEANINGS[kind] || "This finding is not known here."}`)));
+    const words = kinds.map((kind) => `${kind}: ${MEANINGS[kind] || "This finding is not known here."}`);
+    list.append(...words.map((text) => made("li", "", text)));
     if (kinds.length === 0)
         list.append(made("li", "", "Nothing is wrong with it, as far as these tests see."));
     return list;

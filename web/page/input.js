@@ -170,5 +170,6 @@ function code_of(event) {
  * @param {HTMLElement} target
  */
 function is_taken(target) {
-    return target.closest("input, button, select, a, dialog") !== null || document.querySelector("dialog[open]") !== null;
+    const taker = target.closest("input, button, select, a, dialog") || document.querySelector("dialog[open]");
+    return taker !== null;
 }

@@ -4,7 +4,10 @@
 import { from_base64, to_base64 } from "./at.js";
 
 /** @typedef {import("./answers.js").Answer} Answer */
-/** @typedef {{zkit: 1, ifid: string, name: string, story: string, seed: string, told: string, answers: Answer[]}} Shared */
+/**
+ * A play that is shared.
+ * @typedef {{zkit: 1, ifid: string, name: string, story: string, seed: string, told: string, answers: Answer[]}} Shared
+ */
 
 export const LONGEST_LINK = 8192;
 const LONGEST_PLAY = 4000000;
@@ -90,7 +93,8 @@ function is_answer(it) {
         return Number.isInteger(it) && it >= 0 && it <= LAST_CHARACTER;
     if (!it || typeof it !== "object")
         return false;
-    return typeof it.saved === "boolean" || it.restored === null || is_base64(it.restored) || it.undo === true || it.fresh === true;
+    const is_file = typeof it.saved === "boolean" || it.restored === null || is_base64(it.restored);
+    return is_file || it.undo === true || it.fresh === true;
 }
 
 /**

@@ -13,7 +13,8 @@ export class Listing {
         this.shown = [];
         /** @type {(line: number) => (Node | string)[]} */
         this.draw = () => [];
-        this.observer = new IntersectionObserver((entries) => this.seen(entries), { root: element, rootMargin: "800px 0px" });
+        const near = { root: element, rootMargin: "800px 0px" };
+        this.observer = new IntersectionObserver((entries) => this.seen(entries), near);
     }
 
     /**

@@ -91,7 +91,8 @@ function prepare_buttons() {
     on_click("transcript", () => give_file(log.transcript(), `${stem(of_play().game)}.txt`));
     on_click("script", () => give_file(play.script, `${stem(of_play().game)}.script.txt`));
     at("show-menu").addEventListener("click", () => {
-        at("about").textContent = `${of_play().game}, release ${play.about ? play.about.release : ""}, IFID ${play.ifid}, line ${play.reads()}`;
+        const release = play.about ? play.about.release : 0;
+        at("about").textContent = `${of_play().game}, release ${release}, IFID ${play.ifid}, line ${play.reads()}`;
         dialog("menu").showModal();
     });
     field("story-file").addEventListener("change", () => {

@@ -48,6 +48,21 @@ function seed() {
     return field("seed").value;
 }
 
+/** Whether the reader goes on with the play of before. */
+function goes_on() {
+    return agreed("Go on?", "You have played this story here before.", "Go on where I was", "Start anew");
+}
+
+/**
+ * Whether the reader agrees that the play of a link takes the place of an own one.
+ * @param {import("./resume.js").Kept} own
+ */
+function may_replace(own) {
+    const lines = own.answers.filter(is_read).length;
+    const words = `It takes the place of your own play of this story, which has ${lines} lines.`;
+    return agreed("Show the play of the link?", words, "Show it", "Keep mine");
+}
+
 export class Opening {
     /**
      * @param {import("./play.js").Play} play
@@ -83,17 +98,21 @@ export class Opening {
     }
 
     /**
-     * Whether a story is opened: it is the one of the link that waits for it, or none waits, or the reader wants it all the same.
+     * Whether a story is opened: it is the one of the link that waits for it, or none waits, or the reader wants it all
+     * the same.
      * @param {StoryFile} story
      */
     async is_wanted(story) {
         if (!this.awaited)
             return true;
         const ifid = await this.play.ifid_of(story.bytes);
-        if (ifid === this.awaited.ifid || !await agreed("Another story", `Its IFID is ${ifid}, and the link's is ${this.awaited.ifid}.`, "Play it", "No"))
-            return ifid === this.awaited.ifid;
-        this.awaited = null;
-        return true;
+        if (ifid === this.awaited.ifid)
+            return true;
+        const words = `Its IFID is ${ifid}, and the link's is ${this.awaited.ifid}.`;
+        const is_played = await agreed("Another story", words, "Play it", "No");
+        if (is_played)
+            this.awaited = null;
+        return is_played;
     }
 
     /**
@@ -109,7 +128,7 @@ export class Opening {
                 const shared = this.awaited;
                 this.awaited = null;
                 await this.show_shared(shared, story);
-            } else if (before && before.answers.length && await agreed("Go on?", "You have played this story here before.", "Go on where I was", "Start anew")) {
+            } else if (before && before.answers.length && await goes_on()) {
                 await this.go_on(story, before);
             } else {
                 await this.start(story);
@@ -166,7 +185,8 @@ export class Opening {
         }
         this.awaited = shared;
         const lines = shared.answers.filter(is_read).length;
-        const words = `This link shows a play of ${shared.name}, ${lines} lines long. Choose that story's file to see it; its IFID is ${shared.ifid}.`;
+        const words = `This link shows a play of ${shared.name}, ${lines} lines long. `
+            + `Choose that story's file to see it; its IFID is ${shared.ifid}.`;
         if (this.play.story)
             tell(words);
         else
@@ -181,8 +201,7 @@ export class Opening {
     async show_shared(shared, story) {
         const own = await kept_play(sum_of(story.bytes));
         const is_in_it = own && JSON.stringify(shared.answers).startsWith(JSON.stringify(own.answers).slice(0, -1));
-        const lines = own ? own.answers.filter(is_read).length : 0;
-        if (own && !is_in_it && !await agreed("Show the play of the link?", `It takes the place of your own play of this story, which has ${lines} lines.`, "Show it", "Keep mine")) {
+        if (own && !is_in_it && !await may_replace(own)) {
             if (!this.play.story)
                 await this.go_on(story, own);
             return;
@@ -222,7 +241,8 @@ export class Opening {
 
     async restart() {
         const { story } = this.play;
-        if (story && (this.play.reads() === 0 || await agreed("Restart?", "The story begins anew.", "Restart", "Go on")))
+        const is_new = this.play.reads() === 0;
+        if (story && (is_new || await agreed("Restart?", "The story begins anew.", "Restart", "Go on")))
             await this.start(story);
     }
 

@@ -169,7 +169,8 @@ export class Play {
         const was_busy = this.is_busy;
         const machine = await this.idle_machine();
         try {
-            this.take(story, await this.unless_left(machine.open(story.bytes, { ...OPTIONS, seed: BigInt(seed) })), seed);
+            const options = { ...OPTIONS, seed: BigInt(seed) };
+            this.take(story, await this.unless_left(machine.open(story.bytes, options)), seed);
         } catch (error) {
             if (!(error instanceof Left))
                 await this.stay(was_busy || error instanceof Trapped);
@@ -335,15 +336,16 @@ export class Play {
     }
 
     /**
-     * Saves and restores as the story asks for it, until it asks for something else. A reader who has enough of that can
-     * stop it.
+     * Saves and restores as the story asks for it, until it asks for something else. A reader who has enough of that
+     * can stop it.
      * @param {Standing} standing
      * @returns {Promise<Standing>}
      */
     async answer_files(standing) {
         let now = standing;
         for (let count = 1; now.awaits === "save" || now.awaits === "restore"; count++) {
-            if (count > MOST_FILES && !await agreed("Go on?", "The story asks for saved games again and again.", "Go on", "Stop it"))
+            const words = "The story asks for saved games again and again.";
+            if (count > MOST_FILES && !await agreed("Go on?", words, "Go on", "Stop it"))
                 return { ...now, awaits: "halt" };
             const next = await this.file_answer(now.awaits);
             this.answers.push(next);
@@ -487,8 +489,9 @@ export class Play {
             this.reach(standing);
             show_over(standing, this.here !== null);
         } else {
-            show_paused(awaits === "pause" ? "The story has written very much without asking for anything." : "You have stopped the story.",
-                this.here !== null);
+            const words = awaits === "pause" ? "The story has written very much without asking for anything."
+                : "You have stopped the story.";
+            show_paused(words, this.here !== null);
         }
         this.reader.changed();
     }
@@ -562,8 +565,9 @@ export class Play {
         if (!this.here || this.is_busy || (awaits !== "line" && awaits !== "character"))
             return null;
         return {
-            module, story: this.sum, ifid: this.ifid, seed: this.seed, answers: this.answers.slice(0, this.here.answers),
-            chain: this.here.chain, snapshot: this.here.snapshot, log: this.log.kept(),
+            module, story: this.sum, ifid: this.ifid, seed: this.seed,
+            answers: this.answers.slice(0, this.here.answers), chain: this.here.chain,
+            snapshot: this.here.snapshot, log: this.log.kept(),
             box: this.last_rows, date: Date.now(),
         };
     }
@@ -571,6 +575,7 @@ export class Play {
     /** @returns {import("./link.js").Shared} */
     shared() {
         const { name } = /** @type {File} */ (this.story);
-        return { zkit: 1, ifid: this.ifid, name, story: this.sum.slice(0, 16), seed: this.seed, told: this.chain.slice(0, 16), answers: this.answers };
+        const [story, told] = [this.sum, this.chain].map((sum) => sum.slice(0, 16));
+        return { zkit: 1, ifid: this.ifid, name, story, seed: this.seed, told, answers: this.answers };
     }
 }

@@ -1,5 +1,5 @@
-// Whether a story ended a line early because its screen was full. That can be told where the story wraps its own text: no
-// line is longer than a screen, the longest ones nearly fill one, and the next word would not have fitted.
+// Whether a story ended a line early because its screen was full. That can be told where the story wraps its own text:
+// no line is longer than a screen, the longest ones nearly fill one, and the next word would not have fitted.
 
 const SCREEN = 80;
 const NEARLY = 60;

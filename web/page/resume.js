@@ -1,5 +1,5 @@
-// What a reload goes on with: the story, the text, and a snapshot of the last read, each with the sums of the module and
-// the story that it was made by.
+// What a reload goes on with: the story, the text, and a snapshot of the last read, each with the sums of the module
+// and the story that it was made by.
 
 import { forget, keep, kept, names } from "./store.js";
 import { sum_of } from "./sums.js";

@@ -1,6 +1,8 @@
 // Saved games: slots with names in the browser, and Quetzal files for other interpreters.
 
-import { agreed, at, bytes_of, chosen_file, closed, dialog, field, give_file, made, made_button, stem, tell } from "./at.js";
+import {
+    agreed, at, bytes_of, chosen_file, closed, dialog, field, give_file, made, made_button, stem, tell,
+} from "./at.js";
 import { forget, is_lasting, keep, kept, names } from "./store.js";
 
 /** @typedef {{name: string, game: string, place: string, line: number, date: number, image: Uint8Array}} Slot */

@@ -26,7 +26,8 @@ function parts(row) {
  * @param {StatusLine} status
  */
 function status_parts({ kind, name, first, second }) {
-    return [name, kind === "time" ? `Time: ${first}:${String(second).padStart(2, "0")}` : `Score: ${first}  Turns: ${second}`];
+    const time = `${first}:${String(second).padStart(2, "0")}`;
+    return [name, kind === "time" ? `Time: ${time}` : `Score: ${first}  Turns: ${second}`];
 }
 
 /**

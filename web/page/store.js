@@ -95,5 +95,6 @@ export async function forget(shelf, name) {
  */
 export async function names(shelf, front = "") {
     const found = await asked(shelf, "readonly", (store) => store.getAllKeys()).catch(() => null) ?? [];
-    return [...new Set([...found.map(String), ...memory[shelf].keys()])].filter((name) => name.startsWith(front)).sort();
+    const all = new Set([...found.map(String), ...memory[shelf].keys()]);
+    return [...all].filter((name) => name.startsWith(front)).sort();
 }

@@ -1,5 +1,5 @@
-// SHA-256 (FIPS 180-4), by which the page knows a story and a module again. It is here since a page of plain HTTP has no
-// `crypto.subtle`.
+// SHA-256 (FIPS 180-4), by which the page knows a story and a module again. It is here since a page of plain HTTP has
+// no `crypto.subtle`.
 
 /**
  * The first 32 bits of the fraction of a root of each of the first primes.

@@ -21,7 +21,8 @@ function contrasts_in_page() {
     const look = (element, text) => {
         const style = getComputedStyle(element);
         const [a, b] = [light(channels(style.color)), light(ground(element))].sort((x, y) => y - x);
-        const name = `${element.tagName.toLowerCase()}${element.id ? "#" + element.id : element.className ? "." + String(element.className).split(" ")[0] : ""}`;
+        const mark = element.id ? `#${element.id}` : `.${String(element.className).split(" ")[0]}`;
+        const name = element.tagName.toLowerCase() + mark;
         found.set(name, Math.min(found.get(name) ?? Infinity, Math.round(100 * (a + 0.05) / (b + 0.05)) / 100));
         return text;
     };
@@ -90,10 +91,11 @@ function names_in_page() {
     const top = document.querySelector("dialog[open]") || document.body;
     const all = [...top.querySelectorAll("button, input, select, a, [role], dialog"), ...top === document.body ? [] : [top]];
     return all.filter((it) => it.getClientRects().length && !(it.type === "file")).map((it) => {
-        const role = it.getAttribute("role") || { A: "link", INPUT: "textbox", SELECT: "combobox" }[it.tagName] || it.tagName.toLowerCase();
+        const own = { A: "link", INPUT: "textbox", SELECT: "combobox" }[it.tagName] || it.tagName.toLowerCase();
+        const role = it.getAttribute("role") || own;
         const label = it.labels?.[0]?.textContent.trim();
-        const name = it.getAttribute("aria-label") || (it.getAttribute("aria-labelledby") && text_of(it.getAttribute("aria-labelledby")))
-            || label || (["BUTTON", "A"].includes(it.tagName) || role === "status" ? it.textContent.trim() : "");
+        const others = it.getAttribute("aria-labelledby");
+        const name = it.getAttribute("aria-label") || (others && text_of(others)) || label || (["BUTTON", "A"].includes(it.tagName) || role === "status" ? it.textContent.trim() : "");
         return [role, name, it.id];
     });
 }

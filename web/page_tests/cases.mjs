@@ -191,7 +191,8 @@ async function quetzal_in(page, version) {
     await page.until(() => !document.getElementById("restoring").open);
     await page.rests();
     await page.say_all(["look", "inventory"]);
-    const { text } = native(["play", "--save", join(EXAMPLES, `lighthouse.z${version}.dfrotz`), z(version)], "restore\nlook\ninventory\n");
+    const saved = join(EXAMPLES, `lighthouse.z${version}.dfrotz`);
+    const { text } = native(["play", "--save", saved, z(version)], "restore\nlook\ninventory\n");
     same(await page.shown_text(), text.slice(0, -1), "the text");
 }
 
@@ -410,10 +411,13 @@ async function play_file(page) {
 async function bad_plays(page) {
     await page.fresh();
     const play = { zkit: 1, ifid: "ZCODE-1-261127-15E0", name: "x", story: "", seed: "1", told: "", answers: [] };
-    const bad = [{ answers: [-1] }, { answers: [{ restored: "%" }] }, { seed: "x" }, { answers: [[]] }, { name: "x".repeat(999) }, { zkit: 2 }];
+    const bad = [
+        { answers: [-1] }, { answers: [{ restored: "%" }] }, { answers: [[]] }, { seed: "x" }, { name: "x".repeat(999) }, { zkit: 2 },
+    ];
     for (const [i, part] of bad.entries()) {
         await page.drop(Buffer.from(JSON.stringify({ ...play, ...part })), `bad${i}.json`);
-        await page.until((name) => document.getElementById("told").textContent === `${name}: not a story: it begins as a plain text`, `bad${i}.json`);
+        await page.until((words) => document.getElementById("told").textContent === words,
+            `bad${i}.json: not a story: it begins as a plain text`);
     }
 }
 
@@ -558,7 +562,10 @@ async function settings(page) {
         select.value = it;
         select.dispatchEvent(new Event("change"));
     }, id, value);
-    const looks = () => page.run(() => [getComputedStyle(document.body).backgroundColor, getComputedStyle(document.getElementById("log")).fontSize].join(" "));
+    const looks = () => page.run(() => {
+        const { backgroundColor } = getComputedStyle(document.body);
+        return `${backgroundColor} ${getComputedStyle(document.getElementById("log")).fontSize}`;
+    });
     const before = await looks();
     await choose("theme", "dark");
     await choose("size", "1.5");
@@ -619,7 +626,8 @@ async function inside_works(page) {
     await page.click("#listing a");
     const found = await page.until(() => document.querySelector(".meant")?.textContent);
     same(found.slice(0, 5), wanted, "the line of a link");
-    const bad = await page.run(() => [...document.querySelectorAll("#listing a")].filter((it) => !/^#[0-9a-f]{5}$/.test(it.getAttribute("href"))).length);
+    const bad = await page.run(() => [...document.querySelectorAll("#listing a")]
+        .filter((it) => !/^#[0-9a-f]{5}$/.test(it.getAttribute("href"))).length);
     same(bad, 0, "the number of links to nowhere");
 }
 
@@ -693,7 +701,8 @@ async function narrow(page) {
         await page.rests();
         await page.say("hello");
         await fits("the play");
-        for (const [button, window] of [["show-menu", "menu"], ["show-lines", "lines"], ["show-saves", "restoring"], ["show-inside", "inside"]]) {
+        const windows = { "show-menu": "menu", "show-lines": "lines", "show-saves": "restoring", "show-inside": "inside" };
+        for (const [button, window] of Object.entries(windows)) {
             await page.click(`#${button}`);
             await page.shown(window);
             await pause(200);

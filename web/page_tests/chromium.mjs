@@ -87,7 +87,8 @@ export class Chromium {
     }
 
     async dark(is_dark) {
-        await this.call("Emulation.setEmulatedMedia", { features: [{ name: "prefers-color-scheme", value: is_dark ? "dark" : "light" }] });
+        const value = is_dark ? "dark" : "light";
+        await this.call("Emulation.setEmulatedMedia", { features: [{ name: "prefers-color-scheme", value }] });
     }
 
     async go(url) {

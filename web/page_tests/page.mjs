@@ -182,8 +182,7 @@ export class Page {
 
     /** The text of the log in the page, without what was typed. */
     shown_text() {
-        return this.run(() => [...document.querySelectorAll("#older .turn span.text, #older .turn span.prompt, #log .turn span.text, #log .turn span.prompt")]
-            .map((span) => span.textContent).join(""));
+        return this.run(() => [...document.querySelectorAll(".turn span.text, .turn span.prompt")].map((span) => span.textContent).join(""));
     }
 }
 
