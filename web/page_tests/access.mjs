@@ -95,7 +95,8 @@ function names_in_page() {
         const role = it.getAttribute("role") || own;
         const label = it.labels?.[0]?.textContent.trim();
         const others = it.getAttribute("aria-labelledby");
-        const name = it.getAttribute("aria-label") || (others && text_of(others)) || label || (["BUTTON", "A"].includes(it.tagName) || role === "status" ? it.textContent.trim() : "");
+        const text = ["BUTTON", "A"].includes(it.tagName) || role === "status" ? it.textContent.trim() : "";
+        const name = it.getAttribute("aria-label") || (others && text_of(others)) || label || text;
         return [role, name, it.id];
     });
 }

@@ -182,7 +182,8 @@ export class Page {
 
     /** The text of the log in the page, without what was typed. */
     shown_text() {
-        return this.run(() => [...document.querySelectorAll(".turn span.text, .turn span.prompt")].map((span) => span.textContent).join(""));
+        return this.run(() => [...document.querySelectorAll(".turn span.text, .turn span.prompt")]
+            .map((span) => span.textContent).join(""));
     }
 }
 
