@@ -7,7 +7,7 @@
  * Whether an answer is the reader's to a read, and so one of the lines of the play.
  * @param {Answer} answer
  */
-export function is_read(answer) {
+export function isRead(answer) {
     return typeof answer !== "object" || "undo" in answer;
 }
 

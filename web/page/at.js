@@ -42,7 +42,7 @@ export function made(tag, kind = "", text = "") {
  * @param {string} text
  * @param {() => void} does
  */
-export function made_button(kind, text, does) {
+export function madeButton(kind, text, does) {
     const button = /** @type {HTMLButtonElement} */ (made("button", kind, text));
     button.type = "button";
     button.addEventListener("click", does);
@@ -79,11 +79,11 @@ export async function agreed(head, words, yes = "Yes", no = "No") {
 /**
  * Says something short in the page's line for it.
  * @param {string} words
- * @param {boolean} [is_alarm]
+ * @param {boolean} [isAlarm]
  */
-export function tell(words, is_alarm = false) {
+export function tell(words, isAlarm = false) {
     at("told").textContent = words;
-    at("told").classList.toggle("alarm", is_alarm);
+    at("told").classList.toggle("alarm", isAlarm);
 }
 
 /**
@@ -91,7 +91,7 @@ export function tell(words, is_alarm = false) {
  * @param {BlobPart} content
  * @param {string} name
  */
-export function give_file(content, name) {
+export function giveFile(content, name) {
     const link = document.createElement("a");
     link.href = URL.createObjectURL(new Blob([content], { type: "application/octet-stream" }));
     link.download = name;
@@ -103,13 +103,13 @@ export function give_file(content, name) {
  * The file that was chosen in a field for files, which is emptied, so that the same one can be chosen again.
  * @param {HTMLInputElement} input
  */
-export function chosen_file(input) {
+export function chosenFile(input) {
     const file = input.files ? input.files[0] : null;
     return file || null;
 }
 
 /** @param {Blob} file */
-export async function bytes_of(file) {
+export async function bytesOf(file) {
     return new Uint8Array(await file.arrayBuffer());
 }
 
@@ -122,12 +122,12 @@ export function stem(name) {
 }
 
 /** @param {string} text */
-export function from_base64(text) {
+export function fromBase64(text) {
     return Uint8Array.from(atob(text.trim()), (character) => character.charCodeAt(0));
 }
 
 /** @param {Uint8Array} bytes */
-export function to_base64(bytes) {
+export function toBase64(bytes) {
     let text = "";
     for (const byte of bytes)
         text += String.fromCharCode(byte);

@@ -6,7 +6,7 @@ import { at } from "./at.js";
  * Says that the story runs; "" for no more.
  * @param {string} words
  */
-export function show_running(words) {
+export function showRunning(words) {
     at("running").hidden = words === "";
     at("running-words").textContent = words;
     at("stop").hidden = false;
@@ -16,28 +16,28 @@ export function show_running(words) {
 /**
  * Says that the story has paused.
  * @param {string} words
- * @param {boolean} has_way_back
+ * @param {boolean} hasWayBack
  */
-export function show_paused(words, has_way_back) {
-    show_running(words);
+export function showPaused(words, hasWayBack) {
+    showRunning(words);
     at("stop").hidden = true;
     at("go-on").hidden = false;
-    at("step-back").hidden = !has_way_back;
+    at("step-back").hidden = !hasWayBack;
     at("go-on").focus();
 }
 
 /**
  * Says that the story has ended, and why.
  * @param {import("./machine.js").Standing} standing
- * @param {boolean} has_way_back
+ * @param {boolean} hasWayBack
  */
-export function show_over({ words, last }, has_way_back) {
+export function showOver({ words, last }, hasWayBack) {
     at("over").hidden = false;
     at("over-words").textContent = last ? `The story has stopped: ${words || last} (${last}).` : "The story has ended.";
-    at("over-back").hidden = !has_way_back;
+    at("over-back").hidden = !hasWayBack;
     at("over-again").focus();
 }
 
-export function hide_over() {
+export function hideOver() {
     at("over").hidden = true;
 }

@@ -9,7 +9,7 @@ function letters(bytes, at) {
 }
 
 /** @param {Uint8Array} bytes */
-export function is_blorb(bytes) {
+export function isBlorb(bytes) {
     return bytes.length >= 12 && letters(bytes, 0) === "FORM" && letters(bytes, 8) === "IFRS";
 }
 
@@ -17,7 +17,7 @@ export function is_blorb(bytes) {
  * The content of the first chunk ZCOD of a Blorb file; null where there is none, or the file is cut off before its end.
  * @param {Uint8Array} bytes
  */
-export function story_in(bytes) {
+export function storyIn(bytes) {
     const view = new DataView(bytes.buffer, bytes.byteOffset, bytes.length);
     const end = Math.min(bytes.length, 8 + view.getUint32(4));
     for (let at = 12; at + 8 <= end;) {

@@ -15,12 +15,12 @@ export class Code {
     /**
      * @param {string[]} lines
      * @param {Uint8Array} story
-     * @param {(line: number) => void} go_to
+     * @param {(line: number) => void} goTo
      */
-    constructor(lines, story, go_to) {
+    constructor(lines, story, goTo) {
         this.lines = lines;
         this.story = story;
-        this.go_to = go_to;
+        this.goTo = goTo;
         this.places = new Map(lines.map((line, i) => [parseInt(line.slice(0, 5), 16), i]));
     }
 
@@ -75,7 +75,7 @@ export class Code {
         link.href = `#${this.lines[place].slice(0, 5)}`;
         link.addEventListener("click", (event) => {
             event.preventDefault();
-            this.go_to(place);
+            this.goTo(place);
         });
         return link;
     }

@@ -29,7 +29,7 @@ const MEANINGS = {
  * @param {string[]} lines
  * @param {number} length
  */
-export function draw_map(lines, length) {
+export function drawMap(lines, length) {
     const starts = lines.map((line) => parseInt(line.slice(0, 5), 16));
     const scale = made("div", "scale");
     const legend = made("ul", "legend");
@@ -53,7 +53,7 @@ export function draw_map(lines, length) {
  * What the findings mean, each kind once.
  * @param {string[]} lines
  */
-export function draw_meanings(lines) {
+export function drawMeanings(lines) {
     const kinds = [...new Set(lines.map((line) => line.split(" ")[0]))];
     const list = made("ul", "meaning");
     const words = kinds.map((kind) => `${kind}: ${MEANINGS[kind] || "This finding is not known here."}`);

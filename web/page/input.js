@@ -27,10 +27,10 @@ export class Input {
          */
         this.early = [];
         form.addEventListener("submit", (event) => this.submit(event));
-        line.addEventListener("input", () => this.take_character());
-        line.addEventListener("keydown", (event) => this.key_in_line(event));
+        line.addEventListener("input", () => this.takeCharacter());
+        line.addEventListener("keydown", (event) => this.keyInLine(event));
         at("space").addEventListener("click", () => this.give(SPACE));
-        document.addEventListener("keydown", (event) => this.key_anywhere(event));
+        document.addEventListener("keydown", (event) => this.keyAnywhere(event));
     }
 
     /**
@@ -39,21 +39,21 @@ export class Input {
      * @param {number} longest
      */
     await(what, prompt, longest) {
-        const is_line = what === "line";
+        const isLine = what === "line";
         const words = prompt.trim();
         this.awaits = what;
-        at("prompt").textContent = is_line && words && words.length <= SHORT ? words : "›";
-        at("asked").textContent = !is_line ? "Press a key" : words.length > SHORT ? words : "What do you do?";
-        at("space").hidden = is_line;
-        line.maxLength = is_line ? Math.max(1, longest) : LONGEST;
+        at("prompt").textContent = isLine && words && words.length <= SHORT ? words : "›";
+        at("asked").textContent = !isLine ? "Press a key" : words.length > SHORT ? words : "What do you do?";
+        at("space").hidden = isLine;
+        line.maxLength = isLine ? Math.max(1, longest) : LONGEST;
         this.place = this.lines.length;
         this.show();
-        const early = is_line ? this.early.shift() : undefined;
+        const early = isLine ? this.early.shift() : undefined;
         if (early === undefined)
             this.early = [];
         else
             this.give(early);
-        this.take_character();
+        this.takeCharacter();
     }
 
     /**
@@ -98,11 +98,11 @@ export class Input {
         if (this.awaits === "character")
             this.give(text.codePointAt(0) ?? ENTER);
         else
-            this.take_line(text);
+            this.takeLine(text);
     }
 
     /** @param {string} text */
-    take_line(text) {
+    takeLine(text) {
         if (text && this.lines[this.lines.length - 1] !== text)
             this.lines.push(text);
         if (this.awaits === "line")
@@ -112,7 +112,7 @@ export class Input {
     }
 
     /** Gives the first character of the field to a story that awaits one; those after it wait for the next time. */
-    take_character() {
+    takeCharacter() {
         const [first, ...rest] = line.value;
         if (this.awaits !== "character" || first === undefined)
             return;
@@ -121,7 +121,7 @@ export class Input {
     }
 
     /** @param {KeyboardEvent} event */
-    key_in_line(event) {
+    keyInLine(event) {
         const up = { ArrowUp: -1, ArrowDown: 1 }[event.key];
         const page = { PageUp: -1, PageDown: 1 }[event.key];
         if (page) {
@@ -139,10 +139,10 @@ export class Input {
      * A key that is pressed where nothing else takes it goes into the line, or to a story that awaits a character.
      * @param {KeyboardEvent} event
      */
-    key_anywhere(event) {
+    keyAnywhere(event) {
         const target = /** @type {HTMLElement} */ (event.target);
-        const code = code_of(event);
-        if (code === null || !this.awaits || is_taken(target))
+        const code = codeOf(event);
+        if (code === null || !this.awaits || isTaken(target))
             return;
         if (this.awaits === "character") {
             event.preventDefault();
@@ -157,7 +157,7 @@ export class Input {
  * The character of a key, or null where it has none.
  * @param {KeyboardEvent} event
  */
-function code_of(event) {
+function codeOf(event) {
     if (event.ctrlKey || event.metaKey || event.altKey || event.isComposing)
         return null;
     if (event.key === "Enter")
@@ -169,7 +169,7 @@ function code_of(event) {
  * Whether something else takes the keys that are pressed.
  * @param {HTMLElement} target
  */
-function is_taken(target) {
+function isTaken(target) {
     const taker = target.closest("input, button, select, a, dialog") || document.querySelector("dialog[open]");
     return taker !== null;
 }

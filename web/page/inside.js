@@ -1,11 +1,11 @@
 // "Look inside": what zkit lists of a story's file, each listing as the program has it, some with a drawing above. A
 // machine of its own makes them, so that the play goes on whatever they cost.
 
-import { at, closed, dialog, field, give_file, made, made_button, stem } from "./at.js";
+import { at, closed, dialog, field, giveFile, made, madeButton, stem } from "./at.js";
 import { Code } from "./code.js";
 import { Listing } from "./listing.js";
 import { Machine } from "./machine.js";
-import { draw_map, draw_meanings } from "./drawings.js";
+import { drawMap, drawMeanings } from "./drawings.js";
 
 /** @typedef {import("./play.js").File} StoryFile */
 
@@ -67,15 +67,15 @@ function depth(line) {
  * @param {number} line
  * @returns {(Node | string)[]}
  */
-function tree_line(line) {
+function treeLine(line) {
     const indent = lines[line].slice(0, depth(line));
     const rest = lines[line].slice(depth(line));
     if (line + 1 >= lines.length || depth(line + 1) <= depth(line))
         return [indent, made("span", "leaf"), rest];
-    const button = made_button("fold", "", () => {
+    const button = madeButton("fold", "", () => {
         if (!folded.delete(line))
             folded.add(line);
-        show_lines();
+        showLines();
         const again = /** @type {HTMLElement | null} */ (at("listing").querySelector(`[data-line="${line}"] .fold`));
         if (again)
             again.focus();
@@ -86,7 +86,7 @@ function tree_line(line) {
 }
 
 /** The lines of the tree that are not folded away. */
-function open_lines() {
+function openLines() {
     const open = [];
     let below = Infinity;
     for (let line = 0; line < lines.length; line++) {
@@ -99,32 +99,32 @@ function open_lines() {
 }
 
 /** Shows the lines with what is looked for. */
-function show_lines() {
+function showLines() {
     const wanted = field("find").value.toLowerCase();
     const top = at("listing").scrollTop;
-    const all = shown === "tree" ? open_lines() : lines.map((_, line) => line);
+    const all = shown === "tree" ? openLines() : lines.map((_, line) => line);
     const found = wanted ? all.filter((line) => lines[line].toLowerCase().includes(wanted)) : all;
     const links = shown === "code" ? code : null;
-    listing.show(found, shown === "tree" ? tree_line : links ? (line) => links.draw(line) : (line) => [lines[line]]);
+    listing.show(found, shown === "tree" ? treeLine : links ? (line) => links.draw(line) : (line) => [lines[line]]);
     at("listing").scrollTop = top;
 }
 
 /** @param {number} line */
-function go_to(line) {
+function goTo(line) {
     field("find").value = "";
-    show_lines();
-    listing.go_to(line);
+    showLines();
+    listing.goTo(line);
     at("listing").focus({ preventScroll: true });
 }
 
 /** What stands above a listing. */
-async function draw_above() {
+async function drawAbove() {
     const drawing = at("drawing");
     drawing.replaceChildren();
     if (shown === "findings")
-        drawing.append(draw_meanings(lines));
+        drawing.append(drawMeanings(lines));
     if (shown === "map" && story)
-        drawing.append(...draw_map(lines, story.bytes.length));
+        drawing.append(...drawMap(lines, story.bytes.length));
     drawing.hidden = drawing.childElementCount === 0;
     const ifid = shown === "header" ? await listed("ifid") : "";
     if (ifid)
@@ -132,12 +132,12 @@ async function draw_above() {
 }
 
 /** @param {string} name */
-function choose_tab(name) {
+function chooseTab(name) {
     for (const tab of /** @type {NodeListOf<HTMLElement>} */ (at("tabs").querySelectorAll("[role=tab]"))) {
-        const is_chosen = tab.dataset.listing === name;
-        tab.setAttribute("aria-selected", String(is_chosen));
-        tab.tabIndex = is_chosen ? 0 : -1;
-        if (is_chosen)
+        const isChosen = tab.dataset.listing === name;
+        tab.setAttribute("aria-selected", String(isChosen));
+        tab.tabIndex = isChosen ? 0 : -1;
+        if (isChosen)
             at("panel").setAttribute("aria-labelledby", tab.id);
     }
 }
@@ -145,7 +145,7 @@ function choose_tab(name) {
 /** @param {string} name */
 async function show(name) {
     shown = name;
-    choose_tab(name);
+    chooseTab(name);
     at("panel").setAttribute("aria-busy", "true");
     at("panel-words").textContent = "This is being listed.";
     at("listing").replaceChildren();
@@ -170,17 +170,17 @@ async function fill(name, found) {
     lines = text.split("\n").slice(0, -1);
     folded = new Set();
     field("find").value = "";
-    code = name === "code" && story ? new Code(lines, story.bytes, go_to) : null;
+    code = name === "code" && story ? new Code(lines, story.bytes, goTo) : null;
     at("panel-words").textContent = found === null ? "There is no memory for this listing." : TABS[name][1];
     at("finds").hidden = lines.length === 0;
     at("listing").hidden = lines.length === 0;
     at("listing").scrollTop = 0;
-    show_lines();
-    await draw_above();
+    showLines();
+    await drawAbove();
 }
 
 /** @param {KeyboardEvent} event */
-function key_in_tabs(event) {
+function keyInTabs(event) {
     const tabs = /** @type {HTMLElement[]} */ ([...at("tabs").children]);
     const here = tabs.findIndex((tab) => tab === document.activeElement);
     const places = { ArrowLeft: here - 1, ArrowRight: here + 1, Home: 0, End: tabs.length - 1 };
@@ -194,25 +194,25 @@ function key_in_tabs(event) {
 }
 
 /** Makes the tabs. */
-export function prepare_inside() {
+export function prepareInside() {
     at("tabs").append(...Object.entries(TABS).map(([name, [words]]) => {
-        const tab = made_button("", words, () => show(name));
+        const tab = madeButton("", words, () => show(name));
         tab.id = `tab-${name}`;
         tab.dataset.listing = name;
         tab.setAttribute("role", "tab");
         tab.setAttribute("aria-controls", "panel");
         return tab;
     }));
-    at("tabs").addEventListener("keydown", key_in_tabs);
-    field("find").addEventListener("input", show_lines);
-    at("listing-out").addEventListener("click", () => give_file(text, `${stem(story ? story.name : "")}.${shown}.txt`));
+    at("tabs").addEventListener("keydown", keyInTabs);
+    field("find").addEventListener("input", showLines);
+    at("listing-out").addEventListener("click", () => giveFile(text, `${stem(story ? story.name : "")}.${shown}.txt`));
 }
 
 /**
  * Shows what is in a story.
  * @param {StoryFile} it
  */
-export async function show_inside(it) {
+export async function showInside(it) {
     story = it;
     listings = new Map();
     const own = new Machine();

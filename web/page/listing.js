@@ -63,7 +63,7 @@ export class Listing {
      * Scrolls to a line, and marks it.
      * @param {number} line
      */
-    go_to(line) {
+    goTo(line) {
         const place = this.shown.indexOf(line);
         const part = /** @type {HTMLElement | undefined} */ (this.element.children[Math.floor(place / PART)]);
         if (place < 0 || !part)

@@ -22,7 +22,7 @@ const KEPT = 1000000;
  * @param {string} text
  * @param {number} most
  */
-function end_of_part(text, most) {
+function endOfPart(text, most) {
     if (text.length <= most)
         return text.length;
     return text.lastIndexOf("\n", most - 1) + 1 || text.indexOf("\n") + 1 || text.length;
@@ -41,10 +41,10 @@ export class Log {
         this.width = new Width();
         /** The first block that stands in the page, and the first in the part for screen readers. */
         this.first = 0;
-        this.first_new = 0;
+        this.firstNew = 0;
         /** The block that the newest answer began. */
         this.turn = 0;
-        this.is_due = false;
+        this.isDue = false;
         scroller.addEventListener("scroll", () => this.scrolled());
     }
 
@@ -52,7 +52,7 @@ export class Log {
         this.blocks = [];
         this.held = "";
         this.width = new Width();
-        this.first = this.first_new = this.turn = 0;
+        this.first = this.firstNew = this.turn = 0;
         older.replaceChildren();
         log.replaceChildren();
     }
@@ -64,7 +64,7 @@ export class Log {
     add(kind, text) {
         if (!text)
             return;
-        const block = this.blocks[this.blocks.length - 1] || this.new_block();
+        const block = this.blocks[this.blocks.length - 1] || this.newBlock();
         const last = block[block.length - 1];
         if (last && last.kind === kind && kind === "text")
             last.text += text;
@@ -73,7 +73,7 @@ export class Log {
         this.due();
     }
 
-    new_block() {
+    newBlock() {
         /** @type {Piece[]} */
         const block = [];
         this.blocks.push(block);
@@ -89,11 +89,11 @@ export class Log {
         this.width.see(text);
         for (let rest = text; rest;) {
             const size = (this.blocks[this.blocks.length - 1] || []).reduce((sum, piece) => sum + piece.text.length, 0);
-            const end = end_of_part(rest, Math.max(BLOCK - size, 1));
+            const end = endOfPart(rest, Math.max(BLOCK - size, 1));
             this.add("text", rest.slice(0, end));
             rest = rest.slice(end);
             if (rest)
-                this.new_block();
+                this.newBlock();
         }
     }
 
@@ -113,7 +113,7 @@ export class Log {
         const held = this.held;
         this.held = "";
         if (held) {
-            this.new_block();
+            this.newBlock();
             this.add("prompt", held);
         }
     }
@@ -126,14 +126,14 @@ export class Log {
         if (this.held)
             this.release();
         else
-            this.new_block();
+            this.newBlock();
         this.turn = this.blocks.length - 1;
         this.add("typed", line + "\n");
     }
 
     /** Begins the part that a key brings. */
     pressed() {
-        this.new_block();
+        this.newBlock();
         this.turn = this.blocks.length - 1;
     }
 
@@ -142,7 +142,7 @@ export class Log {
      * @param {string} words
      */
     note(words) {
-        this.new_block();
+        this.newBlock();
         this.add("note", words);
     }
 
@@ -151,7 +151,7 @@ export class Log {
      * @param {string[]} rows
      */
     box(rows) {
-        this.new_block();
+        this.newBlock();
         this.add("box", rows.join("\n"));
     }
 
@@ -168,7 +168,7 @@ export class Log {
         this.blocks.length = Math.min(this.blocks.length, mark.blocks);
         this.held = mark.held;
         this.turn = Math.max(0, this.blocks.length - 1);
-        this.show_end();
+        this.showEnd();
     }
 
     /** The newest text, for a reload. */
@@ -187,7 +187,7 @@ export class Log {
         this.held = it.held;
         for (const piece of it.blocks.flat().filter((one) => one.kind === "text"))
             this.width.see(piece.text);
-        this.show_end();
+        this.showEnd();
     }
 
     /** The story's text with the lines that were typed. */
@@ -198,41 +198,41 @@ export class Log {
 
     /** Draws soon what has changed. */
     due() {
-        if (this.is_due)
+        if (this.isDue)
             return;
-        this.is_due = true;
+        this.isDue = true;
         setTimeout(() => {
-            this.is_due = false;
+            this.isDue = false;
             this.draw();
         }, 0);
     }
 
     /** Draws the newest blocks that do not stand in the page yet, and the last one anew. */
     draw() {
-        const is_low = scroller.scrollHeight - scroller.scrollTop - scroller.clientHeight < 80;
+        const isLow = scroller.scrollHeight - scroller.scrollTop - scroller.clientHeight < 80;
         const shown = log.children.length;
-        const from = Math.max(this.first_new, this.first_new + shown - 1);
+        const from = Math.max(this.firstNew, this.firstNew + shown - 1);
         if (this.blocks.length - from > 2 * SHOWN) {
-            this.show_end();
+            this.showEnd();
             return;
         }
         if (shown > 0)
-            this.draw_block(from, /** @type {HTMLElement} */ (log.lastElementChild));
-        for (let i = this.first_new + shown; i < this.blocks.length; i++)
-            log.append(this.draw_block(i, made("div", "turn")));
-        if (is_low || this.turn >= from || log.children.length > 2 * SHOWN)
+            this.drawBlock(from, /** @type {HTMLElement} */ (log.lastElementChild));
+        for (let i = this.firstNew + shown; i < this.blocks.length; i++)
+            log.append(this.drawBlock(i, made("div", "turn")));
+        if (isLow || this.turn >= from || log.children.length > 2 * SHOWN)
             this.trim();
-        this.go_to_turn();
+        this.goToTurn();
     }
 
     /** Shows the newest blocks alone. */
-    show_end() {
-        this.first = this.first_new = Math.max(0, this.blocks.length - SHOWN);
+    showEnd() {
+        this.first = this.firstNew = Math.max(0, this.blocks.length - SHOWN);
         older.replaceChildren();
         log.replaceChildren();
-        for (let i = this.first_new; i < this.blocks.length; i++)
-            log.append(this.draw_block(i, made("div", "turn")));
-        this.go_to_turn();
+        for (let i = this.firstNew; i < this.blocks.length; i++)
+            log.append(this.drawBlock(i, made("div", "turn")));
+        this.goToTurn();
     }
 
     /** Takes out what is no longer looked at. */
@@ -240,14 +240,14 @@ export class Log {
         older.replaceChildren();
         while (log.children.length > SHOWN && log.firstElementChild) {
             log.firstElementChild.remove();
-            this.first_new++;
+            this.firstNew++;
         }
-        this.first = this.first_new;
+        this.first = this.firstNew;
     }
 
     /** Scrolls so that the newest answer's text is read from its start. */
-    go_to_turn() {
-        const element = /** @type {HTMLElement | null} */ (log.children[this.turn - this.first_new] || null);
+    goToTurn() {
+        const element = /** @type {HTMLElement | null} */ (log.children[this.turn - this.firstNew] || null);
         const bottom = scroller.scrollHeight - scroller.clientHeight;
         scroller.scrollTop = element ? Math.min(bottom, element.offsetTop - scroller.offsetTop - 16) : bottom;
     }
@@ -261,7 +261,7 @@ export class Log {
         const top = scroller.scrollTop;
         const back = [];
         for (let i = from; i < this.first; i++)
-            back.push(this.draw_block(i, made("div", "turn")));
+            back.push(this.drawBlock(i, made("div", "turn")));
         older.prepend(...back);
         this.first = from;
         scroller.scrollTop = top + scroller.scrollHeight - height;
@@ -271,8 +271,8 @@ export class Log {
      * @param {number} i
      * @param {HTMLElement} element
      */
-    draw_block(i, element) {
-        const pieces = this.blocks[i].map(({ kind, text }) => this.draw_piece(kind, text));
+    drawBlock(i, element) {
+        const pieces = this.blocks[i].map(({ kind, text }) => this.drawPiece(kind, text));
         element.replaceChildren(...pieces);
         return element;
     }
@@ -281,7 +281,7 @@ export class Log {
      * @param {Kind} kind
      * @param {string} text
      */
-    draw_piece(kind, text) {
+    drawPiece(kind, text) {
         const element = made("span", kind);
         if (kind !== "text") {
             element.textContent = text;

@@ -34,7 +34,7 @@ const USES = {
 };
 
 /** Makes the choices work, and uses those that were made before. */
-export function prepare_look() {
+export function prepareLook() {
     for (const [name, use] of Object.entries(USES)) {
         const choice = /** @type {HTMLSelectElement} */ (at(name));
         const values = [...choice.options].map((option) => option.value);

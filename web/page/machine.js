@@ -1,6 +1,6 @@
 // The page's side of the worker that runs a story: calls that answer promises.
 
-import { at, from_base64 } from "./at.js";
+import { at, fromBase64 } from "./at.js";
 
 /** @typedef {import("./answers.js").Answer} Answer */
 /** @typedef {{kind: "score" | "time", name: string, first: number, second: number}} StatusLine */
@@ -27,14 +27,14 @@ export class NotOpened extends Error {}
 export class Trapped extends Error {}
 
 /** The bytes of the module, which stand in the page. */
-export function module_bytes() {
-    return from_base64(at("module-bytes").textContent || "");
+export function moduleBytes() {
+    return fromBase64(at("module-bytes").textContent || "");
 }
 
 let source = "";
 
 /** The address of the worker's script, which stands in the page too. */
-function worker_address() {
+function workerAddress() {
     source = source || URL.createObjectURL(
         new Blob([at("worker-source").textContent || ""], { type: "text/javascript" }));
     return source;
@@ -47,17 +47,17 @@ export class Machine {
         this.waiting = new Map();
         this.number = 0;
         /** @type {(text: string, script: string) => void} */
-        this.on_text = () => {};
-        this.worker = new Worker(worker_address());
+        this.onText = () => {};
+        this.worker = new Worker(workerAddress());
         this.worker.onmessage = (event) => this.heard(event.data);
         this.worker.onerror = (event) => this.fail(event.message || "the worker has failed");
-        this.begun = this.call("begin", { bytes: module_bytes() });
+        this.begun = this.call("begin", { bytes: moduleBytes() });
     }
 
     /** @param {any} data */
     heard(data) {
         if (data.number === undefined) {
-            this.on_text(data.text, data.script);
+            this.onText(data.text, data.script);
             return;
         }
         const call = this.waiting.get(data.number);
@@ -111,11 +111,11 @@ export class Machine {
     /**
      * Gives the story an answer, if any, and runs it.
      * @param {Answer | null} answer
-     * @param {(text: string, script: string) => void} on_text
+     * @param {(text: string, script: string) => void} onText
      * @returns {Promise<Standing>}
      */
-    run(answer, on_text) {
-        this.on_text = on_text;
+    run(answer, onText) {
+        this.onText = onText;
         return this.call("run", { answer });
     }
 

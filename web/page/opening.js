@@ -1,13 +1,13 @@
 // Opening: a story from a file, a play of a link, or what the reader had open before.
 
-import { is_read } from "./answers.js";
-import { agreed, at, bytes_of, field, from_base64, tell } from "./at.js";
-import { is_blorb, story_in } from "./blorb.js";
-import { is_link, play_at, play_of } from "./link.js";
+import { isRead } from "./answers.js";
+import { agreed, at, bytesOf, field, fromBase64, tell } from "./at.js";
+import { isBlorb, storyIn } from "./blorb.js";
+import { isLink, playAt, playOf } from "./link.js";
 import { NotOpened } from "./machine.js";
 import { Left } from "./play.js";
-import { keep_story, kept_play, last_play, story_of, tidy } from "./resume.js";
-import { sum_of } from "./sums.js";
+import { keepStory, keptPlay, lastPlay, storyOf, tidy } from "./resume.js";
+import { sumOf } from "./sums.js";
 
 /** @typedef {import("./link.js").Shared} Shared */
 /** @typedef {import("./play.js").File} StoryFile */
@@ -16,7 +16,7 @@ const EXAMPLE = { name: "lighthouse.z5", ifid: "ZCODE-1-261122-009F" };
 const SEED = "1";
 
 export function example() {
-    return { name: EXAMPLE.name, bytes: from_base64(at("example-bytes").textContent || "") };
+    return { name: EXAMPLE.name, bytes: fromBase64(at("example-bytes").textContent || "") };
 }
 
 /**
@@ -43,13 +43,13 @@ async function trying(name, does) {
 /** The seed that the reader has set, or the usual one where that is none. */
 function seed() {
     const text = field("seed").value.trim();
-    const is_seed = /^\d{1,20}$/.test(text) && BigInt(text) < 2n ** 64n;
-    field("seed").value = is_seed ? text : SEED;
+    const isSeed = /^\d{1,20}$/.test(text) && BigInt(text) < 2n ** 64n;
+    field("seed").value = isSeed ? text : SEED;
     return field("seed").value;
 }
 
 /** Whether the reader goes on with the play of before. */
-function goes_on() {
+function goesOn() {
     return agreed("Go on?", "You have played this story here before.", "Go on where I was", "Start anew");
 }
 
@@ -57,8 +57,8 @@ function goes_on() {
  * Whether the reader agrees that the play of a link takes the place of an own one.
  * @param {import("./resume.js").Kept} own
  */
-function may_replace(own) {
-    const lines = own.answers.filter(is_read).length;
+function mayReplace(own) {
+    const lines = own.answers.filter(isRead).length;
     const words = `It takes the place of your own play of this story, which has ${lines} lines.`;
     return agreed("Show the play of the link?", words, "Show it", "Keep mine");
 }
@@ -66,12 +66,12 @@ function may_replace(own) {
 export class Opening {
     /**
      * @param {import("./play.js").Play} play
-     * @param {string} module_sum
+     * @param {string} moduleSum
      * @param {() => void} changed
      */
-    constructor(play, module_sum, changed) {
+    constructor(play, moduleSum, changed) {
         this.play = play;
-        this.module_sum = module_sum;
+        this.moduleSum = moduleSum;
         this.changed = changed;
         /**
          * A play of a link whose story the reader has still to choose.
@@ -84,14 +84,14 @@ export class Opening {
      * Starts a story and keeps it.
      * @param {StoryFile} story
      * @param {import("./answers.js").Answer[]} [answers]
-     * @param {string} [with_seed]
+     * @param {string} [withSeed]
      * @param {import("./answers.js").Answer[]} [later]
      */
-    async start(story, answers = [], with_seed = seed(), later = []) {
+    async start(story, answers = [], withSeed = seed(), later = []) {
         return trying(story.name, async () => {
             tell("");
-            await this.play.start(story, with_seed, answers, later);
-            await keep_story({ ...story, ifid: this.play.ifid }, this.play.sum);
+            await this.play.start(story, withSeed, answers, later);
+            await keepStory({ ...story, ifid: this.play.ifid }, this.play.sum);
             this.changed();
             await tidy();
         });
@@ -102,17 +102,17 @@ export class Opening {
      * the same.
      * @param {StoryFile} story
      */
-    async is_wanted(story) {
+    async isWanted(story) {
         if (!this.awaited)
             return true;
-        const ifid = await this.play.ifid_of(story.bytes);
+        const ifid = await this.play.ifidOf(story.bytes);
         if (ifid === this.awaited.ifid)
             return true;
         const words = `Its IFID is ${ifid}, and the link's is ${this.awaited.ifid}.`;
-        const is_played = await agreed("Another story", words, "Play it", "No");
-        if (is_played)
+        const isPlayed = await agreed("Another story", words, "Play it", "No");
+        if (isPlayed)
             this.awaited = null;
-        return is_played;
+        return isPlayed;
     }
 
     /**
@@ -121,15 +121,15 @@ export class Opening {
      */
     async open(story) {
         await trying(story.name, async () => {
-            if (!await this.is_wanted(story))
+            if (!await this.isWanted(story))
                 return;
-            const before = await kept_play(sum_of(story.bytes));
+            const before = await keptPlay(sumOf(story.bytes));
             if (this.awaited) {
                 const shared = this.awaited;
                 this.awaited = null;
-                await this.show_shared(shared, story);
-            } else if (before && before.answers.length && await goes_on()) {
-                await this.go_on(story, before);
+                await this.showShared(shared, story);
+            } else if (before && before.answers.length && await goesOn()) {
+                await this.goOn(story, before);
             } else {
                 await this.start(story);
             }
@@ -141,10 +141,10 @@ export class Opening {
      * @param {StoryFile} story
      * @param {import("./resume.js").Kept} kept
      */
-    async go_on(story, kept) {
+    async goOn(story, kept) {
         field("seed").value = kept.seed;
         try {
-            if (kept.module === this.module_sum && kept.snapshot) {
+            if (kept.module === this.moduleSum && kept.snapshot) {
                 await this.play.resume(story, kept);
                 return;
             }
@@ -159,14 +159,14 @@ export class Opening {
      * Opens what a file has: a story, a Blorb with one, or a play.
      * @param {File} file
      */
-    async open_file(file) {
-        const bytes = await bytes_of(file);
-        const shared = bytes[0] === 0x7b ? play_of(new TextDecoder().decode(bytes)) : null;
+    async openFile(file) {
+        const bytes = await bytesOf(file);
+        const shared = bytes[0] === 0x7b ? playOf(new TextDecoder().decode(bytes)) : null;
         if (shared) {
             await this.offer(shared);
             return;
         }
-        const story = is_blorb(bytes) ? story_in(bytes) : bytes;
+        const story = isBlorb(bytes) ? storyIn(bytes) : bytes;
         if (story)
             await this.open({ name: file.name, bytes: story });
         else
@@ -178,13 +178,13 @@ export class Opening {
      * @param {Shared} shared
      */
     async offer(shared) {
-        const story = shared.ifid === EXAMPLE.ifid ? example() : await story_of(shared.ifid);
+        const story = shared.ifid === EXAMPLE.ifid ? example() : await storyOf(shared.ifid);
         if (story) {
-            await this.show_shared(shared, story);
+            await this.showShared(shared, story);
             return;
         }
         this.awaited = shared;
-        const lines = shared.answers.filter(is_read).length;
+        const lines = shared.answers.filter(isRead).length;
         const words = `This link shows a play of ${shared.name}, ${lines} lines long. `
             + `Choose that story's file to see it; its IFID is ${shared.ifid}.`;
         if (this.play.story)
@@ -198,12 +198,12 @@ export class Opening {
      * @param {Shared} shared
      * @param {StoryFile} story
      */
-    async show_shared(shared, story) {
-        const own = await kept_play(sum_of(story.bytes));
-        const is_in_it = own && JSON.stringify(shared.answers).startsWith(JSON.stringify(own.answers).slice(0, -1));
-        if (own && !is_in_it && !await may_replace(own)) {
+    async showShared(shared, story) {
+        const own = await keptPlay(sumOf(story.bytes));
+        const isInIt = own && JSON.stringify(shared.answers).startsWith(JSON.stringify(own.answers).slice(0, -1));
+        if (own && !isInIt && !await mayReplace(own)) {
             if (!this.play.story)
-                await this.go_on(story, own);
+                await this.goOn(story, own);
             return;
         }
         field("seed").value = shared.seed;
@@ -217,20 +217,20 @@ export class Opening {
 
     /** Shows what the page begins with: the play of its address, or the last one, if there is one. */
     async begin() {
-        addEventListener("hashchange", () => this.open_link());
+        addEventListener("hashchange", () => this.openLink());
         field("seed").value = SEED;
-        if (await this.open_link())
+        if (await this.openLink())
             return;
-        const last = await last_play();
+        const last = await lastPlay();
         if (last)
-            await this.go_on(last.story, last.play);
+            await this.goOn(last.story, last.play);
     }
 
     /** Shows the play that is in the page's address, and takes it from there. */
-    async open_link() {
-        if (!is_link(location.hash))
+    async openLink() {
+        if (!isLink(location.hash))
             return false;
-        const shared = await play_at(location.hash);
+        const shared = await playAt(location.hash);
         history.replaceState(null, "", location.href.replace(/#.*/, ""));
         if (shared)
             await this.offer(shared);
@@ -241,8 +241,8 @@ export class Opening {
 
     async restart() {
         const { story } = this.play;
-        const is_new = this.play.reads() === 0;
-        if (story && (is_new || await agreed("Restart?", "The story begins anew.", "Restart", "Go on")))
+        const isNew = this.play.reads() === 0;
+        if (story && (isNew || await agreed("Restart?", "The story begins anew.", "Restart", "Go on")))
             await this.start(story);
     }
 
@@ -251,7 +251,7 @@ export class Opening {
      * @param {import("./answers.js").Answer[]} answers
      * @param {number} count
      */
-    async go_to(answers, count) {
+    async goTo(answers, count) {
         const { story } = this.play;
         if (story)
             await this.start(story, answers.slice(0, count), this.play.seed, answers.slice(count));

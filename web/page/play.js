@@ -1,12 +1,12 @@
 // A play: the story that runs, what was answered, and the ways back. What is answered is recorded, since the same
 // answers give the same play: that is what a link has, and how the reader goes back to any line.
 
-import { agreed, at, tell, to_base64 } from "./at.js";
-import { fits, is_read } from "./answers.js";
-import { hide_over, show_over, show_paused, show_running } from "./bars.js";
+import { agreed, at, tell, toBase64 } from "./at.js";
+import { fits, isRead } from "./answers.js";
+import { hideOver, showOver, showPaused, showRunning } from "./bars.js";
 import { Machine, Trapped } from "./machine.js";
-import { box_text } from "./screen.js";
-import { sum_of } from "./sums.js";
+import { boxText } from "./screen.js";
+import { sumOf } from "./sums.js";
 
 /** @typedef {import("./answers.js").Answer} Answer */
 /** @typedef {import("./machine.js").Standing} Standing */
@@ -70,9 +70,9 @@ export class Play {
         this.seed = "1";
         /** @type {Standing | null} */
         this.standing = null;
-        this.is_busy = false;
+        this.isBusy = false;
         /** Whether the reader has stopped what is repeated. */
-        this.is_halted = false;
+        this.isHalted = false;
         /**
          * The answers that came after the one that was gone back to.
          * @type {Answer[]}
@@ -89,9 +89,9 @@ export class Play {
         /** @type {Mark | null} */
         this.here = null;
         this.chain = "";
-        this.turn_text = "";
+        this.turnText = "";
         /** @type {string[]} */
-        this.last_rows = [];
+        this.lastRows = [];
         at("stop").addEventListener("click", () => this.stop());
         at("go-on").addEventListener("click", () => this.go(null));
         at("step-back").addEventListener("click", () => this.back());
@@ -99,7 +99,7 @@ export class Play {
     }
 
     stop() {
-        this.is_halted = true;
+        this.isHalted = true;
         if (this.machine)
             this.machine.stop();
     }
@@ -111,19 +111,19 @@ export class Play {
         this.marks = [];
         this.here = null;
         this.chain = "";
-        this.turn_text = "";
-        this.last_rows = [];
+        this.turnText = "";
+        this.lastRows = [];
     }
 
     /** How many lines and keys the reader has given. */
     reads() {
-        return this.answers.filter(is_read).length;
+        return this.answers.filter(isRead).length;
     }
 
-    /** @param {boolean} is_busy */
-    be_busy(is_busy) {
-        this.is_busy = is_busy;
-        at("log").setAttribute("aria-busy", String(is_busy));
+    /** @param {boolean} isBusy */
+    beBusy(isBusy) {
+        this.isBusy = isBusy;
+        at("log").setAttribute("aria-busy", String(isBusy));
     }
 
     /**
@@ -132,7 +132,7 @@ export class Play {
      * @param {Promise<T>} promise
      * @returns {Promise<T>}
      */
-    async unless_left(promise) {
+    async unlessLeft(promise) {
         const round = this.round;
         const it = await promise.catch((error) => {
             throw round === this.round ? error : new Left();
@@ -143,17 +143,17 @@ export class Play {
     }
 
     /** A machine that does nothing at the moment. Whatever ran before is left. */
-    async idle_machine() {
+    async idleMachine() {
         this.round++;
-        if (this.machine && this.is_busy) {
+        if (this.machine && this.isBusy) {
             this.machine.drop();
             this.machine = null;
         }
-        this.be_busy(true);
-        show_running("");
+        this.beBusy(true);
+        showRunning("");
         const machine = this.machine || new Machine();
         this.machine = machine;
-        await this.unless_left(machine.begun);
+        await this.unlessLeft(machine.begun);
         return machine;
     }
 
@@ -166,14 +166,14 @@ export class Play {
      * @param {Answer[]} [later] the answers after these, for the list of lines
      */
     async start(story, seed, answers = [], later = []) {
-        const was_busy = this.is_busy;
-        const machine = await this.idle_machine();
+        const wasBusy = this.isBusy;
+        const machine = await this.idleMachine();
         try {
             const options = { ...OPTIONS, seed: BigInt(seed) };
-            this.take(story, await this.unless_left(machine.open(story.bytes, options)), seed);
+            this.take(story, await this.unlessLeft(machine.open(story.bytes, options)), seed);
         } catch (error) {
             if (!(error instanceof Left))
-                await this.stay(was_busy || error instanceof Trapped);
+                await this.stay(wasBusy || error instanceof Trapped);
             throw error;
         }
         this.log.clear();
@@ -189,7 +189,7 @@ export class Play {
      * @param {Uint8Array} bytes
      * @returns {Promise<string>}
      */
-    async ifid_of(bytes) {
+    async ifidOf(bytes) {
         this.machine = this.machine || new Machine();
         await this.machine.begun;
         return this.machine.ifid(bytes);
@@ -197,25 +197,25 @@ export class Play {
 
     /**
      * Goes on with the play before, where another one was not opened.
-     * @param {boolean} is_lost whether the machine has it no more
+     * @param {boolean} isLost whether the machine has it no more
      */
-    async stay(is_lost) {
-        if (!is_lost) {
-            this.be_busy(false);
+    async stay(isLost) {
+        if (!isLost) {
+            this.beBusy(false);
             return;
         }
-        this.drop_machine();
+        this.dropMachine();
         if (this.here)
-            await this.back_to(this.here);
+            await this.backTo(this.here);
     }
 
     /** Ends the machine; the next use makes another one. */
-    drop_machine() {
+    dropMachine() {
         if (this.machine)
             this.machine.drop();
         this.machine = null;
-        this.be_busy(false);
-        show_running("");
+        this.beBusy(false);
+        showRunning("");
     }
 
     /**
@@ -224,15 +224,15 @@ export class Play {
      * @param {Kept} play
      */
     async resume(story, play) {
-        const machine = await this.idle_machine();
-        const about = await this.unless_left(machine.resume(story.bytes, /** @type {Uint8Array} */ (play.snapshot)));
+        const machine = await this.idleMachine();
+        const about = await this.unlessLeft(machine.resume(story.bytes, /** @type {Uint8Array} */ (play.snapshot)));
         this.take(story, about, play.seed);
         this.empty();
         this.log.fill(play.log);
         this.answers = play.answers;
         this.input.remember(play.answers);
         this.chain = play.chain;
-        this.last_rows = play.box;
+        this.lastRows = play.box;
         this.freshened();
         await this.guarded(async () => this.settle(await this.step(null)));
     }
@@ -246,7 +246,7 @@ export class Play {
         this.story = story;
         this.about = about;
         this.ifid = about.ifid;
-        this.sum = sum_of(story.bytes);
+        this.sum = sumOf(story.bytes);
         this.seed = seed;
         this.script = "";
     }
@@ -254,8 +254,8 @@ export class Play {
     /** Notes that the states are gone that the story's own UNDO goes back to. */
     freshened() {
         const last = this.answers[this.answers.length - 1];
-        const is_noted = typeof last === "object" && "fresh" in last;
-        if (this.answers.length > 0 && !is_noted)
+        const isNoted = typeof last === "object" && "fresh" in last;
+        if (this.answers.length > 0 && !isNoted)
             this.answers.push({ fresh: true });
     }
 
@@ -269,11 +269,11 @@ export class Play {
         } catch (error) {
             if (error instanceof Left)
                 return;
-            this.drop_machine();
+            this.dropMachine();
             if (!(error instanceof Trapped))
                 throw error;
             if (this.here)
-                await this.back_to(this.here);
+                await this.backTo(this.here);
             tell(`The interpreter has failed (${error.message}), and was started anew.`, true);
         }
     }
@@ -285,16 +285,16 @@ export class Play {
     async step(answer) {
         const round = this.round;
         const machine = /** @type {Machine} */ (this.machine);
-        this.be_busy(true);
+        this.beBusy(true);
         this.input.rest();
-        hide_over();
-        const soon = setTimeout(() => show_running("The story is running."), SOON);
+        hideOver();
+        const soon = setTimeout(() => showRunning("The story is running."), SOON);
         try {
-            return await this.unless_left(machine.run(answer, (text, script) => this.written(round, text, script)));
+            return await this.unlessLeft(machine.run(answer, (text, script) => this.written(round, text, script)));
         } finally {
             clearTimeout(soon);
             if (round === this.round)
-                show_running("");
+                showRunning("");
         }
     }
 
@@ -306,7 +306,7 @@ export class Play {
     written(round, text, script) {
         if (round !== this.round)
             return;
-        this.turn_text += text;
+        this.turnText += text;
         this.script += script;
         this.log.text(text);
     }
@@ -316,7 +316,7 @@ export class Play {
      * @param {string | number} answer
      */
     async give(answer) {
-        if (this.is_busy || !this.here)
+        if (this.isBusy || !this.here)
             return;
         tell("");
         this.later = [];
@@ -331,7 +331,7 @@ export class Play {
         await this.guarded(async () => {
             if (answer !== null)
                 this.note(answer);
-            this.settle(await this.answer_files(await this.step(answer)));
+            this.settle(await this.answerFiles(await this.step(answer)));
         });
     }
 
@@ -341,13 +341,13 @@ export class Play {
      * @param {Standing} standing
      * @returns {Promise<Standing>}
      */
-    async answer_files(standing) {
+    async answerFiles(standing) {
         let now = standing;
         for (let count = 1; now.awaits === "save" || now.awaits === "restore"; count++) {
             const words = "The story asks for saved games again and again.";
             if (count > MOST_FILES && !await agreed("Go on?", words, "Go on", "Stop it"))
                 return { ...now, awaits: "halt" };
-            const next = await this.file_answer(now.awaits);
+            const next = await this.fileAnswer(now.awaits);
             this.answers.push(next);
             now = await this.step(next);
         }
@@ -359,13 +359,13 @@ export class Play {
      * @param {"save" | "restore"} what
      * @returns {Promise<Answer>}
      */
-    async file_answer(what) {
+    async fileAnswer(what) {
         if (what === "save") {
             const image = await /** @type {Machine} */ (this.machine).image();
             return { saved: image !== null && await this.reader.save(image) };
         }
         const image = await this.reader.restore();
-        return { restored: image && to_base64(image) };
+        return { restored: image && toBase64(image) };
     }
 
     /**
@@ -390,16 +390,16 @@ export class Play {
      * @param {Answer[]} answers
      */
     async replay(answers) {
-        this.is_halted = false;
-        const soon = setTimeout(() => show_running("The play is being repeated."), SOON);
-        let standing = await this.run_on(null).finally(() => clearTimeout(soon));
-        const again = setTimeout(() => show_running("The play is being repeated."), SOON);
+        this.isHalted = false;
+        const soon = setTimeout(() => showRunning("The play is being repeated."), SOON);
+        let standing = await this.runOn(null).finally(() => clearTimeout(soon));
+        const again = setTimeout(() => showRunning("The play is being repeated."), SOON);
         try {
             standing = await this.repeat(standing, answers);
         } finally {
             clearTimeout(again);
         }
-        show_running("");
+        showRunning("");
         this.settle(standing);
     }
 
@@ -411,18 +411,18 @@ export class Play {
     async repeat(standing, answers) {
         for (const answer of answers) {
             const reads = standing.awaits === "line" || standing.awaits === "character";
-            if (this.is_halted || !fits(standing.awaits, answer))
+            if (this.isHalted || !fits(standing.awaits, answer))
                 break;
             if (reads)
                 this.reach(standing);
-            if (is_read(answer))
+            if (isRead(answer))
                 this.note(answer);
             else
                 this.answers.push(answer);
-            standing = await this.run_on(answer);
+            standing = await this.runOn(answer);
         }
         if (standing.awaits === "save" || standing.awaits === "restore")
-            standing = await this.run_on(standing.awaits === "save" ? { saved: false } : { restored: null });
+            standing = await this.runOn(standing.awaits === "save" ? { saved: false } : { restored: null });
         return standing;
     }
 
@@ -430,7 +430,7 @@ export class Play {
      * A step that goes on by itself where much was written.
      * @param {Answer | null} answer
      */
-    async run_on(answer) {
+    async runOn(answer) {
         let standing = await this.step(answer);
         for (let i = 0; i < MOST_PAUSES && standing.awaits === "pause"; i++)
             standing = await this.step(null);
@@ -442,14 +442,14 @@ export class Play {
      * @param {Standing} standing
      */
     reach(standing) {
-        if (this.turn_text)
-            this.chain = sum_of(this.chain + this.turn_text);
-        this.turn_text = "";
+        if (this.turnText)
+            this.chain = sumOf(this.chain + this.turnText);
+        this.turnText = "";
         if (standing.awaits === "line")
             this.log.hold();
         if (standing.box)
-            this.show_box(standing.box, standing.rows.length);
-        this.last_rows = standing.box || standing.rows;
+            this.showBox(standing.box, standing.rows.length);
+        this.lastRows = standing.box || standing.rows;
         if (standing.awaits === "stopped")
             return;
         this.here = {
@@ -462,9 +462,9 @@ export class Play {
      * @param {string[]} rows
      * @param {number} height
      */
-    show_box(rows, height) {
-        const text = box_text(rows.slice(height));
-        if (text.length && rows.join("\n") !== this.last_rows.join("\n"))
+    showBox(rows, height) {
+        const text = boxText(rows.slice(height));
+        if (text.length && rows.join("\n") !== this.lastRows.join("\n"))
             this.log.box(text);
     }
 
@@ -474,7 +474,7 @@ export class Play {
      */
     settle(standing) {
         this.standing = standing;
-        this.be_busy(false);
+        this.beBusy(false);
         this.screen.show(standing.rows, standing.status);
         const { awaits } = standing;
         if (awaits === "line" || awaits === "character") {
@@ -487,11 +487,11 @@ export class Play {
         this.input.hide();
         if (awaits === "stopped") {
             this.reach(standing);
-            show_over(standing, this.here !== null);
+            showOver(standing, this.here !== null);
         } else {
             const words = awaits === "pause" ? "The story has written very much without asking for anything."
                 : "You have stopped the story.";
-            show_paused(words, this.here !== null);
+            showPaused(words, this.here !== null);
         }
         this.reader.changed();
     }
@@ -499,15 +499,15 @@ export class Play {
     /** Goes back to before the last answer: by the story's own state, or else by a snapshot of the read before. */
     async undo() {
         const awaits = this.standing ? this.standing.awaits : "stopped";
-        if (this.is_busy || (awaits !== "line" && awaits !== "character")) {
+        if (this.isBusy || (awaits !== "line" && awaits !== "character")) {
             await this.back();
             return;
         }
         await this.guarded(async () => {
             const standing = await this.step({ undo: true });
             if (standing.awaits === "refused") {
-                this.be_busy(false);
-                await this.back_to_last();
+                this.beBusy(false);
+                await this.backToLast();
                 return;
             }
             this.note({ undo: true });
@@ -519,14 +519,14 @@ export class Play {
     async back() {
         const { here } = this;
         if (here)
-            await this.guarded(() => this.back_to(here));
+            await this.guarded(() => this.backTo(here));
     }
 
-    async back_to_last() {
+    async backToLast() {
         const mark = this.marks.pop();
-        const last = this.answers.length - 1 - [...this.answers].reverse().findIndex(is_read);
+        const last = this.answers.length - 1 - [...this.answers].reverse().findIndex(isRead);
         if (mark) {
-            await this.back_to(mark);
+            await this.backTo(mark);
         } else if (last < this.answers.length) {
             await this.start(/** @type {File} */ (this.story), this.seed, this.answers.slice(0, last));
         } else {
@@ -536,20 +536,20 @@ export class Play {
     }
 
     /** @param {Mark} mark */
-    async back_to(mark) {
+    async backTo(mark) {
         const story = /** @type {File} */ (this.story);
         const answers = this.answers.slice(0, mark.answers);
         if (!mark.snapshot) {
             await this.start(story, this.seed, answers);
             return;
         }
-        const machine = await this.idle_machine();
-        await this.unless_left(machine.resume(story.bytes, mark.snapshot));
+        const machine = await this.idleMachine();
+        await this.unlessLeft(machine.resume(story.bytes, mark.snapshot));
         this.answers = answers;
         this.freshened();
         this.log.cut(mark.log);
         this.chain = mark.chain;
-        this.turn_text = "";
+        this.turnText = "";
         this.here = null;
         await this.guarded(async () => this.settle(await this.step(null)));
         tell("Gone back to before that.");
@@ -562,13 +562,13 @@ export class Play {
      */
     kept(module) {
         const awaits = this.standing ? this.standing.awaits : "stopped";
-        if (!this.here || this.is_busy || (awaits !== "line" && awaits !== "character"))
+        if (!this.here || this.isBusy || (awaits !== "line" && awaits !== "character"))
             return null;
         return {
             module, story: this.sum, ifid: this.ifid, seed: this.seed,
             answers: this.answers.slice(0, this.here.answers), chain: this.here.chain,
             snapshot: this.here.snapshot, log: this.log.kept(),
-            box: this.last_rows, date: Date.now(),
+            box: this.lastRows, date: Date.now(),
         };
     }
 

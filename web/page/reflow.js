@@ -23,7 +23,7 @@ export class Width {
      */
     joins(line, next) {
         const word = /^[^\s]+/.exec(next);
-        const is_wrapped = this.longest >= NEARLY && this.longest <= SCREEN;
-        return is_wrapped && word !== null && !/^\s/.test(line) && line.length + 1 + word[0].length > this.longest;
+        const isWrapped = this.longest >= NEARLY && this.longest <= SCREEN;
+        return isWrapped && word !== null && !/^\s/.test(line) && line.length + 1 + word[0].length > this.longest;
     }
 }

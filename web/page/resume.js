@@ -2,7 +2,7 @@
 // and the story that it was made by.
 
 import { forget, keep, kept, names } from "./store.js";
-import { sum_of } from "./sums.js";
+import { sumOf } from "./sums.js";
 
 /** @typedef {import("./answers.js").Answer} Answer */
 /** @typedef {{name: string, ifid: string, bytes: Uint8Array}} Story */
@@ -31,7 +31,7 @@ const MOST = 12;
  * @param {string} ifid
  * @param {string} sum
  */
-function story_key(ifid, sum) {
+function storyKey(ifid, sum) {
     return `${ifid} ${sum}`;
 }
 
@@ -39,19 +39,19 @@ function story_key(ifid, sum) {
  * @param {Story} story
  * @param {string} sum
  */
-export async function keep_story(story, sum) {
-    await keep("stories", story_key(story.ifid, sum), story);
+export async function keepStory(story, sum) {
+    await keep("stories", storyKey(story.ifid, sum), story);
 }
 
 /** The story whose play was kept last. */
-let last_story = "";
+let lastStory = "";
 
 /** @param {Kept} play */
-export async function keep_play(play) {
+export async function keepPlay(play) {
     await keep("plays", play.story, play);
-    if (last_story !== play.story)
+    if (lastStory !== play.story)
         await keep("plays", LAST, { story: play.story, ifid: play.ifid });
-    last_story = play.story;
+    lastStory = play.story;
 }
 
 /** Forgets the oldest plays, and stories without one. */
@@ -60,7 +60,7 @@ export async function tidy() {
     const plays = await Promise.all(sums.map((sum) => kept("plays", sum)));
     const old = plays.filter((play) => play).sort((a, b) => b.date - a.date).slice(MOST);
     await Promise.all(old.map((play) => forget("plays", play.story)));
-    await Promise.all(old.map((play) => forget("stories", story_key(play.ifid, play.story))));
+    await Promise.all(old.map((play) => forget("stories", storyKey(play.ifid, play.story))));
 }
 
 /**
@@ -68,7 +68,7 @@ export async function tidy() {
  * @param {string} sum
  * @returns {Promise<Kept | null>}
  */
-export function kept_play(sum) {
+export function keptPlay(sum) {
     return kept("plays", sum);
 }
 
@@ -76,13 +76,13 @@ export function kept_play(sum) {
  * The play that the reader was in, with its story, whose sum is looked at; null where there is none.
  * @returns {Promise<{play: Kept, story: Story} | null>}
  */
-export async function last_play() {
+export async function lastPlay() {
     const last = await kept("plays", LAST);
     if (!last)
         return null;
-    const play = await kept_play(last.story);
-    const story = await kept("stories", story_key(last.ifid, last.story));
-    return play && story && sum_of(story.bytes) === play.story ? { play, story } : null;
+    const play = await keptPlay(last.story);
+    const story = await kept("stories", storyKey(last.ifid, last.story));
+    return play && story && sumOf(story.bytes) === play.story ? { play, story } : null;
 }
 
 /**
@@ -90,7 +90,7 @@ export async function last_play() {
  * @param {string} ifid
  * @returns {Promise<Story | null>}
  */
-export async function story_of(ifid) {
+export async function storyOf(ifid) {
     const [key] = await names("stories", `${ifid} `);
     return key ? kept("stories", key) : null;
 }

@@ -1,9 +1,9 @@
 // Saved games: slots with names in the browser, and Quetzal files for other interpreters.
 
 import {
-    agreed, at, bytes_of, chosen_file, closed, dialog, field, give_file, made, made_button, stem, tell,
+    agreed, at, bytesOf, chosenFile, closed, dialog, field, giveFile, made, madeButton, stem, tell,
 } from "./at.js";
-import { forget, is_lasting, keep, kept, names } from "./store.js";
+import { forget, isLasting, keep, kept, names } from "./store.js";
 
 /** @typedef {{name: string, game: string, place: string, line: number, date: number, image: Uint8Array}} Slot */
 /** @typedef {{sum: string, game: string, place: string, line: number}} Of */
@@ -15,7 +15,7 @@ const restoring = dialog("restoring");
  * @param {string} sum
  * @param {string} name
  */
-function key_of(sum, name) {
+function keyOf(sum, name) {
     return `${sum} ${name}`;
 }
 
@@ -24,14 +24,14 @@ function key_of(sum, name) {
  * @param {string} sum
  * @returns {Promise<Slot[]>}
  */
-async function slots_of(sum) {
-    const keys = await names("saves", key_of(sum, ""));
+async function slotsOf(sum) {
+    const keys = await names("saves", keyOf(sum, ""));
     const slots = await Promise.all(keys.map((key) => kept("saves", key)));
     return slots.filter((slot) => slot).sort((a, b) => b.date - a.date);
 }
 
 /** @param {Slot} slot */
-function words_on(slot) {
+function wordsOn(slot) {
     const date = new Date(slot.date).toLocaleString([], { dateStyle: "medium", timeStyle: "short" });
     const line = slot.line >= 0 ? `line ${slot.line}` : "";
     return [slot.place, line, `${slot.image.length.toLocaleString()} bytes`, date].filter((word) => word).join(" · ");
@@ -43,7 +43,7 @@ function words_on(slot) {
  * @param {HTMLElement} element
  */
 function described(slot, element) {
-    element.append(made("b", "name", slot.name), made("span", "", `${slot.game} · ${words_on(slot)}`));
+    element.append(made("b", "name", slot.name), made("span", "", `${slot.game} · ${wordsOn(slot)}`));
     return element;
 }
 
@@ -52,9 +52,9 @@ function described(slot, element) {
  * @param {Of} of
  * @param {string} name
  */
-async function may_write(of, name) {
-    const old = await kept("saves", key_of(of.sum, name));
-    return !old || await agreed("Replace the saved game?", `${name}: ${words_on(old)}`, "Replace it", "Keep it");
+async function mayWrite(of, name) {
+    const old = await kept("saves", keyOf(of.sum, name));
+    return !old || await agreed("Replace the saved game?", `${name}: ${wordsOn(old)}`, "Replace it", "Keep it");
 }
 
 /**
@@ -64,10 +64,10 @@ async function may_write(of, name) {
  */
 async function write(of, name, image) {
     const slot = { name, game: of.game, place: of.place, line: of.line, date: Date.now(), image };
-    const is_kept = await keep("saves", key_of(of.sum, name), slot);
-    if (!is_kept)
+    const isKept = await keep("saves", keyOf(of.sum, name), slot);
+    if (!isKept)
         tell("The browser has no room for the saved game. Save it as a file.", true);
-    return is_kept;
+    return isKept;
 }
 
 /**
@@ -75,14 +75,14 @@ async function write(of, name, image) {
  * @param {Of} of
  * @param {Uint8Array} image
  */
-export async function ask_save(of, image) {
-    const slots = await slots_of(of.sum);
-    at("not-lasting").hidden = await is_lasting();
+export async function askSave(of, image) {
+    const slots = await slotsOf(of.sum);
+    at("not-lasting").hidden = await isLasting();
     field("save-name").value = `${of.place || "Game"}, line ${of.line}`;
     at("saving-list-head").hidden = slots.length === 0;
     at("saving-slots").replaceChildren(...slots.map((slot) => {
         const item = made("li");
-        item.append(described(slot, made_button("pick", "", () => {
+        item.append(described(slot, madeButton("pick", "", () => {
             field("save-name").value = slot.name;
             saving.close("keep");
         })));
@@ -92,10 +92,10 @@ export async function ask_save(of, image) {
         const how = await closed(saving);
         const name = field("save-name").value.trim() || "Game";
         if (how === "file")
-            give_file(image, `${stem(of.game)}.qzl`);
+            giveFile(image, `${stem(of.game)}.qzl`);
         if (how !== "keep")
             return how === "file";
-        if (await may_write(of, name))
+        if (await mayWrite(of, name))
             return write(of, name, image);
     }
 }
@@ -108,16 +108,16 @@ export async function ask_save(of, image) {
  */
 function listed(of, slot, pick) {
     const item = made("li");
-    const out = made_button("", "File", () => give_file(slot.image, `${stem(slot.name)}.qzl`));
-    const drop = made_button("", "Remove", async () => {
-        if (!await agreed("Remove the saved game?", `${slot.name}: ${words_on(slot)}`, "Remove it", "Keep it"))
+    const out = madeButton("", "File", () => giveFile(slot.image, `${stem(slot.name)}.qzl`));
+    const drop = madeButton("", "Remove", async () => {
+        if (!await agreed("Remove the saved game?", `${slot.name}: ${wordsOn(slot)}`, "Remove it", "Keep it"))
             return;
-        await forget("saves", key_of(of.sum, slot.name));
+        await forget("saves", keyOf(of.sum, slot.name));
         item.remove();
     });
     out.setAttribute("aria-label", `Save ${slot.name} as a file`);
     drop.setAttribute("aria-label", `Remove ${slot.name}`);
-    item.append(described(slot, pick ? made_button("pick", "", () => pick(slot)) : made("div", "pick")), out, drop);
+    item.append(described(slot, pick ? madeButton("pick", "", () => pick(slot)) : made("div", "pick")), out, drop);
     return item;
 }
 
@@ -126,8 +126,8 @@ function listed(of, slot, pick) {
  * @param {string} head
  * @param {((slot: Slot) => void) | null} pick
  */
-async function fill_list(of, head, pick) {
-    const slots = await slots_of(of.sum);
+async function fillList(of, head, pick) {
+    const slots = await slotsOf(of.sum);
     at("restoring-head").textContent = head;
     at("no-slots").hidden = slots.length > 0;
     at("restore-none").hidden = pick === null;
@@ -138,9 +138,9 @@ async function fill_list(of, head, pick) {
  * What becomes of a file that is chosen while the list is open.
  * @param {(file: File) => void} take
  */
-function await_file(take) {
+function awaitFile(take) {
     field("saved-file").onchange = () => {
-        const file = chosen_file(field("saved-file"));
+        const file = chosenFile(field("saved-file"));
         if (file)
             take(file);
     };
@@ -151,15 +151,15 @@ function await_file(take) {
  * @param {Of} of
  * @returns {Promise<Uint8Array | null>}
  */
-export async function ask_restore(of) {
+export async function askRestore(of) {
     /** @type {Uint8Array | null} */
     let found = null;
-    await fill_list(of, "Restore a game", (slot) => {
+    await fillList(of, "Restore a game", (slot) => {
         found = slot.image;
         restoring.close("kept");
     });
-    await_file(async (file) => {
-        found = await bytes_of(file);
+    awaitFile(async (file) => {
+        found = await bytesOf(file);
         restoring.close("file");
     });
     await closed(restoring);
@@ -167,7 +167,7 @@ export async function ask_restore(of) {
 }
 
 /** @param {Uint8Array} bytes */
-function is_quetzal(bytes) {
+function isQuetzal(bytes) {
     const letters = String.fromCharCode(...bytes.subarray(0, 12));
     return letters.startsWith("FORM") && letters.endsWith("IFZS");
 }
@@ -177,15 +177,15 @@ function is_quetzal(bytes) {
  * @param {Of} of
  * @param {File} file
  */
-async function bring_in(of, file) {
-    const image = await bytes_of(file);
+async function bringIn(of, file) {
+    const image = await bytesOf(file);
     const name = stem(file.name);
-    if (!is_quetzal(image)) {
+    if (!isQuetzal(image)) {
         restoring.close();
         tell(`${file.name} is no saved game in the format Quetzal.`, true);
-    } else if (await may_write(of, name)) {
+    } else if (await mayWrite(of, name)) {
         await write({ ...of, place: "", line: -1 }, name, image);
-        await fill_list(of, "Saved games", null);
+        await fillList(of, "Saved games", null);
     }
 }
 
@@ -193,14 +193,14 @@ async function bring_in(of, file) {
  * Shows the saved games of a story.
  * @param {Of} of
  */
-export async function show_saves(of) {
-    await fill_list(of, "Saved games", null);
-    await_file((file) => bring_in(of, file));
+export async function showSaves(of) {
+    await fillList(of, "Saved games", null);
+    awaitFile((file) => bringIn(of, file));
     await closed(restoring);
 }
 
 /** Makes the buttons of both dialogs work. */
-export function prepare_saves() {
+export function prepareSaves() {
     at("save-out").addEventListener("click", () => saving.close("file"));
     at("save-none").addEventListener("click", () => saving.close("none"));
     at("restore-none").addEventListener("click", () => restoring.close("none"));

@@ -25,7 +25,7 @@ function parts(row) {
  * The parts of a status line.
  * @param {StatusLine} status
  */
-function status_parts({ kind, name, first, second }) {
+function statusParts({ kind, name, first, second }) {
     const time = `${first}:${String(second).padStart(2, "0")}`;
     return [name, kind === "time" ? `Time: ${time}` : `Score: ${first}  Turns: ${second}`];
 }
@@ -34,7 +34,7 @@ function status_parts({ kind, name, first, second }) {
  * The rows of a box without what is empty around its text.
  * @param {string[]} rows
  */
-export function box_text(rows) {
+export function boxText(rows) {
     const first = rows.findIndex((row) => row.trim());
     if (first < 0)
         return [];
@@ -71,22 +71,22 @@ export class Screen {
     }
 
     draw() {
-        const is_empty = !this.status && !this.rows.some((row) => row.trim());
-        upper.hidden = is_empty;
+        const isEmpty = !this.status && !this.rows.some((row) => row.trim());
+        upper.hidden = isEmpty;
         upper.replaceChildren();
-        if (is_empty)
+        if (isEmpty)
             return;
         if (this.status)
-            upper.append(this.bar(status_parts(this.status)));
+            upper.append(this.bar(statusParts(this.status)));
         if (this.rows.length)
-            this.draw_rows();
+            this.drawRows();
         upper.tabIndex = upper.scrollWidth > upper.clientWidth || upper.scrollHeight > upper.clientHeight ? 0 : -1;
     }
 
-    draw_rows() {
+    drawRows() {
         const size = Math.min(GREATEST, (upper.clientWidth - 24) / COLUMNS / 0.603);
-        const is_bar = size < SMALLEST && this.rows.length <= 2 && this.rows.every((row) => parts(row).length <= 3);
-        if (is_bar) {
+        const isBar = size < SMALLEST && this.rows.length <= 2 && this.rows.every((row) => parts(row).length <= 3);
+        if (isBar) {
             upper.append(...this.rows.map((row) => this.bar(parts(row))));
             return;
         }

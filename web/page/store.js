@@ -1,5 +1,5 @@
 // What the browser keeps, in IndexedDB. Where it keeps nothing (a private window, or as the reader set it), all is kept
-// as long as the page is open, and `is_lasting` says so.
+// as long as the page is open, and `isLasting` says so.
 
 /** @typedef {"stories" | "plays" | "saves"} Shelf */
 
@@ -28,7 +28,7 @@ function opened() {
 }
 
 /** Whether what is kept is there tomorrow. */
-export async function is_lasting() {
+export async function isLasting() {
     return await opened() !== null;
 }
 
@@ -59,9 +59,9 @@ async function asked(shelf, mode, use) {
  */
 export async function keep(shelf, name, value) {
     try {
-        const is_kept = await asked(shelf, "readwrite", (store) => store.put(value, name)) !== null;
+        const isKept = await asked(shelf, "readwrite", (store) => store.put(value, name)) !== null;
         memory[shelf].delete(name);
-        if (!is_kept)
+        if (!isKept)
             memory[shelf].set(name, value);
         return true;
     } catch {

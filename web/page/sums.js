@@ -9,13 +9,13 @@
 function roots(count, power) {
     const found = [];
     for (let n = 2; found.length < count; n++)
-        if (is_prime(n))
+        if (isPrime(n))
             found.push((n ** power % 1) * 2 ** 32 >>> 0);
     return found;
 }
 
 /** @param {number} n */
-function is_prime(n) {
+function isPrime(n) {
     for (let i = 2; i * i <= n; i++)
         if (n % i === 0)
             return false;
@@ -84,7 +84,7 @@ function mixed(state, words) {
  * The SHA-256 of bytes or of a text, in hexadecimal.
  * @param {Uint8Array | string} content
  */
-export function sum_of(content) {
+export function sumOf(content) {
     const view = padded(typeof content === "string" ? new TextEncoder().encode(content) : content);
     const words = new Uint32Array(64);
     let state = START;

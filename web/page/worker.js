@@ -21,7 +21,7 @@ let module = null;
 /** @type {any} */
 let game = null;
 let story = new Uint8Array();
-let is_stopped = false;
+let isStopped = false;
 
 /** Lets messages in. */
 function breath() {
@@ -36,7 +36,7 @@ function breath() {
 }
 
 /** @param {string} text */
-function from_base64(text) {
+function fromBase64(text) {
     return Uint8Array.from(atob(text), (character) => character.charCodeAt(0));
 }
 
@@ -81,7 +81,7 @@ function give(answer) {
     if ("saved" in answer)
         return game.saved(answer.saved);
     if ("restored" in answer)
-        return game.restore(answer.restored === null ? null : from_base64(answer.restored));
+        return game.restore(answer.restored === null ? null : fromBase64(answer.restored));
     return "undo" in answer ? game.undo() : freshen();
 }
 
@@ -105,7 +105,7 @@ function standing(awaits) {
 }
 
 /** Posts what the story has written, and answers how much. */
-function post_text() {
+function postText() {
     const text = game.text();
     const script = game.transcript();
     if (text || script)
@@ -118,19 +118,19 @@ function post_text() {
  * @param {Answer | null} answer
  */
 async function run(answer) {
-    is_stopped = false;
+    isStopped = false;
     if (answer !== null && !give(answer))
         return { ...standing("refused"), snapshot: null };
     let written = 0;
     for (;;) {
         const awaits = game.turn(SLICE);
-        written += post_text();
+        written += postText();
         if (awaits !== "time" && awaits !== "room")
             return standing(awaits);
         if (written >= PAUSE)
             return standing("pause");
         await breath();
-        if (is_stopped)
+        if (isStopped)
             return standing("halt");
     }
 }
@@ -165,7 +165,7 @@ const CALLS = {
 page.onmessage = async (/** @type {MessageEvent} */ event) => {
     const { number, call, values } = event.data;
     if (call === "stop") {
-        is_stopped = true;
+        isStopped = true;
         return;
     }
     try {

@@ -5,7 +5,7 @@ import { MENU, holds, pause } from "./page.mjs";
 const LEAST = 4.5;
 
 /** In the page: each text that is seen, with the contrast to its ground. */
-function contrasts_in_page() {
+function contrastsInPage() {
     const channels = (colour) => (colour.match(/[\d.]+/g) || []).map(Number);
     const linear = (value) => value <= 10.31475 ? value / 255 / 12.92 : ((value / 255 + 0.055) / 1.055) ** 2.4;
     const light = ([r, g, b]) => 0.2126 * linear(r) + 0.7152 * linear(g) + 0.0722 * linear(b);
@@ -47,7 +47,7 @@ async function through(page, look) {
     await page.until(() => document.getElementById("told").textContent !== "");
     await look("a refusal");
     await page.open(MENU);
-    await page.say_all(["hello", "roll"]);
+    await page.sayAll(["hello", "roll"]);
     await look("the play");
     for (const [button, window] of [["show-menu", "menu"], ["show-lines", "lines"], ["show-saves", "restoring"]]) {
         await page.click(`#${button}`);
@@ -75,7 +75,7 @@ export async function contrast(page) {
         await through(page, async (what) => {
             await page.run((value) => { document.documentElement.dataset.theme = value; }, theme);
             await pause(160);
-            for (const [name, ratio] of await page.run(contrasts_in_page)) {
+            for (const [name, ratio] of await page.run(contrastsInPage)) {
                 holds(ratio >= LEAST, `${what}, ${theme}: ${name} has ${ratio}`);
                 least = Math.min(least, ratio);
                 count++;
@@ -86,8 +86,8 @@ export async function contrast(page) {
 }
 
 /** In the page: what can be used, with its role and its name. */
-function names_in_page() {
-    const text_of = (ids) => ids.split(" ").map((id) => document.getElementById(id)?.textContent.trim()).join(" ");
+function namesInPage() {
+    const textOf = (ids) => ids.split(" ").map((id) => document.getElementById(id)?.textContent.trim()).join(" ");
     const top = document.querySelector("dialog[open]") || document.body;
     const all = [...top.querySelectorAll("button, input, select, a, [role], dialog"), ...top === document.body ? [] : [top]];
     return all.filter((it) => it.getClientRects().length && !(it.type === "file")).map((it) => {
@@ -96,7 +96,7 @@ function names_in_page() {
         const label = it.labels?.[0]?.textContent.trim();
         const others = it.getAttribute("aria-labelledby");
         const text = ["BUTTON", "A"].includes(it.tagName) || role === "status" ? it.textContent.trim() : "";
-        const name = it.getAttribute("aria-label") || (others && text_of(others)) || label || text;
+        const name = it.getAttribute("aria-label") || (others && textOf(others)) || label || text;
         return [role, name, it.id];
     });
 }
@@ -104,7 +104,7 @@ function names_in_page() {
 export async function named(page) {
     const roles = new Map();
     await through(page, async (what) => {
-        for (const [role, name, id] of await page.run(names_in_page)) {
+        for (const [role, name, id] of await page.run(namesInPage)) {
             holds(name || role === "status", `${what}: ${role} ${id} has no name`);
             roles.set(role, (roles.get(role) || new Set()).add(name));
         }

@@ -3,7 +3,7 @@
 import { randomBytes } from "node:crypto";
 import { writeFileSync } from "node:fs";
 import { contrast, named } from "./access.mjs";
-import { EXAMPLES, MENU, basename, holds, join, lines_of, native, pause, readFileSync, same, same_with_keys } from "./page.mjs";
+import { EXAMPLES, MENU, basename, holds, join, linesOf, native, pause, readFileSync, same, sameWithKeys } from "./page.mjs";
 
 const z = (version) => join(EXAMPLES, `lighthouse.z${version}`);
 const WALKTHROUGH = join(EXAMPLES, "lighthouse.walkthrough");
@@ -50,7 +50,7 @@ async function starts(page) {
     return `ready after ${ready} ms, the first room after ${room} ms`;
 }
 
-async function fetches_nothing(page) {
+async function fetchesNothing(page) {
     const tries = await page.run(() => fetch("https://example.org/").then(() => "went out", () => "refused"));
     same(tries, "refused");
     const policy = await page.run(() => document.querySelector("meta[http-equiv]").content);
@@ -60,42 +60,42 @@ async function fetches_nothing(page) {
 }
 
 /** Scrolls up to the first text, and compares all of it. */
-async function older_text(page, version) {
+async function olderText(page, version) {
     const before = await page.run(() => document.querySelectorAll(".turn").length);
     holds(before <= 41, `${before} blocks stand in the page`);
     await page.until(() => {
         const scroller = document.getElementById("scroller");
-        const is_first = document.querySelector(".turn").textContent.startsWith("It is November");
+        const isFirst = document.querySelector(".turn").textContent.startsWith("It is November");
         scroller.scrollTop = 0;
         scroller.dispatchEvent(new Event("scroll"));
-        return is_first;
+        return isFirst;
     });
-    same(await page.shown_text(), readFileSync(join(EXAMPLES, `lighthouse.z${version}.txt`), "utf8"), "the text in the page");
+    same(await page.shownText(), readFileSync(join(EXAMPLES, `lighthouse.z${version}.txt`), "utf8"), "the text in the page");
 }
 
 async function walkthrough(page, version) {
     await page.fresh();
     await page.open(z(version));
-    const lines = lines_of(WALKTHROUGH);
-    await page.say_all(lines);
+    const lines = linesOf(WALKTHROUGH);
+    await page.sayAll(lines);
     same(await page.text("over-words"), "The story has ended.");
     const wanted = native(["play", "--echo", z(version)], joined(lines)).text;
-    same_with_keys(await page.transcript(), wanted, 1);
-    await older_text(page, version);
+    sameWithKeys(await page.transcript(), wanted, 1);
+    await olderText(page, version);
     return `${lines.length} lines`;
 }
 
 /** Whether a line is the name of a saved game, which other interpreters ask for by a line. */
-function is_name(lines, i) {
+function isName(lines, i) {
     return /^(save|restore)$/.test(lines[i - 1] || "") && /\.\w+$/.test(lines[i]);
 }
 
 /** Saves or restores by the window that has opened. */
-async function by_window(page) {
-    const is_saving = await page.is_shown("saving");
-    await page.click(is_saving ? "#keep" : "#slots .pick");
+async function byWindow(page) {
+    const isSaving = await page.isShown("saving");
+    await page.click(isSaving ? "#keep" : "#slots .pick");
     await page.until(() => document.getElementById("asking").open || !document.querySelector("dialog[open]"));
-    if (await page.is_shown("asking"))
+    if (await page.isShown("asking"))
         await page.click("#asking-yes");
     await page.until(() => !document.querySelector("dialog[open]"));
     await page.rests();
@@ -104,23 +104,23 @@ async function by_window(page) {
 async function game(page, path, commands) {
     await page.fresh();
     await page.open(path);
-    const all = lines_of(commands);
-    const lines = all.filter((_, i) => !is_name(all, i));
+    const all = linesOf(commands);
+    const lines = all.filter((_, i) => !isName(all, i));
     for (const line of lines) {
         await page.say(line);
         if (await page.run(() => document.querySelector("dialog[open]") !== null))
-            await by_window(page);
+            await byWindow(page);
     }
     const saved = join(page.browser.folder, "profile", "native.qzl");
     const wanted = native(["play", "--echo", "--save", saved, path], joined(lines)).text;
-    same_with_keys(await page.transcript(), wanted, 9);
+    sameWithKeys(await page.transcript(), wanted, 9);
     return `${lines.length} lines`;
 }
 
-async function save_and_restore(page, version) {
+async function saveAndRestore(page, version) {
     await page.fresh();
     await page.open(z(version));
-    for (const line of lines_of(SAVES)) {
+    for (const line of linesOf(SAVES)) {
         await page.say(line);
         if (line === "save") {
             await page.shown("saving");
@@ -134,11 +134,11 @@ async function save_and_restore(page, version) {
             await page.rests();
         }
     }
-    const text = (await page.shown_text());
+    const text = (await page.shownText());
     same(text, readFileSync(join(EXAMPLES, `lighthouse.z${version}.saves.txt`), "utf8"), "the text");
 }
 
-async function replaced_slot(page) {
+async function replacedSlot(page) {
     await page.fresh();
     await page.open(z(5));
     const save = async () => {
@@ -170,19 +170,19 @@ async function replaced_slot(page) {
     await page.until(() => document.querySelectorAll("#slots li").length === 0);
 }
 
-async function quetzal_out(page) {
+async function quetzalOut(page) {
     await page.fresh();
     await page.open(z(5));
-    await page.say_all(["open bag", "take letter", "north", "save"]);
+    await page.sayAll(["open bag", "take letter", "north", "save"]);
     await page.shown("saving");
-    const file = await page.file_after(() => page.click("#save-out"));
+    const file = await page.fileAfter(() => page.click("#save-out"));
     await page.rests();
     const text = native(["play", "--save", file, z(5)], "restore\nlook\ninventory\n").text;
     holds(text.includes("Shore Path") && text.includes("a letter"), text.slice(-300));
     return basename(file);
 }
 
-async function quetzal_in(page, version) {
+async function quetzalIn(page, version) {
     await page.fresh();
     await page.open(z(version));
     await page.say("restore");
@@ -190,16 +190,16 @@ async function quetzal_in(page, version) {
     await page.choose(join(EXAMPLES, `lighthouse.z${version}.dfrotz`), "saved-file");
     await page.until(() => !document.getElementById("restoring").open);
     await page.rests();
-    await page.say_all(["look", "inventory"]);
+    await page.sayAll(["look", "inventory"]);
     const saved = join(EXAMPLES, `lighthouse.z${version}.dfrotz`);
     const { text } = native(["play", "--save", saved, z(version)], "restore\nlook\ninventory\n");
-    same(await page.shown_text(), text.slice(0, -1), "the text");
+    same(await page.shownText(), text.slice(0, -1), "the text");
 }
 
 async function reload(page) {
     await page.fresh();
     await page.open(MENU);
-    await page.say_all(["roll", "hello", "roll"]);
+    await page.sayAll(["roll", "hello", "roll"]);
     const before = await page.text("log");
     // (the browser needs a moment to keep a play)
     await pause(200);
@@ -211,10 +211,10 @@ async function reload(page) {
     same(await page.transcript(), native(["play", "--echo", MENU], "roll\nhello\nroll\nroll\n").text, "the transcript");
 }
 
-async function reload_of_another_module(page) {
+async function reloadOfAnotherModule(page) {
     await page.fresh();
     await page.open(MENU);
-    await page.say_all(["roll", "roll"]);
+    await page.sayAll(["roll", "roll"]);
     await pause(200);
     await page.run(() => new Promise((resolve) => {
         const request = indexedDB.open("zkit");
@@ -239,14 +239,14 @@ async function link(page) {
     await page.fresh();
     await page.run(() => { document.getElementById("seed").value = "7"; });
     await page.open(MENU);
-    await page.say_all(["roll", "é", "roll", "menu"]);
+    await page.sayAll(["roll", "é", "roll", "menu"]);
     for (const key of ["n", "Enter", "q"]) {
         await page.browser.press(key);
         await page.rests();
     }
     await page.say("roll");
     const text = await page.transcript();
-    const address = await link_of(page);
+    const address = await linkOf(page);
     await page.fresh(address);
     holds((await page.text("invitation")).includes("IFID"), "the page does not ask for the story");
     await page.open(MENU);
@@ -265,7 +265,7 @@ async function link(page) {
 }
 
 /** The address of a link to the play. */
-async function link_of(page) {
+async function linkOf(page) {
     await page.click("#show-lines");
     await page.shown("lines");
     await page.click("#copy-link");
@@ -274,13 +274,13 @@ async function link_of(page) {
     return address;
 }
 
-async function link_with_saves(page) {
+async function linkWithSaves(page) {
     await page.fresh();
     await page.open(z(5));
-    for (const [i, line] of [...lines_of(SAVES).slice(0, -2), "north", "save"].entries()) {
+    for (const [i, line] of [...linesOf(SAVES).slice(0, -2), "north", "save"].entries()) {
         await page.say(line);
         if (await page.run(() => document.querySelector("dialog[open]") !== null))
-            await by_window(page);
+            await byWindow(page);
         if (i === 8) {
             await pause(200);
             await page.reload();
@@ -290,17 +290,17 @@ async function link_with_saves(page) {
     await page.click("#undo");
     await page.rests();
     const text = await page.transcript();
-    const address = await link_of(page);
+    const address = await linkOf(page);
     await page.fresh(address);
     await page.until(() => document.getElementById("told").textContent.includes("letter by letter"));
     same(await page.transcript(), text, "the transcript of the link");
     return `${address.length} characters`;
 }
 
-async function long_play(page) {
+async function longPlay(page) {
     await page.fresh();
     await page.open(MENU);
-    const file = JSON.parse(readFileSync(await page.file_after(async () => {
+    const file = JSON.parse(readFileSync(await page.fileAfter(async () => {
         await page.click("#show-lines");
         await page.shown("lines");
         await page.click("#play-file");
@@ -314,7 +314,7 @@ async function long_play(page) {
     same(await page.transcript(), native(["play", "--echo", MENU], joined(lines)).text, "the transcript");
     await page.click("#show-lines");
     await page.shown("lines");
-    same(await page.is_shown("copy-link"), false, "whether a link can be copied");
+    same(await page.isShown("copy-link"), false, "whether a link can be copied");
     same(await page.run(() => document.querySelectorAll("#line-list li").length), 1000, "the number of lines");
     await page.run(() => document.getElementById("lines").close());
     const blocks = await page.run(() => document.querySelectorAll(".turn").length);
@@ -322,10 +322,10 @@ async function long_play(page) {
     return `1000 lines in ${took} ms`;
 }
 
-async function lines_back_and_forth(page) {
+async function linesBackAndForth(page) {
     await page.fresh();
     await page.open(MENU);
-    await page.say_all(["roll", "roll", "roll"]);
+    await page.sayAll(["roll", "roll", "roll"]);
     const text = await page.transcript();
     const choose = async (place) => {
         await page.click("#show-lines");
@@ -340,13 +340,13 @@ async function lines_back_and_forth(page) {
     same(await page.transcript(), text, "the transcript at the end again");
 }
 
-async function link_of_own_story(page) {
+async function linkOfOwnStory(page) {
     await page.fresh();
     await page.click("#example");
     await page.rests();
     await page.say("look");
-    const address = await link_of(page);
-    await page.say_all(["inventory", "north"]);
+    const address = await linkOf(page);
+    await page.sayAll(["inventory", "north"]);
     same(await page.run(() => location.hash), "", "the address after an answer");
     await pause(200);
     await page.browser.go(page.url + address);
@@ -383,22 +383,22 @@ async function script(page) {
     await page.drop(story, "scripted.z5");
     await page.until(() => document.getElementById("title").textContent === "scripted.z5");
     await page.rests();
-    await page.say_all(["open the bag", "inventory"]);
-    const found = readFileSync(await page.file_after(() => page.click("#script")), "utf8");
+    await page.sayAll(["open the bag", "inventory"]);
+    const found = readFileSync(await page.fileAfter(() => page.click("#script")), "utf8");
     const [file, wanted] = ["scripted.z5", "script.txt"].map((name) => join(page.browser.folder, "profile", name));
     writeFileSync(file, story);
     native(["play", "--script", wanted, file], "open the bag\ninventory\n");
     same(found, readFileSync(wanted, "utf8"), "the story's transcript");
 }
 
-async function play_file(page) {
+async function playFile(page) {
     await page.fresh();
     await page.open(MENU);
-    await page.say_all(["roll", "roll"]);
+    await page.sayAll(["roll", "roll"]);
     const text = await page.transcript();
     await page.click("#show-lines");
     await page.shown("lines");
-    const file = await page.file_after(() => page.click("#play-file"));
+    const file = await page.fileAfter(() => page.click("#play-file"));
     const bytes = readFileSync(file);
     await page.fresh();
     await page.drop(bytes, basename(file));
@@ -408,7 +408,7 @@ async function play_file(page) {
     same(await page.transcript(), text, "the transcript of the file");
 }
 
-async function bad_plays(page) {
+async function badPlays(page) {
     await page.fresh();
     const play = { zkit: 1, ifid: "ZCODE-1-261127-15E0", name: "x", story: "", seed: "1", told: "", answers: [] };
     const bad = [
@@ -421,7 +421,7 @@ async function bad_plays(page) {
     }
 }
 
-async function bad_link(page) {
+async function badLink(page) {
     await page.fresh("#play=1abc");
     holds((await page.told()).includes("can't be read"), await page.told());
 }
@@ -452,7 +452,7 @@ async function menu(page) {
     same(await page.run(() => document.querySelectorAll(".box").length), 0, "the number of boxes");
 }
 
-async function blorb_file(page) {
+async function blorbFile(page) {
     await page.fresh();
     const file = blorb(readFileSync(z(8)));
     await page.drop(file, "lighthouse.zblorb");
@@ -481,7 +481,7 @@ async function damaged(page) {
     return words;
 }
 
-async function without_end(page) {
+async function withoutEnd(page) {
     await page.fresh();
     await page.open(MENU);
     await page.send("turn");
@@ -506,7 +506,7 @@ async function without_end(page) {
 async function undo(page, version) {
     await page.fresh();
     await page.open(z(version));
-    await page.say_all(["open bag", "north"]);
+    await page.sayAll(["open bag", "north"]);
     await page.click("#undo");
     await page.rests();
     await page.until(() => !document.getElementById("log").textContent.includes("Shore Path"));
@@ -514,12 +514,12 @@ async function undo(page, version) {
     same(await page.transcript(), native(["play", "--echo", z(version)], "open bag\nlook\n").text, "the transcript");
 }
 
-async function undo_after_reload(page) {
+async function undoAfterReload(page) {
     await page.fresh();
     await page.open(MENU);
     await page.click("#undo");
     await page.until(() => document.getElementById("told").textContent === "There is nothing to go back to.");
-    await page.say_all(["roll", "roll"]);
+    await page.sayAll(["roll", "roll"]);
     await pause(200);
     await page.reload();
     await page.rests();
@@ -530,10 +530,10 @@ async function undo_after_reload(page) {
     same(await page.transcript(), native(["play", "--echo", MENU], "roll\nroll\n").text, "the transcript");
 }
 
-async function undo_of_story(page) {
+async function undoOfStory(page) {
     await page.fresh();
     await page.open(z(5));
-    await page.say_all(["undo on", "north"]);
+    await page.sayAll(["undo on", "north"]);
     await page.click("#undo");
     await page.until(() => document.querySelectorAll("#log .turn").length > 3);
     await page.rests();
@@ -541,13 +541,13 @@ async function undo_of_story(page) {
     holds((await page.transcript()).includes("Jetty\nThe planks"), "the story is not where it was");
 }
 
-async function restart_and_seed(page) {
+async function restartAndSeed(page) {
     await page.fresh();
     await page.open(MENU);
     await page.say("roll");
     await page.run(() => { document.getElementById("seed").value = "12"; });
     await page.click("#restart");
-    await page.click_shown("asking-yes");
+    await page.clickShown("asking-yes");
     await page.until(() => !document.getElementById("log").textContent.includes(">roll"));
     await page.rests();
     await page.say("roll");
@@ -586,7 +586,7 @@ async function inside(page, path) {
         await page.until(() => document.getElementById("panel").getAttribute("aria-busy") === "false");
         const wanted = listed(words, path);
         if (wanted)
-            same(readFileSync(await page.file_after(() => page.click("#listing-out")), "utf8"), wanted, name);
+            same(readFileSync(await page.fileAfter(() => page.click("#listing-out")), "utf8"), wanted, name);
         const text = await page.run(async () => {
             const listing = document.getElementById("listing");
             for (const part of listing.children) {
@@ -600,7 +600,7 @@ async function inside(page, path) {
     }
 }
 
-async function inside_works(page) {
+async function insideWorks(page) {
     await page.fresh();
     await page.open(z(5));
     await page.click("#show-inside");
@@ -633,9 +633,9 @@ async function inside_works(page) {
 
 async function keyboard(page) {
     await page.fresh();
-    const walk = async (id, is_back = false) => {
+    const walk = async (id, isBack = false) => {
         for (let i = 0; i < 30; i++) {
-            await page.browser.press("Tab", is_back);
+            await page.browser.press("Tab", isBack);
             if (await page.run((name) => document.activeElement?.id === name, id))
                 return;
         }
@@ -716,38 +716,38 @@ async function narrow(page) {
 
 export const CASES = [
     ["starts", starts],
-    ["fetches nothing", fetches_nothing],
+    ["fetches nothing", fetchesNothing],
     ...[3, 4, 5, 8].map((version) => [`walkthrough of version ${version}`, (page) => walkthrough(page, version)]),
-    ...[3, 4, 5, 8].map((version) => [`save and restore in version ${version}`, (page) => save_and_restore(page, version)]),
-    ["a slot is replaced only where the reader agrees", replaced_slot],
-    ["a saved game goes out as a file", quetzal_out],
-    ...[3, 4, 5, 8].map((version) => [`a game that dfrotz saved, version ${version}`, (page) => quetzal_in(page, version)]),
+    ...[3, 4, 5, 8].map((version) => [`save and restore in version ${version}`, (page) => saveAndRestore(page, version)]),
+    ["a slot is replaced only where the reader agrees", replacedSlot],
+    ["a saved game goes out as a file", quetzalOut],
+    ...[3, 4, 5, 8].map((version) => [`a game that dfrotz saved, version ${version}`, (page) => quetzalIn(page, version)]),
     ["a reload goes on", reload],
-    ["a reload goes on where the module is another", reload_of_another_module],
+    ["a reload goes on where the module is another", reloadOfAnotherModule],
     ["a link", link],
-    ["a link to a play with saved games, a reload and undo", link_with_saves],
-    ["a link to a story with a play of one's own", link_of_own_story],
-    ["a long play", long_play],
-    ["back to a line, and to the end again", lines_back_and_forth],
-    ["a play as a file", play_file],
-    ["a link that is cut off", bad_link],
-    ["plays that are none", bad_plays],
+    ["a link to a play with saved games, a reload and undo", linkWithSaves],
+    ["a link to a story with a play of one's own", linkOfOwnStory],
+    ["a long play", longPlay],
+    ["back to a line, and to the end again", linesBackAndForth],
+    ["a play as a file", playFile],
+    ["a link that is cut off", badLink],
+    ["plays that are none", badPlays],
     ["a box", box],
     ["a menu", menu],
-    ["a Blorb file", blorb_file],
+    ["a Blorb file", blorbFile],
     ["damaged files", damaged],
-    ["stories without end", without_end],
+    ["stories without end", withoutEnd],
     ["a failure of the machine", failure],
     ["the story's own transcript", script],
     ["undo in version 3", (page) => undo(page, 3)],
     ["undo in version 5", (page) => undo(page, 5)],
-    ["undo after a reload", undo_after_reload],
-    ["undo by the story's states", undo_of_story],
-    ["restart and seed", restart_and_seed],
+    ["undo after a reload", undoAfterReload],
+    ["undo by the story's states", undoOfStory],
+    ["restart and seed", restartAndSeed],
     ["text size, and dark", settings],
     ["listings of version 5", (page) => inside(page, z(5))],
     ["listings of version 3", (page) => inside(page, z(3))],
-    ["drawings, folds, search and links inside", inside_works],
+    ["drawings, folds, search and links inside", insideWorks],
     ["keyboard alone", keyboard],
     ["lines that a story has wrapped", reflow],
     ["360 pixels wide", narrow],
@@ -755,7 +755,7 @@ export const CASES = [
     ["roles and names", named],
 ];
 
-export function games_in(folder, files) {
+export function gamesIn(folder, files) {
     const stories = files.filter((name) => /\.z[3458]$/.test(name));
     return stories.map((name) => {
         const commands = join(folder, `${name.replace(/[-.].*/, "")}.txt`);

@@ -86,8 +86,8 @@ export class Chromium {
         await this.call("Emulation.setDeviceMetricsOverride", { width, height, deviceScaleFactor: scale, mobile: false });
     }
 
-    async dark(is_dark) {
-        const value = is_dark ? "dark" : "light";
+    async dark(isDark) {
+        const value = isDark ? "dark" : "light";
         await this.call("Emulation.setEmulatedMedia", { features: [{ name: "prefers-color-scheme", value }] });
     }
 
@@ -113,9 +113,9 @@ export class Chromium {
         await this.call("Input.insertText", { text });
     }
 
-    async press(key, is_shifted = false) {
+    async press(key, isShifted = false) {
         const [code, number, text] = KEYS[key] || [`Key${key.toUpperCase()}`, key.toUpperCase().charCodeAt(0), key];
-        const it = { key, code, windowsVirtualKeyCode: number, modifiers: is_shifted ? 8 : 0 };
+        const it = { key, code, windowsVirtualKeyCode: number, modifiers: isShifted ? 8 : 0 };
         await this.call("Input.dispatchKeyEvent", { type: text ? "keyDown" : "rawKeyDown", text: text || undefined, ...it });
         await this.call("Input.dispatchKeyEvent", { type: "keyUp", ...it });
     }

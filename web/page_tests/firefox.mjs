@@ -31,7 +31,7 @@ function preferences(folder) {
 const pause = (time) => new Promise((resolve) => setTimeout(resolve, time));
 
 /** The port that Firefox has chosen, once it has. */
-async function port_of(profile) {
+async function portOf(profile) {
     for (let i = 0; i < 300; i++) {
         const path = join(profile, "MarionetteActivePort");
         const port = existsSync(path) ? Number(readFileSync(path, "utf8")) : 0;
@@ -92,7 +92,7 @@ export class Firefox {
         writeFileSync(join(profile, "user.js"), preferences(folder));
         const child = spawn(program(), ["--headless", "--marionette", "--profile", profile],
             { stdio: "ignore", env: { ...process.env, HOME: folder } });
-        const socket = connect(await port_of(profile), "127.0.0.1");
+        const socket = connect(await portOf(profile), "127.0.0.1");
         const browser = new Firefox();
         Object.assign(browser, { folder, child, wire: new Wire(socket) });
         const { capabilities } = await browser.wire.send("WebDriver:NewSession", { capabilities: { alwaysMatch: {} } });
@@ -138,9 +138,9 @@ export class Firefox {
         await this.keys(text);
     }
 
-    async press(key, is_shifted = false) {
+    async press(key, isShifted = false) {
         const shift = [{ type: "keyDown", value: SHIFT }];
-        await this.keys(KEYS[key] || key, is_shifted ? shift : [], is_shifted ? [{ ...shift[0], type: "keyUp" }] : []);
+        await this.keys(KEYS[key] || key, isShifted ? shift : [], isShifted ? [{ ...shift[0], type: "keyUp" }] : []);
     }
 
     async choose(id, path) {

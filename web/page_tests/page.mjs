@@ -19,7 +19,7 @@ export function native(words, input = "") {
     return { text: it.stdout.toString(), last: it.stderr.toString().trim().split("\n").pop() };
 }
 
-export function lines_of(path) {
+export function linesOf(path) {
     return readFileSync(path, "utf8").split("\n").slice(0, -1);
 }
 
@@ -97,7 +97,7 @@ export class Page {
         return this.run((name) => document.getElementById(name).textContent, id);
     }
 
-    is_shown(id) {
+    isShown(id) {
         return this.run((name) => document.getElementById(name).getClientRects().length > 0, id);
     }
 
@@ -109,7 +109,7 @@ export class Page {
         return this.run((it) => document.querySelector(it).click(), selector);
     }
 
-    async click_shown(id) {
+    async clickShown(id) {
         await this.shown(id);
         await this.click(`#${id}`);
     }
@@ -156,39 +156,39 @@ export class Page {
         await this.rests();
     }
 
-    async say_all(lines) {
+    async sayAll(lines) {
         for (const line of lines)
             await this.say(line);
     }
 
     /** The file that the page has given after something was done. */
-    async file_after(does) {
+    async fileAfter(does) {
         const folder = this.browser.folder;
         const files = () => readdirSync(folder).filter((name) => name !== "profile");
         files().forEach((name) => rmSync(join(folder, name), { recursive: true }));
         await does();
         for (const end = Date.now() + LONGEST_WAIT; Date.now() < end; await pause(10)) {
             const found = files().filter((name) => /\.(txt|qzl|json)$/.test(name) && statSync(join(folder, name)).isFile());
-            const is_whole = !files().some((name) => /\.(part|crdownload)$/.test(name));
-            if (found.length && is_whole && (found[0].endsWith("findings.txt") || statSync(join(folder, found[0])).size))
+            const isWhole = !files().some((name) => /\.(part|crdownload)$/.test(name));
+            if (found.length && isWhole && (found[0].endsWith("findings.txt") || statSync(join(folder, found[0])).size))
                 return join(folder, found[0]);
         }
         throw new Error("no file came");
     }
 
     async transcript() {
-        return readFileSync(await this.file_after(() => this.click("#transcript")), "utf8");
+        return readFileSync(await this.fileAfter(() => this.click("#transcript")), "utf8");
     }
 
     /** The text of the log in the page, without what was typed. */
-    shown_text() {
+    shownText() {
         return this.run(() => [...document.querySelectorAll(".turn span.text, .turn span.prompt")]
             .map((span) => span.textContent).join(""));
     }
 }
 
 /** Compares the page's transcript with `zkit play --echo`, which shows an empty line for Enter where a key is awaited. */
-export function same_with_keys(found, wanted, keys) {
+export function sameWithKeys(found, wanted, keys) {
     let rest = wanted;
     for (let i = 0; i < keys; i++) {
         let at = 0;

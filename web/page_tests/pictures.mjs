@@ -9,7 +9,7 @@ const LINES = ["open bag", "read letter", "take letter", "north"];
 async function play(page, story, lines) {
     await page.fresh();
     await page.open(story);
-    await page.say_all(lines);
+    await page.sayAll(lines);
 }
 
 async function inside(page, tab) {
@@ -44,7 +44,7 @@ const PICTURES = [
         await play(page, LIGHTHOUSE, [...LINES, "save"]);
         await page.click("#keep");
         await page.rests();
-        await page.say_all(["west", "save"]);
+        await page.sayAll(["west", "save"]);
     }],
     ["inside-map", 800, 600, false, async (page) => {
         await play(page, LIGHTHOUSE, LINES);
@@ -60,13 +60,13 @@ const PICTURES = [
     }],
 ];
 
-export async function take_pictures(Browser, file, folder) {
+export async function takePictures(Browser, file, folder) {
     const browser = await Browser.launch();
     try {
-        for (const [name, width, height, is_dark, does] of PICTURES) {
+        for (const [name, width, height, isDark, does] of PICTURES) {
             const page = new Page(browser, file);
             await browser.size(width, height);
-            await browser.dark(is_dark);
+            await browser.dark(isDark);
             await does(page);
             await pause(400);
             await browser.shot(join(folder, `browser-${name}.png`));

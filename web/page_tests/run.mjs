@@ -5,21 +5,21 @@ import { existsSync, readdirSync } from "node:fs";
 import { join, resolve } from "node:path";
 import * as chromium from "./chromium.mjs";
 import * as firefox from "./firefox.mjs";
-import { CASES, games_in } from "./cases.mjs";
+import { CASES, gamesIn } from "./cases.mjs";
 import { Page, ROOT } from "./page.mjs";
-import { take_pictures } from "./pictures.mjs";
+import { takePictures } from "./pictures.mjs";
 
 const BROWSERS = [[chromium.Chromium, chromium.program()], [firefox.Firefox, firefox.program()]];
 const SIZE = [1100, 800];
 
-function options_of(words) {
+function optionsOf(words) {
     const options = { page: join(ROOT, "dist/zkit.html"), only: "", case: "", pictures: "", games: "" };
     for (let i = 0; i < words.length; i++) {
         const name = words[i].replace(/^--/, "");
         if (name !== words[i] && name in options)
             options[name] = words[++i];
         else
-            options.games = words[i];
+            options.games = resolve(words[i]);
     }
     options.page = resolve(options.page);
     return options;
@@ -33,7 +33,7 @@ const TOOLS = [
 ];
 
 /** Looks at the sources by a tool, if it is here. */
-function run_tool([name, program, words]) {
+function runTool([name, program, words]) {
     // (Debian's eslint finds its parts by this path where another Node is the first one)
     const env = { ...process.env, NODE_PATH: "/usr/share/nodejs:/usr/lib/nodejs" };
     const it = spawnSync(program, words, { encoding: "utf8", env });
@@ -45,39 +45,54 @@ function run_tool([name, program, words]) {
     return it.status === 0 ? 0 : 1;
 }
 
-async function run_case(page, name, does) {
+/** So many milliseconds a test may take; a browser that takes longer does not answer any more. */
+const LIMIT = 60000;
+const LATE = `nothing came in ${LIMIT / 1000} s`;
+
+/** What a promise gives, where it comes in time. */
+function inTime(promise) {
+    let timer;
+    const late = new Promise((_, reject) => {
+        timer = setTimeout(() => reject(new Error(LATE)), LIMIT);
+    });
+    return Promise.race([promise, late]).finally(() => clearTimeout(timer));
+}
+
+async function runCase(page, name, does) {
     const began = Date.now();
     try {
-        const words = await does(page);
+        const words = await inTime(does(page));
         return [true, `${name}${words ? `: ${words}` : ""} (${Date.now() - began} ms)`];
     } catch (error) {
         return [false, `${name}: ${error.message}`];
     }
 }
 
-async function run_browser(Browser, options, cases) {
-    const browser = await Browser.launch();
-    const version = await browser.version();
+async function runBrowser(Browser, options, cases) {
+    const browser = await inTime(Browser.launch());
+    const version = await inTime(browser.version());
     let failed = 0;
     try {
         await browser.size(...SIZE);
         for (const [name, does] of cases) {
-            const [passed, words] = await run_case(new Page(browser, options.page), name, does);
+            const [passed, words] = await runCase(new Page(browser, options.page), name, does);
             failed += passed ? 0 : 1;
             console.log(`${passed ? "ok  " : "FAIL"} ${version}: ${words}`);
+            if (words.includes(LATE))
+                break;
         }
         for (const error of browser.errors().filter((it) => !it.includes("Content Security Policy"))) {
             failed++;
             console.log(`FAIL ${version}: an error in the page: ${error}`);
         }
     } finally {
-        await browser.close();
+        await inTime(browser.close());
     }
     return failed;
 }
 
 export async function main(words) {
-    const options = options_of(words);
+    const options = optionsOf(words);
     if (!existsSync(options.page)) {
         console.log(`The page ${options.page} is not there: nothing is tested.`);
         return 1;
@@ -86,12 +101,12 @@ export async function main(words) {
     wanted.filter(([, program]) => !program).forEach(([{ name }]) => console.log(`Left out: ${name} is not here.`));
     const here = wanted.filter(([, program]) => program);
     if (options.pictures)
-        return take_pictures(here[0][0], options.page, options.pictures);
-    const games = options.games ? games_in(options.games, readdirSync(options.games)) : [];
+        return takePictures(here[0][0], options.page, options.pictures);
+    const games = options.games ? gamesIn(options.games, readdirSync(options.games)) : [];
     const cases = [...CASES, ...games].filter(([name]) => name.includes(options.case));
     const began = Date.now();
-    const tools = options.case ? [] : TOOLS.map(run_tool);
-    const failed = await Promise.all(here.map(([Browser]) => run_browser(Browser, options, cases)));
+    const tools = options.case ? [] : TOOLS.map(runTool);
+    const failed = await Promise.all(here.map(([Browser]) => runBrowser(Browser, options, cases)));
     const sum = [...tools, ...failed].reduce((all, count) => all + count, 0);
     console.log(`${here.length} browsers, ${cases.length} tests each, ${sum} failed, ${Math.round((Date.now() - began) / 1000)} s`);
     return sum > 0 ? 1 : 0;

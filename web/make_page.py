@@ -1,7 +1,7 @@
 #!/usr/bin/env python3
 """Puts the page, the module and the example into one file, which fetches nothing.
 
-usage: make-page ZKIT.wasm OUT.html
+usage: make_page.py ZKIT.wasm OUT.html
 
 Each script of `page/` becomes a function that answers what it exports, in an order in which each comes after what it
 imports. So every script keeps its own names, and nothing in it is changed but the words `import` and `export`. The same
@@ -36,7 +36,7 @@ def as_function(path: pathlib.Path) -> str:
     text = IMPORT.sub(lambda it: f"const {{{it[1]}}} = {name_of(path.parent / it[2])};\n", text)
     text = EXPORT.sub("", text)
     if left := LEFT_OVER.search(text):
-        raise SystemExit(f"make-page: {path.name}: {left[0]}: this form is not known here")
+        raise SystemExit(f"make_page.py: {path.name}: {left[0]}: this form is not known here")
     return f"const {name_of(path)} = (() => {{\n{text}return {{ {', '.join(exported)} }};\n}})();\n"
 
 
@@ -45,7 +45,7 @@ def in_order(
 ) -> list[pathlib.Path]:
     """A script after all that it imports; `done` are those that stand already."""
     if path in open_ones:
-        raise SystemExit(f"make-page: {path.name} imports itself")
+        raise SystemExit(f"make_page.py: {path.name} imports itself")
     for _, other in IMPORT.findall(path.read_text(encoding="utf-8")):
         in_order((path.parent / other).resolve(), done, (*open_ones, path))
     if path not in done:
@@ -57,7 +57,7 @@ def bundle(path: pathlib.Path) -> str:
     """A script with all that it imports, as one."""
     text = '"use strict";\n' + "".join(as_function(it) for it in in_order(path.resolve(), []))
     if re.search(r"<!--|</?script", text, re.IGNORECASE):
-        raise SystemExit(f"make-page: {path.name} has a tag of a script in it")
+        raise SystemExit(f"make_page.py: {path.name} has a tag of a script in it")
     return text
 
 
@@ -89,7 +89,7 @@ def page(module: bytes) -> str:
     text = (PAGE / "index.html").read_text(encoding="utf-8")
     for mark, part in parts.items():
         if text.count(mark) != 1:
-            raise SystemExit(f"make-page: index.html has not one {mark}")
+            raise SystemExit(f"make_page.py: index.html has not one {mark}")
         text = text.replace(mark, part)
     return text
 
@@ -97,7 +97,7 @@ def page(module: bytes) -> str:
 def main(words: list[str]) -> None:
     """Writes the page."""
     if len(words) != 2:
-        raise SystemExit("usage: make-page ZKIT.wasm OUT.html")
+        raise SystemExit("usage: make_page.py ZKIT.wasm OUT.html")
     pathlib.Path(words[1]).write_text(page(pathlib.Path(words[0]).read_bytes()), encoding="utf-8")
 
 
