@@ -85,7 +85,7 @@ fn put_frame(frames: &mut Frames, frame: &FrameBytes)
 {
     let words = words_at_front(frame.locals);
     let locals = &words[..frame.locals.len() / 2];
-    let _ = frames.call(locals, frame.pc, frame.result, frame.supplied);
+    let _ = frames.call(locals, frame.pc, 0, frame.result, frame.supplied);
     push_words(frames, frame.words);
 }
 

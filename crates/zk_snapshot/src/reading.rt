@@ -227,7 +227,7 @@ fn next_frame(reader: &mut Reader<'_>, frames: &mut Frames, is_first: bool) {
     let locals = reader.byte() % 16;
     let words = reader.word();
     if !is_first {
-        let _ = frames.call_with(locals, &[], pc, result, supplied);
+        let _ = frames.call_with(locals, &[], pc, 0, result, supplied);
     }
     fill_frame(reader, frames, locals, words);
 }

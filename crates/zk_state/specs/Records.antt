@@ -5,7 +5,7 @@ use Rattle.zk_state.specs.declared.records.Records.TheInside.{Inside}
 
 -- the record of the first frame
 abbrev pub first_record : FrameRecord
-first_record = record { base = 0; stack_base = 0; pc = 0; result = None; supplied = 0 }
+first_record = record { base = 0; stack_base = 0; pc = 0; start = 0; result = None; supplied = 0 }
 
 -- the current record, those of its callers with the newest last, and how many there may be
 pub record RecordList : Type 0 where

@@ -64,11 +64,13 @@ impl Model for FramesCopy {
 
 /// A frame as it stands: its local variables, its evaluation stack with the newest word last, the byte
 /// address that it returns to, the variable that takes its result, and how many arguments it was given.
+/// `start` is the byte address of its routine's first instruction, and 0 where that is not known.
 #[derive(Clone, Copy, Drop)]
 pub struct FrameView<'a> {
     pub locals: &'a [u16],
     pub words: &'a [u16],
     pub pc: u32,
+    pub start: u32,
     pub result: Option<u8>,
     pub supplied: u8,
 }
@@ -117,6 +119,7 @@ fn view_of<'a>(words: &'a [u16], own: FrameRecord, end: usize) -> FrameView<'a>
         locals: &words[own.base as usize..own.stack_base as usize],
         words: &words[own.stack_base as usize..end],
         pc: own.pc,
+        start: own.start,
         result: own.result,
         supplied: own.supplied,
     }
@@ -406,14 +409,16 @@ impl Frames {
     }
 
     /// Begins a routine with these local variables. It will return to the byte address `pc`,
-    /// its result goes to the variable `store`, and it was given `supplied` arguments (Standard,
-    /// section 6.4). With a frame too many this is `Limit::Frames`, else with words too many
-    /// `Limit::Words`.
+    /// its first instruction stands at the byte address `start`, or `start` is 0 where that is not
+    /// known, its result goes to the variable `store`, and it was given `supplied` arguments
+    /// (Standard, section 6.4). With a frame too many this is `Limit::Frames`, else with words too
+    /// many `Limit::Words`.
     #[tactic(auto, using(crate::proofs::Calls::filled_all))]
     pub fn call(
         &mut self,
         locals: &[u16],
         pc: u32,
+        start: u32,
         store: Option<u8>,
         supplied: u8,
     ) -> Result<(), Refusal>
@@ -426,7 +431,7 @@ impl Frames {
             × (self.new ≡ self.old)) }
     {
         let count = locals.len() as u8;
-        self.call_with(count, locals, pc, store, supplied)
+        self.call_with(count, locals, pc, start, store, supplied)
     }
 
     /// Begins a routine with so many local variables, of which the first take the arguments and the others 0,
@@ -438,6 +443,7 @@ impl Frames {
         count: u8,
         arguments: &[u16],
         pc: u32,
+        start: u32,
         store: Option<u8>,
         supplied: u8,
     ) -> Result<(), Refusal>
@@ -461,6 +467,7 @@ impl Frames {
             base: self.top as u32,
             stack_base: stack_base as u32,
             pc,
+            start,
             result: store,
             supplied,
         });

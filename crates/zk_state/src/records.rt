@@ -7,12 +7,14 @@ use std::alloc::{AllocError, Global};
 use std::marker::Model;
 
 /// A frame: its local variables are the words from `base` to `base of the stack`, and its evaluation stack is all that
-/// lies between them and the next frame.
+/// lies between them and the next frame. Its routine's first instruction stands at the byte address `start`, which is 0
+/// where that is not known.
 #[derive(Clone, Copy, PartialEq, Eq, Drop)]
 pub(crate) struct FrameRecord {
     pub(crate) base: u32,
     pub(crate) stack_base: u32,
     pub(crate) pc: u32,
+    pub(crate) start: u32,
     pub(crate) result: Option<u8>,
     pub(crate) supplied: u8,
 }
@@ -22,6 +24,7 @@ pub(crate) const FIRST: FrameRecord = FrameRecord {
     base: 0,
     stack_base: 0,
     pc: 0,
+    start: 0,
     result: None,
     supplied: 0,
 };

@@ -35,16 +35,16 @@ fn frames_go_up_to_the_bound(rt: HostRuntime) -> Result<(), Fail> {
     same(&rt, frames.depth(), 0);
     same(&rt, frames.supplied(), 0);
     same(&rt, frames.leave(), Err(Fault::ReturnFromMain));
-    same(&rt, frames.call(&[1, 2, 3], 66, Some(0), 1), Ok(()));
+    same(&rt, frames.call(&[1, 2, 3], 66, 0, Some(0), 1), Ok(()));
     same(
         &rt,
-        frames.call(&[4, 5], 66, None, 0),
+        frames.call(&[4, 5], 66, 0, None, 0),
         Err(Refusal::Limit(Limit::Words)),
     );
-    same(&rt, frames.call(&[4], 70, None, 0), Ok(()));
+    same(&rt, frames.call(&[4], 70, 0, None, 0), Ok(()));
     same(
         &rt,
-        frames.call(&[5], 74, None, 0),
+        frames.call(&[5], 74, 0, None, 0),
         Err(Refusal::Limit(Limit::Frames)),
     );
     same(&rt, frames.depth(), 2);

@@ -73,6 +73,6 @@ pub fn call_routine(
     let start = header + 1 + length_of_values(&game.memory, count);
     let supplied = arguments.len() as u8;
     game.frames
-        .call(locals.as_slice(), i.next, i.store, supplied)?;
+        .call(locals.as_slice(), i.next, start, i.store, supplied)?;
     Ok(start)
 }
