@@ -1,5 +1,6 @@
 pub mod Answers
 pub mod Bounds
+pub mod Calls
 pub mod Going
 pub mod Halts
 pub mod Laws

@@ -10,6 +10,7 @@ ghost use Rattle.zk_vm.specs.Outcome.{begun, first_game, with_grid_forgotten, wi
 ghost use Rattle.zk_vm.specs.Step.{is_read};
 
 mod answers;
+pub mod calls;
 pub mod parts;
 mod step;
 
