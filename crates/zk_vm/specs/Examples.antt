@@ -3,7 +3,7 @@
 use Rattle.std.specs.Prelude.{◌≡◌, ℕ, List, [], ◌∷◌, ◌++◌, Some, None, replicate, codes}
 use Rattle.zk_mem.specs.declared.fault.Fault.TheVariants.{BadAddress, DivisionByZero, BadOpcode, CodePastEnd, ReadOnly}
 use Rattle.zk_state.specs.declared.refusal.Limit.TheVariants.{Frames, Words, Steps, Reads}
-use Rattle.zk_state.specs.Frames.{first_frames}
+use Rattle.zk_state.specs.Frames.{Frame, FrameList, first_frame, first_frames}
 use Rattle.zk_step.specs.declared.state.game_state.View.TheVariants.{Plain, Upper}
 use Rattle.zk_vm.specs.declared.limits.Limits.{Limits}
 use Rattle.zk_step.specs.declared.state.ending.Event.TheVariants as event
@@ -11,6 +11,7 @@ use Rattle.zk_vm.specs.declared.stop.Stop.{Stop}
 use Rattle.zk_vm.specs.declared.stop.Stop.TheVariants.{Quit, Fault, Limit, EndOfInput, Read}
 use Rattle.zk_vm.specs.Answers.Answer.{Typed}
 use Rattle.zk_vm.specs.Bounds.{AreInRange}
+use Rattle.zk_vm.specs.Calls.{locals_and_return}
 use Rattle.zk_vm.specs.Halts.{event_waited}
 use Rattle.zk_vm.specs.Outcome.{Outcome, Session, begun, given, outcome, ran, with_stop}
 use Rattle.zk_vm.specs.Plays.{codes_read}
@@ -170,3 +171,20 @@ abbrev pub ScriptsGetText : Type 0
 ScriptsGetText =
     outcome_of (starts (story_of (0xf3 ∷ 0x7f ∷ 2 ∷ 0xb2 ∷ 0xb5 ∷ 0xc5 ∷ 0xf3 ∷ 0x3f ∷ 0xff ∷ 0xfe ∷ 0xb2 ∷ 0xb5 ∷ 0xc5 ∷ 0xba ∷ [])) (limits_of 1 1 10))
     ≡ record { stop = Quit; text = record { screen = codes "hihi"; script = codes "hi" } }
+
+-- a routine with these local variables, whose caller goes on at an address
+abbrev pub frame : List ℕ → ℕ → Frame
+frame locals goes_on = record { locals = locals; words = 44 ∷ []; pc = goes_on; result = None; supplied = 1 }
+
+-- the frame that a story begins in, and two routines
+abbrev pub two_routines : FrameList
+two_routines = record { current = frame (8 ∷ 9 ∷ []) 90; callers = frame (7 ∷ []) 70 ∷ first_frame ∷ []; most_frames = 3; most_words = 9 }
+
+-- the first frame has number 0, and the newest the greatest (section 15, `throw`); words of the evaluation stack are no
+-- local variables (section 6.3)
+abbrev pub RoutinesAreOpen : Type 0
+RoutinesAreOpen =
+    (locals_and_return two_routines 0 ≡ Some ([], 0))
+    × (locals_and_return two_routines 1 ≡ Some (7 ∷ [], 70))
+    × (locals_and_return two_routines 2 ≡ Some (8 ∷ 9 ∷ [], 90))
+    × (locals_and_return two_routines 3 ≡ None)

@@ -102,8 +102,8 @@ impl Machine {
     }
 
     /// What is known of the routine of a frame by its number, where the first has number 0: of that one, which the
-    /// story begins in, neither a routine nor a call. `routine` and `call` are told by the frames that calls have made
-    /// since the story began, and not by those that a saved game had.
+    /// story begins in, neither a routine nor a call. Of frames that a saved game or a snapshot brought, no routine is
+    /// known, and no call but one in the code that the story begins with.
     pub fn open_routine(&self, number: u16) -> OpenRoutine<'_>
         requires { number ≤ length self.now.state.game.frames.callers }
         ensures frame { locals_and_return self.now.state.game.frames number
