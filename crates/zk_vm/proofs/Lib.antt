@@ -22,6 +22,7 @@ pub mod Popping
 pub mod Within
 pub mod Cuts
 pub mod Staying
+pub mod Straight
 pub mod CleanRuns
 pub mod Loaded
 pub mod EachSaid

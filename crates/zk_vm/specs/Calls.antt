@@ -1,5 +1,6 @@
 -- The calls that led to where a machine stands: of each routine that is open, what is told.
 use Rattle.std.specs.Prelude.{◌≡◌, ℕ, List, reverse, slice_get, true, Option, Some, Ok, option_map}
+use Rattle.zk_mem.specs.Header.{header_of}
 use Rattle.zk_mem.specs.Map.{MemoryMap}
 use Rattle.zk_code.specs.declared.instr.Instr.{Instr}
 use Rattle.zk_code.specs.Reach.{is_call, constant_call}
@@ -30,3 +31,14 @@ pub record IsCallTo (m : MemoryMap) (routine : Option ℕ) (goes_on : ℕ) (i : 
 -- such a call stands at a byte address
 abbrev pub StandsCallTo : MemoryMap → Option ℕ → ℕ → ℕ → Type 0
 StandsCallTo m routine goes_on a = (i : Instr) × (instr_at m a ≡ Ok i) × IsCallTo m routine goes_on i
+
+-- code leads from a byte address to another, from each instruction to what stands after it
+pub data CodeLeads (m : MemoryMap) : ℕ → ℕ → Type 0 where
+  Here : (a : ℕ) → CodeLeads m a a
+  Behind : (a b : ℕ) (i : Instr) → instr_at m a ≡ Ok i → CodeLeads m i.next b → CodeLeads m a b
+
+-- of a routine that the first frame has called: its call is told, where the code that the story begins with leads to it
+-- from the first instruction on (section 5.5)
+abbrev pub TellsCall : MemoryMap → Option ℕ → ℕ → Option ℕ → Type 0
+TellsCall m routine goes_on call =
+    (a : ℕ) → CodeLeads m (header_of m.file).first_instruction a → StandsCallTo m routine goes_on a → call ≡ Some a

@@ -1,7 +1,7 @@
 // The calls that led to where a machine stands.
 
-ghost use Rattle.std.specs.Prelude.{◌≡◌, ◌≤◌, ◌<◌, length, Some, None, IfSome, IsTrue};
-ghost use Rattle.zk_vm.specs.Calls.{locals_and_return, IsRoutineWith, IsCallTo, StandsCallTo};
+ghost use Rattle.std.specs.Prelude.{◌≡◌, ◌≤◌, ◌<◌, ◌↔◌, ℕ, length, Some, None, IfSome, IsTrue};
+ghost use Rattle.zk_vm.specs.Calls.{locals_and_return, IsRoutineWith, IsCallTo, StandsCallTo, CodeLeads, TellsCall};
 
 use crate::machine::Machine;
 use zk_code::decode::decode;
@@ -39,7 +39,7 @@ fn routine_before(memory: &Memory, start: u32, count: u8) -> Option<u32>
 /// Whether an instruction can have begun a routine: it is a call after which its caller goes on at a byte address, and
 /// where it calls by a constant, and the routine is known, it calls that one (Standard, section 6.4).
 fn can_begin(memory: &Memory, instr: &Instr, goes_on: u32, routine: Option<u32>) -> bool
-    ensures { IsTrue result → IsCallTo memory.now routine goes_on instr.now }
+    ensures { IsTrue result ↔ IsCallTo memory.now routine goes_on instr.now }
 {
     let Opcode::Call(_) = instr.opcode else {
         return false;
@@ -56,8 +56,11 @@ fn can_begin(memory: &Memory, instr: &Instr, goes_on: u32, routine: Option<u32>)
 /// The byte address of the call after which a caller goes on, by its instructions from a byte address on, each of which
 /// begins where the one before ends. There is none where these do not come to such a call.
 fn call_before(memory: &Memory, start: u32, goes_on: u32, routine: Option<u32>) -> Option<u32>
-    ensures { IfSome result (StandsCallTo memory.now routine goes_on) }
+    ensures stands { IfSome result (StandsCallTo memory.now routine goes_on) }
+    ensures found { (a : ℕ) → CodeLeads memory.now start a
+        → StandsCallTo memory.now routine goes_on a → result ≡ Some a }
 {
+    memory.has_bytes();
     let mut at = start;
     for _i in start..goes_on {
         let Ok(instr) = decode(memory, at) else {
@@ -87,14 +90,16 @@ impl Machine {
     fn call_of(&self, number: u16, goes_on: u32, routine: Option<u32>) -> Option<u32>
         requires above { 1 ≤ number }
         requires open { number ≤ length self.now.state.game.frames.callers }
-        ensures { IfSome result (StandsCallTo self.now.state.game.memory routine goes_on) }
+        ensures stands { IfSome result
+            (StandsCallTo self.now.state.game.memory routine goes_on) }
+        ensures main { number ≡ 1 → TellsCall self.now.state.game.memory routine goes_on result }
     {
         let memory = &self.game.memory;
-        let start = if number == 1 {
-            memory.header().first_instruction as u32
-        } else {
-            self.game.frames.frame(number - 1).start
-        };
+        if number == 1 {
+            let first = memory.header().first_instruction as u32;
+            return call_before(memory, first, goes_on, routine);
+        }
+        let start = self.game.frames.frame(number - 1).start;
         if start == 0 {
             return None;
         }
@@ -112,6 +117,8 @@ impl Machine {
             (IsRoutineWith self.now.state.game.memory (length result.locals.now)) }
         ensures call { IfSome result.call
             (StandsCallTo self.now.state.game.memory result.routine result.goes_on) }
+        ensures main { number ≡ 1 → TellsCall self.now.state.game.memory
+            result.routine result.goes_on result.call }
         ensures first { number ≡ 0 → (result.routine ≡ None) × (result.call ≡ None) }
     {
         let frame = self.game.frames.frame(number);
