@@ -1,0 +1,4 @@
+pub mod Differing
+pub mod LineCuts
+pub mod Findings
+pub mod ScriptLines

@@ -1,0 +1,10 @@
+// Walkthroughs of stories, and what differs from a play that was kept.
+#![tactic(auto)]
+
+pub mod difference;
+pub mod examples;
+mod kinds;
+mod lines;
+pub mod search;
+mod settings;
+pub mod walkthrough;
