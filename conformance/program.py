@@ -107,6 +107,8 @@ SAYS = story("F3 7F 02 B2 B5C5 F3 3F FF FE B2 B5C5 BA")
 # `split_window 1`, `set_window 1`, `print "hi"`, `set_window 0`, `read_char 1 -> sp`, and `quit`.
 SPLITS = story("EA 7F 01 EB 7F 01 B2 B5C5 EB 7F 00 F6 7F 01 00 BA", version=5)
 
+# A story of 2006, when stories began to name themselves.
+NAMED = story("BA", version=5, bytes_at=dict(enumerate(b"060101", 0x12)))
 # `save`, which branches over two of three `new_line`s, and `quit`; `restore`, the same.
 SAVES = story("B5 C4 BB BB BB BA")
 RESTORES = story("B6 C4 BB BB BB BA")
@@ -242,7 +244,7 @@ FILES: dict[str, bytes] = {
     "fox.z3": prints("the quick brown foxe jumps over the lazy dog\n  and  more\n"),
     "bars.z3": prints("| a row of a window that is wide\na word, and a bar: | | again\n"),
     "long.z3": prints(f"a {'b' * 30} c"),
-    "named.z5": story("BA", version=5) + b"UUID://1974A053-7DB0-4103-93A1-767C1382C0B7//",
+    "named.z5": NAMED + b"UUID://1974A053-7DB0-4103-93A1-767C1382C0B7//",
     "lost_boys.z3": story("BA", x02=88, bytes_at=dict(enumerate(b"840726", 0x12)), x1c=0xA129),
     "nineties.z5": story("BA", version=5, x02=16, bytes_at=dict(enumerate(b"951024", 0x12)), x1c=0x4DE6),
     "hello.z4": story("B2 B5C5 BB BA", version=4),

@@ -1,5 +1,5 @@
 -- What catalogues name a story by, its IFID (Treaty of Babel, the section on the Z-machine).
-use Rattle.std.specs.Prelude.{◌==◌, ◌-◌, ℕ, Bool, ◌&&◌, ◌||◌, ◌+◌, List, [], ◌∷◌, ◌++◌, Option, Some, None, take, drop, map, not, nat_le, nat_lt, codes, decimal, slice_index, if◌then◌else◌}
+use Rattle.std.specs.Prelude.{◌==◌, ◌-◌, ℕ, Bool, ◌&&◌, ◌||◌, ◌+◌, List, [], ◌∷◌, ◌++◌, Option, Some, None, take, drop, map, not, option_map, nat_le, nat_lt, codes, decimal, slice_index, if◌then◌else◌}
 use Rattle.std.specs.List.{starts_with}
 use Rattle.std.specs.Str.{bytes_eq}
 use Rattle.zk_mem.specs.Header.{header_of}
@@ -39,6 +39,19 @@ unfoldable pub first_name : List ℕ → Option (List ℕ)
 first_name [] = None
 first_name (b ∷ bs) = first_or (name_in_front (b ∷ bs)) (first_name bs)
 
+-- a serial number is of a year before 2006, when no story named itself: it begins with 8 or 9, or with 00 to 05
+abbrev pub is_early : List ℕ → Bool
+is_early serial =
+    slice_index serial 0 == 56 || (slice_index serial 0 == 57 || (slice_index serial 0 == 48 && (nat_le 48 (slice_index serial 1) && nat_le (slice_index serial 1) 53)))
+
+-- a letter as a capital
+abbrev pub capital_letter : ℕ → ℕ
+capital_letter b = if nat_le 97 b && nat_le b 122 then b - 32 else b
+
+-- the name by which a file names itself, with capitals
+abbrev pub own_name : List ℕ → Option (List ℕ)
+own_name file = if is_early (header_of file).serial then None else option_map (map capital_letter) (first_name file)
+
 -- a serial number, with a hyphen in place of what is no letter and no digit
 abbrev pub named_byte : ℕ → ℕ
 named_byte b = if is_letter b || is_digit b then b else 45
@@ -67,7 +80,7 @@ name_or None other = other
 
 -- the name in the file, and where there is none, by its header
 abbrev pub ifid : List ℕ → List ℕ
-ifid file = name_or (first_name file) (header_name (header_of file))
+ifid file = name_or (own_name file) (header_name (header_of file))
 
 -- the line that `info --ifid` shows
 unfoldable pub ifid_line : MemoryMap → List ℕ

@@ -1,7 +1,7 @@
 // What catalogues name a story by.
 
-ghost use Rattle.std.specs.Prelude.{◌≡◌, ◌≤◌, ◌<◌, ◌-◌, length, nat_lt, option_map, if◌then◌else◌};
-ghost use Rattle.zk_inspect.specs.Ifid.{capital_digits, first_name, header_name, ifid, ifid_line, is_digit, is_letter, is_name_byte, name_in_front, name_length, named_byte, names_sum, serial_named, sum_text};
+ghost use Rattle.std.specs.Prelude.{◌≡◌, ◌≤◌, ◌<◌, ◌-◌, length, map, nat_lt, option_map, if◌then◌else◌};
+ghost use Rattle.zk_inspect.specs.Ifid.{capital_digits, capital_letter, first_name, header_name, ifid, ifid_line, is_digit, is_early, is_letter, is_name_byte, name_in_front, name_length, named_byte, names_sum, serial_named, sum_text};
 
 use zk_mem::header::Header;
 use zk_mem::memory::Memory;
@@ -72,6 +72,27 @@ fn first_name(file: &[u8]) -> Option<&[u8]>
         }
     }
     None
+}
+
+/// Whether a serial number is of a year before 2006, when no story named itself (Treaty of Babel, the section on the
+/// Z-machine).
+fn is_early(serial: [u8; 6]) -> bool
+    ensures { result ≡ is_early serial }
+{
+    serial[0] == b'8'
+        || serial[0] == b'9'
+        || serial[0] == b'0' && b'0' <= serial[1] && serial[1] <= b'5'
+}
+
+/// A letter as a capital.
+fn capital_letter(byte: u8) -> u8
+    ensures { result ≡ capital_letter byte }
+{
+    if b'a' <= byte && byte <= b'z' {
+        byte - 32
+    } else {
+        byte
+    }
 }
 
 /// A byte of a serial number, or a hyphen for one that is no letter and no digit.
@@ -151,13 +172,27 @@ fn write_header_name<P: LineWriter>(writer: &mut P, header: Header)
     write_sum(writer, header);
 }
 
-/// Writes the name of a story.
+/// Writes a name with capitals.
+fn write_own_name<P: LineWriter>(writer: &mut P, name: &[u8])
+    ensures { P.wrote writer.old writer.new (map capital_letter name.now) }
+{
+    for byte in name {
+        writer.write(&[capital_letter(*byte)]);
+    }
+}
+
+/// Writes the name of a story by what it says of itself, where that was usual.
 fn write_name<P: LineWriter>(writer: &mut P, memory: &Memory)
     ensures { P.wrote writer.old writer.new (ifid memory.now.file) }
 {
+    let header = memory.header();
+    if is_early(header.serial) {
+        write_header_name(writer, header);
+        return;
+    }
     match first_name(memory.original()) {
-        Some(name) => writer.write(name),
-        None => write_header_name(writer, memory.header()),
+        Some(name) => write_own_name(writer, name),
+        None => write_header_name(writer, header),
     }
 }
 
