@@ -3,9 +3,9 @@
 
 usage: docs/options.py [--write]
 
-The table is crates/zk_command/src/options.rt. From it come the usage in README.md, docs/manual/playing.md and
-docs/zkit.1, and the ranges and defaults in the manual's table, in the page for man and in include/zkit.h.
-Without --write it tells which of these say something else, and the status is then 1.
+The table is crates/zk_command/src/options.rt. From it come the usage in README.md, the manual and docs/zkit.1, and the
+ranges and defaults in the manual's table, in the page for man and in include/zkit.h. Without --write it tells which of
+these say something else, and the status is then 1.
 """
 
 from __future__ import annotations
@@ -20,38 +20,57 @@ TOP = Path(__file__).resolve().parent.parent
 TABLE = TOP / "crates" / "zk_command" / "src" / "options.rt"
 
 
+# What stands after an option of each kind.
+VALUES = {"File": "FILE", "Folder": "FOLDER", "Flag": ""}
+
+
 class Option(NamedTuple):
-    """An option: its name, what stands after it, and of one with a number its range and its default."""
+    """An option: its name, what stands after it, and of one with a number its range, default and word for one found."""
 
     name: str
     value: str
     least: int = 0
     most: int = 0
     default: Optional[int] = None
+    word: str = ""
+
+    def values(self) -> str:
+        """What stands after the option."""
+        return f"{self.value}|{self.word}" if self.word else self.value
 
     def usage(self) -> str:
         """The option as a usage line has it."""
-        return f"[--{self.name}{self.value and ' ' + self.value}]"
+        return f"[--{self.name}{self.value and ' ' + self.values()}]"
 
 
 def read_numbers(text: str) -> dict[str, Option]:
     """The options with a number, by the names of their constants."""
-    row = r'const (\w+): NumberOption =\s*number!\(\s*"(\w+)",\s*(?:Some\("(\d+)"\)|None),\s*(\d+) to (\d+),'
+    row = (
+        r'const (\w+): NumberOption =\s*number!\(\s*"(\w+)",\s*(?:Some\("(\d+)"\)|None),\s*(\d+) to (\d+),'
+        r'(?:\s*or "(\w+)",)?'
+    )
     found = re.findall(row, text)
     return {
-        constant: Option(name, "n", int(least), int(most), int(default) if default else None)
-        for constant, name, default, least, most in found
+        constant: Option(name, "n", int(least), int(most), int(default) if default else None, word)
+        for constant, name, default, least, most, word in found
     }
+
+
+def read_shared(text: str) -> dict[str, Option]:
+    """The options that several commands have, by the names of their constants."""
+    row = r'const (\w+): CommandOption = CommandOption::(File|Folder|Flag) \{\s*name: "([\w-]+)"'
+    return {constant: Option(name, VALUES[kind]) for constant, kind, name in re.findall(row, text)}
 
 
 def read_options(text: str, constant: str) -> list[Option]:
     """The options of a command, in their order."""
-    numbers = read_numbers(text)
-    listed = text[text.index(f"const {constant}:"):].split("\n];")[0]
-    row = r'CommandOption::(?:Number\((\w+)\)|(File|Flag) \{\s*name: "(\w+)")'
+    known = {**read_numbers(text), **read_shared(text)}
+    listed = text[text.index(f"const {constant}:"):].split("= [", 1)[1].split("];")[0]
+    row = r'CommandOption::(?:Number\((\w+)\)|(File|Folder|Flag) \{\s*name: "([\w-]+)")|\b([A-Z_]{4,}),?'
+    listed = re.sub(r'help: ".*"', "", listed)
     return [
-        numbers[number] if number else Option(name, "FILE" if kind == "File" else "")
-        for number, kind, name in re.findall(row, listed)
+        known[number or shared] if number or shared else Option(name, VALUES[kind])
+        for number, kind, name, shared in re.findall(row, listed)
     ]
 
 
@@ -91,7 +110,9 @@ def with_entries(text: str, options: list[Option]) -> str:
 
 def with_synopsis(text: str, command: str, options: list[Option]) -> str:
     """The page for man with the options of a command in its synopsis."""
-    lines = "".join(f".OP \\-\\-{it.name}{it.value and ' ' + it.value}\n" for it in options)
+    lines = "".join(
+        f".OP \\-\\-{it.name.replace('-', chr(92) + '-')}{it.value and ' ' + it.values()}\n" for it in options
+    )
     return re.sub(rf'(\.SY "zkit {command}"\n)(?:\.OP .*\n)*', lambda found: found[1] + lines, text)
 
 
@@ -108,14 +129,22 @@ def with_constants(text: str, options: list[Option]) -> str:
 def made() -> dict[Path, str]:
     """Each page as it has to be."""
     text = TABLE.read_text("utf-8")
-    play, info = read_options(text, "PLAY_OPTIONS"), read_options(text, "INFO_OPTIONS")
+    play = read_options(text, "PLAY_OPTIONS")
+    commands = [
+        ("play", play, "STORY"),
+        ("info", read_options(text, "INFO_OPTIONS"), "STORY..."),
+        ("check", read_options(text, "CHECK_OPTIONS"), "STORY..."),
+        ("test", read_options(text, "TEST_OPTIONS"), "PATH..."),
+    ]
     pages = {}
-    for name in ("README.md", "docs/manual/playing.md", "docs/manual/listings.md"):
+    for name in ("README.md", *(f"docs/manual/{page}.md" for page in ("playing", "listings", "testing"))):
         page = (TOP / name).read_text("utf-8")
-        page = with_usage(with_usage(page, "play", play, "STORY"), "info", info, "STORY...")
+        for command, options, last in commands:
+            page = with_usage(page, command, options, last)
         pages[TOP / name] = with_rows(page, play)
     manual = (TOP / "docs" / "zkit.1").read_text("utf-8")
-    manual = with_synopsis(with_synopsis(manual, "play", play), "info", info)
+    for command, options, _ in commands:
+        manual = with_synopsis(manual, command, options)
     pages[TOP / "docs" / "zkit.1"] = with_entries(manual, play)
     header = TOP / "include" / "zkit.h"
     pages[header] = with_constants(header.read_text("utf-8"), play)

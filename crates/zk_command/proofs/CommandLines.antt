@@ -6,11 +6,12 @@ use Rattle.std.proofs.lemmas.Slice.Eq.{bytes_eq-Decides}
 use Rattle.clap.specs.Words.{App, HasMatchesOf, Row, Text, all_of, first_of, is_simple, is_simple_and_free, subcommand_name_of, subcommand_of, subcommand_rows_of, with_rule}
 use Rattle.clap.proofs.OnLiterals.{clap_on_literals}
 use Rattle.clap.specs.declared.ArgMatches.{ArgMatches}
-use Rattle.zk_command.specs.declared.settings.Settings.{Settings}
-use Rattle.zk_command.specs.CommandLine.{Asks, IsNumberIn, MaySayNumber, Says, SaysListing, SaysSettings, SaysNumber, SaysStory, command_line, flag_said, number_in, option_rule, with_rules}
+use Rattle.zk_command.specs.declared.settings.Amount.{Amount}
+use Rattle.zk_command.specs.declared.settings.PlayOptions.{PlayOptions}
+use Rattle.zk_command.specs.CommandLine.{Asks, IsAmount, IsNumberIn, IsOtherName, MaySayAmount, Says, SaysListing, SaysOptions, SaysNumber, SaysSeed, SaysStory, command_line, flag_said, number_in, option_rule, with_rules}
 use Rattle.zk_command.specs.declared.choice.Choice.{Choice}
 use Rattle.zk_command.specs.declared.options.CommandOption.{CommandOption}
-use Rattle.zk_command.specs.declared.choice.Choice.TheVariants.{Play, Show}
+use Rattle.zk_command.specs.declared.choice.Choice.TheVariants.{Play, Show, Test, Unpack}
 use Rattle.zk_command.specs.declared.listing.Listing.{Listing}
 use Rattle.zk_command.specs.declared.listing.Listing.TheVariants.{Info, Code, Findings}
 
@@ -82,11 +83,20 @@ number_not_said rows option least most argument None e h =
     λ n said. h (subst (λ (o : Option Text). IsSomeAnd o (λ w. IsNumberIn least most w × (number_in w ≡ n))) e said).0
 number_not_said rows option least most argument (Some n) e h = tt
 
--- an option whose text is no number in the range says neither a number nor none
-pub none_may_be_said : (rows : List Row) (option : Text) (least most : ℕ) (argument : Text) → first_of option rows ≡ Some argument
-    → (IsNumberIn least most argument → ⊥) → (w : Option ℕ) → MaySayNumber rows option least most w → ⊥
-none_may_be_said rows option least most argument e none None h = let both : None ≡ Some argument = sym h ∙ e in absurd cc
-none_may_be_said rows option least most argument e none (Some n) h = number_not_said rows option least most argument None e none n h
+-- an option's text says a number, or one that the program finds
+pub amount_said : (rows : List Row) (option : Text) (least most : ℕ) (word : Option Text) (argument : Text) (a : Amount) → first_of option rows ≡ Some argument
+    → IsAmount least most word argument a → MaySayAmount rows option least most word (Some a)
+amount_said rows option least most word argument a e h = subst (λ (o : Option Text). IsSomeAnd o (λ w. IsAmount least most word w a)) (sym e) h
+
+-- one whose text says neither
+pub no_amount_said : (rows : List Row) (option : Text) (least most : ℕ) (word : Option Text) (argument : Text) → first_of option rows ≡ Some argument
+    → ((a : Amount) → IsAmount least most word argument a → ⊥) → (a : Option Amount) → MaySayAmount rows option least most word a → ⊥
+no_amount_said rows option least most word argument e none None h = let both : None ≡ Some argument = sym h ∙ e in absurd cc
+no_amount_said rows option least most word argument e none (Some a) h = none a (subst (λ (o : Option Text). IsSomeAnd o (λ w. IsAmount least most word w a)) e h)
+
+-- an option that is left out says no number
+pub left_out : (rows : List Row) (option : Text) (least most : ℕ) (word : Option Text) → first_of option rows ≡ None → (a : Amount) → MaySayAmount rows option least most word (Some a) → ⊥
+left_out rows option least most word e a h = subst (λ (o : Option Text). IsSomeAnd o (λ w. IsAmount least most word w a)) e h
 
 -- a flag by its text
 pub flag_by : (rows : List Row) (name argument : Text) (b : Bool) → first_of name rows ≡ Some argument → b ≡ bytes_eq argument (codes "true") → b ≡ flag_said (first_of name rows)
@@ -106,34 +116,52 @@ same_name name known test = let d = bytes_eq-Decides name known in d.0 test
 other_name : (name known : Text) → bytes_eq name known ≡ false → name ≡ known → ⊥
 other_name name known test e = let d = bytes_eq-Decides name known in let both : false ≡ true = sym test ∙ d.1 e in absurd cc
 
--- `play` lists nothing
-no_listing : (rows : List Row) (listing : Listing) → SaysListing (codes "play") rows listing → ⊥
-no_listing rows (Info sections) h = other_name (codes "play") (codes "info") refl h.0
-no_listing rows Code h = other_name (codes "play") (codes "disasm") refl h
-no_listing rows Findings h = other_name (codes "play") (codes "check") refl h
+-- `play`, `test` and `unpack` list nothing
+no_listing : (name : Text) (rows : List Row) (listing : Listing) → bytes_eq name (codes "info") ≡ false → bytes_eq name (codes "disasm") ≡ false → bytes_eq name (codes "check") ≡ false → SaysListing name rows listing → ⊥
+no_listing name rows (Info sections) i d k h = other_name name (codes "info") i h.0
+no_listing name rows Code i d k h = other_name name (codes "disasm") d h
+no_listing name rows Findings i d k h = other_name name (codes "check") k h
 
--- without a path or settings `play` asks for nothing
-pub no_story_said : (rows : List Row) → ((path : List ℕ) → SaysStory rows path → ⊥) → (c : Choice) → Says (codes "play") rows c → ⊥
-no_story_said rows none (Play story save script m) h = none story.now h.1
-no_story_said rows none (Show stories listing) h = no_listing rows listing h.1
+-- without a path or options `play` asks for nothing
+pub no_play_said : (rows : List Row) → ((path : List ℕ) (o : PlayOptions) → SaysStory rows path → SaysOptions rows o → ⊥) → (c : Choice) → Says (codes "play") rows c → ⊥
+no_play_said rows none (Play story options) h = none story.now options h.1 h.2
+no_play_said rows none (Show stories recursive listing) h = no_listing (codes "play") rows listing refl refl refl h.1
+no_play_said rows none (Test paths story bless) h = other_name (codes "play") (codes "test") refl h.0
+no_play_said rows none (Unpack file out) h = other_name (codes "play") (codes "unpack") refl h.0
 
-pub no_settings_said : (rows : List Row) → ((m : Settings) → SaysSettings rows m → ⊥) → (c : Choice) → Says (codes "play") rows c → ⊥
-no_settings_said rows none (Play story save script m) h = none m h.4
-no_settings_said rows none (Show stories listing) h = no_listing rows listing h.1
+-- without the paths of two files `unpack` asks for nothing
+pub no_unpack_said : (rows : List Row) → ((file out : List ℕ) → first_of (codes "FILE") rows ≡ Some file → first_of (codes "OUT") rows ≡ Some out → ⊥) → (c : Choice) → Says (codes "unpack") rows c → ⊥
+no_unpack_said rows none (Play story options) h = other_name (codes "unpack") (codes "play") refl h.0
+no_unpack_said rows none (Show stories recursive listing) h = no_listing (codes "unpack") rows listing refl refl refl h.1
+no_unpack_said rows none (Test paths story bless) h = other_name (codes "unpack") (codes "test") refl h.0
+no_unpack_said rows none (Unpack file out) h = none file.now out.now h.1 h.2
 
--- without stories, or by a name of no listing, nothing is listed
-pub no_stories : (name : Text) (rows : List Row) (paths : List Text) → bytes_eq name (codes "play") ≡ false → paths ≡ unwrap_or (all_of (codes "STORY") rows) [] → length paths ≡ 0 → (c : Choice) → Says name rows c → ⊥
-no_stories name rows paths p is none (Play story save script m) h = other_name name (codes "play") p h.0
-no_stories name rows paths p is none (Show stories listing) h =
-    let both : length (map (λ s. s.now) stories.items) ≡ 0 = ap length (h.0.1 ∙ sym is) ∙ none in
-    let some : 1 ≤ 0 = rw both at h.0.0 in
+-- there are no paths
+no_paths : (rows : List Row) (paths told : List Text) → paths ≡ unwrap_or (all_of (codes "STORY") rows) [] → length paths ≡ 0 → 1 ≤ length told → told ≡ unwrap_or (all_of (codes "STORY") rows) [] → ⊥
+no_paths rows paths told is none some same =
+    let both : length told ≡ 0 = ap length (same ∙ sym is) ∙ none in
+    let one : 1 ≤ 0 = rw both at some in
     absurd (omega arith)
 
-pub no_command : (name : Text) (rows : List Row) → bytes_eq name (codes "play") ≡ false → ((l : Listing) → SaysListing name rows l → ⊥) → (c : Choice) → Says name rows c → ⊥
-no_command name rows p none (Play story save script m) h = other_name name (codes "play") p h.0
-no_command name rows p none (Show stories listing) h = none listing h.1
+-- without a path `test` asks for nothing
+pub no_test_said : (rows : List Row) (paths : List Text) → paths ≡ unwrap_or (all_of (codes "STORY") rows) [] → length paths ≡ 0 → (c : Choice) → Says (codes "test") rows c → ⊥
+no_test_said rows paths is none (Play story options) h = other_name (codes "test") (codes "play") refl h.0
+no_test_said rows paths is none (Show stories recursive listing) h = no_listing (codes "test") rows listing refl refl refl h.1
+no_test_said rows paths is none (Test told story bless) h = no_paths rows paths _ is none h.1.0 h.1.1
+no_test_said rows paths is none (Unpack file out) h = other_name (codes "test") (codes "unpack") refl h.0
+
+-- without stories, or by a name of no listing, nothing is listed
+pub no_stories : (name : Text) (rows : List Row) (paths : List Text) → IsOtherName name → paths ≡ unwrap_or (all_of (codes "STORY") rows) [] → length paths ≡ 0 → (c : Choice) → Says name rows c → ⊥
+no_stories name rows paths other is none (Play story options) h = other_name name (codes "play") other.play h.0
+no_stories name rows paths other is none (Show stories recursive listing) h = no_paths rows paths _ is none h.0.0 h.0.1
+no_stories name rows paths other is none (Test told story bless) h = other_name name (codes "test") other.test h.0
+no_stories name rows paths other is none (Unpack file out) h = other_name name (codes "unpack") other.unpack h.0
+
+pub no_command : (name : Text) (rows : List Row) → IsOtherName name → ((l : Listing) → SaysListing name rows l → ⊥) → (c : Choice) → Says name rows c → ⊥
+no_command name rows other none (Play story options) h = other_name name (codes "play") other.play h.0
+no_command name rows other none (Show stories recursive listing) h = none listing h.1
+no_command name rows other none (Test told story bless) h = other_name name (codes "test") other.test h.0
+no_command name rows other none (Unpack file out) h = other_name name (codes "unpack") other.unpack h.0
 
 pub no_listing_said : (name : Text) (rows : List Row) → bytes_eq name (codes "info") ≡ false → bytes_eq name (codes "disasm") ≡ false → bytes_eq name (codes "check") ≡ false → (l : Listing) → SaysListing name rows l → ⊥
-no_listing_said name rows i d k (Info sections) h = other_name name (codes "info") i h.0
-no_listing_said name rows i d k Code h = other_name name (codes "disasm") d h
-no_listing_said name rows i d k Findings h = other_name name (codes "check") k h
+no_listing_said name rows i d k l h = no_listing name rows l i d k h

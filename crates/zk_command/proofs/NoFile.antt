@@ -19,5 +19,5 @@ unfolding AreAnswers
 nothing_is_kept before after unwritten s [] none h = tt
 nothing_is_kept before after unwritten s (Typed codes ∷ answers) none h = (tt, nothing_is_kept before after unwritten (given (ran s) (Typed codes)) answers none h.1.2)
 nothing_is_kept before after unwritten s (GameKept true ∷ answers) none h = let never = rw none at h.1.0.1 in absurd cc
-nothing_is_kept before after unwritten s (GameKept false ∷ answers) none h = (refl, nothing_is_kept h.0 after unwritten (given (ran s) (GameKept false)) answers (still_none before.path h.0.path none h.1.0.2) h.1.1)
-nothing_is_kept before after unwritten s (File file ∷ answers) none h = (rw none at h.1.0.1, nothing_is_kept h.0 after unwritten (given (ran s) (File file)) answers (still_none before.path h.0.path none h.1.0.2) h.1.1)
+nothing_is_kept before after unwritten s (GameKept false ∷ answers) none h = (refl, nothing_is_kept h.0 after unwritten (given (ran s) (GameKept false)) answers (still_none before.place h.0.place none h.1.0.2) h.1.1)
+nothing_is_kept before after unwritten s (File file ∷ answers) none h = (rw none at h.1.0.1, nothing_is_kept h.0 after unwritten (given (ran s) (File file)) answers (still_none before.place h.0.place none h.1.0.2) h.1.1)

@@ -12,12 +12,14 @@ use Rattle.zk_vm.specs.declared.limits.Limits.{Limits}
 use Rattle.zk_vm.specs.Bounds.{AreInRange}
 use Rattle.zk_step.specs.declared.state.game_state.View.{View}
 use Rattle.zk_step.specs.declared.state.game_state.View.TheVariants.{Plain, Upper}
-use Rattle.zk_command.specs.declared.settings.Settings.{Settings}
+use Rattle.zk_command.specs.declared.settings.Amount.{Amount}
+use Rattle.zk_command.specs.declared.settings.Amount.TheVariants as amount
+use Rattle.zk_command.specs.declared.settings.PlayOptions.{PlayOptions}
 use Rattle.zk_command.specs.declared.choice.Choice.{Choice}
 use Rattle.zk_command.specs.declared.options.CommandOption.{CommandOption}
-use Rattle.zk_command.specs.declared.options.CommandOption.TheVariants.{Number, File, Flag}
+use Rattle.zk_command.specs.declared.options.CommandOption.TheVariants.{Number, File, Folder, Flag}
 use Rattle.zk_command.specs.declared.options.NumberOption.{NumberOption}
-use Rattle.zk_command.specs.declared.choice.Choice.TheVariants.{Play, Show}
+use Rattle.zk_command.specs.declared.choice.Choice.TheVariants.{Play, Show, Test, Unpack}
 use Rattle.zk_command.specs.declared.listing.Listing.{Listing}
 use Rattle.zk_command.specs.declared.listing.Listing.TheVariants.{Info, Code, Findings}
 use Rattle.zk_command.specs.declared.listing.Sections.{Sections}
@@ -37,6 +39,14 @@ story_argument = record (new_rule (codes "STORY")) { required = true }
 -- the paths of stories, one or more
 abbrev pub story_arguments : Rule
 story_arguments = record story_argument { action = Some Append }
+
+-- the paths of walkthroughs and folders, which stand where stories do
+abbrev pub path_arguments : Rule
+path_arguments = record story_arguments { value_names = 1 }
+
+-- the path of a file, which has to be given
+abbrev pub file_argument : Text → Rule
+file_argument name = record (new_rule name) { required = true }
 
 -- the option `--name VALUE`, which may be left out
 abbrev pub value_option : Text → Rule
@@ -58,6 +68,7 @@ number_rule o = number_by o.name.now (option_map (λ s. s.now) o.default)
 abbrev pub option_rule : CommandOption → Rule
 option_rule (Number o) = number_rule o
 option_rule (File name help) = value_option name.now
+option_rule (Folder name help) = value_option name.now
 option_rule (Flag name help) = flag name.now
 
 -- a command with rules, one after another
@@ -65,7 +76,8 @@ abbrev pub with_rules : App → List Rule → App
 with_rules a [] = a
 with_rules a (r ∷ rs) = with_rules (with_rule a r) rs
 
--- `play [--frames n] [--words n] [--undo n] [--steps n] [--seed n] [--save FILE] [--script FILE] [--upper] [--width n] [--echo] STORY`
+-- `play [--frames n] [--words n] [--undo n] [--steps n] [--seed n] [--save FILE] [--saves FOLDER] [--script FILE] [--upper] [--width n] [--page n]
+-- [--echo] [--record FILE] [--calls] STORY`
 abbrev pub play_command : App
 play_command = with_rules (new_app (codes "play")) (
     number_option (codes "frames") (codes "1024")
@@ -74,14 +86,19 @@ play_command = with_rules (new_app (codes "play")) (
     ∷ number_option (codes "steps") (codes "10000000")
     ∷ number_option (codes "seed") (codes "1")
     ∷ value_option (codes "save")
+    ∷ value_option (codes "saves")
     ∷ value_option (codes "script")
     ∷ flag (codes "upper")
     ∷ value_option (codes "width")
+    ∷ value_option (codes "page")
     ∷ flag (codes "echo")
+    ∷ value_option (codes "record")
+    ∷ flag (codes "calls")
     ∷ story_argument
     ∷ [])
 
--- `info [--header] [--map] [--abbreviations] [--dictionary] [--objects] [--tree] [--ifid] STORY..`
+-- `info [--header] [--map] [--abbreviations] [--dictionary] [--objects] [--tree] [--ifid] [--recursive]
+-- [--files-from FILE] STORY..`
 abbrev pub info_command : App
 info_command = with_rules (new_app (codes "info")) (
     flag (codes "header")
@@ -91,6 +108,8 @@ info_command = with_rules (new_app (codes "info")) (
     ∷ flag (codes "objects")
     ∷ flag (codes "tree")
     ∷ flag (codes "ifid")
+    ∷ flag (codes "recursive")
+    ∷ value_option (codes "files-from")
     ∷ story_arguments
     ∷ [])
 
@@ -98,15 +117,27 @@ info_command = with_rules (new_app (codes "info")) (
 abbrev pub disasm_command : App
 disasm_command = with_rule (new_app (codes "disasm")) story_argument
 
--- `check STORY..`
+-- `check [--recursive] [--files-from FILE] STORY..`
 abbrev pub check_command : App
-check_command = with_rule (new_app (codes "check")) story_arguments
+check_command = with_rules (new_app (codes "check")) (flag (codes "recursive") ∷ value_option (codes "files-from") ∷ story_arguments ∷ [])
+
+-- `test [--files-from FILE] [--story FILE] [--bless] PATH..`
+abbrev pub test_command : App
+test_command = with_rules (new_app (codes "test")) (value_option (codes "files-from") ∷ value_option (codes "story") ∷ flag (codes "bless") ∷ path_arguments ∷ [])
+
+-- `unpack FILE OUT`
+abbrev pub unpack_command : App
+unpack_command = with_rule (with_rule (new_app (codes "unpack")) (file_argument (codes "FILE"))) (file_argument (codes "OUT"))
+
+-- zkit's commands that play and list stories
+abbrev pub first_commands : App
+first_commands =
+    with_subcommand (with_subcommand (with_subcommand (with_subcommand (on_top (λ s. record s { has_version = true; subcommand_required = true }) (new_app (codes "zkit")))
+    play_command.top) info_command.top) disasm_command.top) check_command.top
 
 -- zkit's command line: these commands; help and the version are clap's
 abbrev pub command_line : App
-command_line =
-    with_subcommand (with_subcommand (with_subcommand (with_subcommand (on_top (λ s. record s { has_version = true; subcommand_required = true }) (new_app (codes "zkit")))
-    play_command.top) info_command.top) disasm_command.top) check_command.top
+command_line = with_subcommand (with_subcommand first_commands test_command.top) unpack_command.top
 
 -- the number that an argument's digits say, with or without a plus before them
 abbrev pub number_in : Text → ℕ
@@ -122,10 +153,19 @@ pub record IsNumberIn (least most : ℕ) (argument : Text) : Type 0 where
 abbrev pub SaysNumber : List Row → Text → ℕ → ℕ → ℕ → Type 0
 SaysNumber rows option least most n = IsSomeAnd (first_of option rows) (λ argument. IsNumberIn least most argument × (number_in argument ≡ n))
 
--- the same of an option that may be left out
-abbrev pub MaySayNumber : List Row → Text → ℕ → ℕ → Option ℕ → Type 0
-MaySayNumber rows option least most None = first_of option rows ≡ None
-MaySayNumber rows option least most (Some n) = SaysNumber rows option least most n
+-- the word of an option for a number that the program finds, if it has one
+abbrev pub word_of : NumberOption → Option Text
+word_of o = option_map (λ s. s.now) o.word
+
+-- an argument says a number in a range, or is the word for one that the program finds
+abbrev pub IsAmount : ℕ → ℕ → Option Text → Text → Amount → Type 0
+IsAmount least most word argument (amount.Number n) = IsNumberIn least most argument × (number_in argument ≡ n)
+IsAmount least most word argument amount.Found = word ≡ Some argument
+
+-- the text that clap found for an option says such a number, or the option is left out
+abbrev pub MaySayAmount : List Row → Text → ℕ → ℕ → Option Text → Option Amount → Type 0
+MaySayAmount rows option least most word None = first_of option rows ≡ None
+MaySayAmount rows option least most word (Some a) = IsSomeAnd (first_of option rows) (λ argument. IsAmount least most word argument a)
 
 -- what clap found says the limits of a run
 pub record SaysLimits (rows : List Row) (l : Limits) : Type 0 where
@@ -143,14 +183,28 @@ flag_said (Some argument) = bytes_eq argument (codes "true")
 abbrev pub view_said : List Row → View
 view_said rows = if flag_said (first_of (codes "upper") rows) then Upper else Plain
 
--- what clap found says the settings of a run: its limits, its seed, which is any number of 64 bits, its view, the columns of
--- the screen, and whether what is read is shown
-pub record SaysSettings (rows : List Row) (m : Settings) : Type 0 where
-  pub limits : SaysLimits rows m.limits
-  pub seed : SaysNumber rows (codes "seed") 0 18446744073709551615 m.seed
-  pub view : m.view ≡ view_said rows
-  pub width : MaySayNumber rows (codes "width") 20 255 m.width
-  pub echo : m.echo ≡ flag_said (first_of (codes "echo") rows)
+-- what clap found says the seed: any number of 64 bits, or `any`
+abbrev pub SaysSeed : List Row → Amount → Type 0
+SaysSeed rows seed = MaySayAmount rows (codes "seed") 0 18446744073709551615 (Some (codes "any")) (Some seed)
+
+-- what clap found for an option, which is taken as it is
+abbrev pub SaysText : {S : Type 0} → (S → Text) → List Row → Text → Option S → Type 0
+SaysText {S} text rows option said = option_map text said ≡ first_of option rows
+
+-- what clap found says the options of a play: the limits, the seed, the view, files, the columns of the screen and the lines of a
+-- page, and whether what is read is shown, and calls are told
+pub record SaysOptions (rows : List Row) (o : PlayOptions) : Type 0 where
+  pub limits : SaysLimits rows o.limits
+  pub seed : SaysSeed rows o.seed
+  pub view : o.view ≡ view_said rows
+  pub save : SaysText (λ s. s.now) rows (codes "save") o.save
+  pub saves : SaysText (λ s. s.now) rows (codes "saves") o.saves
+  pub script : SaysText (λ s. s.now) rows (codes "script") o.script
+  pub recorded : SaysText (λ s. s.now) rows (codes "record") o.recorded
+  pub width : MaySayAmount rows (codes "width") 20 255 (Some (codes "auto")) o.width
+  pub page : MaySayAmount rows (codes "page") 2 1000 (Some (codes "auto")) o.page
+  pub echo : o.echo ≡ flag_said (first_of (codes "echo") rows)
+  pub calls : o.calls ≡ flag_said (first_of (codes "calls") rows)
 
 -- the sections that the flags of `info` ask for: the header where none is given
 abbrev pub sections_said : List Row → Sections
@@ -182,10 +236,19 @@ SaysListing name rows Findings = name ≡ codes "check"
 
 -- what clap found for a command says a choice
 abbrev pub Says : Text → List Row → Choice → Type 0
-Says name rows (Play story save script m) =
-    (name ≡ codes "play") × SaysStory rows story.now × (option_map (λ s. s.now) save ≡ first_of (codes "save") rows)
-    × (option_map (λ s. s.now) script ≡ first_of (codes "script") rows) × SaysSettings rows m
-Says name rows (Show stories listing) = SaysStories rows (map (λ s. s.now) stories.items) × SaysListing name rows listing
+Says name rows (Play story options) = (name ≡ codes "play") × SaysStory rows story.now × SaysOptions rows options
+Says name rows (Show stories recursive listing) =
+    SaysStories rows (map (λ s. s.now) stories.items) × SaysListing name rows listing × (recursive ≡ flag_said (first_of (codes "recursive") rows))
+Says name rows (Test paths story bless) =
+    (name ≡ codes "test") × SaysStories rows (map (λ s. s.now) paths.items) × SaysText (λ s. s.now) rows (codes "story") story
+    × (bless ≡ flag_said (first_of (codes "bless") rows))
+Says name rows (Unpack file out) = (name ≡ codes "unpack") × (first_of (codes "FILE") rows ≡ Some file.now) × (first_of (codes "OUT") rows ≡ Some out.now)
+
+-- a command's name is none of those that list nothing
+pub record IsOtherName (name : Text) : Type 0 where
+  pub play : bytes_eq name (codes "play") ≡ false
+  pub test : bytes_eq name (codes "test") ≡ false
+  pub unpack : bytes_eq name (codes "unpack") ≡ false
 
 -- the arguments ask for a choice: clap finds a command in them that says it
 pub record Asks (arguments : List Text) (c : Choice) : Type 0 where
@@ -209,5 +272,5 @@ IsRefusedWith arguments e =
 
 -- the limits of a choice lie in their ranges
 abbrev pub HasLimits : Choice → Type 0
-HasLimits (Play story save script m) = AreInRange m.limits
-HasLimits (Show stories listing) = Unit {0}
+HasLimits (Play story options) = AreInRange options.limits
+HasLimits _ = Unit {0}

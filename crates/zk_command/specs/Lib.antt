@@ -8,3 +8,4 @@ pub mod Verdict
 pub mod SaveFiles
 pub mod ScriptFiles
 pub mod NoFile
+pub mod Records

@@ -81,9 +81,13 @@ pub struct About<'a> {
     pub heading: Option<&'a str>,
     pub looks: Cell<Looks>,
     pub bad_destination: Cell<Option<BadDestination>>,
+    /// Whether the calls that led to a fault or a limit are told, and what is told of them.
+    pub tells_calls: bool,
+    pub calls: Cell<Option<String>>,
     pub input: Notes,
     pub screen: Notes,
     pub script: Notes,
+    pub record: Notes,
 }
 
 impl<'a> About<'a> {
@@ -95,9 +99,12 @@ impl<'a> About<'a> {
             heading: None,
             looks: Cell::new(Looks::Unknown),
             bad_destination: Cell::new(None),
+            tells_calls: false,
+            calls: Cell::new(None),
             input: Notes::new(),
             screen: Notes::new(),
             script: Notes::new(),
+            record: Notes::new(),
         }
     }
 

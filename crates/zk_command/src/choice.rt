@@ -1,6 +1,6 @@
 // What the arguments of the command line ask for.
 
-ghost use Rattle.std.specs.Prelude.{◌≡◌, ◌≤◌, ℕ, List, codes, IfErr, IfNone, IfOk, IfSome, OnErr, SomeIff, Option, false, [], map, unwrap_or};
+ghost use Rattle.std.specs.Prelude.{◌≡◌, ◌≤◌, ℕ, List, codes, IfErr, IfNone, IfOk, IfSome, OnErr, SomeIff, Option, Some, false, [], map, option_map, unwrap_or};
 ghost use Rattle.std.specs.Str.{bytes_eq};
 ghost use Rattle.clap.specs.Words.{App, all_of, app_of, new_app, with_rule, first_of, found_of, kind_of, rows_of, rule_of};
 ghost use Rattle.clap.specs.declared.Command.TheViews.{out-Command as fields_of};
@@ -8,15 +8,16 @@ ghost use Rattle.zk_vm.specs.Bounds.{AreInRange};
 ghost use Rattle.zk_vm.specs.declared.limits.Limits.{Limits};
 ghost use Rattle.zk_command.specs.declared.choice.Choice.{Choice};
 ghost use Rattle.zk_command.specs.declared.listing.Listing.{Listing};
-ghost use Rattle.zk_command.specs.declared.settings.Settings.{Settings};
-ghost use Rattle.zk_command.specs.CommandLine.{Asks, HasLimits, IsNumberIn, IsRefusedWith, MaySayNumber, Says, SaysLimits, SaysListing, SaysSettings, SaysNumber, SaysStory, check_command, command_line, disasm_command, flag_said, info_command, number_in, number_rule, named_option, option_rule, play_command, sections_said, story_argument, story_arguments, usage_status, view_said, with_rules};
+ghost use Rattle.zk_command.specs.declared.settings.Amount.{Amount};
+ghost use Rattle.zk_command.specs.declared.settings.PlayOptions.{PlayOptions};
+ghost use Rattle.zk_command.specs.CommandLine.{Asks, HasLimits, IsAmount, IsNumberIn, IsOtherName, IsRefusedWith, MaySayAmount, Says, SaysLimits, SaysListing, SaysOptions, SaysNumber, SaysSeed, SaysStory, check_command, command_line, disasm_command, file_argument, first_commands, flag_said, info_command, number_in, number_rule, named_option, option_rule, path_arguments, play_command, sections_said, story_argument, story_arguments, test_command, unpack_command, usage_status, view_said, with_rules, word_of};
 
 use crate::listing::{Listing, Sections};
 use crate::options::{
-    CommandOption, FRAMES, INFO_OPTIONS, NumberOption, PLAY_OPTIONS, SEED, STEPS, UNDO, WIDTH,
-    WORDS,
+    CHECK_OPTIONS, CommandOption, FRAMES, INFO_OPTIONS, NumberOption, PAGE, PLAY_OPTIONS, SEED,
+    STEPS, TEST_OPTIONS, UNDO, WIDTH, WORDS,
 };
-use crate::settings::Settings;
+use crate::settings::{Amount, PlayOptions};
 use clap::error::ErrorKind;
 use clap::{Arg, ArgAction, ArgMatches, Command, Error};
 use std::alloc::{AllocError, Global};
@@ -34,18 +35,28 @@ Example: zkit check story.z5";
 /// What the program is asked to do.
 #[derive(Drop)]
 pub enum Choice<'a> {
-    /// To play the story in a file with these settings, and with its saved game and its transcript in the files `save`
-    /// and `script`, where they are given.
+    /// To play the story in a file.
     Play {
         story: &'a str,
-        save: Option<&'a str>,
-        script: Option<&'a str>,
-        settings: Settings,
+        options: PlayOptions<'a>,
     },
-    /// To list the stories in files, one at least.
+    /// To list the stories in files, one at least. A folder stands for the files in it where `recursive` says so.
     Show {
         stories: Vec<&'a str>,
+        recursive: bool,
         listing: Listing,
+    },
+    /// To play walkthroughs, or those in folders, one path at least, and to compare what they show with transcripts, or
+    /// to write these. `story` is that of a walkthrough which names none.
+    Test {
+        paths: Vec<&'a str>,
+        story: Option<&'a str>,
+        bless: bool,
+    },
+    /// To write the story of a Blorb file to a file.
+    Unpack {
+        file: &'a str,
+        out: &'a str,
     },
 }
 
@@ -77,6 +88,9 @@ fn option_of<'a>(alloc: Global, option: CommandOption) -> Arg<'a>
     match option {
         CommandOption::Number(number) => number_option_of(alloc, number),
         CommandOption::File { name, help } => option_named(alloc, name, help).value_name("FILE"),
+        CommandOption::Folder { name, help } => {
+            option_named(alloc, name, help).value_name("FOLDER")
+        }
         CommandOption::Flag { name, help } => {
             option_named(alloc, name, help).action(ArgAction::SetTrue)
         }
@@ -111,6 +125,26 @@ fn story_arguments_of<'a>(alloc: Global) -> Arg<'a>
     ensures local { result.global ≡ false }
 {
     story_argument_of(alloc).action(ArgAction::Append)
+}
+
+/// The paths of walkthroughs and folders.
+fn path_arguments_of<'a>(alloc: Global) -> Arg<'a>
+    ensures rule { rule_of result ≡ path_arguments }
+    ensures local { result.global ≡ false }
+{
+    Arg::new(alloc, "STORY")
+        .required(true)
+        .action(ArgAction::Append)
+        .value_name("PATH")
+        .help("A walkthrough's file, or a folder of them")
+}
+
+/// The path of a file.
+fn file_argument_of<'a>(alloc: Global, name: &'a str, help: &'a str) -> Arg<'a>
+    ensures rule { rule_of result ≡ file_argument name.now }
+    ensures local { result.global ≡ false }
+{
+    Arg::new(alloc, name).required(true).help(help)
 }
 
 /// A command with options as well.
@@ -179,12 +213,42 @@ fn check_command_of<'a>(alloc: Global) -> Result<Command<'a>, AllocError>
 {
     let about = "Lists what is wrong with stories, and ends with status 6 where something is";
     let command = described(alloc, "check", about, CHECK_HELP);
+    let command = with_options(alloc, command, &CHECK_OPTIONS)?;
     with_arg(command, story_arguments_of(alloc))
 }
 
-/// zkit's command line.
-fn command_line_of<'a>(alloc: Global) -> Result<Command<'a>, AllocError>
-    ensures { IfOk result (λ c. app_of c ≡ command_line) }
+/// The command `test`.
+fn test_command_of<'a>(alloc: Global) -> Result<Command<'a>, AllocError>
+    ensures shape { IfOk result (λ c. app_of c ≡ test_command) }
+    ensures local { IfOk result (λ c. (fields_of c).has_globals ≡ false) }
+{
+    let about = "Plays walkthroughs and compares what they show with their transcripts";
+    let command = described(alloc, "test", about, "Example: zkit test tests");
+    let command = with_options(alloc, command, &TEST_OPTIONS)?;
+    with_arg(command, path_arguments_of(alloc))
+}
+
+/// The command `unpack`.
+fn unpack_command_of<'a>(alloc: Global) -> Result<Command<'a>, AllocError>
+    ensures shape { IfOk result (λ c. app_of c ≡ unpack_command) }
+    ensures local { IfOk result (λ c. (fields_of c).has_globals ≡ false) }
+{
+    let about = "Writes the story of a Blorb file to a file of its own";
+    let example = "Example: zkit unpack story.zblorb story.z5";
+    let command = described(alloc, "unpack", about, example);
+    let file = file_argument_of(alloc, "FILE", "The Blorb file");
+    let command = with_arg(command, file)?;
+    let out = file_argument_of(
+        alloc,
+        "OUT",
+        "The file that gets the story, which is not there yet",
+    );
+    with_arg(command, out)
+}
+
+/// The commands that play and list stories.
+fn first_commands_of<'a>(alloc: Global) -> Result<Command<'a>, AllocError>
+    ensures { IfOk result (λ c. app_of c ≡ first_commands) }
 {
     let play = play_command_of(alloc)?;
     let command = Command::new(alloc, "zkit")
@@ -199,6 +263,17 @@ fn command_line_of<'a>(alloc: Global) -> Result<Command<'a>, AllocError>
     let command = command.subcommand(disasm)?;
     let check = check_command_of(alloc)?;
     command.subcommand(check)
+}
+
+/// zkit's command line.
+fn command_line_of<'a>(alloc: Global) -> Result<Command<'a>, AllocError>
+    ensures { IfOk result (λ c. app_of c ≡ command_line) }
+{
+    let command = first_commands_of(alloc)?;
+    let test = test_command_of(alloc)?;
+    let command = command.subcommand(test)?;
+    let unpack = unpack_command_of(alloc)?;
+    command.subcommand(unpack)
 }
 
 /// The number that an argument says, if it lies in a range.
@@ -337,42 +412,93 @@ fn view_of(play: &ArgMatches<'_>) -> View
     }
 }
 
-/// The columns of the screen that the options of `play` say.
-fn width_of(alloc: Global, play: &ArgMatches<'_>) -> Result<Option<u8>, Error>
-    ensures says { IfOk result
-        (λ w. MaySayNumber (rows_of (found_of play.now)) (codes "width") 20 255 w) }
-    ensures mistake { IfErr result (λ e. 1 ≤ usage_status (kind_of e)) }
-    ensures says_none { OnErr result ((w : Option ℕ)
-        → MaySayNumber (rows_of (found_of play.now)) (codes "width") 20 255 w → ⊥) }
+/// The number that an argument says: one in a range, or one that the program finds.
+fn amount_from(argument: &str, number: NumberOption) -> Option<Amount>
+    ensures says { IfSome result
+        (IsAmount number.least number.most (word_of number) argument.now) }
+    ensures none { IfNone result ((a : Amount)
+        → IsAmount number.least number.most (word_of number) argument.now a → ⊥) }
 {
-    let Some(argument) = play.get_str(WIDTH.name) else {
-        return Ok(None);
-    };
-    match number_from(argument, WIDTH) {
-        Some(width) => Ok(Some(width as u8)),
-        None => Err(out_of_range(alloc, WIDTH)),
+    match number.word {
+        Some(word) if argument == word => Some(Amount::Found),
+        _ => match number_from(argument, number) {
+            Some(n) => Some(Amount::Number(n)),
+            None => None,
+        },
     }
 }
 
-/// The settings of a run that the options of `play` say.
-fn settings_of(alloc: Global, play: &ArgMatches<'_>) -> Result<Settings, Error>
-    ensures says { IfOk result (λ m. SaysSettings (rows_of (found_of play.now)) m) }
-    ensures in_range { IfOk result (λ m. AreInRange m.limits) }
+/// The number of an option that may be left out.
+fn amount_of(
+    alloc: Global,
+    play: &ArgMatches<'_>,
+    number: NumberOption,
+) -> Result<Option<Amount>, Error>
+    ensures says { IfOk result (λ a. MaySayAmount (rows_of (found_of play.now)) number.name.now
+        number.least number.most (word_of number) a) }
+    ensures mistake { IfErr result (λ e. 1 ≤ usage_status (kind_of e)) }
+    ensures says_none { OnErr result ((a : Option Amount)
+        → MaySayAmount (rows_of (found_of play.now)) number.name.now number.least number.most
+        (word_of number) a → ⊥) }
+{
+    let Some(argument) = play.get_str(number.name) else {
+        return Ok(None);
+    };
+    match amount_from(argument, number) {
+        Some(amount) => Ok(Some(amount)),
+        None => Err(out_of_range(alloc, number)),
+    }
+}
+
+/// The seed that the options of `play` say.
+fn seed_of(alloc: Global, play: &ArgMatches<'_>) -> Result<Amount, Error>
+    ensures says { IfOk result (λ a. SaysSeed (rows_of (found_of play.now)) a) }
     ensures mistake { IfErr result (λ e. 1 ≤ usage_status (kind_of e)) }
     ensures says_none { OnErr result
-        ((m : Settings) → SaysSettings (rows_of (found_of play.now)) m → ⊥) }
+        ((a : Amount) → SaysSeed (rows_of (found_of play.now)) a → ⊥) }
+{
+    match amount_of(alloc, play, SEED) {
+        Ok(Some(seed)) => Ok(seed),
+        Ok(None) => Err(out_of_range(alloc, SEED)),
+        Err(error) => Err(error),
+    }
+}
+
+/// The text of an option, if it is given.
+fn text_of<'a>(found: &ArgMatches<'a>, name: &str) -> Option<&'a str>
+    ensures { option_map (λ s. s.now) result ≡ first_of name.now (rows_of (found_of found.now)) }
+{
+    found.get_str(name)
+}
+
+/// What the options of `play` say.
+fn options_of<'a>(alloc: Global, play: &ArgMatches<'a>) -> Result<PlayOptions<'a>, Error>
+    ensures says { IfOk result (λ o. SaysOptions (rows_of (found_of play.now)) o) }
+    ensures in_range { IfOk result (λ o. AreInRange o.limits) }
+    ensures mistake { IfErr result (λ e. 1 ≤ usage_status (kind_of e)) }
+    ensures says_none { OnErr result
+        ((o : PlayOptions) → SaysOptions (rows_of (found_of play.now)) o → ⊥) }
 {
     let limits = limits_of(alloc, play)?;
-    let seed = number_or_error(alloc, play, SEED)?;
-    let width = width_of(alloc, play)?;
-    let view = view_of(play);
-    let echo = has_flag(play, "echo");
-    Ok(Settings {
+    let seed = seed_of(alloc, play)?;
+    let width = amount_of(alloc, play, WIDTH)?;
+    let page = amount_of(alloc, play, PAGE)?;
+    let save = text_of(play, "save");
+    let saves = text_of(play, "saves");
+    let script = text_of(play, "script");
+    let recorded = text_of(play, "record");
+    Ok(PlayOptions {
         limits,
         seed,
-        view,
+        view: view_of(play),
+        save,
+        saves,
+        script,
+        recorded,
         width,
-        echo,
+        page,
+        echo: has_flag(play, "echo"),
+        calls: has_flag(play, "calls"),
     })
 }
 
@@ -403,15 +529,40 @@ fn choose_play<'a>(
         ((c : Choice) → Says (codes "play") (rows_of (found_of play.now)) c → ⊥) }
 {
     let story = story_of(command, play)?;
-    let settings = settings_of(alloc, play)?;
-    let save = play.get_str("save");
-    let script = play.get_str("script");
-    Ok(Choice::Play {
-        story,
-        save,
-        script,
-        settings,
-    })
+    let options = options_of(alloc, play)?;
+    Ok(Choice::Play { story, options })
+}
+
+/// A path that has to be given.
+fn path_of<'a>(
+    command: &mut Command<'_>,
+    found: &ArgMatches<'a>,
+    name: &str,
+) -> Result<&'a str, Error>
+    ensures says { IfOk result
+        (λ s. first_of name.now (rows_of (found_of found.now)) ≡ Some s.now) }
+    ensures mistake { IfErr result (λ e. 1 ≤ usage_status (kind_of e)) }
+    ensures says_none { OnErr result ((path : List ℕ)
+        → first_of name.now (rows_of (found_of found.now)) ≡ Some path → ⊥) }
+{
+    let Some(path) = text_of(found, name) else {
+        let text = "a file's path is missing";
+        return Err(usage_error(command, ErrorKind::MissingRequiredArgument, text));
+    };
+    Ok(path)
+}
+
+/// What `unpack` asks for.
+fn choose_unpack<'a>(command: &mut Command<'_>, found: &ArgMatches<'a>) -> Result<Choice<'a>, Error>
+    ensures says { IfOk result (λ c. Says (codes "unpack") (rows_of (found_of found.now)) c) }
+    ensures in_range { IfOk result (λ c. HasLimits c) }
+    ensures mistake { IfErr result (λ e. 1 ≤ usage_status (kind_of e)) }
+    ensures says_none { OnErr result
+        ((c : Choice) → Says (codes "unpack") (rows_of (found_of found.now)) c → ⊥) }
+{
+    let file = path_of(command, found, "FILE")?;
+    let out = path_of(command, found, "OUT")?;
+    Ok(Choice::Unpack { file, out })
 }
 
 /// The sections that the options of `info` ask for.
@@ -453,14 +604,14 @@ fn listing_of(name: &str, found: &ArgMatches<'_>) -> Option<Listing>
     }
 }
 
-/// What a command that is not `play` asks for, by its name, what clap found for it, and the stories that it names.
+/// What a command that lists stories asks for, by its name, what clap found for it, and the stories that it names.
 fn choose_listing<'a>(
     command: &mut Command<'_>,
     name: &str,
     found: &ArgMatches<'a>,
     stories: Vec<&'a str>,
 ) -> Result<Choice<'a>, Error>
-    requires other { bytes_eq name.now (codes "play") ≡ false }
+    requires other { IsOtherName name.now }
     requires stories { map (λ s. s.now) stories.items
         ≡ unwrap_or (all_of (codes "STORY") (rows_of (found_of found.now))) [] }
     ensures says { IfOk result (λ c. Says name.now (rows_of (found_of found.now)) c) }
@@ -470,16 +621,50 @@ fn choose_listing<'a>(
         ((c : Choice) → Says name.now (rows_of (found_of found.now)) c → ⊥) }
 {
     match listing_of(name, found) {
-        Some(listing) if !stories.is_empty() => Ok(Choice::Show { stories, listing }),
+        Some(listing) if !stories.is_empty() => {
+            let recursive = has_flag(found, "recursive");
+            Ok(Choice::Show {
+                stories,
+                recursive,
+                listing,
+            })
+        }
         Some(_) => {
             let text = "the story's path is missing";
             Err(usage_error(command, ErrorKind::MissingRequiredArgument, text))
         }
         None => {
-            let text = "the commands are 'play', 'info', 'disasm' and 'check'";
+            let text = "the commands are 'play', 'info', 'disasm', 'check', 'test' and 'unpack'";
             Err(usage_error(command, ErrorKind::InvalidSubcommand, text))
         }
     }
+}
+
+/// What `test` asks for, by what clap found for it, and the paths that it names.
+fn choose_test<'a>(
+    command: &mut Command<'_>,
+    found: &ArgMatches<'a>,
+    paths: Vec<&'a str>,
+) -> Result<Choice<'a>, Error>
+    requires paths { map (λ s. s.now) paths.items
+        ≡ unwrap_or (all_of (codes "STORY") (rows_of (found_of found.now))) [] }
+    ensures says { IfOk result (λ c. Says (codes "test") (rows_of (found_of found.now)) c) }
+    ensures in_range { IfOk result (λ c. HasLimits c) }
+    ensures mistake { IfErr result (λ e. 1 ≤ usage_status (kind_of e)) }
+    ensures says_none { OnErr result
+        ((c : Choice) → Says (codes "test") (rows_of (found_of found.now)) c → ⊥) }
+{
+    if paths.is_empty() {
+        let text = "the path of a walkthrough is missing";
+        return Err(usage_error(command, ErrorKind::MissingRequiredArgument, text));
+    }
+    let story = text_of(found, "story");
+    let bless = has_flag(found, "bless");
+    Ok(Choice::Test {
+        paths,
+        story,
+        bless,
+    })
 }
 
 /// What a command asks for, by its name, what clap found for it, and the stories that it names.
@@ -500,12 +685,16 @@ fn choose_by<'a>(
 {
     if name == "play" {
         choose_play(alloc, command, found)
+    } else if name == "unpack" {
+        choose_unpack(command, found)
+    } else if name == "test" {
+        choose_test(command, found, stories)
     } else {
         choose_listing(command, name, found, stories)
     }
 }
 
-/// The stories that a command names.
+/// The stories, or other paths, that a command names.
 fn stories_of<'a>(alloc: Global, found: &ArgMatches<'a>) -> Result<Vec<&'a str>, AllocError>
     ensures { IfOk result (λ v. map (λ s. s.now) v.items
         ≡ unwrap_or (all_of (codes "STORY") (rows_of (found_of found.now))) []) }

@@ -3,8 +3,10 @@
 
 pub mod about;
 pub mod arguments;
+pub mod asking;
 mod bad_destination;
 mod beside;
+mod calls;
 pub mod choice;
 pub mod clean;
 pub mod exit;
@@ -14,12 +16,15 @@ pub mod listing;
 mod no_game;
 pub mod opening;
 mod options;
+pub mod paged;
 pub mod playing;
-mod reason;
+pub mod reason;
+pub mod record;
 pub mod report;
 pub mod same_file;
 pub mod save_file;
 pub mod script;
 pub mod settings;
 pub mod shown;
+pub mod terminal;
 pub mod watched;

@@ -8,6 +8,8 @@ pub(crate) struct NumberOption {
     pub(crate) default: Option<&'static str>,
     pub(crate) least: u64,
     pub(crate) most: u64,
+    /// The word in place of a number for which the program finds one, if there is such a word.
+    pub(crate) word: Option<&'static str>,
     pub(crate) help: &'static str,
 }
 
@@ -18,6 +20,11 @@ pub(crate) enum CommandOption {
     Number(NumberOption),
     /// With a file's path, or not at all.
     File {
+        name: &'static str,
+        help: &'static str,
+    },
+    /// With a folder's path, or not at all.
+    Folder {
         name: &'static str,
         help: &'static str,
     },
@@ -36,7 +43,18 @@ macro_rules! number {
             default: $default,
             least: $least,
             most: $most,
+            word: None,
             help: concat!($help, ", ", $least, " to ", $most),
+        }
+    };
+    ($name:literal, $default:expr, $least:literal to $most:literal, or $word:literal, $help:literal) => {
+        NumberOption {
+            name: $name,
+            default: $default,
+            least: $least,
+            most: $most,
+            word: Some($word),
+            help: concat!($help, ", ", $least, " to ", $most, ", or ", $word),
         }
     };
 }
@@ -54,13 +72,16 @@ pub(crate) const STEPS: NumberOption =
     number!("steps", Some("10000000"), 1 to 1000000000, "The most instructions without reading");
 
 pub(crate) const SEED: NumberOption =
-    number!("seed", Some("1"), 0 to 18446744073709551615, "What begins the random numbers");
+    number!("seed", Some("1"), 0 to 18446744073709551615, or "any", "What begins the random numbers; the clock says it with any");
 
 pub(crate) const WIDTH: NumberOption =
-    number!("width", None, 20 to 255, "Wraps the screen's lines at spaces, so that they have at most this many columns");
+    number!("width", None, 20 to 255, or "auto", "Wraps the screen's lines at spaces, so that they have at most this many columns, or as many as the terminal has");
+
+pub(crate) const PAGE: NumberOption =
+    number!("page", None, 2 to 1000, or "auto", "Waits for Enter after this many lines, or as many as the terminal has, where input is a terminal");
 
 /// The options of `play`.
-pub(crate) const PLAY_OPTIONS: [CommandOption; 10] = [
+pub(crate) const PLAY_OPTIONS: [CommandOption; 14] = [
     CommandOption::Number(FRAMES),
     CommandOption::Number(WORDS),
     CommandOption::Number(UNDO),
@@ -69,6 +90,10 @@ pub(crate) const PLAY_OPTIONS: [CommandOption; 10] = [
     CommandOption::File {
         name: "save",
         help: "The file that the game is saved to and restored from; a save replaces what it held; without it there are no saved games",
+    },
+    CommandOption::Folder {
+        name: "saves",
+        help: "The folder of saved games: at each save and restore a file's name is asked for",
     },
     CommandOption::File {
         name: "script",
@@ -79,14 +104,33 @@ pub(crate) const PLAY_OPTIONS: [CommandOption; 10] = [
         help: "Shows the status line and the upper window, on lines of their own",
     },
     CommandOption::Number(WIDTH),
+    CommandOption::Number(PAGE),
     CommandOption::Flag {
         name: "echo",
         help: "Shows each line that is read, for input from a pipe",
     },
+    CommandOption::File {
+        name: "record",
+        help: "The file that gets each line that is read, as a walkthrough, emptied at the start",
+    },
+    CommandOption::Flag {
+        name: "calls",
+        help: "Tells after a fault or a limit which calls led there",
+    },
 ];
 
+const RECURSIVE: CommandOption = CommandOption::Flag {
+    name: "recursive",
+    help: "Takes a folder for all files in it and in its folders, by their names",
+};
+
+const FILES_FROM: CommandOption = CommandOption::File {
+    name: "files-from",
+    help: "Takes paths from a file, or from standard input for -, one a line, or each up to a zero byte where there is one",
+};
+
 /// The options of `info`.
-pub(crate) const INFO_OPTIONS: [CommandOption; 7] = [
+pub(crate) const INFO_OPTIONS: [CommandOption; 9] = [
     CommandOption::Flag {
         name: "header",
         help: "Lists what the header says",
@@ -114,5 +158,23 @@ pub(crate) const INFO_OPTIONS: [CommandOption; 7] = [
     CommandOption::Flag {
         name: "ifid",
         help: "Lists the IFID, by which catalogues name the story",
+    },
+    RECURSIVE,
+    FILES_FROM,
+];
+
+/// The options of `check`.
+pub(crate) const CHECK_OPTIONS: [CommandOption; 2] = [RECURSIVE, FILES_FROM];
+
+/// The options of `test`.
+pub(crate) const TEST_OPTIONS: [CommandOption; 3] = [
+    FILES_FROM,
+    CommandOption::File {
+        name: "story",
+        help: "The story of the walkthroughs that name none",
+    },
+    CommandOption::Flag {
+        name: "bless",
+        help: "Writes the transcripts in place of comparing them",
     },
 ];

@@ -8,6 +8,7 @@ ghost use Rattle.zk_command.specs.Playing.{EndsPlay, IsReported, Work, play_on};
 
 use crate::about::About;
 use crate::bad_destination::BadDestination;
+use crate::calls::calls_text;
 use crate::exit::Exit;
 use crate::opening::open_story;
 use crate::report::report;
@@ -40,6 +41,16 @@ fn note_target(about: &About, machine: &Machine, stop: &Stop) {
         about
             .bad_destination
             .set(BadDestination::at(machine.memory(), *address));
+    }
+}
+
+/// Notes the calls that led to a fault or a limit, where they are told and there is memory for them.
+fn note_calls(alloc: Global, about: &About, machine: &Machine, stop: &Stop) {
+    match stop {
+        Stop::Fault(_, _) | Stop::Limit(_, _) if about.tells_calls => {
+            about.calls.set(calls_text(alloc, machine).ok());
+        }
+        _ => {}
     }
 }
 
@@ -84,6 +95,7 @@ pub fn play_file<R: Read + Drop, I: Source, S: Target, T: Target, K: SaveSlot>(
         ),
     };
     note_target(about, &machine, &stop);
+    note_calls(alloc, about, &machine, &stop);
     Exit::Stopped(stop)
 }
 

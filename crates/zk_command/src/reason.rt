@@ -5,7 +5,7 @@ use std::io::{self, ErrorKind};
 
 /// Why the system refused something, in words.
 #[derive(Drop)]
-pub(crate) struct Reason<'a>(pub &'a io::Error);
+pub struct Reason<'a>(pub &'a io::Error);
 
 impl Display for Reason<'_> {
     fn fmt<W: Write>(&self, f: &mut Formatter<W>) -> fmt::Result {

@@ -201,6 +201,15 @@ fn words_on_fault(alloc: Global, fault: Fault, about: &About) -> Result<String, 
     }
 }
 
+/// Words with the calls after them that led there, where these are told.
+fn with_calls(words: String, about: &About) -> Result<String, AllocError> {
+    let mut words = words;
+    if let Some(calls) = about.calls.take() {
+        words.push_str(calls.as_str())?;
+    }
+    Ok(words)
+}
+
 /// What has happened, in words, where the last line does not say it in words.
 fn words_on(
     alloc: Global,
@@ -215,13 +224,17 @@ fn words_on(
         Exit::Refused(OpenError::OutOfMemory) => Ok(None),
         Exit::Unread(error) => Ok(Some(words_on_read(alloc, error, about)?)),
         Exit::Refused(error) => Ok(Some(words_on_refusal(alloc, error, about)?)),
-        Exit::Stopped(Stop::Fault(_, fault)) => Ok(Some(words_on_fault(alloc, *fault, about)?)),
+        Exit::Stopped(Stop::Fault(_, fault)) => {
+            Ok(Some(with_calls(words_on_fault(alloc, *fault, about)?, about)?))
+        }
         Exit::Stopped(Stop::Read) => {
             let text = "a line of it has more than 65535 bytes";
             Ok(Some(words_on_device(alloc, "standard input", &about.input, text)?))
         }
         Exit::Stopped(Stop::Write) => Ok(Some(words_on_write(alloc, about)?)),
-        Exit::Stopped(Stop::Limit(_, limit)) => Ok(Some(words_on_limit(alloc, *limit, limits)?)),
+        Exit::Stopped(Stop::Limit(_, limit)) => {
+            Ok(Some(with_calls(words_on_limit(alloc, *limit, limits)?, about)?))
+        }
         _ => Ok(None),
     }
 }

@@ -3,7 +3,7 @@
 use zk_step::state::game_state::View;
 use zk_vm::limits::Limits;
 
-/// The settings in which a story is played.
+/// What a run depends on, beside its story and the answers.
 #[derive(Clone, Copy, PartialEq, Eq, Drop)]
 pub struct Settings {
     /// What a run holds and runs at most.
@@ -12,9 +12,38 @@ pub struct Settings {
     pub seed: u64,
     /// What is shown of the status line and the upper window.
     pub view: View,
+}
+
+/// A number of an option.
+#[derive(Clone, Copy, PartialEq, Eq, Drop)]
+pub enum Amount {
+    /// It is said.
+    Number(u64),
+    /// The program finds it: by the clock, or by what it knows of the terminal.
+    Found,
+}
+
+/// What the options of `play` say.
+#[derive(Clone, Copy, Drop)]
+pub struct PlayOptions<'a> {
+    pub limits: Limits,
+    pub seed: Amount,
+    pub view: View,
+    /// The file of the saved game.
+    pub save: Option<&'a str>,
+    /// The folder of saved games whose names are asked for.
+    pub saves: Option<&'a str>,
+    /// The file of the transcript.
+    pub script: Option<&'a str>,
+    /// The file that gets the lines that are read.
+    pub recorded: Option<&'a str>,
     /// How many columns the screen's lines have, 20 to 255: longer ones are broken at a space. Lines stay as they are
     /// without it.
-    pub width: Option<u8>,
+    pub width: Option<Amount>,
+    /// After how many lines without a read Enter is waited for, 2 to 1000. Nothing is waited for without it.
+    pub page: Option<Amount>,
     /// Whether lines that are read are shown after the prompt.
     pub echo: bool,
+    /// Whether the calls that led to a fault or a limit are told.
+    pub calls: bool,
 }

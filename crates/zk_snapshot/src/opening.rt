@@ -189,8 +189,9 @@ fn opened(
 ///
 /// The refusals, in the order in which they are looked for: `NotASnapshot` where the bytes don't begin with the
 /// name; `OtherVersion` where another version of the format follows; `OtherStory` where the length, the release,
-/// the serial number, the checksum or the sum of the story's file is another; `Damaged` where no machine of this
-/// story has these bytes as its snapshot. `OutOfMemory` may come in place of each of them.
+/// the serial number, the checksum or the sum of the story's file is another; `Damaged` where the machine
+/// that is made of the bytes after them has other bytes as its snapshot, or none is made. `OutOfMemory` may come in place
+/// of each of them. That no snapshot of a machine is taken as damaged is tested, not proved.
 #[tactic(auto, using(crate::proofs::Filled::fresh_file, crate::proofs::Filled::fresh_undo))]
 pub fn open_snapshot(alloc: Global, story: Story, bytes: &[u8]) -> Result<Machine, SnapshotError>
     ensures ok { IfOk result (λ m. IsOpened story bytes.now m) }

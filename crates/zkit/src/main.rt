@@ -10,121 +10,29 @@ use clap::Error;
 use clap::error::ErrorKind;
 use std::alloc::AllocError;
 use std::env::{self, Env, FillError};
-use std::fs::{self, File, OpenOptions};
-use std::io::{self, Printer};
+use std::fs::{self, OpenOptions};
+use std::io;
 use std::os::fd::{AsRawFd, IntoRawFd, RawFd};
 use std::process::ExitCode;
 use zk_command::about::About;
 use zk_command::arguments::{NO_TEXT, argument_of};
 use zk_command::choice::{Choice, choose, story_named, usage_status_of};
 use zk_command::exit::Exit;
-use zk_command::listing::{Listing, leave_out, list_and_report};
-use zk_command::playing::{Devices, play_and_report};
-use zk_command::report::{report, report_briefly, report_listing};
+use zk_command::report::report_listing;
 use zk_command::same_file::is_same_file;
-use zk_command::save_file::SaveFile;
-use zk_command::script::ScriptFile;
-use zk_command::settings::Settings;
+use zk_command::settings::PlayOptions;
 use zk_command::shown::Shown;
-use zk_command::watched::Watched;
-use zk_term::echo::Echo;
+use zk_program::files::paths_listed;
+use zk_program::list::list_all;
+use zk_program::play::play;
+use zk_program::suite::{Testing, test};
+use zk_program::told::{out_of_memory, tell_reason};
+use zk_program::unpack::unpack;
 use zk_term::io_device::IoDevice;
-use zk_term::target::Target;
-use zk_term::wrapped::Wrapped;
-use zk_vm::slot::SaveSlot;
 use zk_vm::stop::Stop;
 
 /// So many bytes an argument of the command line has at most.
 const MOST_BYTES: usize = 131_072;
-
-/// Standard output.
-fn screen_of<'a>(
-    rt: &'a HostRuntime,
-    about: &'a About,
-) -> IoDevice<Watched<'a, Printer<'a, HostRuntime>>>
-    ensures { result.failed ≡ false }
-{
-    IoDevice::new(Watched::new(io::writer(rt), &about.screen))
-}
-
-/// Plays the story in a file, with its transcript in a script and its saved game in a slot, and answers the program's
-/// status.
-fn play<T: Target + Drop, K: SaveSlot + Drop>(
-    rt: &HostRuntime,
-    about: &About,
-    settings: Settings,
-    script: T,
-    slot: K,
-) -> u8
-    requires in_range { AreInRange settings.limits }
-    requires script_works { T.failed script ≡ false }
-{
-    let mut errors = IoDevice::new(rt.stderr());
-    let mut devices = Devices {
-        input: Echo::new(
-            IoDevice::new(Watched::new(rt.stdin(), &about.input)),
-            screen_of(rt, about),
-            settings.echo,
-        ),
-        screen: Wrapped::new(screen_of(rt, about), settings.width),
-        script,
-        slot,
-    };
-    match File::open(rt, about.path) {
-        Err(error) => report(
-            rt.alloc(),
-            &Exit::Unread(error),
-            &settings.limits,
-            about,
-            &mut errors,
-        ),
-        Ok(file) => play_and_report(rt.alloc(), file, about, settings, &mut devices, &mut errors),
-    }
-}
-
-/// Lists the story in a file, below its heading where it is one of several, and answers the program's status.
-fn list<'a>(rt: &HostRuntime, path: &'a str, heading: Option<&'a str>, listing: Listing) -> u8 {
-    let mut errors = IoDevice::new(rt.stderr());
-    let about = About::listed(path, heading);
-    let mut screen = screen_of(rt, &about);
-    match File::open(rt, path) {
-        Err(error) => {
-            let exit = leave_out(&about, Exit::Unread(error), &mut screen);
-            report_listing(rt.alloc(), &exit, &about, &mut errors)
-        }
-        Ok(file) => list_and_report(rt.alloc(), file, &about, listing, &mut screen, &mut errors),
-    }
-}
-
-/// Lists one of several stories, below its path, and answers the program's status.
-fn list_one_of_several(rt: &HostRuntime, path: &str, listing: Listing) -> u8 {
-    match format!(in rt.alloc(); "{}", Shown(path)) {
-        Ok(heading) => list(rt, path, Some(heading.as_str()), listing),
-        Err(_) => out_of_memory(rt),
-    }
-}
-
-/// Lists the stories in files, and answers the greatest status.
-fn list_each(rt: &HostRuntime, stories: &[&str], listing: Listing) -> u8 {
-    if let [path] = stories {
-        return list(rt, path, None, listing);
-    }
-    let mut status = 0;
-    for path in stories {
-        status = list_one_of_several(rt, path, listing).max(status);
-    }
-    status
-}
-
-/// Tells that there is no memory, and answers the program's status.
-fn out_of_memory(rt: &HostRuntime) -> u8
-    ensures { result ≡ 5 }
-{
-    report_briefly(
-        &Exit::Stopped(Stop::Memory),
-        &mut IoDevice::new(rt.stderr()),
-    )
-}
 
 /// Tells why help can't be written, and answers the program's status.
 fn tell_unwritten(rt: &HostRuntime, failure: &io::Error) -> u8
@@ -152,20 +60,18 @@ fn tell_usage(rt: &HostRuntime, error: &Error) -> u8
 }
 
 /// The option of `play` that names the story's own file, if one does.
-fn option_on_story(
-    rt: &HostRuntime,
-    story: &str,
-    save: Option<&str>,
-    script: Option<&str>,
-) -> Option<&'static str> {
-    match save {
-        Some(path) if is_same_file(rt, story, path) => return Some("save"),
-        _ => {}
+fn option_on_story(rt: &HostRuntime, story: &str, options: &PlayOptions) -> Option<&'static str> {
+    for (option, path) in [
+        ("save", options.save),
+        ("script", options.script),
+        ("record", options.recorded),
+    ] {
+        match path {
+            Some(path) if is_same_file(rt, story, path) => return Some(option),
+            _ => {}
+        }
     }
-    match script {
-        Some(path) if is_same_file(rt, story, path) => Some("script"),
-        _ => None,
-    }
+    None
 }
 
 /// Tells how a story is played, where the first argument names a file in a command's place.
@@ -182,21 +88,13 @@ fn tell_command(rt: &HostRuntime, arguments: &[&str], error: &Error) {
 }
 
 /// Plays the story in a file, unless an option names that file.
-fn play_with(
-    rt: &HostRuntime,
-    story: &str,
-    save: Option<&str>,
-    script: Option<&str>,
-    settings: Settings,
-) -> u8
-    requires { AreInRange settings.limits }
+fn play_with<'a>(rt: &HostRuntime, story: &'a str, options: &PlayOptions<'a>) -> u8
+    requires { AreInRange options.now.limits }
 {
-    if let Some(option) = option_on_story(rt, story, save, script) {
-        return tell_usage(rt, &story_named(rt.alloc(), option));
+    match option_on_story(rt, story, options) {
+        Some(option) => tell_usage(rt, &story_named(rt.alloc(), option)),
+        None => play(rt, story, options),
     }
-    let about = About::new(story, script.unwrap_or(""));
-    let file = ScriptFile::new(rt, script, &about.script);
-    play(rt, &about, settings, file, SaveFile::new(rt, save))
 }
 
 /// Tells that an argument is no text, and answers the program's status.
@@ -207,8 +105,53 @@ fn tell_no_text(rt: &HostRuntime) -> u8
     1
 }
 
-/// Does what the arguments ask for, and answers the program's status. A path that is no text is left out where stories are
+/// Does what arguments ask for, and answers the program's status. A path that is no text is left out where stories are
 /// listed; nothing else is done by such an argument.
+fn answer_texts(rt: &HostRuntime, arguments: &[&str], counted: bool) -> u8 {
+    let are_text = !arguments.iter().any(|argument| argument.contains(NO_TEXT));
+    match choose(rt.alloc(), arguments) {
+        Ok(
+            Choice::Show {
+                stories,
+                recursive,
+                listing,
+            },
+        ) => list_all(rt, stories.as_slice(), recursive, listing, counted),
+        _ if !are_text => tell_no_text(rt),
+        Ok(Choice::Play { story, options }) => play_with(rt, story, &options),
+        Ok(
+            Choice::Test {
+                paths,
+                story,
+                bless,
+            },
+        ) => test(rt, paths.as_slice(), Testing { story, bless }),
+        Ok(Choice::Unpack { file, out }) => unpack(rt, file, out),
+        Err(error) => {
+            let status = tell_usage(rt, &error);
+            tell_command(rt, arguments, &error);
+            status
+        }
+    }
+}
+
+/// Does what arguments and a list of paths after them ask for, and answers the program's status. An empty list asks for
+/// nothing.
+fn answer_with_list(rt: &HostRuntime, arguments: &[&str], paths: &[String]) -> u8 {
+    let mut all = Vec::new(rt.alloc());
+    let added = all.extend_from_slice(arguments).is_ok() && all.push("--").is_ok();
+    if !added {
+        return out_of_memory(rt);
+    }
+    for path in paths {
+        if all.push(path.as_str()).is_err() {
+            return out_of_memory(rt);
+        }
+    }
+    answer_texts(rt, all.as_slice(), true)
+}
+
+/// Does what the arguments ask for, and answers the program's status.
 fn answer(rt: &HostRuntime, arguments: &[String]) -> u8 {
     let Ok(arguments) = arguments
         .iter()
@@ -217,22 +160,13 @@ fn answer(rt: &HostRuntime, arguments: &[String]) -> u8 {
     else {
         return out_of_memory(rt);
     };
-    let are_text = !arguments.iter().any(|argument| argument.contains(NO_TEXT));
-    match choose(rt.alloc(), arguments.as_slice()) {
-        Ok(Choice::Show { stories, listing }) => list_each(rt, stories.as_slice(), listing),
-        _ if !are_text => tell_no_text(rt),
-        Ok(
-            Choice::Play {
-                story,
-                save,
-                script,
-                settings,
-            },
-        ) => play_with(rt, story, save, script, settings),
-        Err(error) => {
-            let status = tell_usage(rt, &error);
-            tell_command(rt, arguments.as_slice(), &error);
-            status
+    match paths_listed(rt, arguments.as_slice()) {
+        None => answer_texts(rt, arguments.as_slice(), false),
+        Some(Ok(paths)) if paths.is_empty() => 0,
+        Some(Ok(paths)) => answer_with_list(rt, arguments.as_slice(), paths.as_slice()),
+        Some(Err(error)) => {
+            tell_reason(rt, "the list of paths", &error);
+            4
         }
     }
 }

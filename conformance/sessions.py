@@ -1,0 +1,560 @@
+#!/usr/bin/env python3
+"""Runs the program with options that ask, wait, record, test and look through folders, at pipes and at a terminal.
+
+usage: conformance/sessions.py [-v] COMMAND...
+
+COMMAND is the program with nothing after it, as `conformance/sessions.py dist/zkit`. Each case is a function here,
+which answers what differs from docs/manual, if something does.
+"""
+
+from __future__ import annotations
+
+import os
+import pty
+import re
+import select
+import shlex
+import subprocess
+import sys
+import tempfile
+import time
+from collections.abc import Callable, Iterable
+from pathlib import Path
+from typing import Optional
+
+from program import ECHOES, FILES, story
+
+SECONDS = 20
+EXAMPLES = Path(__file__).resolve().parent.parent / "examples"
+
+# A call by a constant of a routine at 48, which stores 15 in its first local variable and calls by that the routine at
+# 54, which divides by zero; the same in version 3, where a routine is at twice its packed address.
+NESTED_5 = story("8F 00 12 BA" + "00" * 4 + "02 CD 4F 01 00 15 AF 01 B0" + "00" * 3 + "01 17 07 00 00", version=5)
+NESTED_3 = story("E0 3F 00 24 00 BA 00 00" + "01 00 00 CD 4F 01 00 2B E0 BF 01 00 B0 00" + "01 00 05 17 07 00 00")
+# Five lines, a `read_char` between them and five more.
+LETTERS = [f"E57F{ord(letter):02X}BB" for letter in "abcdefghij"]
+TEN_LINES = story("".join([*LETTERS[:5], "F67F0100", *LETTERS[5:], "BA"]), version=5)
+# `save -> sp`, `print_num sp`, `restore -> sp`, `print_num sp` and `quit`.
+SAVES_AND_RESTORES = story("B5 00 E6 BF 00 BB B6 00 E6 BF 00 BB BA", version=4)
+# `save -> sp`, `je sp 2` on to `print_char 'r'` and `quit`; else `restore -> sp`, `print_char 'f'` and `quit`.
+GOES_BACK = story("B5 00 41 00 02 C8 B6 00 E5 7F 66 BA E5 7F 72 BA", version=4)
+# `random 100` and `print_num` of its answer, on a line, and `read_char`.
+THROWS_AND_READS = story("E7 7F 64 00 E6 BF 00 BB F6 7F 01 00 BA", version=5)
+
+
+def chunk(kind: bytes, content: bytes) -> bytes:
+    """A chunk of an IFF file, with a byte more where its length is odd."""
+    return kind + len(content).to_bytes(4, "big") + content + b"\0" * (len(content) % 2)
+
+
+def blorb(kind: bytes, content: bytes) -> bytes:
+    """A Blorb file with a picture, and with an executable after it."""
+    picture = chunk(b"PNG ", b"\x89PNG\r")
+    index_length = 8 + 4 + 2 * 12
+    at = 12 + index_length
+    rows = b"".join(
+        usage + number.to_bytes(4, "big") + start.to_bytes(4, "big")
+        for usage, number, start in ((b"Pict", 1, at), (b"Exec", 0, at + len(picture)))
+    )
+    return chunk(b"FORM", b"IFRS" + chunk(b"RIdx", (2).to_bytes(4, "big") + rows) + picture + chunk(kind, content))
+
+
+class Case:
+    """A folder of its own with some stories, and the program."""
+
+    def __init__(self, command: list[str], folder: Path) -> None:
+        self.command = command
+        self.folder = folder
+
+    def write(self, **files: bytes | str) -> None:
+        """Writes files, with a dot for each double underscore of a name and a slash for each triple one."""
+        for name, content in files.items():
+            path = self.folder / name.replace("___", "/").replace("__", ".")
+            path.parent.mkdir(parents=True, exist_ok=True)
+            path.write_bytes(content if isinstance(content, bytes) else content.encode())
+
+    def run(self, words: str | list[str], typed: bytes = b"") -> tuple[int, str, str]:
+        """Runs the program in the folder: its status, standard output and standard error."""
+        parts = words.split() if isinstance(words, str) else words
+        done = subprocess.run(
+            self.command + parts, cwd=self.folder, input=typed, capture_output=True, timeout=SECONDS, check=False
+        )
+        return done.returncode, done.stdout.decode("utf-8", "replace"), done.stderr.decode("utf-8", "replace")
+
+    def read(self, name: str) -> Optional[bytes]:
+        """What a file holds, if it is there."""
+        path = self.folder / name
+        return path.read_bytes() if path.exists() else None
+
+    def at_terminal(self, words: str, turns: Iterable[tuple[str, str]], **variables: str) -> str:
+        """Runs the program at a terminal, with words of a shell: after each text that it shows a line is typed. Answers
+        all that is shown."""
+        line = f"{shlex.join(self.command)} {words}"
+        pid, terminal = pty.fork()
+        if pid == 0:
+            os.chdir(self.folder)
+            os.execve("/bin/sh", ["sh", "-c", line], {**os.environ, **variables})
+        shown = ""
+        for text, line in turns:
+            shown += read_up_to(terminal, text)
+            os.write(terminal, line.encode() + b"\n")
+        shown += read_up_to(terminal, None)
+        os.close(terminal)
+        os.waitpid(pid, 0)
+        return shown.replace("\r\n", "\n")
+
+
+def read_up_to(terminal: int, text: Optional[str]) -> str:
+    """What a terminal shows up to a text, or to its end."""
+    shown = b""
+    end = time.monotonic() + SECONDS
+    while time.monotonic() < end and (text is None or text.encode() not in shown):
+        if not select.select([terminal], [], [], 1)[0]:
+            continue
+        try:
+            more = os.read(terminal, 4096)
+        except OSError:
+            break
+        if not more:
+            break
+        shown += more
+    return shown.decode("utf-8", "replace")
+
+
+def differs(wanted: object, came: object) -> Optional[str]:
+    """What differs, if something does."""
+    return None if wanted == came else f"wanted {wanted!r}, came {came!r}"
+
+
+def first_of(differences: Iterable[Optional[str]]) -> Optional[str]:
+    """The first of some differences."""
+    return next((it for it in differences if it), None)
+
+
+# ---- an evening
+
+
+def seeds_of_the_clock(case: Case) -> Optional[str]:
+    """`--seed any` tells the seed, and that seed gives the same play."""
+    status, shown, told = case.run("play --seed any throws.z5", b"x\n")
+    found = re.fullmatch(r"zkit: the random numbers begin with --seed (\d+)\n", told)
+    if status != 0 or not found:
+        return f"came {status} {told!r}"
+    return differs((0, shown, ""), case.run(["play", "--seed", found[1], "throws.z5"], b"x\n"))
+
+
+def widths_without_a_terminal(case: Case) -> Optional[str]:
+    """`--width auto` wraps nothing, and `--page` waits for nothing, where there is no terminal."""
+    plain = case.run("play fox.z3")
+    ways = ("--width auto", "--page auto", "--page 2")
+    return first_of(differs(plain, case.run(f"play {words} fox.z3")) for words in ways)
+
+
+def numbers_out_of_range(case: Case) -> Optional[str]:
+    """Words and numbers that an option does not take."""
+    for words in ("--page 1", "--page 1001", "--page any", "--width any", "--seed auto", "--seed ANY", "--steps auto"):
+        status, shown, told = case.run(f"play {words} fox.z3")
+        if (status, shown) != (1, "") or not told:
+            return f"{words}: came {status} {shown!r} {told!r}"
+    return None
+
+
+def saves_by_name(case: Case) -> Optional[str]:
+    """Names are the next lines of the input; what is offered is taken by an empty line."""
+    os.makedirs(case.folder / "games", exist_ok=True)
+    first = case.run("play --saves games keeps.z4", b"storm\n\n")
+    told = "zkit: save to which file [keeps.qzl]? zkit: restore from which file [storm]? "
+    # the restored game goes on after its save, which answers 2, and asks for a name once more
+    second = case.run("play --saves games keeps.z4", b"\nlost\n")
+    lost = (
+        "zkit: save to which file [keeps.qzl]? zkit: restore from which file [keeps.qzl]? "
+        "zkit: games/lost: no saved game: there is no such file or folder\n"
+    )
+    return first_of((
+        differs((0, "1\n2\n0\n", f"{told}zkit: restore from which file [storm]? "), first),
+        differs((0, "1\n0\n", lost), second),
+        differs(case.read("games/storm"), case.read("games/keeps.qzl")),
+    ))
+
+
+def saves_ask_before_they_replace(case: Case) -> Optional[str]:
+    """A file that is there stays, but for `y` and `yes`."""
+    os.makedirs(case.folder / "old", exist_ok=True)
+    (case.folder / "old" / "kept").write_bytes(b"old")
+    asked = "zkit: save to which file [saves.qzl]? zkit: old/kept is there already; replace it (y or n)? "
+    for answer, saved in ((b"n", False), (b"", False), (b"yes please", False), (b"yes", True), (b"y", True)):
+        (case.folder / "old" / "kept").write_bytes(b"old")
+        came = case.run("play --saves old saves.z4", b"kept\n" + answer + b"\n")
+        kept = case.read("old/kept") == b"old"
+        if came != (0, "1" if saved else "0", asked) or kept == saved:
+            return f"{answer!r}: came {came}, the file is {'kept' if kept else 'another'}"
+    return None
+
+
+def names_of_files_alone(case: Case) -> Optional[str]:
+    """A name with a slash, a folder's name, and the end of the input save nothing."""
+    os.makedirs(case.folder / "none", exist_ok=True)
+    for name in (b"../up\n", b"/tmp/x\n", b".\n", b"..\n", b"", b"\xff\n"):
+        status, shown, _ = case.run("play --saves none saves.z4", name)
+        if (status, shown) != (0, "0") or list((case.folder / "none").iterdir()):
+            return f"{name!r}: came {status} {shown!r}"
+    return None
+
+
+def lines_are_recorded(case: Case) -> Optional[str]:
+    """A record has the settings, and each line that was read, also names of saved games; a test takes it."""
+    heading = "# story: echoes.z3\n# seed: 7\n# frames: 1024\n# words: 16384\n# undo: 16\n# steps: 10000000\n"
+    plain = case.run("play --seed 7 echoes.z3", b"abc\ndef\nghi")
+    came = case.run("play --record typed.walkthrough --seed 7 echoes.z3", b"abc\ndef\nghi")
+    os.makedirs(case.folder / "named", exist_ok=True)
+    case.run("play --saves named --record saved --upper --width 60 saves.z4", b"one\n")
+    view = heading.replace("echoes.z3", "saves.z4").replace("seed: 7", "seed: 1") + "# upper: yes\n# width: 60\n"
+    return first_of((
+        differs(plain, came),
+        differs(f"{heading}abc\ndef\nghi\n".encode(), case.read("typed.walkthrough")),
+        differs(f"{view}one\n".encode(), case.read("saved")),
+        differs(0, case.run("test --bless typed.walkthrough")[0]),
+        differs((0, "passed typed.walkthrough\n1 passed, 0 failed\n", ""), case.run("test typed.walkthrough")),
+    ))
+
+
+def records_in_folders(case: Case) -> Optional[str]:
+    """A record in a folder names the story from there."""
+    os.makedirs(case.folder / "made" / "deep", exist_ok=True)
+    whole = str(case.folder.resolve() / "echoes.z3")
+    for record, story_path in (
+        ("made/it", "../echoes.z3"),
+        ("made/deep/it", "../../echoes.z3"),
+        ("./it", whole),
+        (str(case.folder / "made" / "whole"), whole),
+    ):
+        case.run(["play", "--record", record, "echoes.z3"], b"abc\n! a\n")
+        first = (case.read(record) or b"").decode().splitlines()[:1]
+        difference = first_of((
+            differs([f"# story: {story_path}"], first),
+            differs(0, case.run(["test", "--bless", record])[0]),
+        ))
+        if difference:
+            return f"{record}: {difference}"
+    return None
+
+
+def records_that_fail(case: Case) -> Optional[str]:
+    """A record that can't be made ends the program, one that is full is told, and none may be the story."""
+    for words, wanted in (
+        ("play --record missing/file echoes.z3", (4, "zkit: write failed")),
+        ("play --record /dev/full echoes.z3", (4, "zkit: write failed")),
+        ("play --record ./echoes.z3 echoes.z3", (1, None)),
+    ):
+        status, _, told = case.run(words, b"a\n")
+        if status != wanted[0] or wanted[1] not in (None, told.splitlines()[-1]):
+            return f"{words}: came {status} {told!r}"
+    return differs(ECHOES, case.read("echoes.z3"))
+
+
+def calls_are_told(case: Case) -> Optional[str]:
+    """The routines that are open at a fault, the innermost first."""
+    for name, inner, outer, at in (
+        ("nested.z5", "00054 with 0000, called at 0004e", "00048 with 0015 0000, called at 00040", "00055"),
+        ("nested.z3", "00056 with 0005, called at 00050", "00048 with 002b, called at 00040", "00059"),
+    ):
+        fault = f"zkit: fault 8 at {at}\n"
+        routines = f"zkit: in routine {inner}\nzkit: in routine {outer}\n"
+        told = f"zkit: division by zero\nzkit: in turn 1, after line 0\n{routines}{fault}"
+        difference = first_of((
+            differs((2, "", told), case.run(f"play --calls {name}")),
+            differs((2, "", f"zkit: division by zero\n{fault}"), case.run(f"play {name}")),
+        ))
+        if difference:
+            return f"{name}: {difference}"
+    return None
+
+
+def many_calls_are_cut(case: Case) -> Optional[str]:
+    """Of more than 16 routines the innermost are told."""
+    status, _, told = case.run("play --calls --frames 20 calls.z3")
+    lines = told.splitlines()
+    routine = "zkit: in routine 00046, called at 00047"
+    wanted = ["zkit: in turn 1, after line 0", *[routine] * 16, "zkit: and in 3 more", "zkit: limit 1 at 00047"]
+    return differs((3, wanted), (status, lines[1:]))
+
+
+def pages_wait_at_a_terminal(case: Case) -> Optional[str]:
+    """After each page Enter is waited for, and a read begins a page anew."""
+    more = "-- more --"
+    shown = case.at_terminal("play --page 3 ten.z5", ((more, ""), ("e\r\n", "x"), (more, "")))
+    return differs(f"a\nb\nc\n{more}\nd\ne\nx\nf\ng\nh\n{more}\ni\nj\n", shown)
+
+
+def pages_fill_a_terminal(case: Case) -> Optional[str]:
+    """`auto` leaves a line of the terminal for what is asked."""
+    more = "-- more --"
+    shown = case.at_terminal("play --page auto ten.z5", ((more, ""), ("e\r\n", "x"), (more, "")), LINES="5")
+    return differs(f"a\nb\nc\nd\n{more}\ne\nx\nf\ng\nh\ni\n{more}\nj\n", shown)
+
+
+def widths_of_a_terminal(case: Case) -> Optional[str]:
+    """`auto` takes the columns of the terminal, which a variable says."""
+    wanted = "the quick brown foxe\njumps over the lazy\ndog\n  and  more\n"
+    return first_of((
+        differs(wanted, case.at_terminal("play --width auto fox.z3", (), COLUMNS="20")),
+        differs(case.run("play fox.z3")[1], case.at_terminal("play --width auto fox.z3", (), COLUMNS="many")),
+    ))
+
+
+# ---- a test suite
+
+LETTER = "# story: ../lighthouse.z5\nopen the bag\n! In the postbag is a letter\n!~ see no such\nread the letter\n"
+
+
+def suites_pass(case: Case) -> Optional[str]:
+    """A suite in folders, in the order of names; transcripts are written where that is asked for."""
+    whole = (EXAMPLES / "lighthouse.walkthrough").read_text("utf-8")
+    case.write(suite___b__walkthrough=LETTER, suite___a___whole__walkthrough=f"# story: ../../lighthouse.z5\n{whole}")
+    case.write(suite___notes__txt="no test\n")
+    wanted = "passed suite/a/whole.walkthrough\npassed suite/b.walkthrough\n2 passed, 0 failed\n"
+    written = case.run("test --bless suite")
+    echoed = case.run("play --echo lighthouse.z5", whole.encode())
+    return first_of((
+        differs((0, f"wrote suite/a/whole.transcript\n{wanted}", ""), written),
+        differs(echoed[1].encode(), case.read("suite/a/whole.transcript")),
+        differs(None, case.read("suite/b.transcript")),
+        differs((0, wanted, ""), case.run("test suite")),
+        differs((0, wanted, ""), case.run("test --files-from - ", b"suite/a/whole.walkthrough\nsuite/b.walkthrough\n")),
+        differs((1, "0 passed, 0 failed\n", ""), case.run("test games")),
+    ))
+
+
+def wrong_texts_fail(case: Case) -> Optional[str]:
+    """A transcript that differs in a line, with lines around it."""
+    case.write(wrong___a__walkthrough="# story: ../lighthouse.z5\ninventory\n")
+    case.run("test --bless wrong")
+    text = (case.folder / "wrong" / "a.transcript").read_text("utf-8")
+    case.write(wrong___a__transcript=text.replace("a postbag", "an apple"))
+    status, shown, told = case.run("test wrong")
+    lines = shown.splitlines()
+    has = ["FAILED wrong/a.walkthrough: another text from line", "an apple", "a postbag", "0 passed, 1 failed"]
+    missing = [words for words in has if not any(words in line for line in lines)]
+    return differs((1, [], ""), (status, missing, told))
+
+
+def checks_that_do_not_hold(case: Case) -> Optional[str]:
+    """An answer that lacks a text, or has one, and a play that ended before it."""
+    head = "# story: echoes.z3\n"
+    for lines, reason in (
+        ("abc\n! b\n", "line 3: the answer has not: b"),
+        ("abc\n!~ a\n", "line 3: the answer has: a"),
+        ("! a\nabc\n", "line 2: the answer has not: a"),
+        ("abc\ndef\n! a\n", "line 4: the answer has not: a"),
+    ):
+        case.write(check__walkthrough=head + lines)
+        status, shown, _ = case.run("test check.walkthrough")
+        if status != 1 or not shown.startswith(f"FAILED check.walkthrough: {reason}\n"):
+            return f"{lines!r}: came {status} {shown!r}"
+    case.write(check__walkthrough=f"{head}abc\n! a\n!~ b\ndef\n! d\n!~ e\n")
+    ended = case.run("test check.walkthrough")
+    case.write(ends__walkthrough="# story: hello.z3\nabc\n! hi\n")
+    status, shown, _ = case.run("test ends.walkthrough")
+    return first_of((
+        differs((0, "passed check.walkthrough\n1 passed, 0 failed\n", ""), ended),
+        differs(True, shown.startswith("FAILED ends.walkthrough: line 3: the play ended before its command: hi\n")),
+        differs(1, status),
+    ))
+
+
+def wrong_seeds_fail(case: Case) -> Optional[str]:
+    """Another seed gives another text."""
+    case.write(dice__walkthrough="# story: throws.z5\n# seed: 1\nx\n")
+    written = case.run("test --bless dice.walkthrough")[0]
+    case.write(dice__walkthrough="# story: throws.z5\n# seed: 2\nx\n")
+    status, shown, _ = case.run("test dice.walkthrough")
+    other = shown.startswith("FAILED dice.walkthrough: another text from line 1 on\n")
+    return differs((0, 1, True), (written, status, other))
+
+
+def faults_and_limits_fail(case: Case) -> Optional[str]:
+    """A play that ends by a fault or a limit says which, and which calls led there."""
+    for name, lines, words in (
+        ("nested.z5", "", ["status 2", "division by zero", "in routine 00048 with 0015 0000", "fault 8 at 00055"]),
+        ("loop.z3", "# steps: 50\n", ["status 3", "went past 50 instructions", "limit 3 at 00040"]),
+        ("missing.z3", "", ["there is no such file or folder"]),
+        ("empty", "", ["status 1", "refused 1"]),
+    ):
+        case.write(bad__walkthrough=f"# story: {name}\n{lines}")
+        status, shown, _ = case.run("test bad.walkthrough")
+        missing = [it for it in words if it not in shown]
+        if status != 1 or missing or "0 passed, 1 failed" not in shown:
+            return f"{name}: came {status} {shown!r}"
+    return None
+
+
+def settings_that_are_none(case: Case) -> Optional[str]:
+    """A walkthrough without a story, with a setting that there is not, and with one out of range."""
+    for lines, words in (
+        ("abc\n", "it names no story, and neither does --story"),
+        ("# story: echoes.z3\n# save: kept\nabc\n", "there is no setting 'save'"),
+        ("# story: echoes.z3\n# undo: 65\nabc\n", "its settings are not understood"),
+        ("# story: echoes.z3\n# seed: any\nabc\n", "a test needs numbers in its settings"),
+        ("# story: echoes.z3\nabc\n", "it has no transcript; --bless writes one"),
+    ):
+        case.write(odd__walkthrough=lines)
+        status, shown, _ = case.run("test odd.walkthrough")
+        if (status, shown) != (1, f"FAILED odd.walkthrough: {words}\n0 passed, 1 failed\n"):
+            return f"{lines!r}: came {status} {shown!r}"
+    case.write(odd__walkthrough="abc\n! a\n")
+    return differs(0, case.run("test --story echoes.z3 odd.walkthrough")[0])
+
+
+def saves_in_tests(case: Case) -> Optional[str]:
+    """A test keeps its saved games in memory."""
+    case.write(back__walkthrough="# story: back.z4\n", back__transcript="r")
+    return differs((0, "passed back.walkthrough\n1 passed, 0 failed\n", ""), case.run("test back.walkthrough"))
+
+
+# ---- an archive
+
+
+def folders_are_looked_through(case: Case) -> Optional[str]:
+    """Files in folders by the bytes of their names, each folder's where its name stands."""
+    case.write(archive___b__z3=FILES["verifies_right.z3"], archive___B__z3=FILES["hello.z3"])
+    text = "no story, but a text of some length\n" * 3
+    case.write(archive___a___c__z3=FILES["hello.z3"], archive___a___b___x__txt=text)
+    os.symlink("..", case.folder / "archive" / "up")
+    wanted = (
+        "archive/B.z3:\nC1 0001c checksum\narchive/a/b/x.txt: refused 2\n"
+        "archive/a/c.z3:\nC1 0001c checksum\narchive/b.z3:\n"
+    )
+    status, shown, _ = case.run("check --recursive archive")
+    os.unlink(case.folder / "archive" / "up")
+    listed = case.run("info --ifid --recursive archive/")
+    return first_of((
+        differs((6, wanted), (status, shown)),
+        differs(1, listed[0]),
+        differs(3, listed[1].count("[ifid]\n")),
+    ))
+
+
+def lists_of_paths(case: Case) -> Optional[str]:
+    """Paths from standard input and from a file, by lines and by zero bytes; one that can't be read stops no other."""
+    named = "named.z5:\n[ifid]\n1974A053-7DB0-4103-93A1-767C1382C0B7\n"
+    hello = "hello.z3:\n[ifid]\nZCODE-0-000000\n"
+    case.write(paths__txt="named.z5\nmissing\n\nhello.z3\n")
+    return first_of((
+        differs((0, named, ""), case.run("info --ifid --files-from -", b"named.z5\n")),
+        differs((0, named + hello, ""), case.run("info --files-from - --ifid", b"named.z5\0hello.z3")),
+        differs((4, f"{named}missing: read failed\n{hello}"), case.run("info --files-from=paths.txt --ifid")[:2]),
+        differs((0, "", ""), case.run("info --ifid --files-from -", b"")),
+        differs(4, case.run("info --files-from nowhere --ifid")[0]),
+        differs((1, ""), case.run("disasm --files-from -", b"hello.z3\n")[:2]),
+        differs((0, "--odd.z3:\n[ifid]\nZCODE-0-000000\n", ""), case.run("info --ifid --files-from -", b"--odd.z3\n")),
+    ))
+
+
+def files_are_counted_at_a_terminal(case: Case) -> Optional[str]:
+    """A terminal shows how many files were looked at."""
+    case.write(two___a__z3=FILES["verifies_right.z3"], two___b__z3=FILES["verifies_right.z3"])
+    return first_of((
+        differs("\r1 of 2\r2 of 2\n", case.at_terminal("check --recursive two > listed", ())),
+        differs(b"two/a.z3:\ntwo/b.z3:\n", case.read("listed")),
+        differs("two/a.z3:\ntwo/b.z3:\n", case.at_terminal("check --recursive two", ())),
+    ))
+
+
+def names_of_stories(case: Case) -> Optional[str]:
+    """Capitals in a name, and no name in a story of a year before 2006."""
+    name = b"UUID://1974a053-7db0-4103-93a1-767c1382c0b7//"
+    wanted = "[ifid]\n1974A053-7DB0-4103-93A1-767C1382C0B7\n"
+    for serial, shown in (
+        (b"060101", wanted),
+        (b"251231", wanted),
+        (b"1234ab", wanted),
+        (b"9a1234", "[ifid]\nZCODE-0-9a1234-0000\n"),
+        (b"051231", "[ifid]\nZCODE-0-051231-0000\n"),
+        (b"840726", "[ifid]\nZCODE-0-840726\n"),
+        (b"000000", "[ifid]\nZCODE-0-000000\n"),
+    ):
+        case.write(serial__z5=story("BA", version=5, bytes_at=dict(enumerate(serial, 0x12))) + name)
+        difference = differs((0, shown, ""), case.run("info --ifid serial.z5"))
+        if difference:
+            return f"{serial!r}: {difference}"
+    return None
+
+
+def stories_are_unpacked(case: Case) -> Optional[str]:
+    """The story of a Blorb file, byte for byte, and into no file that is there."""
+    case.write(good__blb=blorb(b"ZCOD", FILES["hello.z3"]), there__z3="old")
+    came = case.run("unpack good.blb out.z3")
+    again = case.run("unpack good.blb there.z3")
+    return first_of((
+        differs((0, "", ""), came),
+        differs(FILES["hello.z3"], case.read("out.z3")),
+        differs((0, "hi\n", ""), case.run("play out.z3")),
+        differs((4, ""), again[:2]),
+        differs(b"old", case.read("there.z3")),
+    ))
+
+
+def files_without_a_story(case: Case) -> Optional[str]:
+    """What is no Blorb file, is cut off, or has a story for another machine."""
+    whole = blorb(b"ZCOD", FILES["hello.z3"])
+    for content in (b"", b"FORM", FILES["hello.z3"], whole[:-1], whole[:40], blorb(b"GLUL", b"Glul")):
+        case.write(bad__blb=content)
+        status, shown, told = case.run("unpack bad.blb made.z3")
+        why = told.startswith("zkit: bad.blb: nothing to unpack: ")
+        if (status, shown, case.read("made.z3"), why) != (1, "", None, True):
+            return f"{content[:20]!r}: came {status} {told!r}"
+    return first_of((
+        differs(4, case.run("unpack missing made.z3")[0]),
+        differs(4, case.run("unpack good.blb missing/made.z3")[0]),
+        differs(1, case.run("unpack good.blb")[0]),
+    ))
+
+
+CASES: tuple[Callable[[Case], Optional[str]], ...] = (
+    seeds_of_the_clock, widths_without_a_terminal, numbers_out_of_range, saves_by_name, saves_ask_before_they_replace,
+    names_of_files_alone, lines_are_recorded, records_in_folders, records_that_fail, calls_are_told, many_calls_are_cut,
+    pages_wait_at_a_terminal, pages_fill_a_terminal, widths_of_a_terminal, suites_pass, wrong_texts_fail,
+    checks_that_do_not_hold, wrong_seeds_fail, faults_and_limits_fail, settings_that_are_none, saves_in_tests,
+    folders_are_looked_through, lists_of_paths, files_are_counted_at_a_terminal, names_of_stories, stories_are_unpacked,
+    files_without_a_story,
+)
+
+
+def write_stories(case: Case) -> None:
+    """Writes the stories of the cases."""
+    known = "fox.z3 hello.z3 loop.z3 calls.z3 named.z5 verifies_right.z3 empty saves.z4 echoes.z3"
+    files = {name: FILES[name] for name in known.split()}
+    files["back.z4"] = GOES_BACK
+    files["throws.z5"], files["ten.z5"], files["keeps.z4"] = THROWS_AND_READS, TEN_LINES, SAVES_AND_RESTORES
+    files["nested.z5"], files["nested.z3"], files["--odd.z3"] = NESTED_5, NESTED_3, FILES["hello.z3"]
+    files["lighthouse.z5"] = (EXAMPLES / "lighthouse.z5").read_bytes()
+    for name, content in files.items():
+        (case.folder / name).write_bytes(content)
+
+
+def main() -> int:
+    """Runs all cases, and tells how many agree."""
+    words = sys.argv[1:]
+    verbose = words[:1] == ["-v"]
+    command = words[1:] if verbose else words
+    if not command or command[0] == "--help":
+        print(__doc__)
+        return 0 if command else 1
+    command[0] = os.path.abspath(command[0])
+    differ = 0
+    with tempfile.TemporaryDirectory() as place:
+        case = Case(command, Path(place))
+        write_stories(case)
+        for function in CASES:
+            difference = function(case)
+            differ += bool(difference)
+            if difference:
+                print(f"differs: {function.__name__}: {difference}")
+            elif verbose:
+                print(f"agrees: {function.__name__}")
+    print(f"sessions: {len(CASES) - differ} cases agree, {differ} differ")
+    return 1 if differ else 0
+
+
+if __name__ == "__main__":
+    sys.exit(main())

@@ -1,0 +1,85 @@
+// Questions at the terminal, or to a pipe.
+
+use crate::record::Record;
+use crate::shown::Shown;
+use crate::watched::Watched;
+use std::alloc::Global;
+use std::io::Printer;
+use std::rt::Stdin;
+use zk_term::echo::Echo;
+use zk_term::io_device::IoDevice;
+use zk_term::source::Source;
+use zk_term::target::Failed;
+
+/// So many bytes of an answer are read at most.
+const MOST_BYTES: u32 = 4096;
+
+/// Standard output, with notes on how it went.
+pub type Screen<'a> = IoDevice<Watched<'a, Printer<'a, HostRuntime>>>;
+
+/// What is typed: it is recorded, and then shown, where that is asked for.
+pub type Typed<'a> = Echo<Echo<IoDevice<Watched<'a, Stdin>>, Record<'a>>, Screen<'a>>;
+
+/// Asks on standard error, and reads answers from what is typed, a byte at a time: what comes after an answer is left
+/// for others that read it.
+#[derive(Drop)]
+pub struct Asker<'a> {
+    rt: &'a HostRuntime,
+    input: Typed<'a>,
+}
+
+/// What is made of an answer's bytes: a text without spaces at its ends, where it is one.
+fn answer_in(alloc: Global, bytes: &[u8]) -> Option<String> {
+    let Ok(text) = std::str::from_utf8(bytes) else {
+        return None;
+    };
+    String::from_str(alloc, text.trim()).ok()
+}
+
+impl<'a> Asker<'a> {
+    pub fn new(rt: &'a HostRuntime, input: Typed<'a>) -> Asker<'a> {
+        Asker { rt, input }
+    }
+
+    /// The next line: none at the end of the input, or where it can't be read or is no text.
+    fn read_answer(&mut self) -> Option<String> {
+        let mut bytes = Vec::new(self.rt.alloc());
+        let mut byte = [0u8];
+        for _k in 0..MOST_BYTES {
+            match self.input.read(&mut byte) {
+                Ok(0) | Err(Failed) => return None,
+                Ok(_) if byte[0] == b'\n' => return answer_in(self.rt.alloc(), bytes.as_slice()),
+                Ok(_) => bytes.push(byte[0]).ok()?,
+            }
+        }
+        None
+    }
+
+    /// The name that is typed for a file, or the offered one for an empty line.
+    pub fn ask_name(&mut self, doing: &str, offered: &str) -> Option<String> {
+        let _ = eprint!(self.rt; "zkit: {doing} which file [{}]? ", Shown(offered));
+        let answer = self.read_answer()?;
+        if answer.is_empty() {
+            return String::from_str(self.rt.alloc(), offered).ok();
+        }
+        Some(answer)
+    }
+
+    /// Waits for Enter.
+    pub fn wait(&mut self) {
+        let _ = eprint!(self.rt; "-- more --");
+        let _ = self.read_answer();
+    }
+
+    /// Whether a file may be replaced: only where `y` or `yes` is typed.
+    pub fn may_replace(&mut self, name: &str) -> bool {
+        let _ = eprint!(self.rt;
+            "zkit: {} is there already; replace it (y or n)? ",
+            Shown(name)
+        );
+        match self.read_answer() {
+            Some(answer) => matches!(answer.as_str(), "y" | "yes" | "Y"),
+            None => false,
+        }
+    }
+}

@@ -1,0 +1,10 @@
+// What the program does with the system's files, folders and terminal.
+#![tactic(auto)]
+
+pub mod files;
+pub mod list;
+pub mod play;
+mod session;
+pub mod suite;
+pub mod told;
+pub mod unpack;
