@@ -1,10 +1,20 @@
-/* host.c - what the program asks of C beside the heap: the words that it is started with, and the number of the last error.
+/* host.c - what the program asks of C beside the heap: the words that it is started with, the variables of its environment,
+ * open folders, and the number of the last error.
  * SPDX-License-Identifier: MIT OR Apache-2.0
  *
  * The toolchain has this for x86-64 and glibc alone; its os/src/c.rt declares these functions. */
 #include <stddef.h>
 
 int *__errno_location(void);
+char *getenv(const char *name);
+int openat(int folder, const char *path, int flags, ...);
+
+/* O_DIRECTORY, O_NOFOLLOW and O_CLOEXEC of Linux, whose numbers depend on the processor */
+#ifdef __aarch64__
+#define A_FOLDER (0x4000 | 0x8000 | 0x80000)
+#else
+#define A_FOLDER (0x10000 | 0x20000 | 0x80000)
+#endif
 
 /* --wrap=main has the start code call the second of these two, and names the program's own main as the first. */
 int __real_main(int count, char **words, char **variables);
@@ -19,18 +29,34 @@ int __wrap_main(int count, char **words, char **variables) {
     return __real_main(count, words, variables);
 }
 
-/* Copies a word, without its last 0, and answers its length; -1 where there is none; -2 where it does not fit: then the
+/* Copies a text, without its last 0, and answers its length; -1 where there is none; -2 where it does not fit: then the
  * buffer is full. */
-ptrdiff_t rattle_arg(size_t number, unsigned char *buffer, size_t room);
-ptrdiff_t rattle_arg(size_t number, unsigned char *buffer, size_t room) {
-    if (number >= count_of_words) return -1;
-    const char *word = all_words[number];
+static ptrdiff_t copied(const char *text, unsigned char *buffer, size_t room) {
+    if (text == NULL) return -1;
     size_t length = 0;
-    for (; word[length] != 0; length++) {
+    for (; text[length] != 0; length++) {
         if (length == room) return -2;
-        buffer[length] = (unsigned char)word[length];
+        buffer[length] = (unsigned char)text[length];
     }
     return (ptrdiff_t)length;
+}
+
+/* Copies the word of a number. */
+ptrdiff_t rattle_arg(size_t number, unsigned char *buffer, size_t room);
+ptrdiff_t rattle_arg(size_t number, unsigned char *buffer, size_t room) {
+    return copied(number < count_of_words ? all_words[number] : NULL, buffer, room);
+}
+
+/* Copies the value of a variable of the environment. */
+ptrdiff_t rattle_env(const unsigned char *name, unsigned char *buffer, size_t room);
+ptrdiff_t rattle_env(const unsigned char *name, unsigned char *buffer, size_t room) {
+    return copied(getenv((const char *)name), buffer, room);
+}
+
+/* Opens a folder that a path leads to from another one, and that is no link, for reading. */
+int rattle_open_dir_at(int folder, const unsigned char *path);
+int rattle_open_dir_at(int folder, const unsigned char *path) {
+    return openat(folder, (const char *)path, A_FOLDER);
 }
 
 int rattle_errno(void);
