@@ -194,7 +194,7 @@ def saves_ask_before_they_replace(case: Case) -> Optional[str]:
 def names_of_files_alone(case: Case) -> Optional[str]:
     """A name with a slash, a folder's name, and the end of the input save nothing."""
     os.makedirs(case.folder / "none", exist_ok=True)
-    for name in (b"../up\n", b"/tmp/x\n", b".\n", b"..\n", b"", b"\xff\n"):
+    for name in (b"../up\n", b"/x\n", b".\n", b"..\n", b"", b"\xff\n"):
         status, shown, _ = case.run("play --saves none saves.z4", name)
         if (status, shown) != (0, "0") or list((case.folder / "none").iterdir()):
             return f"{name!r}: came {status} {shown!r}"
