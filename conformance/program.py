@@ -480,6 +480,10 @@ CASES: list[tuple[Words, Wanted]] = [
     ("play --upper hello.z3", HI),
     ("play --upper 1 hello.z3", USAGE),
     ("play --upper --upper hello.z3", USAGE),
+    # --boxes
+    ("play --boxes hello.z3", HI),
+    ("play --boxes --upper hello.z3", HI),
+    ("play --boxes 1 hello.z3", USAGE),
     # --script
     ("play --script", USAGE),
     ("play --script a --script b hello.z3", USAGE),

@@ -42,6 +42,33 @@ GOES_BACK = story("B5 00 41 00 02 C8 B6 00 E5 7F 66 BA E5 7F 72 BA", version=4)
 THROWS_AND_READS = story("E7 7F 64 00 E6 BF 00 BB F6 7F 01 00 BA", version=5)
 
 
+def letters(text: str) -> str:
+    """What prints a text of ASCII, a character at a time."""
+    return "".join(f"E57F{13 if c == chr(10) else ord(c):02X}" for c in text)
+
+
+def upper(rows: int, text: str) -> str:
+    """What gives the upper window so many rows, and prints a text there."""
+    return f"EA7F{rows:02X} EB7F01 {letters(text)} EB7F00"
+
+
+END = "\n"
+# `read_char`.
+READS = "F67F0100"
+# A box that is gone before the first of two reads: `split_window 0` takes it away.
+BOX = story(
+    f"{letters('a' + END + '>')} {upper(3, 'hi' + END + 'yo')} EA7F00 {READS} {letters('b>')} {READS} BA", version=5
+)
+# A row that stays for two reads, with a box below it before the first one.
+BAR = story(
+    f"{upper(3, 'hi' + END * 2 + 'yo')} EA7F01 {letters('a' + END + '>')} {READS} {letters('>')} {READS} BA", version=5
+)
+# A row of 25 characters.
+LONG_ROW = story(f"{upper(1, 'abcdefghijklmnopqrstuvwxy')} {letters('>')} {READS} BA", version=5)
+# `save` in the middle of a line, with a row before the read after it.
+SAVES_IN_LINE = story(f"{letters('a')} BE00FF00 {letters('b')} {upper(1, 'hi')} {READS} {letters('c')} BA", version=5)
+
+
 def chunk(kind: bytes, content: bytes) -> bytes:
     """A chunk of an IFF file, with a byte more where its length is odd."""
     return kind + len(content).to_bytes(4, "big") + content + b"\0" * (len(content) % 2)
@@ -302,6 +329,69 @@ def widths_of_a_terminal(case: Case) -> Optional[str]:
     ))
 
 
+def boxes_are_shown_once(case: Case) -> Optional[str]:
+    """Rows that are gone before a read stand above its prompt, and not above the next one's."""
+    return first_of((
+        differs((0, "a\n| hi\n| yo\n| \n>b>", ""), case.run("play --boxes gone.z5", b"x\ny\n")),
+        differs((0, "a\n>b>", ""), case.run("play --upper gone.z5", b"x\ny\n")),
+        differs((0, "a\n>b>", ""), case.run("play gone.z5", b"x\ny\n")),
+        # the end of the input ends the play at the second read
+        differs((0, "a\n| hi\n| yo\n| \n>b>", ""), case.run("play --boxes gone.z5", b"x\n")),
+    ))
+
+
+def rows_stand_above_the_prompt(case: Case) -> Optional[str]:
+    """The rows that are there come before each read, and none where there are none."""
+    return first_of((
+        differs((0, "a\n| hi\n| \n| yo\n>| hi\n>", ""), case.run("play --boxes bar.z5", b"x\ny\n")),
+        differs((0, "a\n>\n| hi\n>\n| hi\n", ""), case.run("play --upper bar.z5", b"x\ny\n")),
+        differs((0, "a\n| hi\n| \n| yo\n>x\n| hi\n>y\n", ""), case.run("play --boxes --echo bar.z5", b"x\ny\n")),
+        differs((0, "| hi\n", ""), case.run("play --boxes splits.z5", b"x\n")),
+        differs(case.run("play fox.z3"), case.run("play --boxes fox.z3")),
+        differs(case.run("play calls.z3"), case.run("play --boxes calls.z3")),
+    ))
+
+
+def rows_have_a_width(case: Case) -> Optional[str]:
+    """A row ends at the last column, and is whole without a width."""
+    return first_of((
+        differs((0, "| abcdefghijklmnopqrstuvwxy\n>", ""), case.run("play --boxes long.z5", b"x\n")),
+        differs((0, "| abcdefghijklmnopqr\n>", ""), case.run("play --boxes --width 20 long.z5", b"x\n")),
+    ))
+
+
+def boxes_leave_saves_alone(case: Case) -> Optional[str]:
+    """A save shows the open line, which a row ends; a transcript has no rows."""
+    came = case.run("play --boxes --save in_line in_line.z5", b"x\n")
+    asked = case.at_terminal("play --boxes --saves . in_line.z5", (("? ", "aside"), ("b", "x")))
+    return first_of((
+        differs((0, "a\n| hi\nbc", ""), came),
+        differs(case.read("in_line"), case.read("aside")),
+        differs("azkit: save to which file [in_line.qzl]? aside\n\n| hi\nbx\nc", asked),
+    ))
+
+
+def boxes_show_the_status_line(case: Case) -> Optional[str]:
+    """In version 3 the status line stands above each prompt."""
+    _, plain, _ = case.run("play lighthouse.z3", b"inventory\n")
+    status, shown, told = case.run("play --boxes lighthouse.z3", b"inventory\n")
+    first, second = plain.split(">")[:2]
+    return differs((0, f"{first}[Jetty] 0/0\n>{second}[Jetty] 0/1\n>", ""), (status, shown, told))
+
+
+def a_quotation_stands_in_its_box(case: Case) -> Optional[str]:
+    """Inform's `box` puts its lines below the status line, on a screen of 80 columns, and takes them away."""
+    bar = "|  The gate" + " " * 60 + "Turns: 0\n"
+    lines = ("Through me the way into the city of woe,", "through me the way into eternal pain", "")
+    quotation = "".join(f"| {' ' * 19}{line}".rstrip() + "\n" for line in lines).replace("|\n", "| \n")
+    author = f"| {' ' * 36}-- Dante, Inferno\n"
+    blank = "| \n"
+    first = "You come to a gate, and over it stand some words.\n\n"
+    second = "\nNobody is here to read it to.\n\n"
+    wanted = f"{first}{bar}{blank * 3}{quotation}{author}{blank * 2}>{second}{bar}>"
+    return differs((0, wanted, ""), case.run("play --boxes box.z5", b"look\n"))
+
+
 # ---- a test suite
 
 LETTER = "# story: ../lighthouse.z5\nopen the bag\n! In the postbag is a letter\n!~ see no such\nread the letter\n"
@@ -513,7 +603,9 @@ def files_without_a_story(case: Case) -> Optional[str]:
 CASES: tuple[Callable[[Case], Optional[str]], ...] = (
     seeds_of_the_clock, widths_without_a_terminal, numbers_out_of_range, saves_by_name, saves_ask_before_they_replace,
     names_of_files_alone, lines_are_recorded, records_in_folders, records_that_fail, calls_are_told, many_calls_are_cut,
-    pages_wait_at_a_terminal, pages_fill_a_terminal, widths_of_a_terminal, suites_pass, wrong_texts_fail,
+    pages_wait_at_a_terminal, pages_fill_a_terminal, widths_of_a_terminal, boxes_are_shown_once,
+    rows_stand_above_the_prompt, rows_have_a_width, boxes_leave_saves_alone, boxes_show_the_status_line,
+    a_quotation_stands_in_its_box, suites_pass, wrong_texts_fail,
     checks_that_do_not_hold, wrong_seeds_fail, faults_and_limits_fail, settings_that_are_none, saves_in_tests,
     folders_are_looked_through, lists_of_paths, files_are_counted_at_a_terminal, names_of_stories, stories_are_unpacked,
     files_without_a_story,
@@ -522,12 +614,14 @@ CASES: tuple[Callable[[Case], Optional[str]], ...] = (
 
 def write_stories(case: Case) -> None:
     """Writes the stories of the cases."""
-    known = "fox.z3 hello.z3 loop.z3 calls.z3 named.z5 verifies_right.z3 empty saves.z4 echoes.z3"
+    known = "fox.z3 hello.z3 loop.z3 calls.z3 splits.z5 named.z5 verifies_right.z3 empty saves.z4 echoes.z3"
     files = {name: FILES[name] for name in known.split()}
     files["back.z4"] = GOES_BACK
     files["throws.z5"], files["ten.z5"], files["keeps.z4"] = THROWS_AND_READS, TEN_LINES, SAVES_AND_RESTORES
     files["nested.z5"], files["nested.z3"], files["--odd.z3"] = NESTED_5, NESTED_3, FILES["hello.z3"]
-    files["lighthouse.z5"] = (EXAMPLES / "lighthouse.z5").read_bytes()
+    files["gone.z5"], files["bar.z5"], files["long.z5"], files["in_line.z5"] = BOX, BAR, LONG_ROW, SAVES_IN_LINE
+    for name in ("lighthouse.z3", "lighthouse.z5", "box.z5"):
+        files[name] = (EXAMPLES / name).read_bytes()
     for name, content in files.items():
         (case.folder / name).write_bytes(content)
 

@@ -76,8 +76,8 @@ abbrev pub with_rules : App → List Rule → App
 with_rules a [] = a
 with_rules a (r ∷ rs) = with_rules (with_rule a r) rs
 
--- `play [--frames n] [--words n] [--undo n] [--steps n] [--seed n] [--save FILE] [--saves FOLDER] [--script FILE] [--upper] [--width n] [--page n]
--- [--echo] [--record FILE] [--calls] STORY`
+-- `play [--frames n] [--words n] [--undo n] [--steps n] [--seed n] [--save FILE] [--saves FOLDER] [--script FILE] [--upper] [--boxes] [--width n]
+-- [--page n] [--echo] [--record FILE] [--calls] STORY`
 abbrev pub play_command : App
 play_command = with_rules (new_app (codes "play")) (
     number_option (codes "frames") (codes "1024")
@@ -89,6 +89,7 @@ play_command = with_rules (new_app (codes "play")) (
     ∷ value_option (codes "saves")
     ∷ value_option (codes "script")
     ∷ flag (codes "upper")
+    ∷ flag (codes "boxes")
     ∷ value_option (codes "width")
     ∷ value_option (codes "page")
     ∷ flag (codes "echo")
@@ -191,12 +192,13 @@ SaysSeed rows seed = MaySayAmount rows (codes "seed") 0 18446744073709551615 (So
 abbrev pub SaysText : {S : Type 0} → (S → Text) → List Row → Text → Option S → Type 0
 SaysText {S} text rows option said = option_map text said ≡ first_of option rows
 
--- what clap found says the options of a play: the limits, the seed, the view, files, the columns of the screen and the lines of a
--- page, and whether what is read is shown, and calls are told
+-- what clap found says the options of a play: the limits, the seed, the view, whether boxes are shown, files, the columns of the
+-- screen and the lines of a page, and whether what is read is shown, and calls are told
 pub record SaysOptions (rows : List Row) (o : PlayOptions) : Type 0 where
   pub limits : SaysLimits rows o.limits
   pub seed : SaysSeed rows o.seed
   pub view : o.view ≡ view_said rows
+  pub boxes : o.boxes ≡ flag_said (first_of (codes "boxes") rows)
   pub save : SaysText (λ s. s.now) rows (codes "save") o.save
   pub saves : SaysText (λ s. s.now) rows (codes "saves") o.saves
   pub script : SaysText (λ s. s.now) rows (codes "script") o.script

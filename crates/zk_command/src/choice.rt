@@ -491,6 +491,7 @@ fn options_of<'a>(alloc: Global, play: &ArgMatches<'a>) -> Result<PlayOptions<'a
         limits,
         seed,
         view: view_of(play),
+        boxes: has_flag(play, "boxes"),
         save,
         saves,
         script,

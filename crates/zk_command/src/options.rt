@@ -81,7 +81,7 @@ pub(crate) const PAGE: NumberOption =
     number!("page", None, 2 to 1000, or "auto", "Waits for Enter after this many lines, or as many as the terminal has, where input is a terminal");
 
 /// The options of `play`.
-pub(crate) const PLAY_OPTIONS: [CommandOption; 14] = [
+pub(crate) const PLAY_OPTIONS: [CommandOption; 15] = [
     CommandOption::Number(FRAMES),
     CommandOption::Number(WORDS),
     CommandOption::Number(UNDO),
@@ -102,6 +102,10 @@ pub(crate) const PLAY_OPTIONS: [CommandOption; 14] = [
     CommandOption::Flag {
         name: "upper",
         help: "Shows the status line and the upper window, on lines of their own",
+    },
+    CommandOption::Flag {
+        name: "boxes",
+        help: "Shows the status line and the upper window above the prompt, with rows that the story took away before the read",
     },
     CommandOption::Number(WIDTH),
     CommandOption::Number(PAGE),

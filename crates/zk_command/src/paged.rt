@@ -29,7 +29,7 @@ impl<'a, S> Paged<'a, S> {
 }
 
 /// How many bytes there are up to the first new line, and with it.
-fn line_length(bytes: &[u8]) -> usize
+pub fn line_length(bytes: &[u8]) -> usize
     ensures most { result ≤ length bytes.now }
     ensures some { 0 < length bytes.now → 0 < result }
 {

@@ -54,6 +54,12 @@ fn note_calls(alloc: Global, about: &About, machine: &Machine, stop: &Stop) {
     }
 }
 
+/// Notes what is told of a stop: where a bad target leads, and which calls led there.
+pub fn note_stop(alloc: Global, about: &About, machine: &Machine, stop: &Stop) {
+    note_target(about, machine, stop);
+    note_calls(alloc, about, machine, stop);
+}
+
 /// Plays the story that a reader gives: the lines of the input answer its reads, and the slot keeps its saved game.
 pub fn play_file<R: Read + Drop, I: Source, S: Target, T: Target, K: SaveSlot>(
     alloc: Global,
@@ -94,8 +100,7 @@ pub fn play_file<R: Read + Drop, I: Source, S: Target, T: Target, K: SaveSlot>(
             &mut machine,
         ),
     };
-    note_target(about, &machine, &stop);
-    note_calls(alloc, about, &machine, &stop);
+    note_stop(alloc, about, &machine, &stop);
     Exit::Stopped(stop)
 }
 

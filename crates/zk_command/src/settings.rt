@@ -29,6 +29,8 @@ pub struct PlayOptions<'a> {
     pub limits: Limits,
     pub seed: Amount,
     pub view: View,
+    /// Whether the status line and the upper window are shown above the prompt, also rows that were taken away.
+    pub boxes: bool,
     /// The file of the saved game.
     pub save: Option<&'a str>,
     /// The folder of saved games whose names are asked for.

@@ -1,7 +1,9 @@
 // What the program does with the system's files, folders and terminal.
 #![tactic(auto)]
 
+pub mod boxes;
 pub mod files;
+mod held_prompt;
 pub mod list;
 pub mod play;
 mod session;

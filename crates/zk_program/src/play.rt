@@ -2,8 +2,12 @@
 
 ghost use Rattle.std.specs.Prelude.{◌≡◌, false};
 ghost use Rattle.zk_vm.specs.Bounds.{AreInRange};
+ghost use Rattle.zk_command.specs.Playing.{Work};
 
+use crate::boxes::play_with_boxes_and_report;
+use crate::held_prompt::HeldPrompt;
 use crate::told::{out_of_memory, tell_exit, tell_last_line, tell_reason};
+use std::alloc::Global;
 use std::fs::{self, File};
 use std::io;
 use zk_command::about::About;
@@ -20,8 +24,10 @@ use zk_command::terminal::{columns, is_typed_at, lines, seed_of_clock};
 use zk_command::watched::Watched;
 use zk_term::echo::Echo;
 use zk_term::io_device::IoDevice;
-use zk_term::target::Failed;
+use zk_term::source::Source;
+use zk_term::target::{Failed, Target};
 use zk_term::wrapped::Wrapped;
+use zk_vm::slot::SaveSlot;
 use zk_vm::stop::Stop;
 
 /// Standard output.
@@ -189,6 +195,54 @@ fn screen_by<'a>(
     Wrapped::new(paged, width)
 }
 
+/// Whether the status line and the upper window are shown above the prompt, and in how many columns.
+#[derive(Clone, Copy, Drop)]
+struct Boxes {
+    shown: bool,
+    width: Option<u8>,
+}
+
+/// Plays the story in an open file on devices, with boxes or without, and answers the program's status.
+fn play_shown<I: Source + Drop, S: Target + Drop, T: Target + Drop, K: SaveSlot + Drop, E: Target>(
+    alloc: Global,
+    file: File,
+    about: &About,
+    settings: Settings,
+    devices: Devices<I, S, T, K>,
+    boxes: Boxes,
+    errors: &mut E,
+) -> u8
+    requires in_range { AreInRange settings.limits }
+    requires works { Work I.failed S.failed T.failed devices }
+    requires errors_work { E.failed errors.old ≡ false }
+{
+    let mut devices = devices;
+    if !boxes.shown {
+        return play_and_report(alloc, file, about, settings, &mut devices, errors);
+    }
+    let Devices {
+        input,
+        screen,
+        script,
+        slot,
+    } = devices;
+    let mut devices = Devices {
+        input,
+        screen: HeldPrompt::new(alloc, screen),
+        script,
+        slot,
+    };
+    play_with_boxes_and_report(
+        alloc,
+        file,
+        about,
+        settings,
+        &mut devices,
+        boxes.width,
+        errors,
+    )
+}
+
 /// Plays the story in an open file as options say, with its lines recorded where there is a file for them, and a name that
 /// is offered for saved games, and answers the program's status.
 fn play_on<'a>(
@@ -204,14 +258,26 @@ fn play_on<'a>(
     requires in_range { AreInRange settings.limits }
 {
     let asker = Asker::new(rt, input_by(rt, about, options, record));
-    let mut devices = Devices {
+    let devices = Devices {
         input: input_by(rt, about, options, record),
         screen: screen_by(rt, about, options, width),
         script: ScriptFile::new(rt, options.script, &about.script),
         slot: SaveFile::new(rt, place_of(options), asker, offered),
     };
     let mut errors = IoDevice::new(rt.stderr());
-    play_and_report(rt.alloc(), file, about, settings, &mut devices, &mut errors)
+    let boxes = Boxes {
+        shown: options.boxes,
+        width,
+    };
+    play_shown(
+        rt.alloc(),
+        file,
+        about,
+        settings,
+        devices,
+        boxes,
+        &mut errors,
+    )
 }
 
 /// Makes the file of a record where options name one. Where it can't be made the reason is told.

@@ -194,7 +194,7 @@ impl Machine {
 }
 
 /// Whether a line or a character is waited for.
-pub(crate) fn is_read(event: Event) -> bool
+pub fn is_read(event: Event) -> bool
     ensures { result ≡ is_read event }
 {
     match event {

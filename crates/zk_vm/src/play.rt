@@ -29,7 +29,7 @@ use zk_text::extra::Extra;
 
 /// The answer of a slot to a machine that asks it: whether it keeps the saved game, or the one that it has. Where
 /// there is no memory for a saved game, the machine is closed with `Memory`.
-fn serve<K: SaveSlot>(
+pub fn serve<K: SaveSlot>(
     alloc: Global,
     slot: &mut K,
     machine: &mut Machine,
@@ -214,7 +214,7 @@ pub fn turn<S: Target, T: Target, K: SaveSlot>(
 }
 
 /// The next line, by the extra characters in force.
-fn next_line<R: Source>(lines: &mut Lines, reader: &mut R, machine: &Machine) -> Input
+pub fn next_line<R: Source>(lines: &mut Lines, reader: &mut R, machine: &Machine) -> Input
     ensures over { (o : InputEnd) → lines.old.over ≡ Some o
         → (result ≡ over_input o) × (lines.new ≡ lines.old) × (reader.new ≡ reader.old) }
     ensures heard { (bytes : List ℕ) → lines.old.over ≡ None → R.left reader.old ≡ Some bytes
@@ -248,7 +248,7 @@ fn first_of(codes: &[u8]) -> u8
 }
 
 /// Answers a read by the codes of a line.
-fn answer(machine: &mut Machine, event: Event, codes: &[u8])
+pub fn answer(machine: &mut Machine, event: Event, codes: &[u8])
     requires waits { event_waited machine.old.waiting ≡ Some event }
     requires reads { is_read event ≡ true }
     requires few { length codes.now ≤ 255 }

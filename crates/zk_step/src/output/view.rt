@@ -34,7 +34,7 @@ pub(crate) fn start_line<S: Screen>(screen: &mut S, at_line_start: bool)
 }
 
 /// Shows the status line and a new line.
-pub(crate) fn show_status_line<S: Screen>(memory: &Memory, screen: &mut S)
+pub fn show_status_line<S: Screen>(memory: &Memory, screen: &mut S)
     requires { IsOk (status_units memory.now) }
     ensures { (units : List Unit) → status_units memory.now ≡ Ok units
         → S.shows screen.old screen.new (shown_all (own_characters memory.now) units ++ 10 ∷ [])

@@ -1,0 +1,275 @@
+// Playing with the status line and the upper window above the prompt.
+
+ghost use Rattle.std.specs.Prelude.{◌≡◌, ◌≤◌, true, false, None, Some, Err, OnOk};
+ghost use Rattle.zk_vm.specs.Bounds.{AreInRange};
+ghost use Rattle.zk_vm.specs.Halts.{event_waited};
+ghost use Rattle.zk_vm.specs.Step.{is_read};
+
+use crate::held_prompt::HeldPrompt;
+use std::alloc::{AllocError, Global};
+use std::io::Read;
+use zk_command::about::About;
+use zk_command::exit::Exit;
+use zk_command::opening::open_story;
+use zk_command::playing::{Devices, note_stop};
+use zk_command::report::report;
+use zk_command::settings::Settings;
+use zk_mem::memory::Memory;
+use zk_step::output::status::status_line;
+use zk_step::output::view::show_status_line;
+use zk_step::state::ending::Event;
+use zk_step::state::game_state::View;
+use zk_term::buffered_screen::BufferedScreen;
+use zk_term::io_device::IoDevice;
+use zk_term::lines::{Input, Lines};
+use zk_term::nothing::Nothing;
+use zk_term::screen::Screen;
+use zk_term::source::Source;
+use zk_term::target::{Failed, Target};
+use zk_term::windows::Windows;
+use zk_vm::machine::{Machine, is_read};
+use zk_vm::play::{answer, next_line, run_on, serve};
+use zk_vm::slot::SaveSlot;
+use zk_vm::stop::Stop;
+
+/// Shows the status line of version 3, where it can be read.
+fn show_status<S: Screen>(screen: &mut S, memory: &Memory) {
+    if memory.version() != 3 {
+        return;
+    }
+    match status_line(memory) {
+        Ok(_) => show_status_line(memory, screen),
+        Err(_) => {}
+    }
+}
+
+/// The characters of a row, as far as they fit beside its bar.
+fn row_within(windows: &Windows, row: u8, width: Option<u8>) -> &[char]
+    requires { 1 ≤ row }
+{
+    let characters = if row <= windows.height() {
+        windows.row(row)
+    } else {
+        windows.tallest_row(row)
+    };
+    match width {
+        Some(width) => {
+            let most = (width as usize).saturating_sub(2);
+            &characters[..characters.len().min(most)]
+        }
+        None => characters,
+    }
+}
+
+/// Shows a row on a line, after a bar and a space.
+fn show_row<S: Screen>(screen: &mut S, characters: &[char]) {
+    screen.text('|');
+    screen.text(' ');
+    for c in characters {
+        screen.text(*c);
+    }
+    screen.text('\n');
+}
+
+/// Shows the rows of the upper window, and below them those that were taken away since the last read.
+fn show_rows<S: Screen>(screen: &mut S, windows: &Windows, width: Option<u8>) {
+    for row in 0..windows.tallest() {
+        show_row(screen, row_within(windows, row + 1, width));
+    }
+}
+
+/// The status line and the rows, as they stand above the prompt.
+fn text_above(alloc: Global, machine: &Machine, width: Option<u8>) -> Result<Vec<u8>, AllocError> {
+    let mut text = IoDevice::new(Vec::new(alloc));
+    let mut nothing = Nothing;
+    let mut screen = BufferedScreen::new(&mut text, &mut nothing);
+    show_status(&mut screen, machine.memory());
+    show_rows(&mut screen, machine.windows(), width);
+    screen.finish();
+    if screen.has_failed() {
+        return Err(AllocError);
+    }
+    Ok(text.into_inner())
+}
+
+/// Ends a machine with a stop.
+fn end<A>(machine: &mut Machine, stop: Stop) -> Result<A, Stop>
+    ensures { result ≡ Err stop }
+{
+    machine.close(stop);
+    Err(stop)
+}
+
+/// Shows the open line with lines above it. Where that fails, the machine is closed.
+fn show_rest<S: Target>(
+    screen: &mut HeldPrompt<S>,
+    machine: &mut Machine,
+    above: &[u8],
+) -> Result<(), Stop>
+    ensures waits { OnOk result (machine.new.waiting ≡ machine.old.waiting) }
+    ensures works { OnOk result (S.failed screen.old.screen ≡ false → S.failed screen.new.screen ≡ false) }
+    ensures whole { OnOk result (S.whole screen.new.screen) }
+{
+    match screen.show_with(above) {
+        Ok(()) => Ok(()),
+        Err(Failed) => end(machine, Stop::Write),
+    }
+}
+
+/// Shows the prompt of a read, with the status line and the rows above it; what was taken away is then forgotten.
+fn show_prompt<S: Target>(
+    alloc: Global,
+    screen: &mut HeldPrompt<S>,
+    machine: &mut Machine,
+    width: Option<u8>,
+) -> Result<(), Stop>
+    ensures waits { OnOk result (machine.new.waiting ≡ machine.old.waiting) }
+    ensures works { OnOk result (S.failed screen.old.screen ≡ false → S.failed screen.new.screen ≡ false) }
+    ensures whole { OnOk result (S.whole screen.new.screen) }
+{
+    let above = match text_above(alloc, machine, width) {
+        Ok(above) => above,
+        Err(AllocError) => return end(machine, Stop::Memory),
+    };
+    machine.forget_grid();
+    show_rest(screen, machine, above.as_slice())
+}
+
+/// Answers a read by the next line of the input.
+fn answer_read<I: Source, S: Target>(
+    input: &mut I,
+    screen: &mut HeldPrompt<S>,
+    lines: &mut Lines,
+    machine: &mut Machine,
+    event: Event,
+) -> Result<(), Stop>
+    requires waits { event_waited machine.old.waiting ≡ Some event }
+    requires reads { is_read event ≡ true }
+    requires whole { S.whole screen.old.screen }
+    ensures free { OnOk result (machine.new.waiting ≡ None) }
+    ensures works { S.failed screen.new.screen ≡ S.failed screen.old.screen }
+{
+    match next_line(lines, input, machine) {
+        Input::Line(codes) => {
+            screen.begin_line();
+            answer(machine, event, codes.as_slice());
+            Ok(())
+        }
+        Input::End => end(machine, Stop::EndOfInput),
+        Input::Failed => end(machine, Stop::Read),
+    }
+}
+
+/// Runs a machine up to its next event, shows its text, and answers the event.
+fn go_on<I: Source, S: Target, T: Target, K: SaveSlot>(
+    alloc: Global,
+    devices: &mut Devices<I, HeldPrompt<S>, T, K>,
+    lines: &mut Lines,
+    machine: &mut Machine,
+    width: Option<u8>,
+) -> Result<(), Stop>
+    requires free { machine.old.waiting ≡ None }
+    requires screen_works { S.failed devices.old.screen.screen ≡ false }
+    requires script_works { T.failed devices.old.script ≡ false }
+    ensures free { OnOk result (machine.new.waiting ≡ None) }
+    ensures screen_works { OnOk result (S.failed devices.new.screen.screen ≡ false) }
+    ensures script_works { OnOk result (T.failed devices.new.script ≡ false) }
+{
+    let screen = &mut devices.screen;
+    match run_on(screen, &mut devices.script, machine) {
+        Ok(event) if is_read(event) => {
+            show_prompt(alloc, screen, machine, width)?;
+            answer_read(&mut devices.input, screen, lines, machine, event)
+        }
+        Ok(event) => {
+            show_rest(screen, machine, &[])?;
+            serve(alloc, &mut devices.slot, machine, event)
+        }
+        Err(Stop::Write) => Err(Stop::Write),
+        Err(stop) => {
+            show_rest(screen, machine, &[])?;
+            Err(stop)
+        }
+    }
+}
+
+/// Plays a story up to its stop, as `zk_vm`'s `play` does, and shows before each read the status line and the rows of the upper
+/// window above the prompt, also those that were taken away since the read before. The machine shows none of them by itself.
+pub fn play_with_boxes<I: Source, S: Target, T: Target, K: SaveSlot>(
+    alloc: Global,
+    devices: &mut Devices<I, HeldPrompt<S>, T, K>,
+    machine: &mut Machine,
+    width: Option<u8>,
+) -> Stop
+    requires free { machine.old.waiting ≡ None }
+    requires screen_works { S.failed devices.old.screen.screen ≡ false }
+    requires script_works { T.failed devices.old.script ≡ false }
+{
+    let mut lines = Lines::new();
+    // a machine's limits end it long before
+    for _k in 0..u64::MAX {
+        match go_on(alloc, devices, &mut lines, machine, width) {
+            Ok(()) => {}
+            Err(stop) => return stop,
+        }
+    }
+    Stop::EndOfInput
+}
+
+/// Plays the story that a reader gives, with the status line and the upper window above the prompt.
+fn play_file_with_boxes<R: Read + Drop, I: Source, S: Target, T: Target, K: SaveSlot>(
+    alloc: Global,
+    reader: R,
+    about: &About,
+    settings: Settings,
+    devices: &mut Devices<I, HeldPrompt<S>, T, K>,
+    width: Option<u8>,
+) -> Exit
+    requires in_range { AreInRange settings.limits }
+    requires screen_works { S.failed devices.old.screen.screen ≡ false }
+    requires script_works { T.failed devices.old.script ≡ false }
+{
+    let story = match open_story(alloc, reader, about) {
+        Ok(story) => story,
+        Err(exit) => return exit,
+    };
+    let Settings { seed, limits, .. } = settings;
+    let mut machine = match Machine::start(alloc, story, seed, limits, View::Plain) {
+        Ok(machine) => machine,
+        Err(_) => return Exit::Stopped(Stop::Memory),
+    };
+    // a write of no bytes makes the script's file before the run
+    let stop = match devices.script.write(&[]) {
+        Err(Failed) => Stop::Write,
+        Ok(_) => play_with_boxes(alloc, devices, &mut machine, width),
+    };
+    note_stop(alloc, about, &machine, &stop);
+    Exit::Stopped(stop)
+}
+
+/// Plays the story that a reader gives, with the status line and the upper window above the prompt, reports how that ends,
+/// and answers the program's status.
+pub fn play_with_boxes_and_report<
+    R: Read + Drop,
+    I: Source,
+    S: Target,
+    T: Target,
+    K: SaveSlot,
+    E: Target,
+>(
+    alloc: Global,
+    reader: R,
+    about: &About,
+    settings: Settings,
+    devices: &mut Devices<I, HeldPrompt<S>, T, K>,
+    width: Option<u8>,
+    errors: &mut E,
+) -> u8
+    requires in_range { AreInRange settings.limits }
+    requires screen_works { S.failed devices.old.screen.screen ≡ false }
+    requires script_works { T.failed devices.old.script ≡ false }
+    requires errors_work { E.failed errors.old ≡ false }
+{
+    let exit = play_file_with_boxes(alloc, reader, about, settings, devices, width);
+    report(alloc, &exit, &settings.limits, about, errors)
+}
