@@ -1,0 +1,9 @@
+// Facts about stories, in forms for other programs: rows of fields, and JSON.
+#![tactic(auto)]
+
+pub mod document;
+pub mod fact;
+pub mod objects;
+pub mod outcome;
+pub mod rows;
+mod words;
