@@ -9,6 +9,7 @@ which answers what differs from docs/manual, if something does.
 
 from __future__ import annotations
 
+import json
 import os
 import pty
 import re
@@ -65,6 +66,19 @@ BAR = story(
 )
 # A row of 25 characters.
 LONG_ROW = story(f"{upper(1, 'abcdefghijklmnopqrstuvwxy')} {letters('>')} {READS} BA", version=5)
+# Two objects of version 3 from BE on, whose property tables stand from D0 on, and `quit` at E0.
+OBJECTS = {0xC5: 0, 0xC6: 0xD0, 0xCF: 0xD0, 0xE0: 0xBA}
+# The second object has a sibling that there is not.
+LOOSE_LINKS = story("", length=0xE4, x04=0xE0, x06=0xE0, x0a=0x80, x0e=0xE0, bytes_at={**OBJECTS, 0xCC: 9})
+# The first has the name `a`, a new line, a quote and `b`, and a property; the name of the second has no end in the story,
+# and so no property list after it.
+NAMED_BY_SIGNS = story(
+    "", length=0xF0, x04=0xE0, x06=0xE0, x0a=0x80, x0e=0xE0,
+    bytes_at={
+        **OBJECTS, **dict(enumerate(bytes.fromhex("02 18A7 9727 01 00 00"), 0xD0)),
+        0xC7: 0x80, 0xCA: 1, 0xCF: 0xED, 0xED: 1,
+    },
+)
 # `save` in the middle of a line, with a row before the read after it.
 SAVES_IN_LINE = story(f"{letters('a')} BE00FF00 {letters('b')} {upper(1, 'hi')} {READS} {letters('c')} BA", version=5)
 
@@ -540,6 +554,56 @@ def lists_of_paths(case: Case) -> Optional[str]:
     ))
 
 
+def facts_in_rows(case: Case) -> Optional[str]:
+    """A fact on a line, its fields apart by tabs, which stand for nothing else; a row for what is no story."""
+    case.write(a_b__z3=FILES["hello.z3"], links__z3=LOOSE_LINKS, quotes__z3=NAMED_BY_SIGNS)
+    os.rename(case.folder / "a_b.z3", case.folder / "a\tb\\.z3")
+    hello = "hello.z3\tifid\tZCODE-0-000000\n"
+    signs = (
+        "quotes.z3\tobject\t1\ta\\n\"b\t0\t0\t0\t-\t1:1\nquotes.z3\tobject\t2\t\\F12\t0\t0\t0\t0,31\t\\F10\n"
+        "quotes.z3\ttree\t0\t1\ta\\n\"b\nquotes.z3\ttree\t0\t2\t\\F12\n"
+    )
+    return first_of((
+        differs((0, hello, ""), case.run("info --ifid --rows hello.z3")),
+        differs((4, f"{hello}missing\tunread\tread failed\nempty\trefused\t1\n"),
+                case.run("info --ifid --rows hello.z3 missing empty")[:2]),
+        differs((0, "a\\tb\\\\.z3\tifid\tZCODE-0-000000\n", ""),
+                case.run("info --rows --ifid --files-from -", b"a\tb\\.z3\n")),
+        differs((6, "hello.z3\tfinding\tC1\t0001c\t\tchecksum\n", ""), case.run("check --rows hello.z3")),
+        differs("links.z3\tfinding\tC5\t000c7\t2\tobject links\n", case.run("check --rows links.z3")[1].partition("\n")[2]),
+        differs((0, signs, ""), case.run("info --objects --tree --rows quotes.z3")),
+        differs((1, ""), case.run("disasm --rows hello.z3")[:2]),
+    ))
+
+
+def facts_in_json(case: Case) -> Optional[str]:
+    """An object for each story, on a line, with the same facts."""
+    case.write(links__z3=LOOSE_LINKS, quotes__z3=NAMED_BY_SIGNS)
+    found = {"finding": "C5", "address": "000c7", "object": 2, "words": "object links"}
+    objects = [
+        {"number": 1, "name": "a\n\"b", "parent": 0, "sibling": 0, "child": 0, "attributes": [],
+         "properties": [{"number": 1, "length": 1}]},
+        {"number": 2, "name": {"fault": "F12"}, "parent": 0, "sibling": 0, "child": 0, "attributes": [0, 31],
+         "properties": {"fault": "F10"}},
+    ]
+    status, lines, told = case.run("info --ifid --json --header --dictionary hello.z3 missing empty")
+    hello, missing, empty = [json.loads(line) for line in lines.splitlines()]
+    whole = json.loads(case.run("info --dictionary --json lighthouse.z5")[1])
+    header = json.loads(case.run("info --json lighthouse.z5")[1])["header"]
+    return first_of((
+        differs((4, "ZCODE-0-000000", {}), (status, hello["ifid"], hello["dictionary"])),
+        differs(({"form": 1, "path": "missing", "unread": "read failed"}, {"form": 1, "path": "empty", "refused": 1}),
+                (missing, empty)),
+        differs({"index": 0, "address": "00eac", "word": "ødeg"}, whole["dictionary"]["words"][0]),
+        differs((".,\"", 200, 9, 200), tuple(whole["dictionary"][name] for name in ("separators", "entries", "length"))
+                + (len(whole["dictionary"]["words"]),)),
+        differs((5, "261122", 18300, True), tuple(header[name] for name in ("version", "serial", "length", "checksum_ok"))),
+        differs([found], json.loads(case.run("check --json links.z3")[1])["findings"][1:]),
+        differs({"form": 1, "path": "quotes.z3", "objects": objects},
+                json.loads(case.run("info --objects --json --rows quotes.z3")[1])),
+    ))
+
+
 def files_are_counted_at_a_terminal(case: Case) -> Optional[str]:
     """A terminal shows how many files were looked at."""
     case.write(two___a__z3=FILES["verifies_right.z3"], two___b__z3=FILES["verifies_right.z3"])
@@ -607,7 +671,7 @@ CASES: tuple[Callable[[Case], Optional[str]], ...] = (
     rows_stand_above_the_prompt, rows_have_a_width, boxes_leave_saves_alone, boxes_show_the_status_line,
     a_quotation_stands_in_its_box, suites_pass, wrong_texts_fail,
     checks_that_do_not_hold, wrong_seeds_fail, faults_and_limits_fail, settings_that_are_none, saves_in_tests,
-    folders_are_looked_through, lists_of_paths, files_are_counted_at_a_terminal, names_of_stories, stories_are_unpacked,
+    folders_are_looked_through, lists_of_paths, facts_in_rows, facts_in_json, files_are_counted_at_a_terminal, names_of_stories, stories_are_unpacked,
     files_without_a_story,
 )
 

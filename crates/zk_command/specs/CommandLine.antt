@@ -15,6 +15,9 @@ use Rattle.zk_step.specs.declared.state.game_state.View.TheVariants.{Plain, Uppe
 use Rattle.zk_command.specs.declared.settings.Amount.{Amount}
 use Rattle.zk_command.specs.declared.settings.Amount.TheVariants as amount
 use Rattle.zk_command.specs.declared.settings.PlayOptions.{PlayOptions}
+use Rattle.zk_command.specs.declared.settings.Form.{Form}
+use Rattle.zk_command.specs.declared.settings.Form.TheVariants.{Lines, Rows, Json}
+use Rattle.zk_command.specs.declared.settings.ShowOptions.{ShowOptions}
 use Rattle.zk_command.specs.declared.choice.Choice.{Choice}
 use Rattle.zk_command.specs.declared.options.CommandOption.{CommandOption}
 use Rattle.zk_command.specs.declared.options.CommandOption.TheVariants.{Number, File, Folder, Flag}
@@ -98,7 +101,7 @@ play_command = with_rules (new_app (codes "play")) (
     ∷ story_argument
     ∷ [])
 
--- `info [--header] [--map] [--abbreviations] [--dictionary] [--objects] [--tree] [--ifid] [--recursive]
+-- `info [--header] [--map] [--abbreviations] [--dictionary] [--objects] [--tree] [--ifid] [--rows] [--json] [--recursive]
 -- [--files-from FILE] STORY..`
 abbrev pub info_command : App
 info_command = with_rules (new_app (codes "info")) (
@@ -109,6 +112,8 @@ info_command = with_rules (new_app (codes "info")) (
     ∷ flag (codes "objects")
     ∷ flag (codes "tree")
     ∷ flag (codes "ifid")
+    ∷ flag (codes "rows")
+    ∷ flag (codes "json")
     ∷ flag (codes "recursive")
     ∷ value_option (codes "files-from")
     ∷ story_arguments
@@ -118,9 +123,9 @@ info_command = with_rules (new_app (codes "info")) (
 abbrev pub disasm_command : App
 disasm_command = with_rule (new_app (codes "disasm")) story_argument
 
--- `check [--recursive] [--files-from FILE] STORY..`
+-- `check [--rows] [--json] [--recursive] [--files-from FILE] STORY..`
 abbrev pub check_command : App
-check_command = with_rules (new_app (codes "check")) (flag (codes "recursive") ∷ value_option (codes "files-from") ∷ story_arguments ∷ [])
+check_command = with_rules (new_app (codes "check")) (flag (codes "rows") ∷ flag (codes "json") ∷ flag (codes "recursive") ∷ value_option (codes "files-from") ∷ story_arguments ∷ [])
 
 -- `test [--files-from FILE] [--story FILE] [--bless] PATH..`
 abbrev pub test_command : App
@@ -236,11 +241,22 @@ SaysListing name rows (Info sections) = (name ≡ codes "info") × (sections ≡
 SaysListing name rows Code = name ≡ codes "disasm"
 SaysListing name rows Findings = name ≡ codes "check"
 
+-- the form that the flags of a command ask for: that of `--json` where both are given
+abbrev pub form_said : List Row → Form
+form_said rows =
+    if flag_said (first_of (codes "json") rows) then Json
+    else if flag_said (first_of (codes "rows") rows) then Rows
+    else Lines
+
+-- how stories are looked for and shown
+abbrev pub show_said : List Row → ShowOptions
+show_said rows = record { recursive = flag_said (first_of (codes "recursive") rows); form = form_said rows }
+
 -- what clap found for a command says a choice
 abbrev pub Says : Text → List Row → Choice → Type 0
 Says name rows (Play story options) = (name ≡ codes "play") × SaysStory rows story.now × SaysOptions rows options
-Says name rows (Show stories recursive listing) =
-    SaysStories rows (map (λ s. s.now) stories.items) × SaysListing name rows listing × (recursive ≡ flag_said (first_of (codes "recursive") rows))
+Says name rows (Show stories options listing) =
+    SaysStories rows (map (λ s. s.now) stories.items) × SaysListing name rows listing × (options ≡ show_said rows)
 Says name rows (Test paths story bless) =
     (name ≡ codes "test") × SaysStories rows (map (λ s. s.now) paths.items) × SaysText (λ s. s.now) rows (codes "story") story
     × (bless ≡ flag_said (first_of (codes "bless") rows))

@@ -10,14 +10,14 @@ ghost use Rattle.zk_command.specs.declared.choice.Choice.{Choice};
 ghost use Rattle.zk_command.specs.declared.listing.Listing.{Listing};
 ghost use Rattle.zk_command.specs.declared.settings.Amount.{Amount};
 ghost use Rattle.zk_command.specs.declared.settings.PlayOptions.{PlayOptions};
-ghost use Rattle.zk_command.specs.CommandLine.{Asks, HasLimits, IsAmount, IsNumberIn, IsOtherName, IsRefusedWith, MaySayAmount, Says, SaysLimits, SaysListing, SaysOptions, SaysNumber, SaysSeed, SaysStory, check_command, command_line, disasm_command, file_argument, first_commands, flag_said, info_command, number_in, number_rule, named_option, option_rule, path_arguments, play_command, sections_said, story_argument, story_arguments, test_command, unpack_command, usage_status, view_said, with_rules, word_of};
+ghost use Rattle.zk_command.specs.CommandLine.{Asks, HasLimits, IsAmount, IsNumberIn, IsOtherName, IsRefusedWith, MaySayAmount, Says, SaysLimits, SaysListing, SaysOptions, SaysNumber, SaysSeed, SaysStory, check_command, command_line, disasm_command, file_argument, first_commands, flag_said, form_said, info_command, number_in, number_rule, named_option, option_rule, path_arguments, play_command, sections_said, show_said, story_argument, story_arguments, test_command, unpack_command, usage_status, view_said, with_rules, word_of};
 
 use crate::listing::{Listing, Sections};
 use crate::options::{
     CHECK_OPTIONS, CommandOption, FRAMES, INFO_OPTIONS, NumberOption, PAGE, PLAY_OPTIONS, SEED,
     STEPS, TEST_OPTIONS, UNDO, WIDTH, WORDS,
 };
-use crate::settings::{Amount, PlayOptions};
+use crate::settings::{Amount, Form, PlayOptions, ShowOptions};
 use clap::error::ErrorKind;
 use clap::{Arg, ArgAction, ArgMatches, Command, Error};
 use std::alloc::{AllocError, Global};
@@ -40,10 +40,10 @@ pub enum Choice<'a> {
         story: &'a str,
         options: PlayOptions<'a>,
     },
-    /// To list the stories in files, one at least. A folder stands for the files in it where `recursive` says so.
+    /// To list the stories in files, one at least.
     Show {
         stories: Vec<&'a str>,
-        recursive: bool,
+        options: ShowOptions,
         listing: Listing,
     },
     /// To play walkthroughs, or those in folders, one path at least, and to compare what they show with transcripts, or
@@ -605,6 +605,29 @@ fn listing_of(name: &str, found: &ArgMatches<'_>) -> Option<Listing>
     }
 }
 
+/// In which form listings are shown, by the options of a command.
+fn form_of(found: &ArgMatches<'_>) -> Form
+    ensures { result ≡ form_said (rows_of (found_of found.now)) }
+{
+    if has_flag(found, "json") {
+        Form::Json
+    } else if has_flag(found, "rows") {
+        Form::Rows
+    } else {
+        Form::Lines
+    }
+}
+
+/// How a command that lists stories looks for them and shows them.
+fn show_options_of(found: &ArgMatches<'_>) -> ShowOptions
+    ensures { result ≡ show_said (rows_of (found_of found.now)) }
+{
+    ShowOptions {
+        recursive: has_flag(found, "recursive"),
+        form: form_of(found),
+    }
+}
+
 /// What a command that lists stories asks for, by its name, what clap found for it, and the stories that it names.
 fn choose_listing<'a>(
     command: &mut Command<'_>,
@@ -623,10 +646,10 @@ fn choose_listing<'a>(
 {
     match listing_of(name, found) {
         Some(listing) if !stories.is_empty() => {
-            let recursive = has_flag(found, "recursive");
+            let options = show_options_of(found);
             Ok(Choice::Show {
                 stories,
-                recursive,
+                options,
                 listing,
             })
         }

@@ -128,13 +128,23 @@ const RECURSIVE: CommandOption = CommandOption::Flag {
     help: "Takes a folder for all files in it and in its folders, by their names",
 };
 
+const ROWS: CommandOption = CommandOption::Flag {
+    name: "rows",
+    help: "Lists a fact on a line, the path first, with tabs between its fields",
+};
+
+const JSON: CommandOption = CommandOption::Flag {
+    name: "json",
+    help: "Lists a JSON object for each story, on a line",
+};
+
 const FILES_FROM: CommandOption = CommandOption::File {
     name: "files-from",
     help: "Takes paths from a file, or from standard input for -, one a line, or each up to a zero byte where there is one",
 };
 
 /// The options of `info`.
-pub(crate) const INFO_OPTIONS: [CommandOption; 9] = [
+pub(crate) const INFO_OPTIONS: [CommandOption; 11] = [
     CommandOption::Flag {
         name: "header",
         help: "Lists what the header says",
@@ -163,12 +173,14 @@ pub(crate) const INFO_OPTIONS: [CommandOption; 9] = [
         name: "ifid",
         help: "Lists the IFID, by which catalogues name the story",
     },
+    ROWS,
+    JSON,
     RECURSIVE,
     FILES_FROM,
 ];
 
 /// The options of `check`.
-pub(crate) const CHECK_OPTIONS: [CommandOption; 2] = [RECURSIVE, FILES_FROM];
+pub(crate) const CHECK_OPTIONS: [CommandOption; 4] = [ROWS, JSON, RECURSIVE, FILES_FROM];
 
 /// The options of `test`.
 pub(crate) const TEST_OPTIONS: [CommandOption; 3] = [

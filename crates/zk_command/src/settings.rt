@@ -14,6 +14,25 @@ pub struct Settings {
     pub view: View,
 }
 
+/// In which form listings are shown.
+#[derive(Clone, Copy, PartialEq, Eq, Drop)]
+pub enum Form {
+    /// On lines, for readers.
+    Lines,
+    /// As rows: a fact on a line, in fields.
+    Rows,
+    /// As JSON: an object for each story, on a line.
+    Json,
+}
+
+/// How stories are looked for and shown.
+#[derive(Clone, Copy, Drop)]
+pub struct ShowOptions {
+    /// Whether a folder stands for the files in it.
+    pub recursive: bool,
+    pub form: Form,
+}
+
 /// A number of an option.
 #[derive(Clone, Copy, PartialEq, Eq, Drop)]
 pub enum Amount {

@@ -118,12 +118,7 @@ fn put_object(json: &mut Writer, alloc: Global, object: Object<'_>) -> Result<()
 }
 
 /// Writes a field of the header: numbers in decimal as numbers, all else as texts.
-fn put_field(
-    json: &mut Writer,
-    name: &str,
-    value: &str,
-    verdict: &str,
-) -> Result<(), AllocError> {
+fn put_field(json: &mut Writer, name: &str, value: &str, verdict: &str) -> Result<(), AllocError> {
     match name {
         "version" | "release" | "length" | "file" => put_count(json, name, value)?,
         _ => put_member(json, name, value)?,
@@ -232,7 +227,13 @@ fn put_fact(
             kind,
             address,
             words,
-        } => put_finding(json, kind, address, object_of(kind, address, entries), words),
+        } => put_finding(
+            json,
+            kind,
+            address,
+            object_of(kind, address, entries),
+            words,
+        ),
     }
 }
 
@@ -323,7 +324,7 @@ fn put_outcome(json: &mut Writer, alloc: Global, outcome: Outcome<'_>) -> Result
     }
 }
 
-/// The object of what was looked at: its form, the path, and a member for each section; or `refused` or `unread`.
+/// The object of what was looked at, on a line: its form, the path, and a member for each section; or `refused` or `unread`.
 pub fn object_about(alloc: Global, looked: &Looked<'_>) -> Result<Vec<u8>, AllocError> {
     let mut json = Writer::new(Vec::new(alloc));
     json.begin_object()?;
@@ -332,5 +333,7 @@ pub fn object_about(alloc: Global, looked: &Looked<'_>) -> Result<Vec<u8>, Alloc
     put_member(&mut json, "path", looked.path)?;
     put_outcome(&mut json, alloc, looked.outcome)?;
     json.end_object()?;
-    Ok(json.into_inner())
+    let mut line = json.into_inner();
+    line.extend_from_slice(b"\n")?;
+    Ok(line)
 }

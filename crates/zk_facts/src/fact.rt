@@ -1,7 +1,7 @@
 // What a line of a listing says.
 
-use crate::words::{cut_text, cut_word};
 pub use crate::words::Text;
+use crate::words::{cut_text, cut_word};
 
 /// A section of a listing.
 #[derive(Clone, Copy, PartialEq, Eq, Drop)]
@@ -70,19 +70,30 @@ pub enum Fact<'a> {
         verdict: &'a str,
     },
     /// A part of the story and where it begins.
-    Part { address: &'a str, name: &'a str },
-    Abbreviation { number: &'a str, text: Text<'a> },
+    Part {
+        address: &'a str,
+        name: &'a str,
+    },
+    Abbreviation {
+        number: &'a str,
+        text: Text<'a>,
+    },
     /// The separators of the dictionary.
     Separators(Text<'a>),
     /// How many words the dictionary has, and how many bytes each.
-    Entries { count: &'a str, length: &'a str },
+    Entries {
+        count: &'a str,
+        length: &'a str,
+    },
     Word {
         index: &'a str,
         address: &'a str,
         text: Text<'a>,
     },
     /// What is wrong with a dictionary that is none.
-    NoDictionary { fault: &'a str },
+    NoDictionary {
+        fault: &'a str,
+    },
     Object(Object<'a>),
     /// An object in the tree, so many levels below the top.
     Node {
@@ -91,7 +102,10 @@ pub enum Fact<'a> {
         name: Text<'a>,
     },
     /// An object that was listed in the tree before.
-    NodeAgain { depth: usize, number: &'a str },
+    NodeAgain {
+        depth: usize,
+        number: &'a str,
+    },
     Ifid(&'a str),
     Finding {
         kind: &'a str,

@@ -2,6 +2,7 @@
 #![tactic(auto)]
 
 pub mod document;
+pub mod examples;
 pub mod fact;
 pub mod objects;
 pub mod outcome;

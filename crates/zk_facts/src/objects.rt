@@ -41,3 +41,17 @@ impl Entries {
         (distance / self.size).checked_add(1)
     }
 }
+
+/// The entries of the objects of a story, by what a listing of its header says.
+pub fn entries_in(header: &str) -> Option<Entries> {
+    let mut version = None;
+    let mut table = None;
+    for line in header.lines() {
+        match line.split_once(' ') {
+            Some(("version", number)) => version = number.parse::<u8>().ok(),
+            Some(("objects", address)) => table = u32::from_str_radix(address, 16).ok(),
+            _ => {}
+        }
+    }
+    Some(Entries::of(version?, table?))
+}

@@ -103,11 +103,7 @@ fn add_object(rows: &mut Vec<u8>, path: &str, object: Object<'_>) -> Result<(), 
 }
 
 /// Adds the row of a field of the header: of three fields where it says as well whether it is right.
-fn add_header_field(
-    rows: &mut Vec<u8>,
-    path: &str,
-    fields: [&str; 3],
-) -> Result<(), AllocError> {
+fn add_header_field(rows: &mut Vec<u8>, path: &str, fields: [&str; 3]) -> Result<(), AllocError> {
     let [name, value, verdict] = fields;
     let fields = [
         Field::Plain(name),
@@ -132,21 +128,40 @@ fn add_fact(
             verdict,
         } => add_header_field(rows, path, [name, value, verdict]),
         Fact::Part { address, name } => {
-            add_row(rows, path, "map", &[Field::Plain(address), Field::Plain(name)])
+            add_row(
+                rows,
+                path,
+                "map",
+                &[Field::Plain(address), Field::Plain(name)],
+            )
         }
         Fact::Abbreviation { number, text } => {
-            add_row(rows, path, "abbreviation", &[Field::Plain(number), Field::Text(text)])
+            add_row(
+                rows,
+                path,
+                "abbreviation",
+                &[Field::Plain(number), Field::Text(text)],
+            )
         }
         Fact::Separators(text) => add_row(rows, path, "separators", &[Field::Text(text)]),
         Fact::Entries { count, length } => {
-            add_row(rows, path, "entries", &[Field::Plain(count), Field::Plain(length)])
+            add_row(
+                rows,
+                path,
+                "entries",
+                &[Field::Plain(count), Field::Plain(length)],
+            )
         }
         Fact::Word {
             index,
             address,
             text,
         } => {
-            let fields = [Field::Plain(index), Field::Plain(address), Field::Text(text)];
+            let fields = [
+                Field::Plain(index),
+                Field::Plain(address),
+                Field::Text(text),
+            ];
             add_row(rows, path, "word", &fields)
         }
         Fact::NoDictionary { fault } => {
@@ -158,11 +173,19 @@ fn add_fact(
             number,
             name,
         } => {
-            let fields = [Field::Number(Some(depth as u64)), Field::Plain(number), Field::Text(name)];
+            let fields = [
+                Field::Number(Some(depth as u64)),
+                Field::Plain(number),
+                Field::Text(name),
+            ];
             add_row(rows, path, "tree", &fields)
         }
         Fact::NodeAgain { depth, number } => {
-            let fields = [Field::Number(Some(depth as u64)), Field::Plain(number), Field::Again];
+            let fields = [
+                Field::Number(Some(depth as u64)),
+                Field::Plain(number),
+                Field::Again,
+            ];
             add_row(rows, path, "tree", &fields)
         }
         Fact::Ifid(ifid) => add_row(rows, path, "ifid", &[Field::Plain(ifid)]),

@@ -2,6 +2,7 @@
 #![tactic(auto)]
 
 pub mod boxes;
+mod facts;
 pub mod files;
 mod held_prompt;
 pub mod list;

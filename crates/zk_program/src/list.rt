@@ -2,6 +2,7 @@
 
 ghost use Rattle.std.specs.Prelude.{◌≡◌, false};
 
+use crate::facts::list_facts;
 use crate::files::files_of;
 use crate::play::screen_of;
 use crate::told::out_of_memory;
@@ -10,6 +11,7 @@ use zk_command::about::About;
 use zk_command::exit::Exit;
 use zk_command::listing::{Listing, leave_out, list_and_report};
 use zk_command::report::report_listing;
+use zk_command::settings::{Form, ShowOptions};
 use zk_command::shown::Shown;
 use zk_command::terminal::{columns, is_told_at};
 use zk_term::io_device::IoDevice;
@@ -28,8 +30,12 @@ fn list<'a>(rt: &HostRuntime, path: &'a str, heading: Option<&'a str>, listing: 
     }
 }
 
-/// Lists one of several stories, below its path, and answers the program's status.
-fn list_one_of_several(rt: &HostRuntime, path: &str, listing: Listing) -> u8 {
+/// Lists one of several stories, below its path where lines are shown, and answers the program's status.
+fn list_one_of_several(rt: &HostRuntime, path: &str, listing: Listing, form: Form) -> u8 {
+    match form {
+        Form::Lines => {}
+        form => return list_facts(rt, path, listing, form),
+    }
     match format!(in rt.alloc(); "{}", Shown(path)) {
         Ok(heading) => list(rt, path, Some(heading.as_str()), listing),
         Err(_) => out_of_memory(rt),
@@ -38,10 +44,16 @@ fn list_one_of_several(rt: &HostRuntime, path: &str, listing: Listing) -> u8 {
 
 /// Lists the stories in files, and answers the greatest status. They are counted on standard error while they are looked
 /// at, where that is asked for.
-fn list_each(rt: &HostRuntime, stories: &[&str], listing: Listing, counted: bool) -> u8 {
+fn list_each(
+    rt: &HostRuntime,
+    stories: &[&str],
+    listing: Listing,
+    form: Form,
+    counted: bool,
+) -> u8 {
     let mut status = 0;
     for (number, path) in stories.iter().enumerate() {
-        status = list_one_of_several(rt, path, listing).max(status);
+        status = list_one_of_several(rt, path, listing, form).max(status);
         if counted {
             let _ = eprint!(rt; "\r{} of {}", number + 1, stories.len());
         }
@@ -53,7 +65,13 @@ fn list_each(rt: &HostRuntime, stories: &[&str], listing: Listing, counted: bool
 }
 
 /// Lists the stories in files and in folders, and answers the greatest status: 4 at least where a folder can't be read.
-fn list_folders(rt: &HostRuntime, paths: &[&str], listing: Listing, counted: bool) -> u8 {
+fn list_folders(
+    rt: &HostRuntime,
+    paths: &[&str],
+    listing: Listing,
+    form: Form,
+    counted: bool,
+) -> u8 {
     let Ok(files) = files_of(rt, paths) else {
         return out_of_memory(rt);
     };
@@ -65,26 +83,26 @@ fn list_folders(rt: &HostRuntime, paths: &[&str], listing: Listing, counted: boo
     else {
         return out_of_memory(rt);
     };
-    let status = list_each(rt, stories.as_slice(), listing, counted);
+    let status = list_each(rt, stories.as_slice(), listing, form, counted);
     if files.all { status } else { status.max(4) }
 }
 
-/// Lists the stories that paths name, where `recursive` says so those in folders as well, and answers the greatest status.
-/// Those of a list and in folders are counted at a terminal
-/// that does not show the listing.
+/// Lists the stories that paths name, as options say, and answers the greatest status. Those of a list and in folders are
+/// counted at a terminal that does not show the listing.
 pub fn list_all(
     rt: &HostRuntime,
     paths: &[&str],
-    recursive: bool,
+    options: ShowOptions,
     listing: Listing,
     listed: bool,
 ) -> u8 {
+    let ShowOptions { recursive, form } = options;
     let counted = (listed || recursive) && is_told_at(rt) && columns(rt).is_none();
     if recursive {
-        return list_folders(rt, paths, listing, counted);
+        return list_folders(rt, paths, listing, form, counted);
     }
-    if let ([path], false) = (paths, listed) {
+    if let ([path], false, Form::Lines) = (paths, listed, form) {
         return list(rt, path, None, listing);
     }
-    list_each(rt, paths, listing, counted)
+    list_each(rt, paths, listing, form, counted)
 }

@@ -113,10 +113,10 @@ fn answer_texts(rt: &HostRuntime, arguments: &[&str], counted: bool) -> u8 {
         Ok(
             Choice::Show {
                 stories,
-                recursive,
+                options,
                 listing,
             },
-        ) => list_all(rt, stories.as_slice(), recursive, listing, counted),
+        ) => list_all(rt, stories.as_slice(), options, listing, counted),
         _ if !are_text => tell_no_text(rt),
         Ok(Choice::Play { story, options }) => play_with(rt, story, &options),
         Ok(

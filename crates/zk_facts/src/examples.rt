@@ -1,0 +1,9 @@
+// Worked examples of the definitions, which refuse one that is turned together with its body.
+
+ghost use Rattle.zk_facts.specs.Examples.{FieldsAreEscaped};
+
+/// Small fields, byte by byte.
+#[tactic(auto)]
+pub fn fields_by_example()
+    ensures { FieldsAreEscaped }
+{}
