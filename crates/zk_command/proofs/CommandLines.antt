@@ -1,16 +1,19 @@
 -- What clap finds in the arguments of the command line.
-use Rattle.std.proofs.Common.{◌≡◌, ◌∙◌, ◌<◌, ◌≤◌, ℕ, zero, suc, List, [], ◌∷◌, length, take, get_or, Option, Some, None, IfNone, IfSome, codes, refl, sym, ap, ap₂, arith, subst, Bool, true, false}
+use Rattle.std.proofs.Common.{◌≡◌, ◌∙◌, ◌<◌, ◌≤◌, ◌⊎◌, inl, inr, ℕ, zero, suc, List, [], ◌∷◌, length, take, get_or, Option, Some, None, IfNone, IfSome, codes, refl, sym, ap, arith, subst, Bool, true, false}
 use Rattle.std.specs.Prelude.{SomeIff, IsSomeAnd, map, option_map, unwrap_or}
 use Rattle.std.specs.Str.{bytes_eq}
 use Rattle.std.proofs.lemmas.Slice.Eq.{bytes_eq-Decides}
-use Rattle.clap.specs.Words.{App, HasMatchesOf, Row, Text, all_of, first_of, is_simple, is_simple_and_free, subcommand_name_of, subcommand_of, subcommand_rows_of, with_rule}
+use Rattle.clap.specs.Words.{App, HasMatchesOf, Row, Text, all_of, first_of, is_simple, kind_of, is_simple_and_free, subcommand_name_of, subcommand_of, with_rule, with_subcommand}
 use Rattle.clap.proofs.OnLiterals.{clap_on_literals}
 use Rattle.clap.specs.declared.ArgMatches.{ArgMatches}
+use Rattle.clap.specs.declared.Error.{Error}
+use Rattle.clap.specs.declared.error.ErrorKind.TheVariants.{OutOfMemory}
 use Rattle.zk_command.specs.declared.settings.Amount.{Amount}
 use Rattle.zk_command.specs.declared.settings.PlayOptions.{PlayOptions}
-use Rattle.zk_command.specs.CommandLine.{Asks, IsAmount, IsNumberIn, IsOtherName, MaySayAmount, Says, SaysListing, SaysOptions, SaysNumber, SaysSeed, SaysStory, command_line, flag_said, number_in, option_rule, with_rules}
+use Rattle.zk_command.specs.CommandLine.{Asks, IsAmount, IsNumberIn, IsOtherName, IsRefusedWith, MaySayAmount, MetSays, Says, SaysListing, SaysOptions, SaysNumber, SaysStory, command_line, flag_said, number_in, option_rule, table_command, usage_status, with_rules, with_tables}
 use Rattle.zk_command.specs.declared.choice.Choice.{Choice}
 use Rattle.zk_command.specs.declared.options.CommandOption.{CommandOption}
+use Rattle.zk_command.specs.declared.options.CommandTable.{CommandTable}
 use Rattle.zk_command.specs.declared.choice.Choice.TheVariants.{Play, Show, Test, Unpack}
 use Rattle.zk_command.specs.declared.listing.Listing.{Listing}
 use Rattle.zk_command.specs.declared.listing.Listing.TheVariants.{Info, Code, Findings}
@@ -32,8 +35,12 @@ rules_more a [] i d h = absurd (omega arith)
 rules_more a (o ∷ os) zero d h = refl
 rules_more a (o ∷ os) (suc i) d h = rules_more (with_rule a (option_rule o)) os i d (omega arith)
 
-pub rules_from : (a b : App) (os : List CommandOption) → a ≡ b → with_rules a (map option_rule os) ≡ with_rules b (map option_rule os)
-rules_from a b os e = ap (λ (c : App). with_rules c (map option_rule os)) e
+-- one command more
+pub tables_more : (a : App) (ts : List CommandTable) (i : ℕ) (d : CommandTable) → i < length ts
+    → with_tables a (take (suc i) ts) ≡ with_subcommand (with_tables a (take i ts)) (table_command (get_or ts i d)).top
+tables_more a [] i d h = absurd (omega arith)
+tables_more a (t ∷ ts) zero d h = refl
+tables_more a (t ∷ ts) (suc i) d h = tables_more (with_subcommand a (table_command t).top) ts i d (omega arith)
 
 -- a number that was read of an option's text
 pub number_said : (rows : List Row) (option : Text) (least most : ℕ) (argument : Text) (o : Option ℕ) → first_of option rows ≡ Some argument
@@ -42,35 +49,39 @@ number_said rows option least most argument None e h = tt
 number_said rows option least most argument (Some n) e h =
     subst (λ (o : Option Text). IsSomeAnd o (λ w. IsNumberIn least most w × (number_in w ≡ n))) (sym e) (h.0, sym h.1)
 
-pub firsts : {X Y Z : Type 0} (f : X → Y × Z) (o : Option X) → option_map (λ p. p.0) (option_map f o) ≡ option_map (λ x. (f x).0) o
+firsts : {X Y Z : Type 0} (f : X → Y × Z) (o : Option X) → option_map (λ p. p.0) (option_map f o) ≡ option_map (λ x. (f x).0) o
 firsts f None = refl
 firsts f (Some x) = refl
 
--- a pair by its parts
-pub paired : (o : Option (Text × List Row)) (name : Text) (rows : List Row) → option_map (λ p. p.0) o ≡ Some name → option_map (λ p. p.1) o ≡ Some rows → o ≡ Some (name, rows)
-paired None name rows e f = cc
-paired (Some p) name rows e f = ap₂ (λ (a : Text) (b : List Row). Some (a, b)) (ap (λ (o : Option Text). unwrap_or o p.0) e) (ap (λ (o : Option (List Row)). unwrap_or o p.1) f)
+-- what clap has met in the arguments, they ask for
+pub met_asks : (m : ArgMatches) (a : App) (arguments : List Text) → a ≡ command_line → HasMatchesOf a arguments m → (c : Choice) → MetSays m c → Asks arguments c
+met_asks m a arguments line_is has c h = record {
+  name = h.name;
+  rows = h.rows;
+  command = ap (λ (b : App). subcommand_of b arguments) (sym line_is) ∙ sym (has (ap is_simple line_is ∙ command_line_is_simple)).1 ∙ h.command;
+  says = h.says;
+}
 
--- the command and its rows, where clap met one
-pub met : (m : ArgMatches) (a : App) (arguments : List Text) (name : Text) (rows : List Row) → a ≡ command_line → HasMatchesOf a arguments m → subcommand_name_of m ≡ Some name
-    → option_map (λ p. p.1) (subcommand_rows_of m) ≡ Some rows → subcommand_of command_line arguments ≡ Some (name, rows)
-met m a arguments name rows line_is has named rows_are =
-    ap (λ (b : App). subcommand_of b arguments) (sym line_is) ∙ sym (has (ap is_simple line_is ∙ command_line_is_simple)).1 ∙ paired (subcommand_rows_of m) name rows (firsts _ _ ∙ named) rows_are
+-- and where that says nothing, the arguments ask for nothing
+unasked : (m : ArgMatches) (a : App) (arguments : List Text) → a ≡ command_line → HasMatchesOf a arguments m → ((c : Choice) → MetSays m c → ⊥) → (c : Choice) → Asks arguments c → ⊥
+unasked m a arguments line_is has none c h = none c (record {
+  name = h.name;
+  rows = h.rows;
+  command = (has (ap is_simple line_is ∙ command_line_is_simple)).1 ∙ ap (λ (b : App). subcommand_of b arguments) line_is ∙ h.command;
+  says = h.says;
+})
 
--- where clap has met no command, the arguments ask for nothing
-pub without_command : (m : ArgMatches) (a : App) (arguments : List Text) → a ≡ command_line → HasMatchesOf a arguments m → subcommand_name_of m ≡ None → (c : Choice) → Asks arguments c → ⊥
-without_command m a arguments line_is has none c h =
-    let met_one : subcommand_rows_of m ≡ Some (h.name, h.rows) = (has (ap is_simple line_is ∙ command_line_is_simple)).1 ∙ ap (λ (b : App). subcommand_of b arguments) line_is ∙ h.command in
-    let some : None ≡ Some h.name = sym none ∙ sym (firsts _ _) ∙ ap (option_map (λ (p : Text × List Row). p.0)) met_one in
+-- without memory, or where that says nothing, they are refused
+pub refused_by : (m : ArgMatches) (a : App) (arguments : List Text) → a ≡ command_line → HasMatchesOf a arguments m → (e : Error)
+    → (kind_of e ≡ OutOfMemory) ⊎ ((1 ≤ usage_status (kind_of e)) × ((c : Choice) → MetSays m c → ⊥)) → IsRefusedWith arguments e
+refused_by m a arguments line_is has e (inl h) = inl (inl h)
+refused_by m a arguments line_is has e (inr h) = inr (h.0, unasked m a arguments line_is has h.1)
+
+-- where clap has met no command, nothing is said
+pub without_command : (m : ArgMatches) → subcommand_name_of m ≡ None → (c : Choice) → MetSays m c → ⊥
+without_command m none c h =
+    let some : None ≡ Some h.name = sym none ∙ sym (firsts _ _) ∙ ap (option_map (λ (p : Text × List Row). p.0)) h.command in
     absurd cc
-
--- where what clap has met says nothing, the arguments ask for nothing
-pub unasked : (arguments : List Text) (name : Text) (rows : List Row) → subcommand_of command_line arguments ≡ Some (name, rows) → ((c : Choice) → Says name rows c → ⊥) → (c : Choice) → Asks arguments c → ⊥
-unasked arguments name rows e none c h =
-    let both : Some (h.name, h.rows) ≡ Some (name, rows) = sym h.command ∙ e in
-    let names : h.name ≡ name = ap (λ (o : Option (Text × List Row)). unwrap_or (option_map (λ p. p.0) o) name) both in
-    let same : h.rows ≡ rows = ap (λ (o : Option (Text × List Row)). unwrap_or (option_map (λ p. p.1) o) rows) both in
-    none c (subst (λ (r : List Row). Says name r c) same (subst (λ (n : Text). Says n h.rows c) names h.says))
 
 -- an option without a text says no number
 pub none_said : (rows : List Row) (option : Text) (least most : ℕ) → first_of option rows ≡ None → (n : ℕ) → SaysNumber rows option least most n → ⊥

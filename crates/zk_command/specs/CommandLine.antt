@@ -1,10 +1,11 @@
 -- What the arguments of the command line ask for, by clap's function of the arguments for a simple command.
 use Rattle.std.specs.Prelude.{◌≡◌, ◌⊎◌, ◌≤◌, ◌||◌, ℕ, Bool, true, false, not, List, [], ◌∷◌, Option, Some, None, codes, length, map, option_map, unwrap_or, if◌then◌else◌, IsSomeAnd}
 use Rattle.std.specs.Str.Parse.{IsNumeral, digits_value, without_leading_plus}
-use Rattle.clap.specs.Words.{App, HasKind, Row, Rule, Text, all_of, fault_of, first_of, kind_of, new_app, new_rule, subcommand_of, with_rule, with_subcommand}
+use Rattle.clap.specs.Words.{App, HasKind, Row, Rule, Text, all_of, fault_of, first_of, kind_of, new_app, new_rule, subcommand_of, subcommand_rows_of, with_rule, with_subcommand}
 use Rattle.std.specs.Str.{bytes_eq}
 use Rattle.clap.specs.Simple.{on_top}
 use Rattle.clap.specs.declared.builder.action.ArgAction.TheVariants.{Append, SetTrue}
+use Rattle.clap.specs.declared.ArgMatches.{ArgMatches}
 use Rattle.clap.specs.declared.Error.{Error}
 use Rattle.clap.specs.declared.error.ErrorKind.{ErrorKind}
 use Rattle.clap.specs.declared.error.ErrorKind.TheVariants as kind
@@ -20,7 +21,8 @@ use Rattle.zk_command.specs.declared.settings.Form.TheVariants.{Lines, Rows, Jso
 use Rattle.zk_command.specs.declared.settings.ShowOptions.{ShowOptions}
 use Rattle.zk_command.specs.declared.choice.Choice.{Choice}
 use Rattle.zk_command.specs.declared.options.CommandOption.{CommandOption}
-use Rattle.zk_command.specs.declared.options.CommandOption.TheVariants.{Number, File, Folder, Flag}
+use Rattle.zk_command.specs.declared.options.CommandOption.TheVariants.{Number, File, Folder, Flag, Path, Story, Stories, Walkthroughs}
+use Rattle.zk_command.specs.declared.options.CommandTable.{CommandTable}
 use Rattle.zk_command.specs.declared.options.NumberOption.{NumberOption}
 use Rattle.zk_command.specs.declared.choice.Choice.TheVariants.{Play, Show, Test, Unpack}
 use Rattle.zk_command.specs.declared.listing.Listing.{Listing}
@@ -73,11 +75,24 @@ option_rule (Number o) = number_rule o
 option_rule (File name help) = value_option name.now
 option_rule (Folder name help) = value_option name.now
 option_rule (Flag name help) = flag name.now
+option_rule (Path name help) = file_argument name.now
+option_rule Story = story_argument
+option_rule Stories = story_arguments
+option_rule Walkthroughs = path_arguments
 
 -- a command with rules, one after another
 abbrev pub with_rules : App → List Rule → App
 with_rules a [] = a
 with_rules a (r ∷ rs) = with_rules (with_rule a r) rs
+
+-- the command that a row of the program's table says
+abbrev pub table_command : CommandTable → App
+table_command t = with_rules (new_app t.name.now) (map option_rule t.options.now)
+
+-- a command line with commands, one after another
+abbrev pub with_tables : App → List CommandTable → App
+with_tables a [] = a
+with_tables a (t ∷ ts) = with_tables (with_subcommand a (table_command t).top) ts
 
 -- `play [--frames n] [--words n] [--undo n] [--steps n] [--seed n] [--save FILE] [--saves FOLDER] [--script FILE] [--upper] [--boxes] [--width n]
 -- [--page n] [--echo] [--record FILE] [--calls] STORY`
@@ -273,6 +288,13 @@ pub record Asks (arguments : List Text) (c : Choice) : Type 0 where
   pub name : Text
   pub rows : List Row
   pub command : subcommand_of command_line arguments ≡ Some (name, rows)
+  pub says : Says name rows c
+
+-- clap has met a command, and what it found for it says a choice
+pub record MetSays (m : ArgMatches) (c : Choice) : Type 0 where
+  pub name : Text
+  pub rows : List Row
+  pub command : subcommand_rows_of m ≡ Some (name, rows)
   pub says : Says name rows c
 
 -- the status after arguments that are not understood, or that ask for help

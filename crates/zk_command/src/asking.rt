@@ -41,28 +41,38 @@ impl<'a> Asker<'a> {
         Asker { rt, input }
     }
 
-    /// The next line: none at the end of the input, or where it can't be read or is no text.
-    fn read_answer(&mut self) -> Option<String> {
-        let mut bytes = Vec::new(self.rt.alloc());
+    /// Reads the bytes of the next line, and tells whether that has come to its end.
+    fn read_line(&mut self, bytes: &mut Vec<u8>) -> bool {
         let mut byte = [0u8];
         for _k in 0..MOST_BYTES {
             match self.input.read(&mut byte) {
-                Ok(0) | Err(Failed) => return None,
-                Ok(_) if byte[0] == b'\n' => return answer_in(self.rt.alloc(), bytes.as_slice()),
-                Ok(_) => bytes.push(byte[0]).ok()?,
+                Ok(0) | Err(Failed) => return false,
+                Ok(_) if byte[0] == b'\n' => return true,
+                Ok(_) if bytes.push(byte[0]).is_err() => return false,
+                Ok(_) => {}
             }
         }
-        None
+        false
+    }
+
+    /// The next line: none at the end of the input, or where it can't be read or is no text.
+    fn read_answer(&mut self) -> Option<String> {
+        let mut bytes = Vec::new(self.rt.alloc());
+        if self.read_line(&mut bytes) {
+            answer_in(self.rt.alloc(), bytes.as_slice())
+        } else {
+            None
+        }
     }
 
     /// The name that is typed for a file, or the offered one for an empty line.
     pub fn ask_name(&mut self, doing: &str, offered: &str) -> Option<String> {
         let _ = eprint!(self.rt; "zkit: {doing} which file [{}]? ", Shown(offered));
-        let answer = self.read_answer()?;
-        if answer.is_empty() {
-            return String::from_str(self.rt.alloc(), offered).ok();
+        match self.read_answer() {
+            Some(answer) if !answer.is_empty() => Some(answer),
+            Some(_) => String::from_str(self.rt.alloc(), offered).ok(),
+            None => None,
         }
-        Some(answer)
     }
 
     /// Waits for Enter.

@@ -23,23 +23,17 @@ fn locals_text(alloc: Global, locals: &[u16]) -> Result<String, AllocError> {
 fn routine_text(alloc: Global, routine: &OpenRoutine) -> Result<String, AllocError> {
     let locals = locals_text(alloc, routine.locals)?;
     let name = match routine.routine {
-        Some(address) => format!(in alloc; "in routine {address:05x}{locals}")?,
-        None => format!(in alloc; "in a routine{locals}")?,
-    };
+        Some(address) => format!(in alloc; "in routine {address:05x}{locals}"),
+        None => format!(in alloc; "in a routine{locals}"),
+    }?;
     match routine.call {
         Some(address) => format!(in alloc; "{name}, called at {address:05x}"),
         None => format!(in alloc; "{name}, which returns to {:05x}", routine.goes_on),
     }
 }
 
-/// The turn that a machine is in, and the routines that are open, the innermost first: each in a line of its own, after the
-/// end of the one before.
-pub(crate) fn calls_text(alloc: Global, machine: &Machine) -> Result<String, AllocError> {
-    let reads = machine.place().reads;
-    let mut text = format!(in alloc;
-        "\nzkit: in turn {}, after line {reads}",
-        reads.saturating_add(1)
-    )?;
+/// Adds the routines that are open, the innermost first: each in a line of its own, after the end of the one before.
+fn add_routines(alloc: Global, machine: &Machine, text: &mut String) -> Result<(), AllocError> {
     let depth = machine.depth();
     for k in 0..depth.min(MOST_ROUTINES) {
         let routine = machine.open_routine(depth - k);
@@ -50,5 +44,16 @@ pub(crate) fn calls_text(alloc: Global, machine: &Machine) -> Result<String, All
         let more = depth - MOST_ROUTINES;
         text.push_str(format!(in alloc; "\nzkit: and in {more} more")?.as_str())?;
     }
+    Ok(())
+}
+
+/// The turn that a machine is in, and the routines that are open, each in a line of its own.
+pub(crate) fn calls_text(alloc: Global, machine: &Machine) -> Result<String, AllocError> {
+    let reads = machine.place().reads;
+    let mut text = format!(in alloc;
+        "\nzkit: in turn {}, after line {reads}",
+        reads.saturating_add(1)
+    )?;
+    add_routines(alloc, machine, &mut text)?;
     Ok(text)
 }

@@ -1,8 +1,9 @@
 // What the arguments of the command line ask for.
 
-ghost use Rattle.std.specs.Prelude.{◌≡◌, ◌≤◌, ℕ, List, codes, IfErr, IfNone, IfOk, IfSome, OnErr, SomeIff, Option, Some, false, [], map, option_map, unwrap_or};
+ghost use Rattle.std.specs.Prelude.{◌≡◌, ◌≤◌, ◌⊎◌, ℕ, List, codes, IfErr, IfNone, IfOk, IfSome, OnErr, SomeIff, Option, Some, false, [], map, option_map, unwrap_or};
 ghost use Rattle.std.specs.Str.{bytes_eq};
-ghost use Rattle.clap.specs.Words.{App, all_of, app_of, new_app, with_rule, first_of, found_of, kind_of, rows_of, rule_of};
+ghost use Rattle.clap.specs.Words.{App, all_of, app_of, with_rule, first_of, found_of, kind_of, rows_of, rule_of};
+ghost use Rattle.clap.specs.declared.error.ErrorKind.TheVariants.{OutOfMemory};
 ghost use Rattle.clap.specs.declared.Command.TheViews.{out-Command as fields_of};
 ghost use Rattle.zk_vm.specs.Bounds.{AreInRange};
 ghost use Rattle.zk_vm.specs.declared.limits.Limits.{Limits};
@@ -10,12 +11,12 @@ ghost use Rattle.zk_command.specs.declared.choice.Choice.{Choice};
 ghost use Rattle.zk_command.specs.declared.listing.Listing.{Listing};
 ghost use Rattle.zk_command.specs.declared.settings.Amount.{Amount};
 ghost use Rattle.zk_command.specs.declared.settings.PlayOptions.{PlayOptions};
-ghost use Rattle.zk_command.specs.CommandLine.{Asks, HasLimits, IsAmount, IsNumberIn, IsOtherName, IsRefusedWith, MaySayAmount, Says, SaysLimits, SaysListing, SaysOptions, SaysNumber, SaysSeed, SaysStory, check_command, command_line, disasm_command, file_argument, first_commands, flag_said, form_said, info_command, number_in, number_rule, named_option, option_rule, path_arguments, play_command, sections_said, show_said, story_argument, story_arguments, test_command, unpack_command, usage_status, view_said, with_rules, word_of};
+ghost use Rattle.zk_command.specs.CommandLine.{Asks, HasLimits, IsAmount, IsNumberIn, IsOtherName, IsRefusedWith, MaySayAmount, MetSays, Says, SaysLimits, SaysListing, SaysOptions, SaysNumber, SaysSeed, SaysStory, command_line, file_argument, flag_said, form_said, number_in, number_rule, named_option, option_rule, sections_said, show_said, story_argument, table_command, usage_status, view_said, with_tables, word_of};
 
 use crate::listing::{Listing, Sections};
 use crate::options::{
-    CHECK_OPTIONS, CommandOption, FRAMES, INFO_OPTIONS, NumberOption, PAGE, PLAY_OPTIONS, SEED,
-    STEPS, TEST_OPTIONS, UNDO, WIDTH, WORDS,
+    COMMANDS, CommandOption, CommandTable, FRAMES, NumberOption, PAGE, PLAY, SEED, STEPS, UNDO,
+    WIDTH, WORDS,
 };
 use crate::settings::{Amount, Form, PlayOptions, ShowOptions};
 use clap::error::ErrorKind;
@@ -23,14 +24,6 @@ use clap::{Arg, ArgAction, ArgMatches, Command, Error};
 use std::alloc::{AllocError, Global};
 use zk_step::state::game_state::View;
 use zk_vm::limits::Limits;
-
-/// What `check` says of its findings.
-const CHECK_HELP: &str =
-    "A finding's address is that of an object's entry, a text, or an instruction. \
-`zkit info --objects` lists the objects in the order of their entries, and `zkit disasm` the instructions \
-by their addresses and the routines. Code that is reached only by numbers that a story works out is not looked at.
-
-Example: zkit check story.z5";
 
 /// What the program is asked to do.
 #[derive(Drop)]
@@ -68,6 +61,14 @@ fn option_named<'a>(alloc: Global, name: &'a str, help: &'a str) -> Arg<'a>
     Arg::new(alloc, name).long(name).help(help)
 }
 
+/// The path of a file, which has to be given, as clap has it.
+fn path_named<'a>(alloc: Global, name: &'a str, help: &'a str) -> Arg<'a>
+    ensures rule { rule_of result ≡ file_argument name.now }
+    ensures local { result.global ≡ false }
+{
+    Arg::new(alloc, name).required(true).help(help)
+}
+
 /// An option with a number, as clap has it.
 fn number_option_of<'a>(alloc: Global, number: NumberOption) -> Arg<'a>
     ensures rule { rule_of result ≡ number_rule number }
@@ -80,7 +81,17 @@ fn number_option_of<'a>(alloc: Global, number: NumberOption) -> Arg<'a>
     }
 }
 
-/// An option, as clap has it.
+/// The path of the story.
+fn story_argument_of<'a>(alloc: Global) -> Arg<'a>
+    ensures rule { rule_of result ≡ story_argument }
+    ensures local { result.global ≡ false }
+{
+    Arg::new(alloc, "STORY")
+        .required(true)
+        .help("The story's file, of version 3, 4, 5 or 8")
+}
+
+/// An option, or a path, as clap has it.
 fn option_of<'a>(alloc: Global, option: CommandOption) -> Arg<'a>
     ensures rule { rule_of result ≡ option_rule option }
     ensures local { result.global ≡ false }
@@ -94,17 +105,16 @@ fn option_of<'a>(alloc: Global, option: CommandOption) -> Arg<'a>
         CommandOption::Flag { name, help } => {
             option_named(alloc, name, help).action(ArgAction::SetTrue)
         }
+        CommandOption::Path { name, help } => path_named(alloc, name, help),
+        CommandOption::Story => story_argument_of(alloc),
+        CommandOption::Stories => story_argument_of(alloc).action(ArgAction::Append),
+        CommandOption::Walkthroughs => {
+            let help = "A walkthrough's file, or a folder of them";
+            path_named(alloc, "STORY", help)
+                .action(ArgAction::Append)
+                .value_name("PATH")
+        }
     }
-}
-
-/// The path of the story.
-fn story_argument_of<'a>(alloc: Global) -> Arg<'a>
-    ensures rule { rule_of result ≡ story_argument }
-    ensures local { result.global ≡ false }
-{
-    Arg::new(alloc, "STORY")
-        .required(true)
-        .help("The story's file, of version 3, 4, 5 or 8")
 }
 
 /// A command with an argument as well. Arguments are made and added one by one, so that none waits where there is no memory
@@ -119,161 +129,48 @@ fn with_arg<'a>(command: Command<'a>, arg: Arg<'a>) -> Result<Command<'a>, Alloc
     command.arg(arg)
 }
 
-/// The paths of stories.
-fn story_arguments_of<'a>(alloc: Global) -> Arg<'a>
-    ensures rule { rule_of result ≡ story_arguments }
-    ensures local { result.global ≡ false }
-{
-    story_argument_of(alloc).action(ArgAction::Append)
-}
-
-/// The paths of walkthroughs and folders.
-fn path_arguments_of<'a>(alloc: Global) -> Arg<'a>
-    ensures rule { rule_of result ≡ path_arguments }
-    ensures local { result.global ≡ false }
-{
-    Arg::new(alloc, "STORY")
-        .required(true)
-        .action(ArgAction::Append)
-        .value_name("PATH")
-        .help("A walkthrough's file, or a folder of them")
-}
-
-/// The path of a file.
-fn file_argument_of<'a>(alloc: Global, name: &'a str, help: &'a str) -> Arg<'a>
-    ensures rule { rule_of result ≡ file_argument name.now }
-    ensures local { result.global ≡ false }
-{
-    Arg::new(alloc, name).required(true).help(help)
-}
-
-/// A command with options as well.
-fn with_options<'a>(
-    alloc: Global,
-    command: Command<'a>,
-    options: &[CommandOption],
-) -> Result<Command<'a>, AllocError>
-    requires local { (fields_of command).has_globals ≡ false }
-    ensures shape { IfOk result (λ c. (a : App) → app_of command.entry ≡ a
-        → app_of c ≡ with_rules a (map option_rule options.now)) }
+/// A command with its options and paths.
+fn command_of<'a>(alloc: Global, table: CommandTable) -> Result<Command<'a>, AllocError>
+    ensures shape { IfOk result (λ c. app_of c ≡ table_command table) }
     ensures local { IfOk result (λ c. (fields_of c).has_globals ≡ false) }
 {
-    let mut command = command;
-    for option in options {
+    let mut command = Command::new(alloc, table.name)
+        .about(table.about)
+        .after_help(table.example);
+    for option in table.options {
         command = with_arg(command, option_of(alloc, *option))?;
     }
     Ok(command)
 }
 
-/// A command with its description and an example.
-fn described<'a>(alloc: Global, name: &'a str, about: &'a str, example: &'a str) -> Command<'a>
-    ensures shape { app_of result ≡ new_app name.entry.now }
-    ensures local { (fields_of result).has_globals ≡ false }
+/// A command line with commands as well. Commands are made and added one by one, so that none waits where there is no
+/// memory for another.
+fn with_commands<'a>(
+    alloc: Global,
+    line: Command<'a>,
+    tables: &[CommandTable],
+) -> Result<Command<'a>, AllocError>
+    ensures { IfOk result (λ c. (a : App) → app_of line.entry ≡ a
+        → app_of c ≡ with_tables a tables.now) }
 {
-    Command::new(alloc, name).about(about).after_help(example)
-}
-
-/// The command `play`.
-fn play_command_of<'a>(alloc: Global) -> Result<Command<'a>, AllocError>
-    ensures shape { IfOk result (λ c. app_of c ≡ play_command) }
-    ensures local { IfOk result (λ c. (fields_of c).has_globals ≡ false) }
-{
-    let example = "Example: zkit play --steps 50000000 story.z5";
-    let command = described(alloc, "play", "Plays a story", example);
-    let command = with_options(alloc, command, &PLAY_OPTIONS)?;
-    with_arg(command, story_argument_of(alloc))
-}
-
-/// The command `info`.
-fn info_command_of<'a>(alloc: Global) -> Result<Command<'a>, AllocError>
-    ensures shape { IfOk result (λ c. app_of c ≡ info_command) }
-    ensures local { IfOk result (λ c. (fields_of c).has_globals ≡ false) }
-{
-    let about = "Lists the tables of stories; without an option, what their headers say";
-    let example = "Example: zkit info --dictionary story.z5";
-    let command = described(alloc, "info", about, example);
-    let command = with_options(alloc, command, &INFO_OPTIONS)?;
-    with_arg(command, story_arguments_of(alloc))
-}
-
-/// The command `disasm`.
-fn disasm_command_of<'a>(alloc: Global) -> Result<Command<'a>, AllocError>
-    ensures shape { IfOk result (λ c. app_of c ≡ disasm_command) }
-    ensures local { IfOk result (λ c. (fields_of c).has_globals ≡ false) }
-{
-    let about = "Lists the instructions that a run of a story can reach";
-    let command = described(alloc, "disasm", about, "Example: zkit disasm story.z5");
-    with_arg(command, story_argument_of(alloc))
-}
-
-/// The command `check`.
-fn check_command_of<'a>(alloc: Global) -> Result<Command<'a>, AllocError>
-    ensures shape { IfOk result (λ c. app_of c ≡ check_command) }
-    ensures local { IfOk result (λ c. (fields_of c).has_globals ≡ false) }
-{
-    let about = "Lists what is wrong with stories, and ends with status 6 where something is";
-    let command = described(alloc, "check", about, CHECK_HELP);
-    let command = with_options(alloc, command, &CHECK_OPTIONS)?;
-    with_arg(command, story_arguments_of(alloc))
-}
-
-/// The command `test`.
-fn test_command_of<'a>(alloc: Global) -> Result<Command<'a>, AllocError>
-    ensures shape { IfOk result (λ c. app_of c ≡ test_command) }
-    ensures local { IfOk result (λ c. (fields_of c).has_globals ≡ false) }
-{
-    let about = "Plays walkthroughs and compares what they show with their transcripts";
-    let command = described(alloc, "test", about, "Example: zkit test tests");
-    let command = with_options(alloc, command, &TEST_OPTIONS)?;
-    with_arg(command, path_arguments_of(alloc))
-}
-
-/// The command `unpack`.
-fn unpack_command_of<'a>(alloc: Global) -> Result<Command<'a>, AllocError>
-    ensures shape { IfOk result (λ c. app_of c ≡ unpack_command) }
-    ensures local { IfOk result (λ c. (fields_of c).has_globals ≡ false) }
-{
-    let about = "Writes the story of a Blorb file to a file of its own";
-    let example = "Example: zkit unpack story.zblorb story.z5";
-    let command = described(alloc, "unpack", about, example);
-    let file = file_argument_of(alloc, "FILE", "The Blorb file");
-    let command = with_arg(command, file)?;
-    let out = file_argument_of(
-        alloc,
-        "OUT",
-        "The file that gets the story, which is not there yet",
-    );
-    with_arg(command, out)
-}
-
-/// The commands that play and list stories.
-fn first_commands_of<'a>(alloc: Global) -> Result<Command<'a>, AllocError>
-    ensures { IfOk result (λ c. app_of c ≡ first_commands) }
-{
-    let play = play_command_of(alloc)?;
-    let command = Command::new(alloc, "zkit")
-        .about("Plays, lists and checks Z-machine stories")
-        .version("0.1.0")
-        .after_help("Example: zkit play story.z5")
-        .subcommand_required(true)
-        .subcommand(play)?;
-    let info = info_command_of(alloc)?;
-    let command = command.subcommand(info)?;
-    let disasm = disasm_command_of(alloc)?;
-    let command = command.subcommand(disasm)?;
-    let check = check_command_of(alloc)?;
-    command.subcommand(check)
+    let mut line = line;
+    for table in tables {
+        let command = command_of(alloc, *table)?;
+        line = line.subcommand(command)?;
+    }
+    Ok(line)
 }
 
 /// zkit's command line.
 fn command_line_of<'a>(alloc: Global) -> Result<Command<'a>, AllocError>
     ensures { IfOk result (λ c. app_of c ≡ command_line) }
 {
-    let command = first_commands_of(alloc)?;
-    let test = test_command_of(alloc)?;
-    let command = command.subcommand(test)?;
-    let unpack = unpack_command_of(alloc)?;
-    command.subcommand(unpack)
+    let line = Command::new(alloc, "zkit")
+        .about("Plays, lists and checks Z-machine stories")
+        .version("0.1.0")
+        .after_help("Example: zkit play story.z5")
+        .subcommand_required(true);
+    with_commands(alloc, line, &COMMANDS)
 }
 
 /// The number that an argument says, if it lies in a range.
@@ -316,7 +213,7 @@ fn usage_error(command: &mut Command<'_>, kind: ErrorKind, text: &str) -> Error
 fn option_error(alloc: Global, text: &str) -> Error
     ensures { 1 ≤ usage_status (kind_of result) }
 {
-    match play_command_of(alloc) {
+    match command_of(alloc, PLAY) {
         Err(error) => Error::from(error),
         Ok(command) => match command.bin_name("zkit play") {
             Err(error) => Error::from(error),
@@ -730,6 +627,40 @@ fn stories_of<'a>(alloc: Global, found: &ArgMatches<'a>) -> Result<Vec<&'a str>,
     Ok(list)
 }
 
+/// What a command asks for, by what clap has met.
+fn choose_met<'a>(
+    alloc: Global,
+    command: &mut Command<'_>,
+    matches: &ArgMatches<'a>,
+) -> Result<Choice<'a>, Error>
+    ensures says { IfOk result (λ c. MetSays matches.now c) }
+    ensures in_range { IfOk result (λ c. HasLimits c) }
+    ensures refused { IfErr result (λ e. (kind_of e ≡ OutOfMemory)
+        ⊎ ((1 ≤ usage_status (kind_of e)) × ((c : Choice) → MetSays matches.now c → ⊥))) }
+{
+    let Some((name, found)) = matches.subcommand() else {
+        let text = "a command is missing";
+        return Err(usage_error(command, ErrorKind::MissingSubcommand, text));
+    };
+    let stories = stories_of(alloc, found)?;
+    choose_by(alloc, command, name, found, stories)
+}
+
+/// What the arguments ask for, by the command line.
+fn choose_from<'a>(
+    alloc: Global,
+    command: &mut Command<'a>,
+    arguments: &'a [&'a str],
+) -> Result<Choice<'a>, Error>
+    requires { app_of command.old ≡ command_line }
+    ensures asks { IfOk result (λ c. Asks (map (λ s. s.now) arguments.entry.now) c) }
+    ensures in_range { IfOk result (λ c. HasLimits c) }
+    ensures refused { IfErr result (λ e. IsRefusedWith (map (λ s. s.now) arguments.entry.now) e) }
+{
+    let matches = command.try_get_matches_from_mut(arguments)?;
+    choose_met(alloc, command, &matches)
+}
+
 /// What the arguments ask for, the first of which is the program's name.
 pub fn choose<'a>(alloc: Global, arguments: &'a [&'a str]) -> Result<Choice<'a>, Error>
     ensures asks { IfOk result (λ c. Asks (map (λ s. s.now) arguments.entry.now) c) }
@@ -737,16 +668,7 @@ pub fn choose<'a>(alloc: Global, arguments: &'a [&'a str]) -> Result<Choice<'a>,
     ensures refused { IfErr result (λ e. IsRefusedWith (map (λ s. s.now) arguments.entry.now) e) }
 {
     let mut command = command_line_of(alloc)?;
-    let matches = command.try_get_matches_from_mut(arguments)?;
-    let Some((name, found)) = matches.subcommand() else {
-        let text = "a command is missing";
-        return Err(usage_error(&mut command, ErrorKind::MissingSubcommand, text));
-    };
-    let stories = stories_of(alloc, found)?;
-    match choose_by(alloc, &mut command, name, found, stories) {
-        Ok(choice) => Ok(choice),
-        Err(error) => Err(error),
-    }
+    choose_from(alloc, &mut command, arguments)
 }
 
 /// The program's status after an error of the command line: 0 for help and the version, 5 where there is no memory, and

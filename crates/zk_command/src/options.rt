@@ -33,6 +33,26 @@ pub(crate) enum CommandOption {
         name: &'static str,
         help: &'static str,
     },
+    /// No option, but the path of a file, which has to be given.
+    Path {
+        name: &'static str,
+        help: &'static str,
+    },
+    /// The path of a story.
+    Story,
+    /// The paths of stories, one at least.
+    Stories,
+    /// The paths of walkthroughs and folders, one at least.
+    Walkthroughs,
+}
+
+/// A command, by what its help says, with its options and then its paths.
+#[derive(Clone, Copy)]
+pub(crate) struct CommandTable {
+    pub(crate) name: &'static str,
+    pub(crate) about: &'static str,
+    pub(crate) example: &'static str,
+    pub(crate) options: &'static [CommandOption],
 }
 
 // help says the range of a number, as the row does
@@ -81,7 +101,7 @@ pub(crate) const PAGE: NumberOption =
     number!("page", None, 2 to 1000, or "auto", "Waits for Enter after this many lines, or as many as the terminal has, where input is a terminal");
 
 /// The options of `play`.
-pub(crate) const PLAY_OPTIONS: [CommandOption; 15] = [
+const PLAY_OPTIONS: [CommandOption; 16] = [
     CommandOption::Number(FRAMES),
     CommandOption::Number(WORDS),
     CommandOption::Number(UNDO),
@@ -121,7 +141,15 @@ pub(crate) const PLAY_OPTIONS: [CommandOption; 15] = [
         name: "calls",
         help: "Tells after a fault or a limit which calls led there",
     },
+    CommandOption::Story,
 ];
+
+pub(crate) const PLAY: CommandTable = CommandTable {
+    name: "play",
+    about: "Plays a story",
+    example: "Example: zkit play --steps 50000000 story.z5",
+    options: &PLAY_OPTIONS,
+};
 
 const RECURSIVE: CommandOption = CommandOption::Flag {
     name: "recursive",
@@ -144,7 +172,7 @@ const FILES_FROM: CommandOption = CommandOption::File {
 };
 
 /// The options of `info`.
-pub(crate) const INFO_OPTIONS: [CommandOption; 11] = [
+const INFO_OPTIONS: [CommandOption; 12] = [
     CommandOption::Flag {
         name: "header",
         help: "Lists what the header says",
@@ -177,13 +205,49 @@ pub(crate) const INFO_OPTIONS: [CommandOption; 11] = [
     JSON,
     RECURSIVE,
     FILES_FROM,
+    CommandOption::Stories,
 ];
 
+const INFO: CommandTable = CommandTable {
+    name: "info",
+    about: "Lists the tables of stories; without an option, what their headers say",
+    example: "Example: zkit info --dictionary story.z5",
+    options: &INFO_OPTIONS,
+};
+
+const DISASM: CommandTable = CommandTable {
+    name: "disasm",
+    about: "Lists the instructions that a run of a story can reach",
+    example: "Example: zkit disasm story.z5",
+    options: &[CommandOption::Story],
+};
+
 /// The options of `check`.
-pub(crate) const CHECK_OPTIONS: [CommandOption; 4] = [ROWS, JSON, RECURSIVE, FILES_FROM];
+const CHECK_OPTIONS: [CommandOption; 5] = [
+    ROWS,
+    JSON,
+    RECURSIVE,
+    FILES_FROM,
+    CommandOption::Stories,
+];
+
+/// What `check` says of its findings.
+const CHECK_HELP: &str =
+    "A finding's address is that of an object's entry, a text, or an instruction. \
+`zkit info --objects` lists the objects in the order of their entries, and `zkit disasm` the instructions \
+by their addresses and the routines. Code that is reached only by numbers that a story works out is not looked at.
+
+Example: zkit check story.z5";
+
+const CHECK: CommandTable = CommandTable {
+    name: "check",
+    about: "Lists what is wrong with stories, and ends with status 6 where something is",
+    example: CHECK_HELP,
+    options: &CHECK_OPTIONS,
+};
 
 /// The options of `test`.
-pub(crate) const TEST_OPTIONS: [CommandOption; 3] = [
+const TEST_OPTIONS: [CommandOption; 4] = [
     FILES_FROM,
     CommandOption::File {
         name: "story",
@@ -193,4 +257,34 @@ pub(crate) const TEST_OPTIONS: [CommandOption; 3] = [
         name: "bless",
         help: "Writes the transcripts in place of comparing them",
     },
+    CommandOption::Walkthroughs,
 ];
+
+const TEST: CommandTable = CommandTable {
+    name: "test",
+    about: "Plays walkthroughs and compares what they show with their transcripts",
+    example: "Example: zkit test tests",
+    options: &TEST_OPTIONS,
+};
+
+/// The paths of `unpack`.
+const UNPACK_OPTIONS: [CommandOption; 2] = [
+    CommandOption::Path {
+        name: "FILE",
+        help: "The Blorb file",
+    },
+    CommandOption::Path {
+        name: "OUT",
+        help: "The file that gets the story, which is not there yet",
+    },
+];
+
+const UNPACK: CommandTable = CommandTable {
+    name: "unpack",
+    about: "Writes the story of a Blorb file to a file of its own",
+    example: "Example: zkit unpack story.zblorb story.z5",
+    options: &UNPACK_OPTIONS,
+};
+
+/// The commands.
+pub(crate) const COMMANDS: [CommandTable; 6] = [PLAY, INFO, DISASM, CHECK, TEST, UNPACK];

@@ -70,19 +70,19 @@ pub fn paths_listed(rt: &HostRuntime, arguments: &[&str]) -> Option<io::Result<V
     }
 }
 
-/// The names of what a folder has, in the order of their bytes.
-fn names_in(rt: &HostRuntime, folder: &str) -> io::Result<Vec<String>> {
-    let mut names = Vec::new(rt.alloc());
+/// Adds the names of what a folder has.
+fn add_names(rt: &HostRuntime, folder: &str, names: &mut Vec<String>) -> io::Result<()> {
     for entry in fs::read_dir(rt, folder)? {
         names.push(String::from_str(rt.alloc(), entry?.file_name())?)?;
     }
-    names.sort_unstable();
-    Ok(names)
+    Ok(())
 }
 
 /// Puts the paths of what a folder has on a pile, the first one on top.
 fn pile_up(rt: &HostRuntime, folder: &str, pile: &mut Vec<String>) -> io::Result<()> {
-    let names = names_in(rt, folder)?;
+    let mut names = Vec::new(rt.alloc());
+    add_names(rt, folder, &mut names)?;
+    names.sort_unstable();
     let folder = folder.strip_suffix('/').unwrap_or(folder);
     for name in names.iter().rev() {
         pile.push(format!(in rt.alloc(); "{folder}/{name}")?)?;

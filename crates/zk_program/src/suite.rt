@@ -346,6 +346,30 @@ fn judge(
     }
 }
 
+/// Judges a walkthrough that was played: by its status, its checks and its transcript.
+fn judge_played(
+    rt: &HostRuntime,
+    path: &str,
+    played: &Played,
+    checks: &[Check],
+    commands: &[u8],
+    bless: bool,
+) -> io::Result<bool> {
+    if played.status != 0 {
+        println!(rt;
+            "FAILED {}: the play ended with status {}",
+            Shown(path),
+            played.status
+        )?;
+        write_lines(rt, played.errors.as_slice(), SHOWN_LINES)?;
+        return Ok(false);
+    }
+    if !hold(rt, path, checks, played, commands)? {
+        return Ok(false);
+    }
+    judge(rt, path, played.text.as_slice(), !checks.is_empty(), bless)
+}
+
 /// Tests a walkthrough on a story, as settings say.
 fn test_on(
     rt: &HostRuntime,
@@ -360,19 +384,14 @@ fn test_on(
     let commands = walkthrough.commands(rt.alloc())?;
     let checks = walkthrough.checks(rt.alloc())?;
     let played = play_commands(rt, story, manner, commands.as_slice());
-    if played.status != 0 {
-        println!(rt;
-            "FAILED {}: the play ended with status {}",
-            Shown(path),
-            played.status
-        )?;
-        write_lines(rt, played.errors.as_slice(), SHOWN_LINES)?;
-        return Ok(false);
-    }
-    if !hold(rt, path, checks.as_slice(), &played, commands.as_slice())? {
-        return Ok(false);
-    }
-    judge(rt, path, played.text.as_slice(), !checks.is_empty(), bless)
+    judge_played(
+        rt,
+        path,
+        &played,
+        checks.as_slice(),
+        commands.as_slice(),
+        bless,
+    )
 }
 
 /// The command line by which a story is played with arguments.

@@ -1,9 +1,10 @@
-use Rattle.std.proofs.Common.{◌∙◌, ap, ap₂}
+use Rattle.std.proofs.Common.{rules, ◌≡◌, codes, true}
 use Rattle.std.proofs.lemmas.Result.{IfOk-weaker}
-use Rattle.clap.specs.Words.{App, with_subcommand}
+use Rattle.clap.specs.Words.{app_of, new_app}
+use Rattle.clap.specs.Simple.{on_top}
 use Rattle.zk_command.proofs.choice.command_line_of.Goals as goal
 
 pub returns : goal.returns
 returns c =
-    let one = c.in_ok-command-2.ensures.shape c.in_ok-test.ensures.local ∙ ap₂ with_subcommand c.in_ok-command.ensures (ap (λ (a : App). a.top) c.in_ok-test.ensures.shape) in
-    IfOk-weaker c.subcommand-2.result _ _ (λ r h. h.shape c.in_ok-unpack.ensures.local ∙ ap₂ with_subcommand one (ap (λ (a : App). a.top) c.in_ok-unpack.ensures.shape)) c.subcommand-2.ensures
+    let base : app_of c.subcommand_required-line.result ≡ on_top (λ s. record s { has_version = true; subcommand_required = true }) (new_app (codes "zkit")) = search rules in
+    IfOk-weaker c.with_commands.result _ _ (λ r h. h _ base) c.with_commands.ensures
