@@ -7,10 +7,12 @@ pub mod Heads
 pub mod Blocks
 pub mod Whole
 pub mod Longer
+pub mod Extents
 pub mod Room
 pub mod Cut
 pub mod Same
 pub mod Reached
 pub mod ReachedByExample
+pub mod ExtentsByExample
 pub mod CleanByExample
 pub mod Saved

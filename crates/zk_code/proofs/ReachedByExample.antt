@@ -15,8 +15,8 @@ use Rattle.zk_code.specs.declared.opcode.Routine.TheVariants.{Rtrue, Rfalse}
 use Rattle.zk_code.specs.declared.opcode.Control.TheVariants.{Jump}
 use Rattle.zk_code.specs.declared.operands.Operand.TheVariants.{Large, Small}
 use Rattle.zk_code.specs.Grammar.{IsInstruction}
-use Rattle.zk_code.specs.Reach.{goes_on, branch_address, constant_jump, jump_address, constant_call, IsReached, IsCalled, IsClosed}
-use Rattle.zk_code.specs.Reach.IsReached.{First, Behind, Branches, Jumps, Calls}
+use Rattle.zk_code.specs.Reach.{goes_on, branch_address, constant_jump, jump_address, constant_call, first_alone, IsReached, IsCalled, IsClosed}
+use Rattle.zk_code.specs.Reach.IsReachedFrom.{Root, Behind, Branches, Jumps, Calls}
 use Rattle.zk_code.specs.ReachExamples.{calling, WaysAreReached, RestIsNotReached, RoutineIsCalled}
 use Rattle.zk_code.specs.Clean.{IsClean, IsLow, IsOutside, LeadsOut}
 use Rattle.zk_code.specs.CleanExamples.{CleanAndNot, calling_from, is_called_code}
@@ -24,7 +24,7 @@ use Rattle.zk_code.specs.Reading.{code_byte, code_word, types_at, with_types, wi
 use Rattle.zk_code.specs.Routines.{count_at, code_start}
 use Rattle.zk_code.specs.Table.{two_operand, one_operand, zero_operand, variable_operand, extended}
 use Rattle.zk_code.specs.Targets.{offset_target, branch_target, jump_target}
-use Rattle.zk_code.proofs.Reached.{reach_is_least}
+use Rattle.zk_code.proofs.Reached.{reach_is_least, has_one, only_one}
 use Rattle.zk_code.proofs.Standing.{some_is}
 use Rattle.zk_code.proofs.Whole.{at_most_one, found_at}
 use Rattle.zk_code.proofs.Longer.{ends_inside}
@@ -35,7 +35,7 @@ both : (x y : Bool) → (x && y) ≡ true → (x ≡ true) × (y ≡ true)
 both true y h = (refl, h)
 both false y h = absurd cc
 
-below_256 : (bytes : List ℕ) (a v : ℕ) → list_all (λ b. nat_lt b 256) bytes ≡ true → slice_get bytes a ≡ Some v → v < 256
+pub below_256 : (bytes : List ℕ) (a v : ℕ) → list_all (λ b. nat_lt b 256) bytes ≡ true → slice_get bytes a ≡ Some v → v < 256
 below_256 [] a v h e = absurd cc
 below_256 (b ∷ bytes) zero v h e =
     let same : b ≡ v = cc in
@@ -91,7 +91,7 @@ module _ (base : ℕ) where
 
   first : IsReached (calling_from base) 8
   unfolding header_of
-  first = First
+  first = Root 8 (has_one 8)
 
   second : IsReached (calling_from base) 11
   unfolding goes_on
@@ -181,10 +181,10 @@ module _ (base : ℕ) where
       (alone 20 rfalse 21 at_20 rfalse_stays)
       (alone 25 (rtrue_before 26) 26 at_25 (rtrue_stays 26))
 
-  closed : IsClosed (calling_from base) (λ a. is_in a ≡ true)
+  closed : IsClosed (calling_from base) (first_alone (calling_from base)) (λ a. is_in a ≡ true)
   unfolding header_of
   closed = record {
-    first = refl;
+    roots = only_one (λ a. is_in a ≡ true) 8 refl;
     behind = λ a b i h s. (all_stay a h b i s).behind;
     branches = λ a b c i h s. (all_stay a h b i s).branches c;
     jumps = λ a b c i h s. (all_stay a h b i s).jumps c;
@@ -192,7 +192,7 @@ module _ (base : ℕ) where
   }
 
   within : (a : ℕ) → IsReached (calling_from base) a → is_in a ≡ true
-  within = (reach_is_least (calling_from base)).1 is_in closed
+  within = (reach_is_least (calling_from base) (first_alone (calling_from base))).1 is_in closed
 
   -- ---- and whether it is clean
 

@@ -7,7 +7,7 @@ use Rattle.zk_code.specs.declared.branch.BranchTarget.{BranchTarget}
 use Rattle.zk_code.specs.declared.branch.BranchTarget.TheVariants.{Below, Past}
 use Rattle.zk_code.specs.declared.instr.Instr.{Instr}
 use Rattle.zk_code.specs.Grammar.{IsInstruction}
-use Rattle.zk_code.specs.Reach.{IsClosed, constant_call, constant_jump, first_constant, is_call, is_jump}
+use Rattle.zk_code.specs.Reach.{IsClosed, constant_call, constant_jump, first_alone, first_constant, is_call, is_jump}
 use Rattle.zk_code.specs.Routines.{count_at}
 
 -- a target lies outside the story (section 4.7)
@@ -35,7 +35,7 @@ leads_by_variable i = (is_call i.opcode || is_jump i.opcode) && is_none (first_c
 -- addresses that have the first instruction and each way on; at each of them stands an instruction, which does not lead out
 -- of the story, and which no run rewrites
 pub record IsClean (m : MemoryMap) (P : ℕ → Type 0) : Type 0 where
-  pub closed : IsClosed m P
+  pub closed : IsClosed m (first_alone m) P
   pub decodes : (a : ℕ) → P a → (i : Instr) × IsInstruction m a i i.next
   pub inside : (a b : ℕ) (i : Instr) → P a → IsInstruction m a i b → LeadsOut m i → ⊥
   pub above : (a b : ℕ) (i : Instr) → P a → IsInstruction m a i b → IsLow m a i → ⊥

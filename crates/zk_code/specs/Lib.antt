@@ -7,7 +7,9 @@ pub mod Grammar
 pub mod Laws
 pub mod Routines
 pub mod Reach
+pub mod Extent
 pub mod Clean
 pub mod Examples
 pub mod ReachExamples
+pub mod ExtentExamples
 pub mod CleanExamples

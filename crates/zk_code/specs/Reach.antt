@@ -1,5 +1,6 @@
 -- Reachable code: where a run comes to by what stands in the instructions (Standard, sections 4.7, 5 and 15).
 use Rattle.std.specs.Prelude.{◌≡◌, ℕ, ◌==◌, Bool, true, false, List, [], ◌∷◌, length, Option, Some, None, option_map, option_and_then, if◌then◌else◌}
+use Rattle.std.specs.List.{Contains}
 use Rattle.zk_mem.specs.Header.{header_of, unpacked}
 use Rattle.zk_mem.specs.Map.{MemoryMap}
 use Rattle.zk_code.specs.declared.branch.BranchTarget.{BranchTarget}
@@ -89,37 +90,52 @@ constant_call m i = if is_call i.opcode then option_and_then (called_at m) (firs
 
 -- ---- what is reached
 
--- an address is reached: that of the first instruction (section 5.5), and from an instruction at one that is, up to b:
--- what stands after it, where its branch leads, where it jumps to by a constant, and the first instruction of a routine
--- that it calls by a constant
-pub data IsReached (m : MemoryMap) : ℕ → Type 0 where
-  First : IsReached m (header_of m.file).first_instruction
-  Behind : (a b : ℕ) (i : Instr) → IsReached m a → IsInstruction m a i b → goes_on i.opcode ≡ true → IsReached m b
-  Branches : (a b c : ℕ) (i : Instr) → IsReached m a → IsInstruction m a i b → branch_address i ≡ Some c → IsReached m c
-  Jumps : (a b c : ℕ) (i : Instr) → IsReached m a → IsInstruction m a i b → jump_address m i ≡ Some c → IsReached m c
-  Calls : (a b r c : ℕ) (i : Instr) → IsReached m a → IsInstruction m a i b → constant_call m i ≡ Some r → code_start m r ≡ Some c → IsReached m c
+-- an address is reached from some: it is one of them, or comes from an instruction at one that is reached, up to b: what
+-- stands after it, where its branch leads, where it jumps to by a constant, and the first instruction of a routine that it
+-- calls by a constant
+pub data IsReachedFrom (m : MemoryMap) (roots : List ℕ) : ℕ → Type 0 where
+  Root : (a : ℕ) → Contains roots a → IsReachedFrom m roots a
+  Behind : (a b : ℕ) (i : Instr) → IsReachedFrom m roots a → IsInstruction m a i b → goes_on i.opcode ≡ true → IsReachedFrom m roots b
+  Branches : (a b c : ℕ) (i : Instr) → IsReachedFrom m roots a → IsInstruction m a i b → branch_address i ≡ Some c → IsReachedFrom m roots c
+  Jumps : (a b c : ℕ) (i : Instr) → IsReachedFrom m roots a → IsInstruction m a i b → jump_address m i ≡ Some c → IsReachedFrom m roots c
+  Calls : (a b r c : ℕ) (i : Instr) → IsReachedFrom m roots a → IsInstruction m a i b → constant_call m i ≡ Some r → code_start m r ≡ Some c → IsReachedFrom m roots c
 
 -- there is a routine at an address, and an instruction that is reached calls it by a constant
-pub record IsCalled (m : MemoryMap) (r : ℕ) : Type 0 where
+pub record IsCalledFrom (m : MemoryMap) (roots : List ℕ) (r : ℕ) : Type 0 where
   pub address : ℕ
   pub next : ℕ
   pub instr : Instr
   pub start : ℕ
-  pub reached : IsReached m address
+  pub reached : IsReachedFrom m roots address
   pub stands : IsInstruction m address instr next
   pub call : constant_call m instr ≡ Some r
   pub routine : code_start m r ≡ Some start
 
+-- a run begins at the first instruction (section 5.5)
+abbrev pub first_alone : MemoryMap → List ℕ
+first_alone m = (header_of m.file).first_instruction ∷ []
+
+-- an address is reached from the first instruction
+abbrev pub IsReached : MemoryMap → ℕ → Type 0
+IsReached m = IsReachedFrom m (first_alone m)
+
+-- a routine is called there
+abbrev pub IsCalled : MemoryMap → ℕ → Type 0
+IsCalled m = IsCalledFrom m (first_alone m)
+
 -- ---- laws
 
--- addresses that have the first instruction, and each way on from each instruction at one of them
-pub record IsClosed (m : MemoryMap) (P : ℕ → Type 0) : Type 0 where
-  pub first : P (header_of m.file).first_instruction
+-- addresses that have some, and each way on from each instruction at one of them
+pub record IsClosed (m : MemoryMap) (from : List ℕ) (P : ℕ → Type 0) : Type 0 where
+  pub roots : (a : ℕ) → Contains from a → P a
   pub behind : (a b : ℕ) (i : Instr) → P a → IsInstruction m a i b → goes_on i.opcode ≡ true → P b
   pub branches : (a b c : ℕ) (i : Instr) → P a → IsInstruction m a i b → branch_address i ≡ Some c → P c
   pub jumps : (a b c : ℕ) (i : Instr) → P a → IsInstruction m a i b → jump_address m i ≡ Some c → P c
   pub calls : (a b r c : ℕ) (i : Instr) → P a → IsInstruction m a i b → constant_call m i ≡ Some r → code_start m r ≡ Some c → P c
 
--- what is reached is the least of these: it is one, and it lies in each that a test decides
+-- what is reached from some is the least of these: it is one, and it lies in each that a test decides
 abbrev pub ReachIsLeast : Type 0
-ReachIsLeast = (m : MemoryMap) → IsClosed m (IsReached m) × ((is_in : ℕ → Bool) → IsClosed m (λ a. is_in a ≡ true) → (a : ℕ) → IsReached m a → is_in a ≡ true)
+ReachIsLeast =
+    (m : MemoryMap) (roots : List ℕ)
+    → IsClosed m roots (IsReachedFrom m roots)
+    × ((is_in : ℕ → Bool) → IsClosed m roots (λ a. is_in a ≡ true) → (a : ℕ) → IsReachedFrom m roots a → is_in a ≡ true)

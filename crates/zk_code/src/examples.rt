@@ -3,6 +3,7 @@
 
 ghost use Rattle.zk_code.specs.Examples.{LongForms, ShortForms, VariableForms, OperandsEndAtOmitted, TwoTypeBytes, ExtendedForms, TextsFollow, StoresBeforeBranches, ShortBranches, LongBranches, RefusalsInOrder, BranchesLead, BranchesLeaveTheStory, JumpsLead, TwoOperandRows, OneOperandRows, ZeroOperandRows, VariableOperandRows, ExtendedRows, NamesByVersion};
 ghost use Rattle.zk_code.specs.CleanExamples.{CleanAndNot, LowCode, TargetsOutside, WaysByVariable, WaysOut};
+ghost use Rattle.zk_code.specs.ExtentExamples.{CodeEndsPastItsBranches, CodeWithoutAnEnd, NeighboursAfterPadding, NeighboursPastDeadCode, PackedByUnits};
 ghost use Rattle.zk_code.specs.ReachExamples.{BranchesToAddresses, CallsByConstants, EndsGoNowhere, JumpsToAddresses, OthersGoOn, RestIsNotReached, RoutineIsCalled, WaysAreReached};
 
 /// Forms of instructions and their operands (Standard, sections 4.2 to 4.5).
@@ -72,4 +73,14 @@ pub fn clean_code_by_example()
     ensures low_code { LowCode }
     ensures ways_by_variable { WaysByVariable }
     ensures clean_and_not { CleanAndNot }
+{}
+
+/// Where code ends, and which routine stands after it (Standard, sections 1.2.3, 4.7, 5.2 and 15).
+#[tactic(auto, unfolding(crate::specs::Extent::next_packed, zk_mem::specs::Header::unit_length), using(crate::proofs::ExtentsByExample::code_ends_past_its_branches, crate::proofs::ExtentsByExample::code_without_an_end, crate::proofs::ExtentsByExample::neighbours_after_padding, crate::proofs::ExtentsByExample::neighbours_past_dead_code))]
+pub fn extents_by_example()
+    ensures packed_by_units { PackedByUnits }
+    ensures code_ends_past_its_branches { CodeEndsPastItsBranches }
+    ensures code_without_an_end { CodeWithoutAnEnd }
+    ensures neighbours_after_padding { NeighboursAfterPadding }
+    ensures neighbours_past_dead_code { NeighboursPastDeadCode }
 {}

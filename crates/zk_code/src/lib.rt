@@ -6,6 +6,7 @@ mod bytes;
 pub mod decode;
 pub mod ends;
 pub mod examples;
+pub mod extent;
 mod head;
 pub mod instr;
 pub mod laws;

@@ -30,7 +30,7 @@ module _ (m : MemoryMap) (bytes : HasBytes m) (none : (n : Number) (a : ℕ) →
   clean : IsClean m (IsReached m)
   unfolding Finds
   clean = record {
-    closed = is_closed m;
+    closed = is_closed m _;
     decodes = λ a reached. found a (instr_at m a) reached refl;
     inside = λ a b i reached stands leads. none TargetOutOfTheStory a (record { next = b; instr = i; reached = reached; stands = stands; leads = leads });
     above = λ a b i reached stands low. none CodeBelowTheStaticBase a (record { next = b; instr = i; reached = reached; stands = stands; low = low });

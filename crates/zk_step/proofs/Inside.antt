@@ -21,6 +21,7 @@ use Rattle.zk_code.specs.Reach.{branch_address, constant_call, constant_jump, fi
 use Rattle.zk_code.specs.Routines.{allowed_count, count_at, code_start, values_length}
 use Rattle.zk_code.specs.Reading.{instr_at}
 use Rattle.zk_code.specs.Targets.{jump_target}
+use Rattle.zk_code.proofs.Reached.{has_one}
 use Rattle.zk_code.proofs.Whole.{only_at}
 use Rattle.zk_code.proofs.Same.{cell_alike, instruction_alike}
 use Rattle.zk_code.proofs.Standing.{some_is}
@@ -182,7 +183,7 @@ module _ (m : MemoryMap) (P : ℕ → Type 0) (clean : IsClean m P) (keeps : Kee
           (next_inside (call_goes_on i.opcode by.0), λ r found. call_inside p r (called p by.0 (constant (inl by.0) ∙ ap Some (sym by.1)) by.2) found)
       ends_inside (ending.Return x) by = tt
       ends_inside (ending.Throw x n) by = tt
-      ends_inside ending.Restart by = subst (λ (file : List ℕ). P (header_of file).first_instruction) (sym story.file) clean.closed.first
+      ends_inside ending.Restart by = subst (λ (file : List ℕ). P (header_of file).first_instruction) (sym story.file) (clean.closed.roots _ (has_one _))
       ends_inside (ending.Asks request) by = tt
 
   -- the instruction is read there in each memory of the story

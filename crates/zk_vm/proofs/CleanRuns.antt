@@ -16,6 +16,7 @@ use Rattle.zk_code.specs.Grammar.{IsInstruction}
 use Rattle.zk_code.specs.Reach.{goes_on}
 use Rattle.zk_code.specs.Reading.{instr_at}
 use Rattle.zk_code.proofs.Longer.{ends_inside as instruction_ends}
+use Rattle.zk_code.proofs.Reached.{has_one}
 use Rattle.zk_code.proofs.Saved.{saved_from_five}
 use Rattle.zk_save.specs.Loading.{restored}
 use Rattle.zk_save.specs.States.{WholeState}
@@ -163,7 +164,7 @@ unfolding fresh
 stays_clean story k P is clean =
     let keeps = fresh_keeps story k is in
     record {
-      inside = λ seed l view answers. run_inside (fresh story k) P clean keeps l answers (begun story seed l view).state (begins story k P seed l view is clean.closed.first);
+      inside = λ seed l view answers. run_inside (fresh story k) P clean keeps l answers (begun story seed l view).state (begins story k P seed l view is (clean.closed.roots _ (has_one _)));
       read = λ seed l view answers. all_anywhere (fresh story k) (IsRead P) (is_read (fresh story k) P clean keeps) l answers (begun story seed l view).state (begins story k Anywhere seed l view is tt);
       answers = answer_is_later;
       memory = λ seed l view answers. all_anywhere (fresh story k) (λ s. KeepsStory s.game.memory) (λ s h. h.memory) l answers (begun story seed l view).state (begins story k Anywhere seed l view is tt);
