@@ -1,5 +1,5 @@
 -- Ways on lead inside the story, or to its end.
-use Rattle.std.proofs.Common.{◌≡◌, ℕ, ◌+◌, ◌<◌, ◌≤◌, ◌||◌, Bool, true, false, length, Option, Some, None, refl, arith, nat_lt, if◌then◌else◌}
+use Rattle.std.proofs.Common.{◌≡◌, ℕ, ◌+◌, ◌<◌, ◌≤◌, ◌||◌, Bool, true, false, List, length, Option, Some, None, refl, arith, nat_lt, if◌then◌else◌}
 use Rattle.std.specs.Prelude.{option_map}
 use Rattle.zk_inspect.proofs.Marking.{some_same}
 use Rattle.std.proofs.lemmas.Grind.{common_steps}
@@ -7,9 +7,8 @@ use Rattle.zk_mem.specs.Map.{MemoryMap, cell_at}
 use Rattle.zk_code.specs.declared.instr.Instr.{Instr}
 use Rattle.zk_code.specs.Grammar.{BranchData, IsInstruction, branch_of}
 use Rattle.zk_code.specs.Grammar.BranchData.{NoBranch, OneByte, TwoBytes}
-use Rattle.zk_code.specs.Reach.{IsReached, IsCalled, goes_on, address_in, branch_address, constant_jump, jump_address, constant_call, first_constant, is_jump}
-use Rattle.zk_code.specs.Reach.IsReached.{First, Behind, Branches, Jumps, Calls}
-use Rattle.zk_mem.specs.Header.{header_of}
+use Rattle.zk_code.specs.Reach.{IsReachedFrom, IsCalledFrom, goes_on, address_in, branch_address, constant_jump, jump_address, constant_call, first_constant, is_jump}
+use Rattle.zk_code.specs.Reach.IsReachedFrom.{Behind, Branches, Jumps, Calls}
 use Rattle.zk_code.specs.Routines.{count_at, code_start, values_length}
 use Rattle.zk_code.specs.Targets.{landing, offset_target, branch_target, jump_target}
 use Rattle.zk_code.proofs.Longer.{ends_inside}
@@ -67,20 +66,17 @@ pub routine_inside : (m : MemoryMap) (r c : ℕ) → code_start m r ≡ Some c �
 routine_inside m r c h = routine_by m r c (cell_at m r) refl h
 
 -- what is reached next
-pub reached_first : (m : MemoryMap) → IsReached m (header_of m.file).first_instruction
-reached_first m = First
+pub reached_behind : (m : MemoryMap) (roots : List ℕ) (a : ℕ) (i : Instr) (b : ℕ) → IsReachedFrom m roots a → IsInstruction m a i b → goes_on i.opcode ≡ true → IsReachedFrom m roots b
+reached_behind m roots a i b r s g = Behind a b i r s g
 
-pub reached_behind : (m : MemoryMap) (a : ℕ) (i : Instr) (b : ℕ) → IsReached m a → IsInstruction m a i b → goes_on i.opcode ≡ true → IsReached m b
-reached_behind m a i b r s g = Behind a b i r s g
+pub reached_branch : (m : MemoryMap) (roots : List ℕ) (a : ℕ) (i : Instr) (b c : ℕ) → IsReachedFrom m roots a → IsInstruction m a i b → branch_address i ≡ Some c → IsReachedFrom m roots c
+reached_branch m roots a i b c r s g = Branches a b c i r s g
 
-pub reached_branch : (m : MemoryMap) (a : ℕ) (i : Instr) (b c : ℕ) → IsReached m a → IsInstruction m a i b → branch_address i ≡ Some c → IsReached m c
-reached_branch m a i b c r s g = Branches a b c i r s g
+pub reached_jump : (m : MemoryMap) (roots : List ℕ) (a : ℕ) (i : Instr) (b c : ℕ) → IsReachedFrom m roots a → IsInstruction m a i b → jump_address m i ≡ Some c → IsReachedFrom m roots c
+reached_jump m roots a i b c r s g = Jumps a b c i r s g
 
-pub reached_jump : (m : MemoryMap) (a : ℕ) (i : Instr) (b c : ℕ) → IsReached m a → IsInstruction m a i b → jump_address m i ≡ Some c → IsReached m c
-reached_jump m a i b c r s g = Jumps a b c i r s g
+pub reached_call : (m : MemoryMap) (roots : List ℕ) (a : ℕ) (i : Instr) (b r c : ℕ) → IsReachedFrom m roots a → IsInstruction m a i b → constant_call m i ≡ Some r → code_start m r ≡ Some c → IsReachedFrom m roots c
+reached_call m roots a i b r c k s g h = Calls a b r c i k s g h
 
-pub reached_call : (m : MemoryMap) (a : ℕ) (i : Instr) (b r c : ℕ) → IsReached m a → IsInstruction m a i b → constant_call m i ≡ Some r → code_start m r ≡ Some c → IsReached m c
-reached_call m a i b r c k s g h = Calls a b r c i k s g h
-
-pub called_by : (m : MemoryMap) (a : ℕ) (i : Instr) (b r c : ℕ) → IsReached m a → IsInstruction m a i b → constant_call m i ≡ Some r → code_start m r ≡ Some c → IsCalled m r
-called_by m a i b r c k s g h = record { address = a; next = b; instr = i; start = c; reached = k; stands = s; call = g; routine = h }
+pub called_by : (m : MemoryMap) (roots : List ℕ) (a : ℕ) (i : Instr) (b r c : ℕ) → IsReachedFrom m roots a → IsInstruction m a i b → constant_call m i ≡ Some r → code_start m r ≡ Some c → IsCalledFrom m roots r
+called_by m roots a i b r c k s g h = record { address = a; next = b; instr = i; start = c; reached = k; stands = s; call = g; routine = h }

@@ -1,6 +1,8 @@
 pub mod Marking
 pub mod Inside
 pub mod Searching
+pub mod Named
+pub mod Besides
 pub mod Outputs
 pub mod Quotes
 pub mod OneList

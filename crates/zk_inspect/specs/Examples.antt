@@ -7,7 +7,7 @@ use Rattle.zk_code.specs.declared.branch.BranchTarget.TheVariants.{ReturnFalse, 
 use Rattle.zk_code.specs.declared.operands.Operand.TheVariants.{Large, Small, Variable}
 use Rattle.zk_inspect.specs.declared.check.finding.Number.TheVariants.{Checksum, Length, DictionaryOrder, DictionaryExtent, ObjectLinks, ChainWithARepeat, PropertyList, TextPastTheEnd, NestedAbbreviation, UndecodableCode, TargetOutOfTheStory, CodeBelowTheStaticBase}
 use Rattle.zk_inspect.specs.FindingLines.{finding_line}
-use Rattle.zk_inspect.specs.Listing.{variable_text, operand_text, store_text, branch_text, quoted_bytes, address_line, routine_line, disassembly}
+use Rattle.zk_inspect.specs.Listing.{variable_text, operand_text, store_text, branch_text, quoted_bytes, address_line, routine_line, disassembly, whole_disassembly}
 use Rattle.zk_inspect.specs.AbbreviationLines.{abbreviation_line, abbreviation_lines}
 use Rattle.zk_inspect.specs.DictionaryLines.{dictionary_lines, entry_text}
 use Rattle.zk_inspect.specs.HeaderLines.{header_lines}
@@ -173,6 +173,12 @@ LinesOfRoutines =
 abbrev pub RoutinesBehindCode : Type 0
 RoutinesBehindCode =
     (disassembly (memory_of 5 (0xb0 ∷ 0xba ∷ 2 ∷ 0xb1 ∷ [])) (record { addresses = 0 ∷ 1 ∷ 3 ∷ []; routines = 2 ∷ [] }) ≡ codes "00000 rtrue\n00001 quit\n00003 rfalse\nroutine 00002 locals 2\n")
+
+-- in a whole story a routine's line says whether it is reached, or lies beside
+abbrev pub RoutinesByOrigin : Type 0
+RoutinesByOrigin =
+    (whole_disassembly (memory_of 5 (0xba ∷ 2 ∷ 0xb1 ∷ 0 ∷ 0xb0 ∷ [])) (record { code = record { addresses = 0 ∷ 2 ∷ 4 ∷ []; routines = 1 ∷ 3 ∷ [] }; reached = false ∷ true ∷ false ∷ [] })
+    ≡ codes "00000 quit\n00002 rfalse\n00004 rtrue\nroutine 00001 locals 2 reached\nroutine 00003 locals 0 beside\n")
 
 -- ---- listings (sections 3.3, 11.1, 12 and 13)
 

@@ -1,5 +1,6 @@
 pub mod Lists
 pub mod Codes
+pub mod Beside
 pub mod Search
 pub mod Listing
 pub mod Written

@@ -1,6 +1,6 @@
 -- The lines of a disassembly, by the names and operands of the Standard's sections 4, 14 and 15. What a line looks like is
 -- zkit's choice.
-use Rattle.std.specs.Prelude.{ℕ, ◌-◌, ◌==◌, Bool, true, false, List, [], ◌∷◌, ◌++◌, map, Option, Some, None, Result, Ok, Err, nat_lt, unwrap_or, codes, decimal, encode_utf8_all, if◌then◌else◌}
+use Rattle.std.specs.Prelude.{ℕ, ◌-◌, ◌==◌, Bool, true, false, List, [], ◌∷◌, ◌++◌, map, Option, Some, None, Result, Ok, Err, nat_lt, unwrap_or, get_or, codes, decimal, encode_utf8_all, if◌then◌else◌}
 use Rattle.std.specs.List.{flat_map}
 use Rattle.zk_mem.specs.declared.fault.Fault.{Fault}
 use Rattle.zk_mem.specs.Faults.{fault_number}
@@ -24,6 +24,7 @@ use Rattle.zk_code.specs.Reading.{instr_at}
 use Rattle.zk_code.specs.Routines.{count_at}
 use Rattle.zk_code.specs.Table.{name_of}
 use Rattle.zk_inspect.specs.declared.reach.code.Code.{Code}
+use Rattle.zk_inspect.specs.declared.whole.Whole.{Whole}
 use Rattle.zk_term.specs.Numbers.{address_digits, word_digits, byte_digits}
 
 -- a variable: the stack, a local one, a global one (section 4.2.2)
@@ -125,10 +126,22 @@ found_text m (Err f) = codes "?"
 unfoldable pub address_line : MemoryMap → ℕ → List ℕ
 address_line m a = address_digits a ++ codes " " ++ found_text m (instr_at m a) ++ codes "\n"
 
--- the line of a routine, with the count of its local variables (section 5.2)
+-- a routine, with the count of its local variables (section 5.2)
+unfoldable pub routine_text : MemoryMap → ℕ → List ℕ
+routine_text m r = codes "routine " ++ address_digits r ++ codes " locals " ++ decimal (unwrap_or (count_at m r) 0)
+
+-- the line of a routine
 unfoldable pub routine_line : MemoryMap → ℕ → List ℕ
-routine_line m r = codes "routine " ++ address_digits r ++ codes " locals " ++ decimal (unwrap_or (count_at m r) 0) ++ codes "\n"
+routine_line m r = routine_text m r ++ codes "\n"
 
 -- a line for each address, then one for each routine
 unfoldable pub disassembly : MemoryMap → Code → List ℕ
 disassembly m code = flat_map (address_line m) code.addresses ++ flat_map (routine_line m) code.routines
+
+-- the line of a routine, with whether it is reached, or lies beside
+unfoldable pub origin_line : MemoryMap → List Bool → ℕ → List ℕ
+origin_line m reached r = routine_text m r ++ (if get_or reached r false then codes " reached\n" else codes " beside\n")
+
+-- the same lines of a whole story
+unfoldable pub whole_disassembly : MemoryMap → Whole → List ℕ
+whole_disassembly m w = flat_map (address_line m) w.code.addresses ++ flat_map (origin_line m w.reached) w.code.routines

@@ -26,3 +26,8 @@ listed_if test xs a = if test then xs ++ a ∷ [] else xs
 -- the numbers that something holds of, of the last so many below an end and of those after it, the last one first
 abbrev pub IsLastList : (ℕ → Type 0) → ℕ → ℕ → List ℕ → Type 0
 IsLastList P end behind xs = IsListOf (λ a. (end ≤ a + behind) × P a) (reverse xs)
+
+-- the least set that has some numbers and, with each of its numbers, what is next to that one
+pub data IsAmong (P : ℕ → Type 0) (next : ℕ → ℕ → Type 0) : ℕ → Type 0 where
+  Some : (a : ℕ) → P a → IsAmong P next a
+  Next : (a b : ℕ) → IsAmong P next a → next a b → IsAmong P next b

@@ -8,3 +8,4 @@ pub mod laws;
 pub mod listing;
 mod objects;
 pub mod reach;
+pub mod whole;

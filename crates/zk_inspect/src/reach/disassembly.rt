@@ -6,12 +6,12 @@ ghost use Rattle.zk_code.specs.Table.{name_of};
 ghost use Rattle.zk_code.specs.Reading.{instr_at};
 ghost use Rattle.std.specs.Io.KnownBytes.{Appends};
 ghost use Rattle.zk_term.specs.Devices.{TookPart};
-ghost use Rattle.zk_inspect.specs.Codes.{IsCodeOf};
-ghost use Rattle.zk_inspect.specs.Listing.{address_line, disassembly, found_text, instruction_text, routine_line, text_text};
+ghost use Rattle.zk_inspect.specs.Listing.{address_line, disassembly, found_text, instruction_text, origin_line, routine_line, routine_text, text_text, whole_disassembly};
 
 use crate::error::ListError;
 use crate::listing::quoting::write_quoted;
 use crate::reach::code::Code;
+use crate::whole::Whole;
 use crate::reach::operands::{write_branch, write_operands, write_store};
 use itoa::Buffer;
 use zk_code::decode::decode;
@@ -77,19 +77,37 @@ fn write_address_line<P: LineWriter>(writer: &mut P, memory: &Memory, address: u
     writer.write(b"\n");
 }
 
-/// Writes the line of a routine.
-#[tactic(auto, unfolding(crate::specs::Listing::routine_line, zk_term::specs::Numbers::address_digits))]
-fn write_routine_line<P: LineWriter>(writer: &mut P, memory: &Memory, routine: u32)
-    ensures { P.wrote writer.old writer.new (routine_line memory.now routine) }
+/// Writes a routine, and what follows on its line.
+#[tactic(auto, unfolding(crate::specs::Listing::routine_text, zk_term::specs::Numbers::address_digits))]
+fn write_routine<P: LineWriter>(writer: &mut P, memory: &Memory, routine: u32, end: &[u8])
+    ensures { P.wrote writer.old writer.new (routine_text memory.now routine ++ end.now) }
 {
     let mut buffer = Buffer::new();
     let digits = hex_digits_of(routine);
     let shown = &digits[zeros_before(routine)..];
     let count = buffer.format(local_count(memory, routine).unwrap_or(0));
-    write_texts(
-        writer,
-        &[b"routine ", shown, b" locals ", count.as_bytes(), b"\n"],
-    );
+    write_texts(writer, &[b"routine ", shown, b" locals ", count.as_bytes(), end]);
+}
+
+/// Writes the line of a routine.
+#[tactic(auto, unfolding(crate::specs::Listing::routine_line))]
+fn write_routine_line<P: LineWriter>(writer: &mut P, memory: &Memory, routine: u32)
+    ensures { P.wrote writer.old writer.new (routine_line memory.now routine) }
+{
+    write_routine(writer, memory, routine, b"\n");
+}
+
+/// Writes the line of a routine of a whole story.
+#[tactic(auto, unfolding(crate::specs::Listing::origin_line))]
+fn write_origin_line<P: LineWriter>(writer: &mut P, memory: &Memory, whole: &Whole, routine: u32)
+    ensures { P.wrote writer.old writer.new (origin_line memory.now whole.now.reached routine) }
+{
+    let end: &[u8] = if whole.reached.is_marked(routine) {
+        b" reached\n"
+    } else {
+        b" beside\n"
+    };
+    write_routine(writer, memory, routine, end);
 }
 
 /// Writes the lines of addresses.
@@ -119,8 +137,28 @@ fn write_code<P: LineWriter>(writer: &mut P, memory: &Memory, code: &Code)
     write_routine_lines(writer, memory, code.routines.as_slice());
 }
 
-/// Writes the disassembly of a story, whose code `reach` gave: a line for each address that is reached, ascending, with
-/// the instruction there, or a question mark where there is none; then a line for each routine, with the count of its local
+/// Writes the lines of the routines of a whole story.
+fn write_origin_lines<P: LineWriter>(writer: &mut P, memory: &Memory, whole: &Whole)
+    ensures { P.wrote writer.old writer.new
+        (flat_map (origin_line memory.now whole.now.reached) whole.now.code.routines) }
+{
+    let routines = whole.code.routines.as_slice();
+    for routine in routines {
+        write_origin_line(writer, memory, whole, *routine);
+    }
+}
+
+/// Writes the lines of a whole story.
+#[tactic(auto, unfolding(crate::specs::Listing::whole_disassembly))]
+fn write_whole<P: LineWriter>(writer: &mut P, memory: &Memory, whole: &Whole)
+    ensures { P.wrote writer.old writer.new (whole_disassembly memory.now whole.now) }
+{
+    write_address_lines(writer, memory, whole.code.addresses.as_slice());
+    write_origin_lines(writer, memory, whole);
+}
+
+/// Writes the disassembly of code, as `reach` or `reach_named` gave it: a line for each address, ascending, with the instruction
+/// there, or a question mark where there is none; then a line for each routine, with the count of its local
 /// variables. Or, where a write fails, it writes a first part of that, and refuses.
 ///
 /// An instruction is shown by its name in the Z-Machine Standards Document 1.1, section 14, its operands (`sp` is the stack,
@@ -128,7 +166,6 @@ fn write_code<P: LineWriter>(writer: &mut P, memory: &Memory, code: &Code)
 /// variable that takes the result, `?` or, where it branches on false, `?~` and where it leads, and its text between quotes, with
 /// `^` for a new line and `~` for a quote. The constant operand of `jump` is shown as the address that it leads to.
 pub fn disassemble<T: Target>(memory: &Memory, code: &Code, target: &mut T) -> Result<(), ListError>
-    requires { IsCodeOf memory.now code.now }
     ensures all { OnOk result
         (Appends (T.taken target.old) (T.taken target.new) (disassembly memory.now code.now)) }
     ensures part { OnErr result
@@ -138,6 +175,29 @@ pub fn disassemble<T: Target>(memory: &Memory, code: &Code, target: &mut T) -> R
 {
     let mut writer = TargetWriter::new(target);
     write_code(&mut writer, memory, code);
+    match writer.finish() {
+        Ok(()) => Ok(()),
+        Err(Failed) => Err(ListError::Write),
+    }
+}
+
+/// Writes the disassembly of a whole story, whose code `find_whole` gave: the lines of `disassemble`, where after each routine
+/// stands whether it is reached without those that lie beside, or lies beside. Or, where a write fails, it writes a first part
+/// of that, and refuses.
+pub fn disassemble_whole<T: Target>(
+    memory: &Memory,
+    whole: &Whole,
+    target: &mut T,
+) -> Result<(), ListError>
+    ensures all { OnOk result
+        (Appends (T.taken target.old) (T.taken target.new) (whole_disassembly memory.now whole.now)) }
+    ensures part { OnErr result
+        (TookPart (T.taken target.old) (T.taken target.new) (whole_disassembly memory.now whole.now)) }
+    ensures failed { T.failed target.new ≡ (is_err result || T.failed target.old) }
+    ensures refusal { IfErr result (λ e. e ≡ ListError.Write) }
+{
+    let mut writer = TargetWriter::new(target);
+    write_whole(&mut writer, memory, whole);
     match writer.finish() {
         Ok(()) => Ok(()),
         Err(Failed) => Err(ListError::Write),

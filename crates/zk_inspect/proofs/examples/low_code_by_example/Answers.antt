@@ -11,13 +11,13 @@ use Rattle.zk_code.specs.declared.opcode.Call.TheVariants.{CallVs}
 use Rattle.zk_code.specs.declared.operands.Operand.TheVariants.{Large}
 use Rattle.zk_code.specs.CleanExamples.{calling_from, is_called_code}
 use Rattle.zk_code.specs.Grammar.{IsInstruction}
-use Rattle.zk_code.specs.Reach.{IsClosed, IsReached, constant_call, constant_jump, jump_address}
-use Rattle.zk_code.specs.Reach.IsReached.{First}
+use Rattle.zk_code.specs.Reach.{IsClosed, IsReached, first_alone, constant_call, constant_jump, jump_address}
+use Rattle.zk_code.specs.Reach.IsReachedFrom.{Root}
 use Rattle.zk_code.specs.Reading.{code_byte, code_word, types_at, with_types, with_type_bytes, extended_at, head_by, head_at, operand_at, operands_at, store_at, branch_by, branch_here, branch_at, text_at, instr_at}
 use Rattle.zk_code.specs.Routines.{count_at, code_start}
 use Rattle.zk_code.specs.Table.{two_operand, one_operand, zero_operand, variable_operand, extended}
 use Rattle.zk_code.specs.Targets.{offset_target, branch_target}
-use Rattle.zk_code.proofs.Reached.{reach_is_least}
+use Rattle.zk_code.proofs.Reached.{has_one, reach_is_least}
 use Rattle.zk_code.proofs.ReachedByExample.{clean_and_not}
 use Rattle.zk_code.proofs.Same.{instruction_alike}
 use Rattle.zk_code.proofs.Whole.{found_at}
@@ -33,10 +33,10 @@ use Rattle.zk_inspect.proofs.examples.low_code_by_example.Goals as goal
 alike : (base other a b : ℕ) (i : Instr) → IsInstruction (calling_from base) a i b → IsInstruction (calling_from other) a i b
 alike base other a b i s = instruction_alike (calling_from base) (calling_from other) a i b (record { version = refl; size = refl; bytes = refl }) s
 
-closed : (base : ℕ) → IsClosed (calling_from base) (λ a. is_called_code a ≡ true)
+closed : (base : ℕ) → IsClosed (calling_from base) (first_alone (calling_from base)) (λ a. is_called_code a ≡ true)
 unfolding header_of constant_jump jump_address constant_call count_at code_start cell_at
 closed base = let c = clean_and_not.0.closed in record {
-  first = c.first;
+  roots = c.roots;
   behind = λ a b i h s. c.behind a b i h (alike base 8 a b i s);
   branches = λ a b d i h s. c.branches a b d i h (alike base 8 a b i s);
   jumps = λ a b d i h s. c.jumps a b d i h (alike base 8 a b i s);
@@ -44,7 +44,7 @@ closed base = let c = clean_and_not.0.closed in record {
 }
 
 within : (base a : ℕ) → IsReached (calling_from base) a → is_called_code a ≡ true
-within base a r = (reach_is_least (calling_from base)).1 is_called_code (closed base) a r
+within base a r = (reach_is_least (calling_from base) (first_alone (calling_from base))).1 is_called_code (closed base) a r
 
 one_of : (Q : ℕ → Type 0) (n a : ℕ) (x y : Bool) → eqb a n ≡ x → (x || y) ≡ true → Q n → (y ≡ true → Q a) → Q a
 one_of Q n a true y e h q rest = subst Q (sym (eqb-true a n e)) q
@@ -70,7 +70,7 @@ all_first = each IsFirst (λ _. refl) (λ e. absurd cc) (λ e. absurd cc) (λ e.
 first_low : IsLowCode (calling_from 9) 8
 unfolding header_of
 first_low = let first = clean_and_not.0.decodes 8 refl in
-    record { next = first.0.next; instr = first.0; reached = First; stands = alike 8 9 8 first.0.next first.0 first.1; low = inl (omega arith) }
+    record { next = first.0.next; instr = first.0; reached = Root 8 (has_one 8); stands = alike 8 9 8 first.0.next first.0 first.1; low = inl (omega arith) }
 
 none_low : (a : ℕ) → IsLowCode (calling_from 8) a → ⊥
 none_low a p = clean_and_not.0.above a p.next p.instr (within 8 a p.reached) p.stands p.low
@@ -106,7 +106,7 @@ call_stands = found_at (calling_back_from 9) 10 call has_bytes refl
 
 call_low : IsLowCode (calling_back_from 9) 10
 unfolding header_of constant_call unit_length
-call_low = record { next = 15; instr = call; reached = First; stands = call_stands; low = inr (8, refl, omega arith) }
+call_low = record { next = 15; instr = call; reached = Root 10 (has_one 10); stands = call_stands; low = inr (8, refl, omega arith) }
 
 not_low : (m : MemoryMap) (a : ℕ) → is_low m a ≡ false → IsLowCode m a → ⊥
 not_low m a e p = let low = low_code_test m a p in absurd cc

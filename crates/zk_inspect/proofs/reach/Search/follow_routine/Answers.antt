@@ -13,11 +13,11 @@ mark-requires c =
 
 pub find-requires-clause-search : goal.find-requires-clause-search
 find-requires-clause-search c =
-    called_new c.args.memory.now c.args.self.now _ c.args.routine c.requires.search
-    (called_by c.args.memory.now c.args.address c.args.instr.now _ c.args.routine _ c.requires.reached c.requires.stands c.requires.called (sym c.in-Some.ensures.value)) refl c.mark.ensures refl
+    called_new c.args.memory.now c.args.roots.now c.args.self.now _ c.args.routine c.requires.search
+    (called_by c.args.memory.now c.args.roots.now c.args.address c.args.instr.now _ c.args.routine _ c.requires.reached c.requires.stands c.requires.called (sym c.in-Some.ensures.value)) refl c.mark.ensures refl
 
 pub find-requires-clause-reached : goal.find-requires-clause-reached
-find-requires-clause-reached c = reached_call c.args.memory.now c.args.address c.args.instr.now _ c.args.routine _ c.requires.reached c.requires.stands c.requires.called (sym c.in-Some.ensures.value)
+find-requires-clause-reached c = reached_call c.args.memory.now c.args.roots.now c.args.address c.args.instr.now _ c.args.routine _ c.requires.reached c.requires.stands c.requires.called (sym c.in-Some.ensures.value)
 
 pub find-requires-clause-within : goal.find-requires-clause-within
 find-requires-clause-within c = let le = (routine_inside c.args.memory.now c.args.routine _ (sym c.in-Some.ensures.value)).1 in omega (arith, c.requires.search.size)
