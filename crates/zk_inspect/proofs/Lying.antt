@@ -44,7 +44,7 @@ text_marked m a e old new ends size is t = (
   λ k. subst (λ (bs : List Bool). IsMarked bs t) (sym is) (let lt : a < length old = (let within = text_inside m a e ends in omega arith) in elim k [
     | inl before ↦ marked_still old a t lt before
     | inr h ↦ subst (IsMarked (slice_set old a true)) (sym h.0) (marked_now old a lt)
-  ])
+  ]),
 )
 
 pub no_text_marked : (m : MemoryMap) (a : ℕ) (old : List Bool) → text_end_at m a ≡ None → (t : ℕ) → IsMarked old t ↔ (IsMarked old t ⊎ ((t ≡ a) × IsText m t))
@@ -54,7 +54,7 @@ no_text_marked m a old none t = (λ k. inl k, λ k. elim k [ inl before ↦ befo
 pub marked_by : (m : MemoryMap) (Q : ℕ → Type 0) (a : ℕ) (old new : List Bool) → Q a → ((t : ℕ) → Q t → t ≡ a) → ((t : ℕ) → IsMarked new t ↔ (IsMarked old t ⊎ ((t ≡ a) × IsText m t))) → (t : ℕ) → IsMarked new t ↔ (IsMarked old t ⊎ (Q t × IsText m t))
 marked_by m Q a old new q only h t = (
   λ k. elim ((h t).0 k) [ inl before ↦ inl before | inr j ↦ inr (subst Q (sym j.0) q, j.1) ],
-  λ k. elim k [ inl before ↦ (h t).1 (inl before) | inr j ↦ (h t).1 (inr (only t j.0, j.1)) ]
+  λ k. elim k [ inl before ↦ (h t).1 (inl before) | inr j ↦ (h t).1 (inr (only t j.0, j.1)) ],
 )
 
 pub none_marked_by : (m : MemoryMap) (Q : ℕ → Type 0) (old : List Bool) → ((t : ℕ) → Q t → ⊥) → (t : ℕ) → IsMarked old t ↔ (IsMarked old t ⊎ (Q t × IsText m t))
@@ -68,7 +68,7 @@ one_printed m a b i v s e t h = let same = at_most_one m a h.instr i h.next b h.
 pub next_text_marked : (m : MemoryMap) (a e : ℕ) (old new : List Bool) → text_end_at m a ≡ Some e → ((t : ℕ) → IsMarked new t ↔ (IsMarked old t ⊎ ((t ≡ next_packed m e) × IsText m t))) → (t : ℕ) → IsMarked new t ↔ (IsMarked old t ⊎ IsNextText m a t)
 next_text_marked m a e old new ends h t = (
   λ k. elim ((h t).0 k) [ inl before ↦ inl before | inr j ↦ inr (e, ends, j.0, j.1) ],
-  λ k. elim k [ inl before ↦ (h t).1 (inl before) | inr j ↦ (h t).1 (inr (j.2 ∙ ap (next_packed m) (some_same j.0 e (sym j.1 ∙ ends)), j.3)) ]
+  λ k. elim k [ inl before ↦ (h t).1 (inl before) | inr j ↦ (h t).1 (inr (j.2 ∙ ap (next_packed m) (some_same j.0 e (sym j.1 ∙ ends)), j.3)) ],
 )
 
 pub no_next_text : (m : MemoryMap) (a : ℕ) (old : List Bool) → text_end_at m a ≡ None → (t : ℕ) → IsMarked old t ↔ (IsMarked old t ⊎ IsNextText m a t)
@@ -94,7 +94,7 @@ printed_more m xs x old mid new h k t = (
       | inl before ↦ (k t).1 (inl ((h t).1 (inr ((j.0.0, before, j.0.2), j.1))))
       | inr same ↦ (k t).1 (inr (subst (λ (y : ℕ). PrintsText m y t) (sym same) j.0.2, j.1))
     ]
-  ]
+  ],
 )
 
 -- ---- the one after the last routine
