@@ -796,8 +796,8 @@ HELPED: list[tuple[str, list[str]]] = [
     (
         "info --help",
         [
-            "--header", "--map", "--abbreviations", "--dictionary", "--objects", "--tree", "--ifid", "--strings", "STORY",
-            "Example",
+            "--header", "--map", "--abbreviations", "--dictionary", "--objects", "--tree", "--ifid", "--strings",
+            "STORY", "Example",
         ],
     ),
     ("disasm --help", ["--all", "STORY", "Example"]),
