@@ -476,5 +476,5 @@ pub extern "C" fn zk_listing(alloc: Global, game: &mut Zkit, buffer: &mut [u8]) 
 pub extern "C" fn zk_close(alloc: Global, game: &mut Zkit)
     ensures { game.new.play ≡ None }
 {
-    drop(game.take(alloc));
+    game.close(alloc);
 }

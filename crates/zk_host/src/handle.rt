@@ -116,4 +116,11 @@ impl Zkit {
         self.put(alloc, play);
         too_much
     }
+
+    /// Gives back the memory of the play that there may be.
+    pub fn close(&mut self, alloc: Global)
+        ensures { self.new.play ≡ None }
+    {
+        drop(self.take(alloc));
+    }
 }
