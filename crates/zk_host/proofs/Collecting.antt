@@ -7,9 +7,8 @@ use Rattle.std.proofs.lemmas.Str.{len_utf8_bounds, length-encode}
 use Rattle.std.proofs.KnownBytes.{Appends-nil}
 use Rattle.std.specs.Io.KnownBytes.{Appends}
 use Rattle.zk_term.specs.Devices.{Sender, Sends, TookPart}
-use Rattle.zk_term.specs.BufferedScreens.{Written, screen_sender, script_sender}
 use Rattle.zk_host.specs.declared.collected.Collected.{Collected}
-use Rattle.zk_host.specs.Collecting.{Collects, is_lost, most_past_room, most_waiting, targets_of, waiting_of}
+use Rattle.zk_host.specs.Collecting.{Collects, is_lost, most_past_room, waiting_of}
 
 -- ---- one device
 

@@ -1,5 +1,5 @@
 -- An object without a short name.
-use Rattle.std.proofs.Common.{◌≡◌, List, [], None, Ok, Err, Result, ap, subst, sym, refl}
+use Rattle.std.proofs.Common.{List, [], None, Ok, Err, Result, ap, subst}
 use Rattle.zk_mem.specs.declared.fault.Fault.{Fault}
 use Rattle.zk_mem.specs.Map.{MemoryMap}
 use Rattle.zk_text.specs.declared.unit.Unit.{Unit as TextUnit}

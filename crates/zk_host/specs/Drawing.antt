@@ -1,10 +1,10 @@
 -- What a host draws beside the text (Standard, sections 8.2, 8.6 and 8.7).
-use Rattle.std.specs.Prelude.{◌≡◌, ◌⊎◌, ◌≢◌, ◌+◌, ◌-◌, ℕ, ℤ, pos, Bool, true, false, ◌&&◌, List, [], length, take, drop, ◌++◌, min, nat_le, nat_lt, ◌==◌, Option, Some, None, Result, Ok, Err, if◌then◌else◌, encode_utf8_all}
+use Rattle.std.specs.Prelude.{◌≡◌, ◌⊎◌, ◌≢◌, ◌+◌, ◌-◌, ℕ, ℤ, pos, Bool, ◌&&◌, List, [], nat_le, nat_lt, Option, Some, None, Result, Ok, Err, if◌then◌else◌, encode_utf8_all}
 use Rattle.std.specs.Int.{cast_signed, w16}
 use Rattle.zk_mem.specs.declared.fault.Fault.{Fault}
 use Rattle.zk_mem.specs.Map.{MemoryMap, byte_at}
 use Rattle.zk_mem.specs.Results.{◌>>=◌}
-use Rattle.zk_term.specs.Windows.{Windows, row_text, tallest_height, tallest_row_text}
+use Rattle.zk_term.specs.Windows.{Windows, tallest_height}
 use Rattle.zk_term.specs.declared.windows.Window.{Window}
 use Rattle.zk_term.specs.declared.windows.Window.TheVariants.{Lower, Upper}
 use Rattle.zk_step.specs.declared.state.ending.Event.{Event}

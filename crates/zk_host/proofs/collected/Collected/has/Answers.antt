@@ -1,4 +1,3 @@
-use Rattle.std.proofs.Common.{◌∙◌, rules}
 use Rattle.zk_host.proofs.Collecting.{left_over}
 use Rattle.zk_host.proofs.collected.Collected.has.Goals as goal
 
