@@ -175,8 +175,8 @@ def read_left_out() -> set[str]:
 
 
 def code_uses() -> dict[str, str]:
-    """What each crate stands on, from crates.txt; static libraries are left out, since no crate can stand on them, and the
-    crates on which these alone stand, since no row and no test calls them."""
+    """What each crate stands on, from crates.txt. Left out are static libraries, since no crate can stand on them, and
+    the crates on which these alone stand, since no row and no test calls them."""
     uses: dict[str, str] = {}
     left_out: set[str] = set()
     for line in (TOP / "crates.txt").read_text(encoding="utf-8").splitlines():
