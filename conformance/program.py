@@ -82,6 +82,10 @@ ENDLESS = story("E57F78 8C FF FC")
 PUSHES = story("E8 7F 07 8C FF FC")
 # `call` of a routine at 46, which calls itself.
 CALLS = story("E0 3F 00 23 00 BA 00 E0 3F 00 23 00 B0")
+# `call` of a routine at 4a, and `quit`. At 46 stands a routine with a return, at 48 a return that nothing leads to. The
+# routine at 4a has a local variable; it branches over a return to `print_paddr` of 58, and a return. At 56 and 58 stand
+# the texts "i" and "h".
+WHOLE = story("E0 3F 00 25 00 BA 00 B0 B0 00 01 00 05 A0 01 C4 9B 07 8D 00 2C B1 B8 A5 B4 A5")
 # 50 `new_line`s, then `quit`.
 LINES = story("BB" * 50 + "BA")
 # `print_char '>'`, `read_char 1 -> g0`, `print_char g0`, then the same again, and `quit`.
@@ -254,6 +258,7 @@ FILES: dict[str, bytes] = {
     "endless.z3": ENDLESS,
     "pushes.z3": PUSHES,
     "calls.z3": CALLS,
+    "whole.z3": WHOLE,
     "lines.z3": LINES,
     "reads.z5": READS,
     "echoes.z3": ECHOES,
@@ -594,6 +599,27 @@ CASES: list[tuple[Words, Wanted]] = [
     ("disasm saves.z4", (0, "00040 save -> sp\n00042 print_num sp\n00045 quit\n", "")),
     ("disasm begins_as_9.z4", (0, f"{CALLING}0004b ret l1\nroutine 00048 locals 1\n", "")),
     ("disasm undoes.z4", (0, "00040 ?\n", "")),
+    (
+        "disasm whole.z3",
+        (
+            0,
+            "00040 call #0025 -> sp\n00045 quit\n0004d jz l1 ?00052\n00050 ret #07\n00052 print_paddr #002c\n"
+            "00055 rfalse\nroutine 0004a locals 1\n",
+            "",
+        ),
+    ),
+    (
+        "disasm --all whole.z3",
+        (
+            0,
+            "00040 call #0025 -> sp\n00045 quit\n00047 rtrue\n0004d jz l1 ?00052\n00050 ret #07\n"
+            "00052 print_paddr #002c\n00055 rfalse\nroutine 00046 locals 0 beside\nroutine 0004a locals 1 reached\n",
+            "",
+        ),
+    ),
+    ("disasm --all hello.z3", (0, '00040 print "hi"\n00043 new_line\n00044 quit\n', "")),
+    ("info --strings whole.z3", (0, '[strings]\n00056 #002b "i"\n00058 #002c "h"\n', "")),
+    ("info --strings hello.z3", (0, "[strings]\n", "")),
     ("disasm missing", UNREAD),
     ("disasm empty", REFUSED[1]),
     ("disasm past.z3", REFUSED[5]),
@@ -769,9 +795,12 @@ HELPED: list[tuple[str, list[str]]] = [
     ("--help", ["play", "info", "disasm", "Example"]),
     (
         "info --help",
-        ["--header", "--map", "--abbreviations", "--dictionary", "--objects", "--tree", "--ifid", "STORY", "Example"],
+        [
+            "--header", "--map", "--abbreviations", "--dictionary", "--objects", "--tree", "--ifid", "--strings",
+            "STORY", "Example",
+        ],
     ),
-    ("disasm --help", ["STORY", "Example"]),
+    ("disasm --help", ["--all", "STORY", "Example"]),
     ("check --help", ["STORY", "zkit info --objects", "zkit disasm", "works out", "Example"]),
     (
         "play --help",

@@ -556,7 +556,7 @@ def lists_of_paths(case: Case) -> Optional[str]:
 
 def facts_in_rows(case: Case) -> Optional[str]:
     """A fact on a line, its fields apart by tabs, which stand for nothing else; a row for what is no story."""
-    case.write(a_b__z3=FILES["hello.z3"], links__z3=LOOSE_LINKS, quotes__z3=NAMED_BY_SIGNS)
+    case.write(a_b__z3=FILES["hello.z3"], links__z3=LOOSE_LINKS, quotes__z3=NAMED_BY_SIGNS, whole__z3=FILES["whole.z3"])
     os.rename(case.folder / "a_b.z3", case.folder / "a\tb\\.z3")
     hello = "hello.z3\tifid\tZCODE-0-000000\n"
     signs = (
@@ -573,13 +573,15 @@ def facts_in_rows(case: Case) -> Optional[str]:
         differs("links.z3\tfinding\tC5\t000c7\t2\tobject links",
                 case.run("check --rows links.z3")[1].splitlines()[1]),
         differs((0, signs, ""), case.run("info --objects --tree --rows quotes.z3")),
+        differs((0, "whole.z3\tstring\t00056\t002b\ti\nwhole.z3\tstring\t00058\t002c\th\n", ""),
+                case.run("info --strings --rows whole.z3")),
         differs((1, ""), case.run("disasm --rows hello.z3")[:2]),
     ))
 
 
 def facts_in_json(case: Case) -> Optional[str]:
     """An object for each story, on a line, with the same facts."""
-    case.write(links__z3=LOOSE_LINKS, quotes__z3=NAMED_BY_SIGNS)
+    case.write(links__z3=LOOSE_LINKS, quotes__z3=NAMED_BY_SIGNS, whole__z3=FILES["whole.z3"])
     found = {"finding": "C5", "address": "000c7", "object": 2, "words": "object links"}
     objects = [
         {"number": 1, "name": "a\n\"b", "parent": 0, "sibling": 0, "child": 0, "attributes": [],
@@ -589,6 +591,7 @@ def facts_in_json(case: Case) -> Optional[str]:
     ]
     status, lines, told = case.run("info --ifid --json --header --dictionary hello.z3 missing empty")
     hello, missing, empty = [json.loads(line) for line in lines.splitlines()]
+    strings = json.loads(case.run("info --strings --json whole.z3")[1])["strings"]
     whole = json.loads(case.run("info --dictionary --json lighthouse.z5")[1])
     header = json.loads(case.run("info --json lighthouse.z5")[1])["header"]
     names = ("version", "serial", "length", "checksum_ok")
@@ -596,6 +599,8 @@ def facts_in_json(case: Case) -> Optional[str]:
         differs((4, "ZCODE-0-000000", {}), (status, hello["ifid"], hello["dictionary"])),
         differs(({"form": 1, "path": "missing", "unread": "read failed"}, {"form": 1, "path": "empty", "refused": 1}),
                 (missing, empty)),
+        differs([("00056", "002b", "i"), ("00058", "002c", "h")],
+                [(text["address"], text["packed"], text["text"]) for text in strings]),
         differs({"index": 0, "address": "00eac", "word": "ødeg"}, whole["dictionary"]["words"][0]),
         differs((".,\"", 200, 9, 200), tuple(whole["dictionary"][name] for name in ("separators", "entries", "length"))
                 + (len(whole["dictionary"]["words"]),)),

@@ -16,7 +16,7 @@ use Rattle.zk_command.specs.declared.options.CommandOption.{CommandOption}
 use Rattle.zk_command.specs.declared.options.CommandTable.{CommandTable}
 use Rattle.zk_command.specs.declared.choice.Choice.TheVariants.{Play, Show, Test, Unpack}
 use Rattle.zk_command.specs.declared.listing.Listing.{Listing}
-use Rattle.zk_command.specs.declared.listing.Listing.TheVariants.{Info, Code, Findings}
+use Rattle.zk_command.specs.declared.listing.Listing.TheVariants.{Info, Code, Whole, Findings}
 
 -- the command line is simple in clap's sense
 pub command_line_is_simple : is_simple command_line ≡ true
@@ -130,7 +130,8 @@ other_name name known test e = let d = bytes_eq-Decides name known in let both :
 -- `play`, `test` and `unpack` list nothing
 no_listing : (name : Text) (rows : List Row) (listing : Listing) → bytes_eq name (codes "info") ≡ false → bytes_eq name (codes "disasm") ≡ false → bytes_eq name (codes "check") ≡ false → SaysListing name rows listing → ⊥
 no_listing name rows (Info sections) i d k h = other_name name (codes "info") i h.0
-no_listing name rows Code i d k h = other_name name (codes "disasm") d h
+no_listing name rows Code i d k h = other_name name (codes "disasm") d h.0
+no_listing name rows Whole i d k h = other_name name (codes "disasm") d h.0
 no_listing name rows Findings i d k h = other_name name (codes "check") k h
 
 -- without a path or options `play` asks for nothing

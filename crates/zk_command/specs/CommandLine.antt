@@ -26,7 +26,7 @@ use Rattle.zk_command.specs.declared.options.CommandTable.{CommandTable}
 use Rattle.zk_command.specs.declared.options.NumberOption.{NumberOption}
 use Rattle.zk_command.specs.declared.choice.Choice.TheVariants.{Play, Show, Test, Unpack}
 use Rattle.zk_command.specs.declared.listing.Listing.{Listing}
-use Rattle.zk_command.specs.declared.listing.Listing.TheVariants.{Info, Code, Findings}
+use Rattle.zk_command.specs.declared.listing.Listing.TheVariants.{Info, Code, Whole, Findings}
 use Rattle.zk_command.specs.declared.listing.Sections.{Sections}
 
 -- the option `--name`
@@ -116,7 +116,7 @@ play_command = with_rules (new_app (codes "play")) (
     ∷ story_argument
     ∷ [])
 
--- `info [--header] [--map] [--abbreviations] [--dictionary] [--objects] [--tree] [--ifid] [--rows] [--json] [--recursive]
+-- `info [--header] [--map] [--abbreviations] [--dictionary] [--objects] [--tree] [--ifid] [--strings] [--rows] [--json] [--recursive]
 -- [--files-from FILE] STORY..`
 abbrev pub info_command : App
 info_command = with_rules (new_app (codes "info")) (
@@ -127,6 +127,7 @@ info_command = with_rules (new_app (codes "info")) (
     ∷ flag (codes "objects")
     ∷ flag (codes "tree")
     ∷ flag (codes "ifid")
+    ∷ flag (codes "strings")
     ∷ flag (codes "rows")
     ∷ flag (codes "json")
     ∷ flag (codes "recursive")
@@ -134,9 +135,9 @@ info_command = with_rules (new_app (codes "info")) (
     ∷ story_arguments
     ∷ [])
 
--- `disasm STORY`
+-- `disasm [--all] STORY`
 abbrev pub disasm_command : App
-disasm_command = with_rule (new_app (codes "disasm")) story_argument
+disasm_command = with_rules (new_app (codes "disasm")) (flag (codes "all") ∷ story_argument ∷ [])
 
 -- `check [--rows] [--json] [--recursive] [--files-from FILE] STORY..`
 abbrev pub check_command : App
@@ -233,13 +234,14 @@ abbrev pub sections_said : List Row → Sections
 sections_said rows =
     let given = λ (name : Text). flag_said (first_of name rows) in
     record {
-      header = given (codes "header") || not (given (codes "map") || (given (codes "abbreviations") || (given (codes "dictionary") || (given (codes "objects") || (given (codes "tree") || given (codes "ifid"))))));
+      header = given (codes "header") || not (given (codes "map") || (given (codes "abbreviations") || (given (codes "dictionary") || (given (codes "objects") || (given (codes "tree") || (given (codes "ifid") || given (codes "strings")))))));
       map = given (codes "map");
       abbreviations = given (codes "abbreviations");
       dictionary = given (codes "dictionary");
       objects = given (codes "objects");
       tree = given (codes "tree");
       ifid = given (codes "ifid");
+      strings = given (codes "strings");
     }
 
 -- the path of a story
@@ -250,10 +252,15 @@ SaysStory rows path = first_of (codes "STORY") rows ≡ Some path
 abbrev pub SaysStories : List Row → List Text → Type 0
 SaysStories rows paths = (1 ≤ length paths) × (paths ≡ unwrap_or (all_of (codes "STORY") rows) [])
 
+-- the code that `disasm` lists, by `--all`
+abbrev pub code_said : List Row → Listing
+code_said rows = if flag_said (first_of (codes "all") rows) then Whole else Code
+
 -- what clap found for a command says what is listed
 abbrev pub SaysListing : Text → List Row → Listing → Type 0
 SaysListing name rows (Info sections) = (name ≡ codes "info") × (sections ≡ sections_said rows)
-SaysListing name rows Code = name ≡ codes "disasm"
+SaysListing name rows Code = (name ≡ codes "disasm") × (code_said rows ≡ Code)
+SaysListing name rows Whole = (name ≡ codes "disasm") × (code_said rows ≡ Whole)
 SaysListing name rows Findings = name ≡ codes "check"
 
 -- the form that the flags of a command ask for: that of `--json` where both are given

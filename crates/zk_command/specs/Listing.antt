@@ -13,11 +13,15 @@ use Rattle.zk_inspect.specs.FindingLines.{finding_line}
 use Rattle.zk_inspect.specs.Findings.{AreFindings}
 use Rattle.zk_inspect.specs.HeaderLines.{header_lines}
 use Rattle.zk_inspect.specs.Ifid.{ifid_line}
-use Rattle.zk_inspect.specs.Listing.{disassembly}
+use Rattle.zk_inspect.specs.Beside.{IsWhole}
+use Rattle.zk_inspect.specs.Listing.{disassembly, whole_disassembly}
+use Rattle.zk_inspect.specs.Lists.{IsListOf}
+use Rattle.zk_inspect.specs.LyingTexts.{LiesText, text_lines}
 use Rattle.zk_inspect.specs.MapLines.{map_lines}
 use Rattle.zk_inspect.specs.ObjectLines.{AreObjectLines}
 use Rattle.zk_inspect.specs.TreeLines.{AreTreeRows}
 use Rattle.zk_inspect.specs.declared.reach.code.Code as code
+use Rattle.zk_inspect.specs.declared.whole.Whole as whole
 use Rattle.zk_inspect.specs.declared.error.ListError.{ListError}
 use Rattle.zk_inspect.specs.declared.error.ListError.TheVariants as error
 use Rattle.zk_inspect.specs.declared.check.finding.Finding.{Finding}
@@ -27,7 +31,7 @@ use Rattle.zk_command.specs.Playing.{AreRead, EndsBy}
 use Rattle.zk_command.specs.declared.exit.Exit.{Exit}
 use Rattle.zk_command.specs.declared.exit.Exit.TheVariants.{Stopped, Found}
 use Rattle.zk_command.specs.declared.listing.Listing.{Listing}
-use Rattle.zk_command.specs.declared.listing.Listing.TheVariants.{Info, Code, Findings}
+use Rattle.zk_command.specs.declared.listing.Listing.TheVariants.{Info, Code, Whole, Findings}
 use Rattle.zk_command.specs.declared.listing.Section.{Section}
 use Rattle.zk_command.specs.declared.listing.Section.TheVariants as section
 use Rattle.zk_command.specs.declared.listing.Sections.{Sections}
@@ -41,6 +45,15 @@ title section.Dictionary = codes "[dictionary]\n"
 title section.Objects = codes "[objects]\n"
 title section.Tree = codes "[tree]\n"
 title section.Ifid = codes "[ifid]\n"
+title section.Strings = codes "[strings]\n"
+
+-- a text is the lines of the texts that lie in a story, by its code and the routines that lie beside
+pub record AreTextLines (m : MemoryMap) (text : List ℕ) : Type 0 where
+  pub code : whole.Whole
+  pub code_is : IsWhole m [] [] code
+  pub texts : List ℕ
+  pub texts_are : IsListOf (LiesText m code.code) texts
+  pub lines : text ≡ text_lines m texts
 
 -- a text is that of a section, below its title
 abbrev pub IsOfSection : Section → MemoryMap → List ℕ → Type 0
@@ -51,6 +64,7 @@ IsOfSection section.Dictionary m text = text ≡ dictionary_lines m
 IsOfSection section.Objects m text = AreObjectLines m text
 IsOfSection section.Tree m text = AreTreeRows m text
 IsOfSection section.Ifid m text = text ≡ ifid_line m
+IsOfSection section.Strings m text = AreTextLines m text
 
 -- a text is a section with its title
 pub record IsSection (s : Section) (m : MemoryMap) (text : List ℕ) : Type 0 where
@@ -67,10 +81,11 @@ asks_for s section.Dictionary = s.dictionary
 asks_for s section.Objects = s.objects
 asks_for s section.Tree = s.tree
 asks_for s section.Ifid = s.ifid
+asks_for s section.Strings = s.strings
 
 -- all sections, in the order in which they are shown
 abbrev pub all_sections : List Section
-all_sections = section.Header ∷ section.Map ∷ section.Abbreviations ∷ section.Dictionary ∷ section.Objects ∷ section.Tree ∷ section.Ifid ∷ []
+all_sections = section.Header ∷ section.Map ∷ section.Abbreviations ∷ section.Dictionary ∷ section.Objects ∷ section.Tree ∷ section.Ifid ∷ section.Strings ∷ []
 
 -- a text is nothing, or a section where it is asked for
 abbrev pub IsAsked : Bool → Section → MemoryMap → List ℕ → Type 0
@@ -86,6 +101,7 @@ AreSections asked m (s ∷ more) text = (first : List ℕ) × (rest : List ℕ) 
 abbrev pub IsListing : Listing → MemoryMap → List ℕ → Type 0
 IsListing (Info asked) m text = AreSections asked m all_sections text
 IsListing Code m text = (c : code.Code) × IsCodeOf m c × (text ≡ disassembly m c)
+IsListing Whole m text = (w : whole.Whole) × IsWhole m [] [] w × (text ≡ whole_disassembly m w)
 IsListing Findings m text = (fs : List Finding) × AreFindings m fs × (text ≡ flat_map finding_line fs)
 
 -- whether a listing tells that something is wrong: a check does where a story has findings, and no other does

@@ -11,7 +11,7 @@ ghost use Rattle.zk_command.specs.declared.choice.Choice.{Choice};
 ghost use Rattle.zk_command.specs.declared.listing.Listing.{Listing};
 ghost use Rattle.zk_command.specs.declared.settings.Amount.{Amount};
 ghost use Rattle.zk_command.specs.declared.settings.PlayOptions.{PlayOptions};
-ghost use Rattle.zk_command.specs.CommandLine.{Asks, HasLimits, IsAmount, IsNumberIn, IsOtherName, IsRefusedWith, MaySayAmount, MetSays, Says, SaysLimits, SaysListing, SaysOptions, SaysNumber, SaysSeed, SaysStory, command_line, file_argument, flag_said, form_said, number_in, number_rule, named_option, option_rule, sections_said, show_said, story_argument, table_command, usage_status, view_said, with_tables, word_of};
+ghost use Rattle.zk_command.specs.CommandLine.{Asks, HasLimits, IsAmount, IsNumberIn, IsOtherName, IsRefusedWith, MaySayAmount, MetSays, Says, SaysLimits, SaysListing, SaysNumber, SaysOptions, SaysSeed, SaysStory, code_said, command_line, file_argument, flag_said, form_said, named_option, number_in, number_rule, option_rule, sections_said, show_said, story_argument, table_command, usage_status, view_said, with_tables, word_of};
 
 use crate::listing::{Listing, Sections};
 use crate::options::{
@@ -473,7 +473,8 @@ fn sections_of(info: &ArgMatches<'_>) -> Sections
     let objects = has_flag(info, "objects");
     let tree = has_flag(info, "tree");
     let ifid = has_flag(info, "ifid");
-    let others = map || abbreviations || dictionary || objects || tree || ifid;
+    let strings = has_flag(info, "strings");
+    let others = map || abbreviations || dictionary || objects || tree || ifid || strings;
     Sections {
         header: has_flag(info, "header") || !others,
         map,
@@ -482,6 +483,18 @@ fn sections_of(info: &ArgMatches<'_>) -> Sections
         objects,
         tree,
         ifid,
+        strings,
+    }
+}
+
+/// Which code is listed.
+fn code_listing_of(found: &ArgMatches<'_>) -> Listing
+    ensures { result ≡ code_said (rows_of (found_of found.now)) }
+{
+    if has_flag(found, "all") {
+        Listing::Whole
+    } else {
+        Listing::Code
     }
 }
 
@@ -494,7 +507,7 @@ fn listing_of(name: &str, found: &ArgMatches<'_>) -> Option<Listing>
     if name == "info" {
         Some(Listing::Info(sections_of(found)))
     } else if name == "disasm" {
-        Some(Listing::Code)
+        Some(code_listing_of(found))
     } else if name == "check" {
         Some(Listing::Findings)
     } else {

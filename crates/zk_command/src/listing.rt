@@ -10,6 +10,7 @@ ghost use Rattle.zk_command.specs.Listing.{AreSections, EndsListing, IsAsked, Is
 ghost use Rattle.zk_command.specs.Playing.{IsReported};
 ghost use Rattle.zk_command.specs.Verdict.{IsStart};
 ghost use Rattle.zk_command.specs.declared.listing.Listing.TheVariants as listing;
+ghost use Rattle.zk_command.specs.declared.listing.Section.TheVariants as section;
 
 use crate::about::About;
 use crate::clean::verdict;
@@ -22,8 +23,10 @@ use std::io::Read;
 use zk_inspect::check::finding_lines::write_findings;
 use zk_inspect::error::ListError;
 use zk_inspect::listing::{abbreviations, dictionary, header, ifid, map, objects, tree};
-use zk_inspect::reach::disassembly::disassemble;
+use zk_inspect::reach::disassembly::{disassemble, disassemble_whole};
 use zk_inspect::reach::reach;
+use zk_inspect::texts::{find_texts, list_texts};
+use zk_inspect::whole::find_whole;
 use zk_mem::memory::{Memory, Setup};
 use zk_mem::story::Story;
 use zk_term::target::{Failed, Target, write_all};
@@ -42,10 +45,11 @@ pub enum Section {
     Objects,
     Tree,
     Ifid,
+    Strings,
 }
 
 /// The sections in the order in which they are shown.
-const SECTIONS: [Section; 7] = [
+const SECTIONS: [Section; 8] = [
     Section::Header,
     Section::Map,
     Section::Abbreviations,
@@ -53,6 +57,7 @@ const SECTIONS: [Section; 7] = [
     Section::Objects,
     Section::Tree,
     Section::Ifid,
+    Section::Strings,
 ];
 
 /// Which sections are shown.
@@ -65,6 +70,7 @@ pub struct Sections {
     pub objects: bool,
     pub tree: bool,
     pub ifid: bool,
+    pub strings: bool,
 }
 
 impl Sections {
@@ -80,6 +86,7 @@ impl Sections {
             Section::Objects => self.objects,
             Section::Tree => self.tree,
             Section::Ifid => self.ifid,
+            Section::Strings => self.strings,
         }
     }
 }
@@ -89,8 +96,10 @@ impl Sections {
 pub enum Listing {
     /// Sections on its tables.
     Info(Sections),
-    /// Its disassembly.
+    /// Its reachable code.
     Code,
+    /// The same, with the routines that lie beside.
+    Whole,
     /// What is wrong with it.
     Findings,
 }
@@ -107,7 +116,22 @@ fn title(section: Section) -> &'static [u8]
         Section::Objects => b"[objects]\n",
         Section::Tree => b"[tree]\n",
         Section::Ifid => b"[ifid]\n",
+        Section::Strings => b"[strings]\n",
     }
+}
+
+/// Writes the texts that lie in a story, by its code and the routines that lie beside.
+fn list_strings<T: Target>(alloc: Global, memory: &Memory, target: &mut T) -> Result<(), ListError>
+    ensures { IsWritten (IsOfSection section.Strings memory.now) result
+        (device T.taken T.failed target.old) (device T.taken T.failed target.new) }
+{
+    let Ok(whole) = find_whole(alloc, memory, &[], &[]) else {
+        return Err(ListError::Memory);
+    };
+    let Ok(texts) = find_texts(alloc, memory, &whole.code) else {
+        return Err(ListError::Memory);
+    };
+    list_texts(memory, &texts, target)
 }
 
 /// Writes what stands in a section.
@@ -128,6 +152,7 @@ fn list_below<T: Target>(
         Section::Objects => objects(memory, target),
         Section::Tree => tree(alloc, memory, target),
         Section::Ifid => ifid(memory, target),
+        Section::Strings => list_strings(alloc, memory, target),
     }
 }
 
@@ -192,6 +217,17 @@ fn list_code<T: Target>(alloc: Global, memory: &Memory, target: &mut T) -> Resul
     disassemble(memory, &code, target)
 }
 
+/// Writes a disassembly with the routines that lie beside.
+fn list_whole<T: Target>(alloc: Global, memory: &Memory, target: &mut T) -> Result<(), ListError>
+    ensures { IsWritten (IsListing listing.Whole memory.now) result
+        (device T.taken T.failed target.old) (device T.taken T.failed target.new) }
+{
+    let Ok(whole) = find_whole(alloc, memory, &[], &[]) else {
+        return Err(ListError::Memory);
+    };
+    disassemble_whole(memory, &whole, target)
+}
+
 /// Writes what is wrong with a story, and tells whether something is.
 fn list_findings<T: Target>(
     alloc: Global,
@@ -230,6 +266,10 @@ fn list<T: Target>(
             Err(error) => Err(error),
         },
         Listing::Code => match list_code(alloc, memory, target) {
+            Ok(()) => Ok(false),
+            Err(error) => Err(error),
+        },
+        Listing::Whole => match list_whole(alloc, memory, target) {
             Ok(()) => Ok(false),
             Err(error) => Err(error),
         },

@@ -172,7 +172,7 @@ const FILES_FROM: CommandOption = CommandOption::File {
 };
 
 /// The options of `info`.
-const INFO_OPTIONS: [CommandOption; 12] = [
+const INFO_OPTIONS: [CommandOption; 13] = [
     CommandOption::Flag {
         name: "header",
         help: "Lists what the header says",
@@ -201,6 +201,10 @@ const INFO_OPTIONS: [CommandOption; 12] = [
         name: "ifid",
         help: "Lists the IFID, by which catalogues name the story",
     },
+    CommandOption::Flag {
+        name: "strings",
+        help: "Lists the texts that lie in the story one after another",
+    },
     ROWS,
     JSON,
     RECURSIVE,
@@ -215,11 +219,20 @@ const INFO: CommandTable = CommandTable {
     options: &INFO_OPTIONS,
 };
 
+/// The options of `disasm`.
+const DISASM_OPTIONS: [CommandOption; 2] = [
+    CommandOption::Flag {
+        name: "all",
+        help: "Lists the routines that lie beside these as well",
+    },
+    CommandOption::Story,
+];
+
 const DISASM: CommandTable = CommandTable {
     name: "disasm",
     about: "Lists the instructions that a run of a story can reach",
     example: "Example: zkit disasm story.z5",
-    options: &[CommandOption::Story],
+    options: &DISASM_OPTIONS,
 };
 
 /// The options of `check`.

@@ -149,6 +149,21 @@ fn put_finding(
     json.end_object()
 }
 
+/// Writes a text that lies in the story.
+fn put_lying_text(
+    json: &mut Writer,
+    alloc: Global,
+    address: &str,
+    packed: &str,
+    text: Text,
+) -> Result<(), AllocError> {
+    json.begin_object()?;
+    put_member(json, "address", address)?;
+    put_member(json, "packed", packed)?;
+    put_quoted(json, alloc, "text", text)?;
+    json.end_object()
+}
+
 /// Writes an object of the tree.
 fn put_node(
     json: &mut Writer,
@@ -223,6 +238,11 @@ fn put_fact(
         } => put_node(json, alloc, depth, number, Some(name)),
         Fact::NodeAgain { depth, number } => put_node(json, alloc, depth, number, None),
         Fact::Ifid(ifid) => json.string(ifid),
+        Fact::LyingText {
+            address,
+            packed,
+            text,
+        } => put_lying_text(json, alloc, address, packed, text),
         Fact::Finding {
             kind,
             address,

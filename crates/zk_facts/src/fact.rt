@@ -13,6 +13,7 @@ pub enum Section {
     Objects,
     Tree,
     Ifid,
+    Strings,
     Findings,
 }
 
@@ -27,6 +28,7 @@ impl Section {
             "[objects]" => Some(Section::Objects),
             "[tree]" => Some(Section::Tree),
             "[ifid]" => Some(Section::Ifid),
+            "[strings]" => Some(Section::Strings),
             _ => None,
         }
     }
@@ -41,6 +43,7 @@ impl Section {
             Section::Objects => "objects",
             Section::Tree => "tree",
             Section::Ifid => "ifid",
+            Section::Strings => "strings",
             Section::Findings => "findings",
         }
     }
@@ -107,6 +110,12 @@ pub enum Fact<'a> {
         number: &'a str,
     },
     Ifid(&'a str),
+    /// A text that lies in the story, by its byte address and its packed address.
+    LyingText {
+        address: &'a str,
+        packed: &'a str,
+        text: Text<'a>,
+    },
     Finding {
         kind: &'a str,
         address: &'a str,
@@ -188,6 +197,17 @@ fn node_on(line: &str) -> Fact<'_> {
     }
 }
 
+/// The text that lies in the story on a line.
+fn text_on(line: &str) -> Fact<'_> {
+    let (address, rest) = cut_word(line);
+    let (packed, text) = cut_word(rest);
+    Fact::LyingText {
+        address,
+        packed: packed.trim_start_matches('#'),
+        text: cut_text(text).0,
+    }
+}
+
 /// What a line in a section says.
 pub fn fact_on(section: Section, line: &str) -> Fact<'_> {
     match section {
@@ -196,6 +216,7 @@ pub fn fact_on(section: Section, line: &str) -> Fact<'_> {
         Section::Objects => Fact::Object(object_on(line)),
         Section::Tree => node_on(line),
         Section::Ifid => Fact::Ifid(line),
+        Section::Strings => text_on(line),
         Section::Map => {
             let (address, name) = cut_word(line);
             Fact::Part { address, name }

@@ -189,6 +189,18 @@ fn add_fact(
             add_row(rows, path, "tree", &fields)
         }
         Fact::Ifid(ifid) => add_row(rows, path, "ifid", &[Field::Plain(ifid)]),
+        Fact::LyingText {
+            address,
+            packed,
+            text,
+        } => {
+            let fields = [
+                Field::Plain(address),
+                Field::Plain(packed),
+                Field::Text(text),
+            ];
+            add_row(rows, path, "string", &fields)
+        }
         Fact::Finding {
             kind,
             address,

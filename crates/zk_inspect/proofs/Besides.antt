@@ -80,7 +80,7 @@ neighbour_marked m a n old new h only lt e r = (
   λ k. subst (λ (bs : List Bool). IsMarked bs r) (sym e) (elim k [
     | inl before ↦ marked_still old n r lt before
     | inr j ↦ subst (IsMarked (slice_set old n true)) (some_same n r (only r j)) (marked_now old n lt)
-  ])
+  ]),
 )
 
 -- where it has none
@@ -91,7 +91,7 @@ none_marked_more Q old none r = (λ k. inl k, λ k. elim k [ inl before ↦ befo
 pub next_marked : (m : MemoryMap) (a c : ℕ) (old new : List Bool) → code_start m a ≡ Some c → ((r : ℕ) → IsMarked new r ↔ (IsMarked old r ⊎ IsNeighbour m c r)) → (r : ℕ) → IsMarked new r ↔ (IsMarked old r ⊎ IsNextRoutine m a r)
 next_marked m a c old new e h r = (
   λ k. elim ((h r).0 k) [ inl before ↦ inl before | inr j ↦ inr (c, e, j) ],
-  λ k. elim k [ inl before ↦ (h r).1 (inl before) | inr j ↦ (h r).1 (inr (subst (λ (x : ℕ). IsNeighbour m x r) (some_same j.0 c (sym j.1 ∙ e)) j.2)) ]
+  λ k. elim k [ inl before ↦ (h r).1 (inl before) | inr j ↦ (h r).1 (inr (subst (λ (x : ℕ). IsNeighbour m x r) (some_same j.0 c (sym j.1 ∙ e)) j.2)) ],
 )
 
 pub no_next : (m : MemoryMap) (a k : ℕ) → code_start m a ≡ None → IsNextRoutine m a k → ⊥
@@ -130,7 +130,9 @@ closing_marked next old marks new a later h at size e = record {
 -- nothing is next to one that is not
 pub closing_on : (next : ℕ → ℕ → Type 0) (old marks : List Bool) (a : ℕ) → IsClosing next old a marks → get_or marks a false ≡ false → IsClosing next old (a + 1) marks
 closing_on next old marks a h none = record {
-  size = h.size; sound = h.sound; kept = h.kept;
+  size = h.size;
+  sound = h.sound;
+  kept = h.kept;
   closed = λ r n lt k j. elim (cases_eq r a) [
     | inl same ↦ absurd (let at : IsMarked marks a = subst (IsMarked marks) same k in let e = sym at ∙ none in cc)
     | inr ne ↦ h.closed r n (omega arith) k j

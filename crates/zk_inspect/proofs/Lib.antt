@@ -3,6 +3,7 @@ pub mod Inside
 pub mod Searching
 pub mod Named
 pub mod Besides
+pub mod Lying
 pub mod Outputs
 pub mod Quotes
 pub mod OneList

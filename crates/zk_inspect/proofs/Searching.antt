@@ -206,7 +206,7 @@ also_one m xs x old mid new h k r = (
       | inl before ↦ (k r).1 (inl ((h r).1 (inr (n.0, before, n.2))))
       | inr same ↦ (k r).1 (inr (n.0, subst (λ (y : ℕ). Contains (x ∷ []) y) same (has_one x), n.2))
     ]
-  ]
+  ],
 )
 
 routine_marked : (m : MemoryMap) (roots named : List ℕ) (s : Search) (new : List Bool) → IsOnItsWay m roots s (length s.found) → AlsoMarked m named s.routines new → (r : ℕ) → IsRoutineFrom m roots named r → IsMarked new r
@@ -273,15 +273,18 @@ one_marked m r old new start lt e x = (
   λ h. subst (λ (bs : List Bool). IsMarked bs x) (sym e) (elim h [
     | inl before ↦ marked_still old r x lt before
     | inr n ↦ only_one (λ y. IsMarked (slice_set old r true) y) r (marked_now old r lt) x n.1
-  ])
+  ]),
 )
 
 -- and none where there is no routine
 pub none_more : (m : MemoryMap) (r : ℕ) (old : List Bool) → ((c : ℕ) → code_start m r ≡ Some c → ⊥) → AlsoMarked m (r ∷ []) old old
-none_more m r old none x = (λ k. inl k, λ h. elim h [
-  | inl before ↦ before
-  | inr n ↦ absurd (only_one (λ y. code_start m y ≡ Some n.0 → ⊥) r (none n.0) x n.1 n.2)
-])
+none_more m r old none x = (
+  λ k. inl k,
+  λ h. elim h [
+    | inl before ↦ before
+    | inr n ↦ absurd (only_one (λ y. code_start m y ≡ Some n.0 → ⊥) r (none n.0) x n.1 n.2)
+  ],
+)
 
 pub if_reachable : {E : Type 0} (m : MemoryMap) (r : Result Code E) (first : ℕ) → first ≡ (header_of m.file).first_instruction → IfOk r (IsCodeFrom m (first ∷ []) []) → IfOk r (IsCodeOf m)
 if_reachable m (Ok code) first same h = is_reachable m code first same h

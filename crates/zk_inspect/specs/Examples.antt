@@ -11,6 +11,7 @@ use Rattle.zk_inspect.specs.Listing.{variable_text, operand_text, store_text, br
 use Rattle.zk_inspect.specs.AbbreviationLines.{abbreviation_line, abbreviation_lines}
 use Rattle.zk_inspect.specs.DictionaryLines.{dictionary_lines, entry_text}
 use Rattle.zk_inspect.specs.HeaderLines.{header_lines}
+use Rattle.zk_inspect.specs.LyingTexts.{text_lines}
 use Rattle.zk_inspect.specs.MapLines.{map_lines}
 use Rattle.zk_inspect.specs.ObjectLines.{object_line}
 use Rattle.zk_term.specs.Numbers.{address_digits, word_digits, byte_digits}
@@ -179,6 +180,14 @@ abbrev pub RoutinesByOrigin : Type 0
 RoutinesByOrigin =
     (whole_disassembly (memory_of 5 (0xba ∷ 2 ∷ 0xb1 ∷ 0 ∷ 0xb0 ∷ [])) (record { code = record { addresses = 0 ∷ 2 ∷ 4 ∷ []; routines = 1 ∷ 3 ∷ [] }; reached = false ∷ true ∷ false ∷ [] })
     ≡ codes "00000 quit\n00002 rfalse\n00004 rtrue\nroutine 00001 locals 2 reached\nroutine 00003 locals 0 beside\n")
+
+-- a text has its byte address, its packed address in units of 2, 4 and 8 bytes in versions 3, 5 and 8, and what it prints
+-- (sections 1.2.3 and 3.2); 17 25 9C A5 is a quote and a new line
+abbrev pub LinesOfLyingTexts : Type 0
+LinesOfLyingTexts =
+    (text_lines (memory_of 3 (0 ∷ 0 ∷ 0x17 ∷ 0x25 ∷ 0x9c ∷ 0xa5 ∷ 0x80 ∷ 0 ∷ [])) (2 ∷ 6 ∷ []) ≡ codes "00002 #0001 \"~^\"\n00006 #0003 \"   \"\n")
+    × (text_lines (memory_of 5 (replicate 8 0 ++ 0x17 ∷ 0x25 ∷ 0x9c ∷ 0xa5 ∷ [])) (8 ∷ []) ≡ codes "00008 #0002 \"~^\"\n")
+    × (text_lines (memory_of 8 (replicate 8 0 ++ 0x17 ∷ 0x25 ∷ 0x9c ∷ 0xa5 ∷ [])) (8 ∷ []) ≡ codes "00008 #0001 \"~^\"\n")
 
 -- ---- listings (sections 3.3, 11.1, 12 and 13)
 

@@ -1,6 +1,7 @@
 pub mod Lists
 pub mod Codes
 pub mod Beside
+pub mod LyingTexts
 pub mod Search
 pub mod Listing
 pub mod Written

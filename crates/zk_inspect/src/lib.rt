@@ -8,4 +8,5 @@ pub mod laws;
 pub mod listing;
 mod objects;
 pub mod reach;
+pub mod texts;
 pub mod whole;

@@ -194,7 +194,13 @@ impl Search {
     }
 
     /// All ways on from an instruction are reached.
-    fn follow(&mut self, memory: &Memory, roots: &[u32], address: u32, instr: &Instr) -> Result<(), AllocError>
+    fn follow(
+        &mut self,
+        memory: &Memory,
+        roots: &[u32],
+        address: u32,
+        instr: &Instr,
+    ) -> Result<(), AllocError>
         requires search { IsSearch memory.now roots.now self.old }
         requires reached { IsReachedFrom memory.now roots.now address }
         requires stands { IsInstruction memory.now address instr.now instr.now.next }
@@ -211,7 +217,13 @@ impl Search {
     }
 
     /// All ways on from an address are reached, where there is an instruction.
-    fn expand(&mut self, memory: &Memory, roots: &[u32], ends: &TextEnds, address: u32) -> Result<(), AllocError>
+    fn expand(
+        &mut self,
+        memory: &Memory,
+        roots: &[u32],
+        ends: &TextEnds,
+        address: u32,
+    ) -> Result<(), AllocError>
         requires ends { KnowsEnds memory.now ends.now }
         requires search { IsSearch memory.now roots.now self.old }
         requires reached { IsReachedFrom memory.now roots.now address }

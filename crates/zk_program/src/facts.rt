@@ -32,6 +32,7 @@ const HEADER: Listing = Listing::Info(Sections {
     objects: false,
     tree: false,
     ifid: false,
+    strings: false,
 });
 
 /// A listing in memory, and how it ended.

@@ -48,7 +48,7 @@ fn addressed_by(memory: &Memory, operation: Printing, operand: Option<u16>) -> O
 
 /// The byte address of the text that an instruction prints by a constant.
 #[tactic(auto, unfolding(crate::specs::Texts::constant_text))]
-fn constant_text(memory: &Memory, instr: &Instr) -> Option<u32>
+pub(crate) fn constant_text(memory: &Memory, instr: &Instr) -> Option<u32>
     ensures value { result ≡ constant_text memory.now instr.now }
     ensures near { IfSome result (λ a. a ≤ 8 * 65535) }
 {

@@ -11,8 +11,8 @@ ghost use Rattle.zk_inspect.specs.Listing.{address_line, disassembly, found_text
 use crate::error::ListError;
 use crate::listing::quoting::write_quoted;
 use crate::reach::code::Code;
-use crate::whole::Whole;
 use crate::reach::operands::{write_branch, write_operands, write_store};
+use crate::whole::Whole;
 use itoa::Buffer;
 use zk_code::decode::decode;
 use zk_code::instr::Instr;
@@ -86,7 +86,10 @@ fn write_routine<P: LineWriter>(writer: &mut P, memory: &Memory, routine: u32, e
     let digits = hex_digits_of(routine);
     let shown = &digits[zeros_before(routine)..];
     let count = buffer.format(local_count(memory, routine).unwrap_or(0));
-    write_texts(writer, &[b"routine ", shown, b" locals ", count.as_bytes(), end]);
+    write_texts(
+        writer,
+        &[b"routine ", shown, b" locals ", count.as_bytes(), end],
+    );
 }
 
 /// Writes the line of a routine.
