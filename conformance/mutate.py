@@ -175,13 +175,20 @@ def read_left_out() -> set[str]:
 
 
 def code_uses() -> dict[str, str]:
-    """What each crate stands on, from crates.txt; a static library is left out, since no crate can stand on it."""
-    uses = {}
+    """What each crate stands on, from crates.txt. Left out are static libraries, since no crate can stand on them, and
+    the crates on which these alone stand, since no row and no test calls them."""
+    uses: dict[str, str] = {}
+    left_out: set[str] = set()
     for line in (TOP / "crates.txt").read_text(encoding="utf-8").splitlines():
         head, found, names = line.partition("#")[0].partition(":")
-        if found and "staticlib" not in head.split():
+        if found:
             uses[head.split()[0]] = names.strip()
-    return uses
+            if "staticlib" in head.split():
+                left_out.add(head.split()[0])
+    above = {name: {it for it, names in uses.items() if name in names.split()} for name in uses}
+    while more := {name for name in uses if above[name] and above[name] <= left_out} - left_out:
+        left_out |= more
+    return {name: names for name, names in uses.items() if name not in left_out}
 
 
 def read_edits(only: list[str]) -> list[Edit]:

@@ -1,78 +1,38 @@
 // Playing a story from C: what `library/raw.h` declares, on which `library/zkit.c` makes the functions of `include/zkit.h`.
 #![tactic(auto)]
 
-ghost use Rattle.std.specs.Prelude.{◌≡◌, ◌∷◌, ◌==◌, [], List, ℕ, None, Some, IfSome, false, not};
+ghost use Rattle.std.specs.Prelude.{◌≡◌, ◌∷◌, ◌==◌, [], List, ℕ, None, Some, not};
 ghost use Rattle.zk_mem.specs.Header.{header_of};
 ghost use Rattle.zk_term.specs.Windows.{row_text, tallest_row_text};
 ghost use Rattle.zk_vm.specs.Outcome.{with_grid_forgotten};
 ghost use Rattle.zk_vm.specs.Answers.Answer.{Typed, GameKept, File};
 ghost use Rattle.zk_vm.specs.Plays.{codes_read};
-ghost use Rattle.zk_c.specs.Texts.{IsPutInFront, IsTaken};
-ghost use Rattle.zk_c.specs.Calls.{IsStatus, awaited, character_read, character_refused, line_refused, restore_refused, save_refused};
-ghost use Rattle.zk_c.specs.Drawing.{longest_line, row_bytes, row_number, window_of};
-ghost use Rattle.zk_c.specs.Listings.{listing_numbered};
-ghost use Rattle.zk_c.specs.Numbers.{address_number, reason_number, status_number};
-ghost use Rattle.zk_c.specs.Exports.{AreLimits, IsAnswered, IsImaged, IsListed, IsOpened, IsOpenedAgain, IsPut, IsSnapshotPut, IsTurn, IsUndo, OnPlay, facts_of, limits_said, view_if};
+ghost use Rattle.zk_host.specs.Texts.{IsPutInFront, IsTaken};
+ghost use Rattle.zk_host.specs.Calls.{IsStatus, awaited, character_read, character_refused, line_refused, restore_refused, save_refused};
+ghost use Rattle.zk_host.specs.Drawing.{longest_line, row_bytes, row_number, window_of};
+ghost use Rattle.zk_host.specs.Listings.{listing_numbered};
+ghost use Rattle.zk_host.specs.Numbers.{address_number, reason_number, status_number};
+ghost use Rattle.zk_host.specs.Exports.{IsAnswered, IsImaged, IsListed, IsOpened, IsOpenedAgain, IsSnapshotPut, IsTurn, IsUndo, OnPlay, facts_of, limits_said, view_if};
 
-mod collected;
-mod drawing;
-mod handle;
-mod listing;
-mod loose;
-mod name;
-mod numbers;
-mod play;
-mod reasons;
-mod text;
-mod typed;
-
-use drawing::{StatusFigures, WindowFigures};
-use handle::Zkit;
-use listing::listing_of;
-use numbers::{
+use std::alloc::Global;
+use zk_host::drawing::{StatusFigures, WindowFigures};
+use zk_host::facts::{Facts, facts_of};
+use zk_host::handle::Zkit;
+use zk_host::listing::listing_of;
+use zk_host::numbers::{
     address_number, answer_number, reason_number, refused_number, snapshot_number, status_number,
     turn_number,
 };
-use play::Play;
-use reasons::words;
-use std::alloc::Global;
-use text::put_front;
-use zk_step::state::game_state::View;
-use zk_vm::limits::Limits;
-use zk_vm::stop::Stop;
+use zk_host::options::{limits_said, view_if};
+use zk_host::play::Play;
+use zk_host::reasons::words;
+use zk_host::text::{put_file, put_front};
 
 /// What is not awaited: a handle that is not open awaits nothing.
 const NOT_AWAITED: u32 = 1;
 
-/// The buffer has no room for a file.
-const NO_ROOM: u32 = 3;
-
 /// A limit lies out of its range.
 const BAD_LIMIT: u32 = 7;
-
-/// The limits that numbers say, where each lies in its range.
-fn limits_said(frames: u32, words: u32, undo: u32, steps: u32) -> Option<Limits>
-    ensures said { IfSome result (λ l. (l ≡ limits_said frames words undo steps) × AreLimits l) }
-    ensures none { result ≡ None → AreLimits (limits_said frames words undo steps) → ⊥ }
-{
-    if frames > 65_535 || words > 65_535 || undo > 64 {
-        return None;
-    }
-    let limits = Limits {
-        frames: frames as u16,
-        words: words as u16,
-        undo: undo as u8,
-        steps,
-    };
-    if limits.check() { Some(limits) } else { None }
-}
-
-/// What is shown of the upper window.
-fn view_if(upper: u32) -> View
-    ensures { result ≡ view_if upper }
-{
-    if upper == 0 { View::Plain } else { View::Upper }
-}
 
 /// Opens a story at its start, in place of one that the handle may have: `Machine::start` of `zk_vm`. Answers 0, or why
 /// it is not opened: 1 to 6 are the numbers of `OpenError`, 7 a limit out of its range. Then the handle is as it was.
@@ -186,21 +146,9 @@ pub extern "C" fn zk_transcript(alloc: Global, game: &mut Zkit, buffer: &mut [u8
     count
 }
 
-/// Puts a file at the front of a buffer and tells its length; where there is no room for it the buffer stays.
-fn put_file(file: &[u8], buffer: &mut [u8], length: &mut usize) -> u32
-    ensures { IsPut file.now buffer.old buffer.new length.old length.new result }
-{
-    *length = file.len();
-    if file.len() > buffer.len() {
-        return NO_ROOM;
-    }
-    buffer[..file.len()].copy_from_slice(file);
-    0
-}
-
 /// Copies the saved game that waits to be kept to the front of a buffer, and its length in bytes to `length`: `image` of
 /// `zk_vm`. Answers 0, 1 where none is to be kept, 3 where the buffer is shorter, or 4 where there is no memory.
-#[tactic(auto, using(crate::proofs::Exporting::not_imaged))]
+#[tactic(auto, using(zk_host::proofs::Exporting::not_imaged))]
 #[unsafe(no_mangle)]
 pub extern "C" fn zk_image(
     alloc: Global,
@@ -317,32 +265,6 @@ pub extern "C" fn zk_restore_none(alloc: Global, game: &mut Zkit) -> u32
     answer_number(answered)
 }
 
-/// Why the last turn has ended the story.
-fn stopped(alloc: Global, game: &mut Zkit) -> Option<Stop>
-    ensures { OnPlay game.old.play game.new.play
-        (λ old new. (new ≡ old) × (result ≡ old.stopped)) (result ≡ None) }
-{
-    let Some(play) = game.take(alloc) else {
-        return None;
-    };
-    let stopped = play.stopped();
-    game.put(alloc, play);
-    stopped
-}
-
-/// Whether an instruction has shown too much text.
-fn has_shown_too_much(alloc: Global, game: &mut Zkit) -> bool
-    ensures { OnPlay game.old.play game.new.play
-        (λ old new. (new ≡ old) × (result ≡ old.text.too_much)) (result ≡ false) }
-{
-    let Some(play) = game.take(alloc) else {
-        return false;
-    };
-    let too_much = play.has_shown_too_much();
-    game.put(alloc, play);
-    too_much
-}
-
 /// Why the story has stopped, by what the last turn found: 1 its end, 2 a fault, 3 a limit, 4 its input (which these
 /// functions never end), 5 lack of memory, 6 too much text of one instruction; 0 where it has not.
 #[unsafe(no_mangle)]
@@ -351,8 +273,8 @@ pub extern "C" fn zk_status(alloc: Global, game: &mut Zkit) -> u32
         (λ old new. (new ≡ old) × (result ≡ status_number old.text.too_much old.stopped))
         (result ≡ 0) }
 {
-    let too_much = has_shown_too_much(alloc, game);
-    status_number(too_much, stopped(alloc, game))
+    let too_much = game.has_shown_too_much(alloc);
+    status_number(too_much, game.stopped(alloc))
 }
 
 /// The number of the fault or the limit that has stopped the story; 0 where none has.
@@ -361,7 +283,7 @@ pub extern "C" fn zk_reason(alloc: Global, game: &mut Zkit) -> u32
     ensures { OnPlay game.old.play game.new.play
         (λ old new. (new ≡ old) × (result ≡ reason_number old.stopped)) (result ≡ 0) }
 {
-    reason_number(stopped(alloc, game))
+    reason_number(game.stopped(alloc))
 }
 
 /// The byte address of the instruction with the fault or the limit that has stopped the story; 0 where none has.
@@ -370,7 +292,7 @@ pub extern "C" fn zk_address(alloc: Global, game: &mut Zkit) -> u32
     ensures { OnPlay game.old.play game.new.play
         (λ old new. (new ≡ old) × (result ≡ address_number old.stopped)) (result ≡ 0) }
 {
-    address_number(stopped(alloc, game))
+    address_number(game.stopped(alloc))
 }
 
 /// Goes back to the newest state that the story has kept, in place of an answer to a read: `go_back` of `zk_vm`. Answers 0,
@@ -484,15 +406,6 @@ pub extern "C" fn zk_status_name(alloc: Global, game: &mut Zkit, buffer: &mut [u
     count
 }
 
-/// What a story's file says of it.
-#[repr(C)]
-#[derive(Drop)]
-pub struct Facts {
-    pub version: u32,
-    pub release: u32,
-    pub checksum: u32,
-}
-
 /// Tells version, release and checksum that a story's file says, and puts its serial number at the front of a buffer.
 /// Answers how many bytes.
 #[unsafe(no_mangle)]
@@ -513,11 +426,7 @@ pub extern "C" fn zk_facts(
     };
     let header = play.header();
     game.put(alloc, play);
-    *facts = Facts {
-        version: header.version as u32,
-        release: header.release as u32,
-        checksum: header.checksum as u32,
-    };
+    *facts = facts_of(&header);
     put_front(&header.serial, buffer)
 }
 
@@ -567,5 +476,5 @@ pub extern "C" fn zk_listing(alloc: Global, game: &mut Zkit, buffer: &mut [u8]) 
 pub extern "C" fn zk_close(alloc: Global, game: &mut Zkit)
     ensures { game.new.play ≡ None }
 {
-    drop(game.take(alloc));
+    game.close(alloc);
 }

@@ -1,8 +1,8 @@
 use Rattle.std.proofs.Common.{◌∙◌, Some, refl, ap, subst}
-use Rattle.zk_c.specs.Calls.{begun_play}
-use Rattle.zk_c.specs.Exports.{AreLimits}
-use Rattle.zk_c.specs.Exports.IsOpened.{Opened, NoLimits}
-use Rattle.zk_c.proofs.Exporting.{not_opened}
+use Rattle.zk_host.specs.Calls.{begun_play}
+use Rattle.zk_host.specs.Exports.{AreLimits}
+use Rattle.zk_host.specs.Exports.IsOpened.{Opened, NoLimits}
+use Rattle.zk_host.proofs.Exporting.{not_opened}
 use Rattle.zk_c.proofs.zk_open.Goals as goal
 
 pub returns-in-None : goal.returns-in-None

@@ -1,6 +1,0 @@
-use Rattle.std.proofs.Common.{◌∙◌, rules}
-use Rattle.zk_c.proofs.Collecting.{left_over}
-use Rattle.zk_c.proofs.collected.Collected.has.Goals as goal
-
-pub returns : goal.returns
-returns c = rw (c.saturating_sub.ensures, c.len.ensures, c.len-2.ensures) (left_over _ _ _)

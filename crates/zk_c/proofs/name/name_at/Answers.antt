@@ -1,5 +1,0 @@
-use Rattle.zk_c.proofs.Naming.{no_name}
-use Rattle.zk_c.proofs.name.name_at.Goals as goal
-
-pub returns-in-None : goal.returns-in-None
-returns-in-None c = rw (c.in-None.is, c.new-collected.ensures) (no_name c.args.memory.now)

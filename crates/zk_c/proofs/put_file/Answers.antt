@@ -1,9 +1,0 @@
-use Rattle.std.proofs.Common.{rules, refl}
-use Rattle.zk_c.specs.Exports.IsPut.{Whole, NoRoom}
-use Rattle.zk_c.proofs.put_file.Goals as goal
-
-pub returns-then-file-buffer : goal.returns-then-file-buffer
-returns-then-file-buffer c = NoRoom refl (search rules) refl
-
-pub returns : goal.returns
-returns c = Whole refl (rw c.copy_from_slice.ensures.after refl)

@@ -1,0 +1,207 @@
+-- What the calls of a play answer, and how they leave it.
+use Rattle.std.specs.Prelude.{◌≡◌, ◌⊎◌, ℕ, Bool, true, false, List, Option, Some, None, Result, Ok, Err, if◌then◌else◌}
+use Rattle.std.specs.Global.{Vec, Box}
+use Rattle.zk_text.specs.Extra.{own_characters}
+use Rattle.zk_step.specs.Routing.{Texts}
+use Rattle.zk_step.specs.declared.state.game_state.View.{View}
+use Rattle.zk_vm.specs.declared.limits.Limits.{Limits}
+use Rattle.zk_step.specs.declared.state.ending.Event.{Event}
+use Rattle.zk_step.specs.declared.state.ending.Event.TheVariants.{Line, Char, Save, Restore}
+use Rattle.zk_vm.specs.declared.stop.Stop.{Stop}
+use Rattle.zk_vm.specs.Answers.{Answer, undone}
+use Rattle.zk_vm.specs.Halts.{HasPaused, IsLeftAs, IsUndone, event_waited}
+use Rattle.zk_vm.specs.Outcome.{Session, begun, given}
+use Rattle.zk_vm.specs.Plays.{IsRunOn, image_of}
+use Rattle.zk_host.specs.declared.collected.Collected.{Collected}
+use Rattle.zk_host.specs.declared.play.Asked.{Asked}
+use Rattle.zk_host.specs.declared.play.Asked.TheVariants as asked
+use Rattle.zk_host.specs.declared.play.Play.{Play}
+use Rattle.zk_host.specs.declared.play.SnapshotRefusal.{SnapshotRefusal}
+use Rattle.zk_host.specs.declared.play.SnapshotRefusal.TheVariants as snapshot_refused
+use Rattle.zk_host.specs.declared.play.Refusal.{Refusal}
+use Rattle.zk_host.specs.declared.play.Refusal.TheVariants as refused
+use Rattle.zk_step.specs.declared.output.status.StatusLine.{StatusLine}
+use Rattle.zk_host.specs.declared.drawing.StatusFigures.{StatusFigures}
+use Rattle.zk_host.specs.Collecting.{Collects, has_no_room, is_lost, no_text, nothing_collected}
+use Rattle.zk_host.specs.Drawing.{HasStatus, figures_or_none}
+use Rattle.zk_host.specs.Names.{HasName}
+use Rattle.zk_mem.specs.Fresh.{fresh}
+use Rattle.zk_mem.specs.Story.{refusal}
+use Rattle.zk_mem.specs.declared.story.OpenError.TheVariants.{OutOfMemory}
+use Rattle.zk_snapshot.specs.Opening.{IsOpened, IsRefused}
+use Rattle.zk_snapshot.specs.Snapshots.{HasSnapshot, snapshot_of}
+use Rattle.zk_host.specs.declared.listing.Listing.{Listing}
+use Rattle.zk_host.specs.Listings.{IsListing}
+use Rattle.zk_host.specs.Typing.{is_line, character_code}
+
+-- what a play waits for
+abbrev pub awaited : Play → Option Event
+awaited p = event_waited p.machine.waiting
+
+-- a play of a machine, with no text
+abbrev pub play_of : Session → Play
+play_of m = record { machine = m; text = nothing_collected; name = nothing_collected; listing = no_text; stopped = None }
+
+-- a play at the start of a story
+abbrev pub begun_play : List ℕ → ℕ → Limits → View → Play
+begun_play story seed limits view = play_of (begun story seed limits view)
+
+-- ---- running
+
+abbrev pub stop_of : Result Event Stop → Option Stop
+stop_of (Ok event) = None
+stop_of (Err stop) = Some stop
+
+-- what the screen or the transcript shows of a run is collected; where text is lost, perhaps a first part of it alone
+abbrev pub Shown : Collected → Collected → Texts → Type 0
+Shown old new t = Collects old new t.screen t.script
+
+-- why a run has paused
+abbrev pub pause_of : Play → Asked
+pause_of p = if has_no_room p.text then asked.Room else asked.Time
+
+-- a play has run to an event or its stop, and collected what it shows; where text is lost, that is its stop
+abbrev pub HasEnded : Play → Play → Result Event Stop → Type 0
+HasEnded old new answer =
+    IsRunOn old.machine new.machine answer (is_lost new.text) (Shown old.text new.text)
+    × (new ≡ record old { machine = new.machine; text = new.text; stopped = stop_of answer })
+
+-- a play has paused after so many steps, or once there is no room for more text
+abbrev pub HasPausedBy : Play → Play → ℕ → Asked → Type 0
+HasPausedBy old new steps why =
+    HasPaused Collects has_no_room old.text new.text steps old.machine new.machine
+    × (why ≡ pause_of new) × (is_lost new.text ≡ false)
+    × (new ≡ record old { machine = new.machine; text = new.text })
+
+-- a play has run for so many steps at most, by what the turn tells
+abbrev pub HasRun : Play → Play → ℕ → Result Asked Stop → Type 0
+HasRun old new steps (Ok (asked.Answer event)) = HasEnded old new (Ok event)
+HasRun old new steps (Ok asked.Room) = HasPausedBy old new steps asked.Room
+HasRun old new steps (Ok asked.Time) = HasPausedBy old new steps asked.Time
+HasRun old new steps (Err stop) = HasEnded old new (Err stop)
+
+-- a play with so much room for text
+abbrev pub with_room : Play → ℕ → Play
+with_room p room = record p { text = record p.text { room = room } }
+
+-- by whether there is none
+abbrev pub IsTurnedIn : Bool → Play → Play → ℕ → Result Asked Stop → Type 0
+IsTurnedIn true old new steps answer = (answer ≡ Ok asked.Room) × (new ≡ old)
+IsTurnedIn false old new steps answer = HasRun old new steps answer
+
+-- a turn, by what was waited for and why the story has stopped before: both are told again, and nothing is run
+abbrev pub IsTurnedBy : Option Event → Option Stop → Play → Play → (steps room : ℕ) → Result Asked Stop → Type 0
+IsTurnedBy (Some event) stopped old new steps room answer = (answer ≡ Ok (asked.Answer event)) × (new ≡ old)
+IsTurnedBy None (Some stop) old new steps room answer = (answer ≡ Err stop) × (new ≡ old)
+IsTurnedBy None None old new steps room answer = IsTurnedIn (has_no_room (with_room old room).text) (with_room old room) new steps answer
+
+abbrev pub IsTurned : Play → Play → (steps room : ℕ) → Result Asked Stop → Type 0
+IsTurned old new steps room answer = IsTurnedBy (awaited old) old.stopped old new steps room answer
+
+-- ---- answering
+
+-- an answer was given to the machine, and nothing else has changed
+pub record IsGiven (before : Session) (old new : Play) (a : Answer) : Type 0 where
+  pub machine : IsLeftAs new.machine (given before a) (given before a).stopped
+  pub beside : new ≡ record old { machine = new.machine }
+
+-- an answer, by why it is refused, if it is: then nothing changes
+abbrev pub IsGivenUnless : Option Refusal → Session → Play → Play → Result (Unit {0}) Refusal → Answer → Type 0
+IsGivenUnless None before old new result a = (result ≡ Ok tt) × IsGiven before old new a
+IsGivenUnless (Some r) before old new result a = (result ≡ Err r) × (new ≡ old)
+
+-- why a line is refused, by what is waited for
+abbrev pub line_refused : Option Event → List ℕ → Option Refusal
+line_refused (Some (Line text parse)) line = if is_line line then None else Some refused.NotALine
+line_refused (Some Char) line = Some refused.NotAwaited
+line_refused (Some Save) line = Some refused.NotAwaited
+line_refused (Some Restore) line = Some refused.NotAwaited
+line_refused None line = Some refused.NotAwaited
+
+-- why the answers to other events are
+abbrev pub character_refused : Option Event → Option Refusal
+character_refused (Some Char) = None
+character_refused (Some (Line text parse)) = Some refused.NotAwaited
+character_refused (Some Save) = Some refused.NotAwaited
+character_refused (Some Restore) = Some refused.NotAwaited
+character_refused None = Some refused.NotAwaited
+
+abbrev pub save_refused : Option Event → Option Refusal
+save_refused (Some Save) = None
+save_refused (Some (Line text parse)) = Some refused.NotAwaited
+save_refused (Some Char) = Some refused.NotAwaited
+save_refused (Some Restore) = Some refused.NotAwaited
+save_refused None = Some refused.NotAwaited
+
+abbrev pub restore_refused : Option Event → Option Refusal
+restore_refused (Some Restore) = None
+restore_refused (Some (Line text parse)) = Some refused.NotAwaited
+restore_refused (Some Char) = Some refused.NotAwaited
+restore_refused (Some Save) = Some refused.NotAwaited
+restore_refused None = Some refused.NotAwaited
+
+-- the code of a character, by the extra characters in force
+abbrev pub character_read : Session → ℕ → ℕ
+character_read s c = character_code (own_characters s.state.game.memory) c
+
+-- the file of a saved game, by why it is refused, if it is; or there was no memory for it
+abbrev pub IsImage : Option Refusal → Play → Result (Vec ℕ) Refusal → Type 0
+IsImage (Some r) p result = result ≡ Err r
+IsImage None p (Ok file) = file.items ≡ image_of p.machine
+IsImage None p (Err r) = r ≡ refused.Memory
+
+-- ---- going back
+
+-- why a host can't go back, by what is waited for
+abbrev pub read_refused : Option Event → Option Refusal
+read_refused (Some (Line text parse)) = None
+read_refused (Some Char) = None
+read_refused (Some Save) = Some refused.NotAwaited
+read_refused (Some Restore) = Some refused.NotAwaited
+read_refused None = Some refused.NotAwaited
+
+-- whether it was done, as it is told
+abbrev pub done_or_none : Bool → Result (Unit {0}) Refusal
+done_or_none true = Ok tt
+done_or_none false = Err refused.NoState
+
+-- a host has gone back to the newest state, or there is none; or that is refused
+abbrev pub IsGoneBack : Option Refusal → Play → Play → Result (Unit {0}) Refusal → Type 0
+IsGoneBack None old new result =
+    (done : Bool) × (result ≡ done_or_none done) × IsUndone old.machine new.machine done (undone old.machine.state) × (new ≡ record old { machine = new.machine })
+IsGoneBack (Some r) old new result = (result ≡ Err r) × (new ≡ old)
+
+-- ---- the status line
+
+-- the figures of the status line were told, and its name was collected
+pub record IsStatus (old new : Play) (f : StatusFigures) : Type 0 where
+  pub status : Option StatusLine
+  pub is : HasStatus old.machine.state.game.memory status
+  pub figures : f ≡ figures_or_none status
+  pub name : HasName old.machine.state.game.memory status new.name
+  pub beside : new ≡ record old { name = new.name }
+
+-- ---- listings
+
+-- the story's file is listed, in place of an earlier listing, as it is before its first instruction with 16 states to go
+-- back to; or there is no memory, and nothing changes
+abbrev pub IsListedBy : Listing → Play → Play → Result (Unit {0}) Refusal → Type 0
+IsListedBy listing old new (Ok u) = IsListing listing (fresh old.machine.state.game.memory.file 16) new.listing.bytes × (new ≡ record old { listing = new.listing })
+IsListedBy listing old new (Err r) = (r ≡ refused.Memory) × (new ≡ old)
+
+-- ---- snapshots
+
+-- the snapshot of a play, which has one; or it has none, or there is no memory for it
+abbrev pub IsSnapshot : Play → Result (Vec ℕ) Refusal → Type 0
+IsSnapshot p (Ok bytes) = HasSnapshot p.machine × (bytes.items ≡ snapshot_of p.machine)
+IsSnapshot p (Err r) = ((r ≡ refused.NotAwaited) × (HasSnapshot p.machine → ⊥)) ⊎ ((r ≡ refused.Memory) × HasSnapshot p.machine)
+
+-- a play goes on from a snapshot of a story: its machine is one that has these bytes as its snapshot
+abbrev pub IsOpenedPlay : List ℕ → List ℕ → Play → Type 0
+IsOpenedPlay story bytes p = IsOpened story bytes p.machine × (p ≡ play_of p.machine)
+
+-- bytes are a story, and others a snapshot of it; or they are refused, the story first
+abbrev pub IsOpenedFrom : List ℕ → List ℕ → Result (Box Play) SnapshotRefusal → Type 0
+IsOpenedFrom story bytes (Ok p) = (refusal story ≡ None) × IsOpenedPlay story bytes p.value
+IsOpenedFrom story bytes (Err (snapshot_refused.Story e)) = (refusal story ≡ Some e) ⊎ ((e ≡ OutOfMemory) × (refusal story ≡ None))
+IsOpenedFrom story bytes (Err (snapshot_refused.Snapshot e)) = (refusal story ≡ None) × IsRefused story bytes e

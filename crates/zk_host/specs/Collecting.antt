@@ -1,0 +1,71 @@
+-- Text that a play has shown and nobody has taken yet.
+use Rattle.std.specs.Prelude.{◌≡◌, ◌≤◌, ◌⊎◌, ◌+◌, ◌||◌, ◌++◌, ℕ, Bool, true, false, List, [], length, nat_le, Some}
+use Rattle.std.proofs.Common.{◌∙◌, inl, inr, refl, arith}
+use Rattle.zk_term.specs.BufferedScreens.{Targets, Written, written_nothing, written_twice}
+use Rattle.zk_host.specs.declared.collected.Collected.{Collected}
+use Rattle.zk_host.specs.Texts.{Unread}
+
+-- how many bytes wait, for the screen and the transcript together
+abbrev pub waiting_of : Collected → ℕ
+waiting_of c = length c.screen.bytes + length c.script.bytes
+
+-- some text was lost: there was no memory for it, or an instruction has shown too much
+abbrev pub is_lost : Collected → Bool
+is_lost c = c.too_much || (c.screen.failed || c.script.failed)
+
+-- as much waits as there is room for
+abbrev pub has_no_room : Collected → Bool
+has_no_room c = nat_le c.room (waiting_of c)
+
+-- so many bytes past the room are too many for one instruction
+abbrev pub most_past_room : ℕ
+most_past_room = 1048576
+
+-- more bytes never wait: the last character has four at most
+abbrev pub most_waiting : Collected → ℕ
+most_waiting c = c.room + most_past_room + 3
+
+-- both texts as what two targets took
+abbrev pub targets_of : Collected → Targets
+targets_of c = record { screen = Some c.screen.bytes; to_screen = []; script = Some c.script.bytes; to_script = []; failed = is_lost c; either = is_lost c }
+
+-- Text was collected: of both texts a first part, and all while none was lost. It is lost for lack of memory, or where there
+-- is too much of it, and so no more than that ever waits.
+pub record Collects (a b : Collected) (screen script : List ℕ) : Type 0 where
+  pub written : Written (targets_of a) (targets_of b) screen script
+  pub room : b.room ≡ a.room
+  pub more : waiting_of a ≤ waiting_of b
+  pub most : waiting_of a ≤ most_waiting a → waiting_of b ≤ most_waiting a
+  pub why : b.too_much ≡ true → (a.too_much ≡ true) ⊎ (a.room + most_past_room ≤ waiting_of b)
+
+-- no text
+abbrev pub no_text : Unread
+no_text = record { bytes = []; failed = false }
+
+abbrev pub nothing_collected : Collected
+nothing_collected = record { screen = no_text; script = no_text; room = 0; too_much = false }
+
+-- ---- text after text
+
+pub collects_nothing : (a : Collected) → Collects a a [] []
+collects_nothing a = record {
+  written = written_nothing (targets_of a);
+  room = refl;
+  more = omega arith;
+  most = λ h. h;
+  why = λ e. inl e;
+}
+
+why_twice : (a b c : Collected) → b.room ≡ a.room → waiting_of b ≤ waiting_of c → (b.too_much ≡ true → (a.too_much ≡ true) ⊎ (a.room + most_past_room ≤ waiting_of b))
+    → (b.too_much ≡ true) ⊎ (b.room + most_past_room ≤ waiting_of c) → (a.too_much ≡ true) ⊎ (a.room + most_past_room ≤ waiting_of c)
+why_twice a b c room more first (inl e) = elim (first e) [ inl before ↦ inl before | inr much ↦ inr (omega (arith, much, more)) ]
+why_twice a b c room more first (inr much) = inr (omega (arith, room, much))
+
+pub collects_twice : (a b c : Collected) (s t u v : List ℕ) → Collects a b s u → Collects b c t v → Collects a c (s ++ t) (u ++ v)
+collects_twice a b c s t u v h k = record {
+  written = written_twice _ _ _ s t u v h.written k.written;
+  room = k.room ∙ h.room;
+  more = omega (arith, h.more, k.more);
+  most = λ few. let mid = h.most few in let last = k.most (omega (arith, h.room, mid)) in omega (arith, h.room, last);
+  why = λ e. why_twice a b c h.room k.more h.why (k.why e);
+}

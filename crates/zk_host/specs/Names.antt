@@ -1,0 +1,24 @@
+-- The name in the status line (Standard, section 8.2).
+use Rattle.std.specs.Prelude.{◌≡◌, ℕ, List, [], Option, Some, None, Ok, IsOk}
+use Rattle.zk_mem.specs.Map.{MemoryMap}
+use Rattle.zk_text.specs.declared.unit.Unit.{Unit as TextUnit}
+use Rattle.zk_text.specs.Extra.{own_characters}
+use Rattle.zk_text.specs.Shown.{shown_all}
+use Rattle.zk_step.specs.declared.output.status.StatusLine.{StatusLine}
+use Rattle.zk_step.specs.Status.{named}
+use Rattle.zk_host.specs.declared.collected.Collected.{Collected}
+use Rattle.zk_host.specs.Collecting.{Collects, nothing_collected}
+
+-- an object's short name was collected
+abbrev pub IsNameOf : MemoryMap → Option ℕ → Collected → Type 0
+IsNameOf m name c = (units : List TextUnit) → named m name ≡ Ok units → Collects nothing_collected c (shown_all (own_characters m) units) []
+
+-- the name in a status line can be read
+abbrev pub IsNamed : MemoryMap → Option StatusLine → Type 0
+IsNamed m None = Unit {0}
+IsNamed m (Some s) = IsOk (named m s.name)
+
+-- the name in a status line was collected; without one there is none
+abbrev pub HasName : MemoryMap → Option StatusLine → Collected → Type 0
+HasName m None c = c ≡ nothing_collected
+HasName m (Some s) c = IsNameOf m s.name c

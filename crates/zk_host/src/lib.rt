@@ -1,0 +1,16 @@
+// Playing a story by calls, each of which is answered by numbers and bytes: what the library for C exports.
+#![tactic(auto)]
+
+mod collected;
+pub mod drawing;
+pub mod facts;
+pub mod handle;
+pub mod listing;
+mod loose;
+mod name;
+pub mod numbers;
+pub mod options;
+pub mod play;
+pub mod reasons;
+pub mod text;
+mod typed;

@@ -1,0 +1,463 @@
+// A story that is played by calls.
+
+ghost use Rattle.std.specs.Prelude.{◌≡◌, ◌⊎◌, IfErr, IfOk, OnOk};
+ghost use Rattle.zk_vm.specs.Answers.Answer.{Typed, GameKept, File};
+ghost use Rattle.zk_vm.specs.Bounds.{AreInRange};
+ghost use Rattle.zk_vm.specs.Plays.{codes_read, image_of};
+ghost use Rattle.zk_mem.specs.Fresh.{fresh};
+ghost use Rattle.zk_mem.specs.Header.{header_of};
+ghost use Rattle.zk_mem.specs.Story.{refusal};
+ghost use Rattle.zk_term.specs.Windows.{row_text, tallest_row_text};
+ghost use Rattle.zk_vm.specs.Outcome.{with_grid_forgotten};
+ghost use Rattle.zk_host.specs.Drawing.{longest_line, row_bytes, row_number, window_of};
+ghost use Rattle.zk_host.specs.Listings.{IsListing};
+ghost use Rattle.zk_snapshot.specs.Opening.{IsRefused};
+ghost use Rattle.zk_host.specs.Texts.{IsTaken};
+
+use crate::collected::Collected;
+use crate::drawing::{
+    StatusFigures, WindowFigures, figures, line_room, row_of, status_of, utf8_of, window_of,
+};
+use crate::listing::{Listing, list};
+use crate::name::name_of;
+use crate::text::Text;
+use crate::typed::{code_of, codes_of, is_line};
+use arrayvec::ArrayVec;
+use std::alloc::{AllocError, Global};
+use zk_mem::header::Header;
+use zk_mem::memory::{Memory, Setup};
+use zk_mem::story::{OpenError, Story};
+use zk_snapshot::opening::{SnapshotError, open_snapshot};
+use zk_snapshot::snapshot::{has_snapshot, snapshot};
+use zk_step::state::ending::Event;
+use zk_step::state::game_state::View;
+use zk_vm::limits::Limits;
+use zk_vm::machine::Machine;
+use zk_vm::stop::Stop;
+
+/// Why an answer is refused.
+#[derive(Clone, Copy, PartialEq, Eq, Drop)]
+pub enum Refusal {
+    /// Something else is waited for, or nothing.
+    NotAwaited,
+    /// The bytes are no line.
+    NotALine,
+    /// There is no memory.
+    Memory,
+    /// There is no state to go back to.
+    NoState,
+}
+
+/// Why no play goes on from a snapshot.
+#[derive(Clone, Copy, PartialEq, Eq, Drop)]
+pub enum SnapshotRefusal {
+    /// The story's bytes are no story, or there is no memory for it.
+    Story(OpenError),
+    /// The bytes are no snapshot of it, or there is no memory.
+    Snapshot(SnapshotError),
+}
+
+/// What a turn has come to.
+#[derive(Clone, Copy, PartialEq, Eq, Drop)]
+pub enum Asked {
+    /// The story waits for an answer.
+    Answer(Event),
+    /// As much text waits as there is room for.
+    Room,
+    /// The instructions of the turn are used up.
+    Time,
+}
+
+/// A machine, the text that it has shown and that was not taken yet, and why its last turn ended.
+#[derive(Drop)]
+pub struct Play {
+    machine: Machine,
+    text: Collected,
+    // what a host asks for beside the play: the name in the status line, and a listing
+    name: Collected,
+    listing: Text,
+    stopped: Option<Stop>,
+}
+
+/// So many states to go back to the header's fields speak of where a story is listed: what `zkit info` has.
+const UNDO_STATES: u8 = 16;
+
+/// The memory of a story's file at its start.
+fn file_of(alloc: Global, memory: &Memory) -> Result<Memory, AllocError>
+    ensures { IfOk result (λ m. m ≡ fresh memory.now.file 16) }
+{
+    let Ok(story) = Story::open(alloc, memory.original()) else {
+        return Err(AllocError);
+    };
+    let setup = Setup {
+        undo_states: UNDO_STATES,
+    };
+    match Memory::start(alloc, story, setup) {
+        Ok(memory) => Ok(memory),
+        Err(_) => Err(AllocError),
+    }
+}
+
+/// A listing of the file of a story that is played.
+fn list_file(alloc: Global, memory: &Memory, listing: Listing) -> Result<Text, AllocError>
+    ensures { IfOk result (λ text. IsListing listing (fresh memory.now.file 16) text.bytes) }
+{
+    let memory = file_of(alloc, memory)?;
+    list(alloc, &memory, listing)
+}
+
+impl Play {
+    ghost use Rattle.zk_host.specs.Calls.{begun_play, play_of, IsOpenedFrom, IsOpenedPlay, IsSnapshot, awaited, pause_of, HasRun, IsGivenUnless, IsGoneBack, IsImage, IsListedBy, IsStatus, IsTurned, line_refused, character_refused, read_refused, save_refused, restore_refused, character_read};
+    ghost use Rattle.zk_host.specs.Collecting.{has_no_room};
+    ghost use Rattle.std.specs.Prelude.{Option, Some, None, false, option_copied, ◌∷◌, []};
+
+    /// A play of a machine, with no text.
+    fn of(alloc: Global, machine: Machine) -> Result<Box<Play>, AllocError>
+        ensures { IfOk result (λ p. p.value ≡ play_of machine) }
+    {
+        let play = Play {
+            machine,
+            text: Collected::new(alloc),
+            name: Collected::new(alloc),
+            listing: Text::new(alloc),
+            stopped: None,
+        };
+        match Box::new(alloc, play) {
+            Ok(play) => Ok(play),
+            Err(_) => Err(AllocError),
+        }
+    }
+
+    /// A play at the start of a story.
+    fn start(
+        alloc: Global,
+        story: Story,
+        seed: u64,
+        limits: Limits,
+        view: View,
+    ) -> Result<Box<Play>, AllocError>
+        requires { AreInRange limits }
+        ensures { IfOk result (λ p. p.value ≡ begun_play story seed limits view) }
+    {
+        let machine = Machine::start(alloc, story, seed, limits, view)?;
+        Play::of(alloc, machine)
+    }
+
+    /// A play at the start of the story that bytes are, or why they are none; lack of memory is looked for last.
+    pub fn open(
+        alloc: Global,
+        story: &[u8],
+        seed: u64,
+        limits: Limits,
+        view: View,
+    ) -> Result<Box<Play>, OpenError>
+        requires { AreInRange limits }
+        ensures begun { IfOk result
+            (λ p. p.value ≡ begun_play story.now seed limits view) }
+        ensures story { OnOk result (refusal story.now ≡ None) }
+        ensures refused { IfErr result (λ e. (refusal story.now ≡ Some e)
+            ⊎ ((e ≡ OpenError.OutOfMemory) × (refusal story.now ≡ None))) }
+    {
+        let story = Story::open(alloc, story)?;
+        match Play::start(alloc, story, seed, limits, view) {
+            Ok(play) => Ok(play),
+            Err(AllocError) => Err(OpenError::OutOfMemory),
+        }
+    }
+
+    /// A play that goes on from a snapshot of a story, with no text.
+    fn opened(alloc: Global, story: Story, bytes: &[u8]) -> Result<Box<Play>, SnapshotError>
+        ensures ok { IfOk result (λ p. IsOpenedPlay story bytes.now p.value) }
+        ensures err { IfErr result (λ e. IsRefused story bytes.now e) }
+    {
+        let machine = match open_snapshot(alloc, story, bytes) {
+            Ok(machine) => machine,
+            Err(error) => return Err(error),
+        };
+        match Play::of(alloc, machine) {
+            Ok(play) => Ok(play),
+            Err(_) => Err(SnapshotError::OutOfMemory),
+        }
+    }
+
+    /// A play that goes on from a snapshot of the story that bytes are.
+    pub fn open_snapshot(
+        alloc: Global,
+        story: &[u8],
+        bytes: &[u8],
+    ) -> Result<Box<Play>, SnapshotRefusal>
+        ensures { IsOpenedFrom story.now bytes.now result }
+    {
+        match Story::open(alloc, story) {
+            Ok(story) => match Play::opened(alloc, story, bytes) {
+                Ok(play) => Ok(play),
+                Err(error) => Err(SnapshotRefusal::Snapshot(error)),
+            },
+            Err(error) => Err(SnapshotRefusal::Story(error)),
+        }
+    }
+
+    /// Runs the story up to its next event or its stop, for so many instructions at most and while there is room for its
+    /// text, which it collects. Where an event waits for its answer already, or the story has stopped, that is told again;
+    /// where there is no room, nothing is run.
+    pub fn turn(&mut self, steps: u32, room: u32) -> Result<Asked, Stop>
+        ensures { IsTurned self.old self.new steps room result }
+    {
+        if let Some(event) = self.machine.waiting() {
+            return Ok(Asked::Answer(event));
+        }
+        if let Some(stop) = self.stopped {
+            return Err(stop);
+        }
+        self.text.room = room;
+        if self.text.has_no_room() {
+            return Ok(Asked::Room);
+        }
+        self.run(steps)
+    }
+
+    /// Runs the story where there is room for text.
+    fn run(&mut self, steps: u32) -> Result<Asked, Stop>
+        requires free { self.old.machine.waiting ≡ None }
+        requires runs { self.old.stopped ≡ None }
+        requires room { has_no_room self.old.text ≡ false }
+        ensures { HasRun self.old self.new steps result }
+    {
+        let ran = self.machine.run_for(&mut self.text, steps);
+        if self.text.is_lost() {
+            self.machine.close(Stop::Write);
+            self.stopped = Some(Stop::Write);
+            return Err(Stop::Write);
+        }
+        match ran {
+            Ok(Some(event)) => Ok(Asked::Answer(event)),
+            Ok(None) => Ok(self.pause()),
+            Err(stop) => {
+                self.stopped = Some(stop);
+                Err(stop)
+            }
+        }
+    }
+
+    /// Why a run has paused.
+    fn pause(&self) -> Asked
+        ensures { result ≡ pause_of self.now }
+    {
+        if self.text.has_no_room() {
+            Asked::Room
+        } else {
+            Asked::Time
+        }
+    }
+
+    /// Takes text of the screen from the front into a buffer, and says how many bytes.
+    pub fn take_text(&mut self, buffer: &mut [u8]) -> usize
+        ensures text { IsTaken self.old.text.screen self.new.text.screen buffer.old buffer.new result }
+        ensures beside { self.new
+            ≡ record self.old { text = record self.old.text { screen = self.new.text.screen } } }
+    {
+        self.text.screen.take(buffer)
+    }
+
+    /// Takes text of the transcript from the front into a buffer, and says how many bytes.
+    pub fn take_script(&mut self, buffer: &mut [u8]) -> usize
+        ensures text { IsTaken self.old.text.script self.new.text.script buffer.old buffer.new result }
+        ensures beside { self.new
+            ≡ record self.old { text = record self.old.text { script = self.new.text.script } } }
+    {
+        self.text.script.take(buffer)
+    }
+
+    /// Answers a read by a line, its bytes without a new line.
+    pub fn line(&mut self, line: &[u8]) -> Result<(), Refusal>
+        ensures { IsGivenUnless (line_refused (awaited self.old) line.now)
+            (with_grid_forgotten self.old.machine) self.old self.new result (Typed (codes_read self.old.machine line.now)) }
+    {
+        let Some(Event::Line(_, _)) = self.machine.waiting() else {
+            return Err(Refusal::NotAwaited);
+        };
+        if !is_line(line) {
+            return Err(Refusal::NotALine);
+        }
+        let codes = codes_of(self.machine.memory(), line);
+        self.machine.forget_grid();
+        self.machine.answer_line(codes.as_slice());
+        Ok(())
+    }
+
+    /// Answers a read by a character.
+    pub fn character(&mut self, character: u32) -> Result<(), Refusal>
+        ensures { IsGivenUnless (character_refused (awaited self.old))
+            (with_grid_forgotten self.old.machine) self.old self.new result (Typed (character_read self.old.machine character ∷ [])) }
+    {
+        let Some(Event::Char) = self.machine.waiting() else {
+            return Err(Refusal::NotAwaited);
+        };
+        let code = code_of(self.machine.memory(), character);
+        self.machine.forget_grid();
+        self.machine.answer_char(code);
+        Ok(())
+    }
+
+    /// The file of the saved game that waits to be kept.
+    pub fn image(&self, alloc: Global) -> Result<Vec<u8>, Refusal>
+        ensures { IsImage (save_refused (awaited self.now)) self.now result }
+    {
+        let Some(Event::Save) = self.machine.waiting() else {
+            return Err(Refusal::NotAwaited);
+        };
+        match self.machine.image(alloc) {
+            Ok(file) => Ok(file),
+            Err(_) => Err(Refusal::Memory),
+        }
+    }
+
+    /// The snapshot of a play that waits for a line or a character, but not while a table of stream 3 is open.
+    pub fn snapshot(&self, alloc: Global) -> Result<Vec<u8>, Refusal>
+        ensures { IsSnapshot self.now result }
+    {
+        if !has_snapshot(&self.machine) {
+            return Err(Refusal::NotAwaited);
+        }
+        match snapshot(alloc, &self.machine) {
+            Ok(bytes) => Ok(bytes),
+            Err(_) => Err(Refusal::Memory),
+        }
+    }
+
+    /// Answers whether the saved game was kept.
+    pub fn save(&mut self, kept: bool) -> Result<(), Refusal>
+        ensures { IsGivenUnless (save_refused (awaited self.old)) self.old.machine self.old self.new result
+            (GameKept kept) }
+    {
+        let Some(Event::Save) = self.machine.waiting() else {
+            return Err(Refusal::NotAwaited);
+        };
+        self.machine.answer_save(kept);
+        Ok(())
+    }
+
+    /// Answers by a saved game, or by none.
+    pub fn restore(&mut self, file: Option<&[u8]>) -> Result<(), Refusal>
+        ensures { IsGivenUnless (restore_refused (awaited self.old)) self.old.machine self.old self.new result
+            (File (option_copied file.entry)) }
+    {
+        let Some(Event::Restore) = self.machine.waiting() else {
+            return Err(Refusal::NotAwaited);
+        };
+        self.machine.answer_restore(file);
+        Ok(())
+    }
+
+    /// Goes back to the newest state that the story has kept, in place of an answer to a read.
+    pub fn go_back(&mut self) -> Result<(), Refusal>
+        ensures { IsGoneBack (read_refused (awaited self.old)) self.old self.new result }
+    {
+        let (Some(Event::Line(_, _)) | Some(Event::Char)) = self.machine.waiting() else {
+            return Err(Refusal::NotAwaited);
+        };
+        if self.machine.go_back() {
+            Ok(())
+        } else {
+            Err(Refusal::NoState)
+        }
+    }
+
+    /// The most letters of the line that is awaited.
+    pub fn longest_line(&self) -> u8
+        ensures { result ≡ longest_line self.now.machine.state.game.memory (awaited self.now) }
+    {
+        match self.machine.waiting() {
+            Some(Event::Line(text, _)) => line_room(self.machine.memory(), text),
+            Some(Event::Char | Event::Save | Event::Restore) => 0,
+            None => 0,
+        }
+    }
+
+    /// How the upper window stands.
+    pub fn window(&self) -> WindowFigures
+        ensures { result ≡ window_of self.now.machine.state.game.windows }
+    {
+        window_of(self.machine.windows())
+    }
+
+    /// The UTF-8 of a row of the upper window.
+    pub fn row(&self, row: u32) -> ArrayVec<u8, 320>
+        ensures { result.items ≡ row_bytes (row_text self.now.machine.state.game.windows) (row_number row) }
+    {
+        match row_of(row) {
+            Some(row) => utf8_of(self.machine.windows().row(row)),
+            None => ArrayVec::new(),
+        }
+    }
+
+    /// The UTF-8 of a row of the tallest grid since the last answer to a read.
+    pub fn tallest_row(&self, row: u32) -> ArrayVec<u8, 320>
+        ensures { result.items ≡ row_bytes (tallest_row_text self.now.machine.state.game.windows) (row_number row) }
+    {
+        match row_of(row) {
+            Some(row) => utf8_of(self.machine.windows().tallest_row(row)),
+            None => ArrayVec::new(),
+        }
+    }
+
+    /// The figures of the status line, whose name is collected.
+    pub fn status(&mut self, alloc: Global) -> StatusFigures
+        ensures { IsStatus self.old self.new result }
+    {
+        let status = status_of(self.machine.memory());
+        self.name = name_of(alloc, self.machine.memory(), status);
+        figures(status)
+    }
+
+    /// Takes text of the name in the status line from the front into a buffer, and says how many bytes.
+    pub fn take_name(&mut self, buffer: &mut [u8]) -> usize
+        ensures text { IsTaken self.old.name.screen self.new.name.screen buffer.old buffer.new result }
+        ensures beside { self.new
+            ≡ record self.old { name = record self.old.name { screen = self.new.name.screen } } }
+    {
+        self.name.screen.take(buffer)
+    }
+
+    /// What the story's file says of it.
+    pub fn header(&self) -> Header
+        ensures { result ≡ header_of self.now.machine.state.game.memory.file }
+    {
+        self.machine.memory().header()
+    }
+
+    /// Lists the story's file, in place of an earlier listing.
+    pub fn list(&mut self, alloc: Global, listing: Listing) -> Result<(), Refusal>
+        ensures { IsListedBy listing self.old self.new result }
+    {
+        match list_file(alloc, self.machine.memory(), listing) {
+            Ok(text) => {
+                self.listing = text;
+                Ok(())
+            }
+            Err(AllocError) => Err(Refusal::Memory),
+        }
+    }
+
+    /// Takes text of the listing from the front into a buffer, and says how many bytes.
+    pub fn take_listing(&mut self, buffer: &mut [u8]) -> usize
+        ensures text { IsTaken self.old.listing self.new.listing buffer.old buffer.new result }
+        ensures beside { self.new ≡ record self.old { listing = self.new.listing } }
+    {
+        self.listing.take(buffer)
+    }
+
+    /// Whether an instruction has shown too much text.
+    pub fn has_shown_too_much(&self) -> bool
+        ensures { result ≡ self.now.text.too_much }
+    {
+        self.text.too_much
+    }
+
+    /// Why the last turn has ended the story, where it has.
+    pub fn stopped(&self) -> Option<Stop>
+        ensures { result ≡ self.now.stopped }
+    {
+        self.stopped
+    }
+}
