@@ -29,3 +29,5 @@ pub mod Keyed
 pub mod Rows
 pub mod FindingLaw
 pub mod StoryNames
+pub mod Shortening
+pub mod NothingNamed

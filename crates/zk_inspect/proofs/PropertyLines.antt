@@ -10,6 +10,7 @@ use Rattle.zk_mem.specs.Results.{◌>>=◌}
 use Rattle.zk_mem.specs.declared.fault.Fault.{Fault}
 use Rattle.zk_tables.specs.PropertyList.{properties_at, properties_from, property_at}
 use Rattle.zk_tables.specs.declared.lists.Property.{Property}
+use Rattle.zk_inspect.specs.PropertyBytes.{property_line, property_lines}
 use Rattle.zk_inspect.specs.ObjectLines.{properties_or_none, properties_text, property_text, separated}
 
 -- a property after a comma
@@ -17,26 +18,26 @@ abbrev pub behind_comma : Property → List ℕ
 behind_comma p = codes "," ++ property_text p
 
 -- what was written of some properties, and what is left of them
-pub record IsWritten {S : Type 0} (wrote : S → S → List ℕ → Type 0) (m : MemoryMap) (old new : S) (all : List ℕ) (n a : ℕ) : Type 0 where
+pub record IsWritten {S : Type 0} (wrote : S → S → List ℕ → Type 0) (f : Property → List ℕ) (m : MemoryMap) (old new : S) (all : List ℕ) (n a : ℕ) : Type 0 where
   pub rest : List Property
   pub done : List ℕ
   pub left : properties_from m n a ≡ Ok rest
-  pub whole : all ≡ done ++ flat_map behind_comma rest
+  pub whole : all ≡ done ++ flat_map f rest
   pub given : wrote old new done
 
 value_of : {A : Type 0} (r : Result A Fault) → IsOk r → (x : A) × (r ≡ Ok x)
 value_of {A} (Ok x) h = (x, refl)
 value_of {A} (Err f) h = absurd cc
 
-pub begun : {S : Type 0} (wrote : S → S → List ℕ → Type 0) (m : MemoryMap) (s : S) (n k a : ℕ) → wrote s s [] → k ≡ n → IsOk (properties_from m n a)
-    → IsWritten wrote m s s (flat_map behind_comma (properties_or_none (properties_from m n a))) k a
-begun {S} wrote m s n k a nothing same h =
+pub begun : {S : Type 0} (wrote : S → S → List ℕ → Type 0) (f : Property → List ℕ) (m : MemoryMap) (s : S) (n k a : ℕ) → wrote s s [] → k ≡ n → IsOk (properties_from m n a)
+    → IsWritten wrote f m s s (flat_map f (properties_or_none (properties_from m n a))) k a
+begun {S} wrote f m s n k a nothing same h =
     let v = value_of (properties_from m n a) h in
     record {
       rest = v.0;
       done = [];
       left = ap (λ (i : ℕ). properties_from m i a) same ∙ v.1;
-      whole = ap (λ (r : Result (List Property) Fault). flat_map behind_comma (properties_or_none r)) v.1;
+      whole = ap (λ (r : Result (List Property) Fault). flat_map f (properties_or_none r)) v.1;
       given = nothing;
     }
 
@@ -66,31 +67,31 @@ unfolding properties_from
 not_none m a all h = absurd cc
 
 -- one more property was written
-pub written_more : {S : Type 0} (wrote : S → S → List ℕ → Type 0) (twice : (x y z : S) (s t : List ℕ) → wrote x y s → wrote y z t → wrote x z (s ++ t)) (m : MemoryMap) (x y z : S) (all : List ℕ) (n k a : ℕ) (p : Property) → n ≡ suc k → property_at m a ≡ Ok (Some p)
-    → IsWritten wrote m x y all n a → wrote y z (behind_comma p) → IsWritten wrote m x z all k (p.address + p.length)
-written_more {S} wrote twice m x y z all n k a p is there h g =
-    let f = first_one m k a p h.rest there (ap (λ (i : ℕ). properties_from m i a) (sym is) ∙ h.left) in
+pub written_more : {S : Type 0} (wrote : S → S → List ℕ → Type 0) (twice : (x y z : S) (s t : List ℕ) → wrote x y s → wrote y z t → wrote x z (s ++ t)) (f : Property → List ℕ) (m : MemoryMap) (x y z : S) (all : List ℕ) (n k a : ℕ) (p : Property) → n ≡ suc k → property_at m a ≡ Ok (Some p)
+    → IsWritten wrote f m x y all n a → wrote y z (f p) → IsWritten wrote f m x z all k (p.address + p.length)
+written_more {S} wrote twice f m x y z all n k a p is there h g =
+    let first = first_one m k a p h.rest there (ap (λ (i : ℕ). properties_from m i a) (sym is) ∙ h.left) in
     record {
-      rest = f.0;
-      done = h.done ++ behind_comma p;
-      left = f.1;
-      whole = h.whole ∙ ap (λ (l : List Property). h.done ++ flat_map behind_comma l) f.2 ∙ sym (append_assoc h.done (behind_comma p) (flat_map behind_comma f.0));
-      given = twice x y z h.done (behind_comma p) h.given g;
+      rest = first.0;
+      done = h.done ++ f p;
+      left = first.1;
+      whole = h.whole ∙ ap (λ (l : List Property). h.done ++ flat_map f l) first.2 ∙ sym (append_assoc h.done (f p) (flat_map f first.0));
+      given = twice x y z h.done (f p) h.given g;
     }
 
 -- the list has ended
-pub written_all : {S : Type 0} (wrote : S → S → List ℕ → Type 0) (m : MemoryMap) (x y : S) (all : List ℕ) (n k a : ℕ) → n ≡ suc k → property_at m a ≡ Ok None
-    → IsWritten wrote m x y all n a → wrote x y all
-written_all {S} wrote m x y all n k a is there h =
+pub written_all : {S : Type 0} (wrote : S → S → List ℕ → Type 0) (f : Property → List ℕ) (m : MemoryMap) (x y : S) (all : List ℕ) (n k a : ℕ) → n ≡ suc k → property_at m a ≡ Ok None
+    → IsWritten wrote f m x y all n a → wrote x y all
+written_all {S} wrote f m x y all n k a is there h =
     let none = no_more m k a h.rest there (ap (λ (i : ℕ). properties_from m i a) (sym is) ∙ h.left) in
-    rw (h.whole ∙ ap (λ (l : List Property). h.done ++ flat_map behind_comma l) none ∙ append-nil h.done) h.given
+    rw (h.whole ∙ ap (λ (l : List Property). h.done ++ flat_map f l) none ∙ append-nil h.done) h.given
 
-pub never_faulty : {S : Type 0} (wrote : S → S → List ℕ → Type 0) (m : MemoryMap) (x y : S) (all : List ℕ) (n k a : ℕ) (f : Fault) → n ≡ suc k → property_at m a ≡ Err f
-    → IsWritten wrote m x y all n a → ⊥
-never_faulty {S} wrote m x y all n k a f is there h = no_fault m k a f h.rest there (ap (λ (i : ℕ). properties_from m i a) (sym is) ∙ h.left)
+pub never_faulty : {S : Type 0} (wrote : S → S → List ℕ → Type 0) (f : Property → List ℕ) (m : MemoryMap) (x y : S) (all : List ℕ) (n k a : ℕ) (fault : Fault) → n ≡ suc k → property_at m a ≡ Err fault
+    → IsWritten wrote f m x y all n a → ⊥
+never_faulty {S} wrote f m x y all n k a fault is there h = no_fault m k a fault h.rest there (ap (λ (i : ℕ). properties_from m i a) (sym is) ∙ h.left)
 
-pub never_without_end : {S : Type 0} (wrote : S → S → List ℕ → Type 0) (m : MemoryMap) (x y : S) (all : List ℕ) (n a : ℕ) → n ≡ zero → IsWritten wrote m x y all n a → ⊥
-never_without_end {S} wrote m x y all n a is h = not_none m a h.rest (ap (λ (i : ℕ). properties_from m i a) (sym is) ∙ h.left)
+pub never_without_end : {S : Type 0} (wrote : S → S → List ℕ → Type 0) (f : Property → List ℕ) (m : MemoryMap) (x y : S) (all : List ℕ) (n a : ℕ) → n ≡ zero → IsWritten wrote f m x y all n a → ⊥
+never_without_end {S} wrote f m x y all n a is h = not_none m a h.rest (ap (λ (i : ℕ). properties_from m i a) (sym is) ∙ h.left)
 
 -- there is room for the end of a list
 pub reaches : (m : MemoryMap) (n a : ℕ) → IsOk (properties_from m n a) → 1 ≤ n
@@ -152,6 +153,16 @@ text_of_list r (Err f) e h = absurd cc
 pub text_of_fault : (r : Result (List Property) Fault) (f : Fault) → r ≡ Err f → properties_text r ≡ codes "! F" ++ decimal (fault_number f)
 unfolding properties_text
 text_of_fault r f e = rw e refl
+
+-- their lines with data
+pub lines_of_list : (m : MemoryMap) (o : ℕ) (r s : Result (List Property) Fault) → r ≡ s → IsOk s → property_lines m o r ≡ flat_map (property_line m o) (properties_or_none s)
+unfolding property_lines
+lines_of_list m o r (Ok ps) e h = rw e refl
+lines_of_list m o r (Err f) e h = absurd cc
+
+pub lines_of_fault : (m : MemoryMap) (o : ℕ) (r : Result (List Property) Fault) (f : Fault) → r ≡ Err f → property_lines m o r ≡ decimal o ++ codes " " ++ (codes "! F" ++ decimal (fault_number f)) ++ codes "\n"
+unfolding property_lines
+lines_of_fault m o r f e = rw e refl
 
 -- the first of some things with commas between them, and the others
 pub first_separated : {A : Type 0} (f : A → List ℕ) (xs : List A) (d : A) → 1 ≤ length xs

@@ -9,7 +9,7 @@ use Rattle.zk_code.specs.Reach.{first_alone}
 use Rattle.zk_code.specs.Routines.{code_start}
 use Rattle.zk_inspect.specs.declared.reach.code.Code.{Code}
 use Rattle.zk_inspect.specs.declared.whole.Whole.{Whole}
-use Rattle.zk_inspect.specs.Codes.{IsCodeFrom, IsRoutineAt}
+use Rattle.zk_inspect.specs.Codes.{IsCodeFrom, IsCodeOf, IsRoutineAt}
 use Rattle.zk_inspect.specs.Lists.{IsAmong, IsListOf, IsMarked}
 
 -- those of some addresses that lie in the story
@@ -27,6 +27,10 @@ roots_of m addresses routines = first_alone m ++ inside m addresses ++ starts m 
 -- the code of a story, where addresses of code and routines are named
 abbrev pub IsNamedCode : MemoryMap → List ℕ → List ℕ → Code → Type 0
 IsNamedCode m addresses routines = IsCodeFrom m (roots_of m addresses routines) routines
+
+-- where nothing is named, the code is what is reached from the first instruction
+abbrev pub NothingNamedAddsNothing : Type 0
+NothingNamedAddsNothing = (m : MemoryMap) (code : Code) → IsNamedCode m [] [] code → IsCodeOf m code
 
 -- a routine is the neighbour of another one
 abbrev pub IsNextRoutine : MemoryMap → ℕ → ℕ → Type 0

@@ -4,8 +4,10 @@ pub mod Beside
 pub mod LyingTexts
 pub mod Search
 pub mod Listing
+pub mod Notes
 pub mod Written
 pub mod Quoted
+pub mod Beginnings
 pub mod Objects
 pub mod Texts
 pub mod Keys
@@ -16,7 +18,11 @@ pub mod TextTests
 pub mod Siblings
 pub mod ListMarks
 pub mod Parts
+pub mod GlobalLines
 pub mod HeaderLines
+pub mod AlphabetLines
+pub mod ExtensionLines
+pub mod PropertyBytes
 pub mod Ifid
 pub mod NameExamples
 pub mod MapLines

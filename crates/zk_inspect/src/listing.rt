@@ -5,7 +5,11 @@ ghost use Rattle.std.specs.Prelude.{◌≡◌, ◌||◌, false, is_err, IfErr, O
 ghost use Rattle.std.specs.Io.KnownBytes.{Appends};
 ghost use Rattle.zk_term.specs.Devices.{TookPart};
 ghost use Rattle.zk_inspect.specs.AbbreviationLines.{abbreviation_lines};
+ghost use Rattle.zk_inspect.specs.AlphabetLines.{alphabet_lines};
+ghost use Rattle.zk_inspect.specs.ExtensionLines.{extension_lines};
+ghost use Rattle.zk_inspect.specs.PropertyBytes.{ArePropertyLines};
 ghost use Rattle.zk_inspect.specs.DictionaryLines.{dictionary_lines};
+ghost use Rattle.zk_inspect.specs.GlobalLines.{global_lines};
 ghost use Rattle.zk_inspect.specs.HeaderLines.{header_lines};
 ghost use Rattle.zk_inspect.specs.Ifid.{ifid_line};
 ghost use Rattle.zk_inspect.specs.MapLines.{map_lines};
@@ -15,22 +19,31 @@ ghost use Rattle.zk_inspect.specs.TreeLines.{AreSomeRows, AreTreeRows, has_faile
 ghost use Rattle.zk_inspect.specs.Written.{GaveSome};
 
 pub(crate) mod abbreviation_lines;
+pub(crate) mod alphabet_lines;
 pub(crate) mod dictionary_lines;
+pub(crate) mod extension_lines;
+pub(crate) mod global_lines;
 pub(crate) mod header_lines;
 pub(crate) mod ifid_line;
 pub(crate) mod map_lines;
 pub(crate) mod object_lines;
+pub(crate) mod property_lines;
 pub(crate) mod quoting;
+pub(crate) mod shortening;
 pub(crate) mod tree_lines;
 pub(crate) mod writing;
 
 use crate::error::ListError;
 use crate::listing::abbreviation_lines::write_abbreviations;
+use crate::listing::alphabet_lines::write_alphabets;
 use crate::listing::dictionary_lines::write_dictionary;
+use crate::listing::extension_lines::write_extension;
+use crate::listing::global_lines::write_globals;
 use crate::listing::header_lines::write_header;
 use crate::listing::ifid_line::write_ifid;
 use crate::listing::map_lines::write_map;
 use crate::listing::object_lines::write_objects;
+use crate::listing::property_lines::write_properties;
 use crate::listing::tree_lines::write_tree;
 use crate::objects::count_objects;
 use std::alloc::Global;
@@ -177,6 +190,87 @@ pub fn tree<T: Target>(alloc: Global, memory: &Memory, target: &mut T) -> Result
             Ok(()) => Ok(()),
             Err(_) => Err(ListError::Memory),
         },
+        Err(Failed) => Err(ListError::Write),
+    }
+}
+
+/// Writes a line for each of the 240 global variables: its name in a disassembly, the byte address of its value, and its first
+/// value as a constant, or `! F7` where that can't be read (Standard, section 6.2). Nothing is written where the header names
+/// no table of them. Or, where a write fails, it writes a first part of that, and refuses.
+pub fn globals<T: Target>(memory: &Memory, target: &mut T) -> Result<(), ListError>
+    ensures all { OnOk result
+        (Appends (T.taken target.old) (T.taken target.new) (global_lines memory.now)) }
+    ensures part { OnErr result
+        (TookPart (T.taken target.old) (T.taken target.new) (global_lines memory.now)) }
+    ensures failed { T.failed target.new ≡ (is_err result || T.failed target.old) }
+    ensures refusal { IfErr result (λ e. e ≡ ListError.Write) }
+{
+    let mut writer = TargetWriter::new(target);
+    write_globals(&mut writer, memory);
+    match writer.finish() {
+        Ok(()) => Ok(()),
+        Err(Failed) => Err(ListError::Write),
+    }
+}
+
+/// Writes the three alphabets in force, a line for each with its letters between quotes, from Z-character 6 on, in A2 from 7 on;
+/// then a line with the extra characters in force, from ZSCII code 155 on (Standard, sections 3.5 and 3.8.5). Or, where a write
+/// fails, it writes a first part of that, and refuses.
+pub fn alphabets<T: Target>(memory: &Memory, target: &mut T) -> Result<(), ListError>
+    ensures all { OnOk result
+        (Appends (T.taken target.old) (T.taken target.new) (alphabet_lines memory.now)) }
+    ensures part { OnErr result
+        (TookPart (T.taken target.old) (T.taken target.new) (alphabet_lines memory.now)) }
+    ensures failed { T.failed target.new ≡ (is_err result || T.failed target.old) }
+    ensures refusal { IfErr result (λ e. e ≡ ListError.Write) }
+{
+    let mut writer = TargetWriter::new(target);
+    write_alphabets(&mut writer, memory);
+    match writer.finish() {
+        Ok(()) => Ok(()),
+        Err(Failed) => Err(ListError::Write),
+    }
+}
+
+/// Writes the words of the header's extension, a line for each from word 1 on: its number, its byte address, and its value as a
+/// constant, or `! F6` where that can't be read (Standard, section 11.1.7). Nothing is written where the header names none. Or,
+/// where a write fails, it writes a first part of that, and refuses.
+pub fn extension<T: Target>(memory: &Memory, target: &mut T) -> Result<(), ListError>
+    ensures all { OnOk result
+        (Appends (T.taken target.old) (T.taken target.new) (extension_lines memory.now)) }
+    ensures part { OnErr result
+        (TookPart (T.taken target.old) (T.taken target.new) (extension_lines memory.now)) }
+    ensures failed { T.failed target.new ≡ (is_err result || T.failed target.old) }
+    ensures refusal { IfErr result (λ e. e ≡ ListError.Write) }
+{
+    let mut writer = TargetWriter::new(target);
+    write_extension(&mut writer, memory);
+    match writer.finish() {
+        Ok(()) => Ok(()),
+        Err(Failed) => Err(ListError::Write),
+    }
+}
+
+/// Writes the lines of properties.
+fn write_all_properties<P: LineWriter>(writer: &mut P, memory: &Memory)
+    ensures { WroteSome (ArePropertyLines memory.now) P.wrote writer.old writer.new }
+{
+    let count = count_objects(memory);
+    write_properties(writer, memory, count);
+}
+
+/// Writes a line for each property of each object that `objects` lists: the object's number, that of the property, and the byte
+/// address, the length in bytes and the bytes of its data; or `! F10` after the object's number, where its list does not lie in
+/// data (Standard, section 12.4). Or, where a write fails, it writes a first part of that, and refuses.
+pub fn properties<T: Target>(memory: &Memory, target: &mut T) -> Result<(), ListError>
+    ensures lines { GaveSome (ArePropertyLines memory.now) T.taken T.failed (is_err result) target.old
+        target.new }
+    ensures refusal { IfErr result (λ e. e ≡ ListError.Write) }
+{
+    let mut writer = TargetWriter::new(target);
+    write_all_properties(&mut writer, memory);
+    match writer.finish() {
+        Ok(()) => Ok(()),
         Err(Failed) => Err(ListError::Write),
     }
 }

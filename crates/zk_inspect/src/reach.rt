@@ -14,6 +14,7 @@ ghost use Rattle.zk_inspect.specs.Search.{Grows, IsExpanded, IsOnItsWay, IsSearc
 pub(crate) mod address_set;
 pub mod code;
 pub mod disassembly;
+pub(crate) mod notes;
 pub(crate) mod operands;
 
 use crate::reach::address_set::AddressSet;

@@ -3,23 +3,16 @@
 ghost use Rattle.std.specs.Prelude.{◌≡◌, ◌++◌, ◌<◌, codes, decimal};
 ghost use Rattle.std.specs.List.{flat_map, range_with_len};
 ghost use Rattle.zk_text.specs.Meaning.{abbreviation, meaning_at, no_abbreviation};
-ghost use Rattle.zk_mem.specs.Faults.{fault_number};
 ghost use Rattle.zk_inspect.specs.AbbreviationLines.{abbreviation_line, abbreviation_lines};
 ghost use Rattle.zk_inspect.specs.Listing.{units_text};
 
 use crate::listing::quoting::write_meaning;
+use crate::listing::writing::write_fault;
 use zk_mem::fault::Fault;
 use zk_mem::memory::Memory;
 use zk_term::line_writer::LineWriter;
-use zk_term::writing::{write_decimal, write_texts};
+use zk_term::writing::write_decimal;
 use zk_text::text::check_abbreviation;
-
-/// Writes a fault in place of a text.
-fn write_fault<P: LineWriter>(writer: &mut P, fault: Fault)
-    ensures { P.wrote writer.old writer.new (codes "! F" ++ decimal (fault_number fault)) }
-{
-    write_decimal(writer, b"! F", fault.number() as u32);
-}
 
 /// Writes what the text of an abbreviation prints, or why it prints nothing.
 fn write_text<P: LineWriter>(writer: &mut P, memory: &Memory, address: u32)

@@ -22,7 +22,7 @@ use zk_term::writing::{write_decimal, write_texts};
 
 /// Writes the name of an object: nothing between quotes where it has none.
 #[tactic(auto, unfolding(crate::specs::ObjectLines::name_text))]
-fn write_name<P: LineWriter>(writer: &mut P, memory: &Memory, object: u16)
+pub(crate) fn write_name<P: LineWriter>(writer: &mut P, memory: &Memory, object: u16)
     ensures { P.wrote writer.old writer.new (name_text memory.now (name_of memory.now object)) }
 {
     match name(memory, object) {

@@ -27,6 +27,15 @@ fn quoted(c: char) -> char
     }
 }
 
+/// Writes a character as it stands between quotes.
+#[tactic(auto, unfolding(crate::specs::Listing::quoted_bytes))]
+pub(crate) fn write_character<P: LineWriter>(writer: &mut P, c: char)
+    ensures { P.wrote writer.old writer.new (quoted_bytes (c ∷ [])) }
+{
+    let mut buffer = [0u8; 4];
+    writer.write(quoted(c).encode_utf8(&mut buffer).as_bytes());
+}
+
 /// Writes units of text as they stand between quotes, by the extra characters in force.
 #[derive(Drop)]
 struct Quoting<'a, P> {
@@ -36,15 +45,12 @@ struct Quoting<'a, P> {
 
 impl<'a, P: LineWriter> Quoting<'a, P> {
     /// Writes a character.
-    #[tactic(auto, unfolding(crate::specs::Listing::quoted_bytes))]
     fn write_one(&mut self, c: char)
         ensures kept { (self.new.writer.ghost_name ≡ self.old.writer.ghost_name)
             × (self.new.extra.now ≡ self.old.extra.now) }
         ensures text { P.wrote self.old.writer.now self.new.writer.now (quoted_bytes (c ∷ [])) }
     {
-        let mut buffer = [0u8; 4];
-        self.writer
-            .write(quoted(c).encode_utf8(&mut buffer).as_bytes());
+        write_character(self.writer, c);
     }
 
     /// Writes two spaces.

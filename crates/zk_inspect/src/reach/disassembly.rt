@@ -6,11 +6,13 @@ ghost use Rattle.zk_code.specs.Table.{name_of};
 ghost use Rattle.zk_code.specs.Reading.{instr_at};
 ghost use Rattle.std.specs.Io.KnownBytes.{Appends};
 ghost use Rattle.zk_term.specs.Devices.{TookPart};
+ghost use Rattle.zk_inspect.specs.Notes.{noted_disassembly, noted_line, noted_text, noted_whole, notes};
 ghost use Rattle.zk_inspect.specs.Listing.{address_line, disassembly, found_text, instruction_text, origin_line, routine_line, routine_text, text_text, whole_disassembly};
 
 use crate::error::ListError;
 use crate::listing::quoting::write_quoted;
 use crate::reach::code::Code;
+use crate::reach::notes::write_notes;
 use crate::reach::operands::{write_branch, write_operands, write_store};
 use crate::whole::Whole;
 use itoa::Buffer;
@@ -160,6 +162,63 @@ fn write_whole<P: LineWriter>(writer: &mut P, memory: &Memory, whole: &Whole)
     write_origin_lines(writer, memory, whole);
 }
 
+/// Writes an instruction with its notes.
+fn write_with_notes<P: LineWriter>(writer: &mut P, memory: &Memory, instr: &Instr)
+    requires { instr.now.next ≤ 2 ^ 20 }
+    ensures { P.wrote writer.old writer.new
+        (instruction_text memory.now instr.now ++ notes memory.now instr.now) }
+{
+    write_instruction(writer, memory, instr);
+    write_notes(writer, memory, instr);
+}
+
+/// Writes what stands at an address with its notes, or a question mark where there is no instruction.
+fn write_noted<P: LineWriter>(writer: &mut P, memory: &Memory, address: u32)
+    ensures { P.wrote writer.old writer.new (noted_text memory.now (instr_at memory.now address)) }
+{
+    match decode(memory, address) {
+        Ok(instr) => write_with_notes(writer, memory, &instr),
+        Err(_) => writer.write(b"?"),
+    }
+}
+
+/// Writes the line of an address with notes.
+fn write_noted_line<P: LineWriter>(writer: &mut P, memory: &Memory, address: u32)
+    ensures { P.wrote writer.old writer.new (noted_line memory.now address) }
+{
+    write_address(writer, b"", address);
+    writer.write(b" ");
+    write_noted(writer, memory, address);
+    writer.write(b"\n");
+}
+
+/// Writes the lines of addresses with notes.
+fn write_noted_lines<P: LineWriter>(writer: &mut P, memory: &Memory, addresses: &[u32])
+    ensures { P.wrote writer.old writer.new (flat_map (noted_line memory.now) addresses.now) }
+{
+    for address in addresses {
+        write_noted_line(writer, memory, *address);
+    }
+}
+
+/// Writes the lines of a story's code with notes.
+#[tactic(auto, unfolding(crate::specs::Notes::noted_disassembly))]
+fn write_noted_code<P: LineWriter>(writer: &mut P, memory: &Memory, code: &Code)
+    ensures { P.wrote writer.old writer.new (noted_disassembly memory.now code.now) }
+{
+    write_noted_lines(writer, memory, code.addresses.as_slice());
+    write_routine_lines(writer, memory, code.routines.as_slice());
+}
+
+/// Writes the lines of a whole story with notes.
+#[tactic(auto, unfolding(crate::specs::Notes::noted_whole))]
+fn write_noted_whole<P: LineWriter>(writer: &mut P, memory: &Memory, whole: &Whole)
+    ensures { P.wrote writer.old writer.new (noted_whole memory.now whole.now) }
+{
+    write_noted_lines(writer, memory, whole.code.addresses.as_slice());
+    write_origin_lines(writer, memory, whole);
+}
+
 /// Writes the disassembly of code, as `reach` or `reach_named` gave it: a line for each address, ascending, with the instruction
 /// there, or a question mark where there is none; then a line for each routine, with the count of its local
 /// variables. Or, where a write fails, it writes a first part of that, and refuses.
@@ -201,6 +260,53 @@ pub fn disassemble_whole<T: Target>(
 {
     let mut writer = TargetWriter::new(target);
     write_whole(&mut writer, memory, whole);
+    match writer.finish() {
+        Ok(()) => Ok(()),
+        Err(Failed) => Err(ListError::Write),
+    }
+}
+
+/// Writes the disassembly of code as `disassemble` does, with notes after each instruction, two spaces and a semicolon before
+/// each: of a call of a constant the byte address that it leads to, with the word `routine` where one stands there (Standard,
+/// section 5.2); the first 60 characters of a text that is printed by a constant address; the short name of an object that is
+/// a constant operand; and of each global variable the byte address of its value. Or, where a write fails, it writes a first
+/// part of that, and refuses.
+pub fn disassemble_with_notes<T: Target>(
+    memory: &Memory,
+    code: &Code,
+    target: &mut T,
+) -> Result<(), ListError>
+    ensures all { OnOk result
+        (Appends (T.taken target.old) (T.taken target.new) (noted_disassembly memory.now code.now)) }
+    ensures part { OnErr result
+        (TookPart (T.taken target.old) (T.taken target.new) (noted_disassembly memory.now code.now)) }
+    ensures failed { T.failed target.new ≡ (is_err result || T.failed target.old) }
+    ensures refusal { IfErr result (λ e. e ≡ ListError.Write) }
+{
+    let mut writer = TargetWriter::new(target);
+    write_noted_code(&mut writer, memory, code);
+    match writer.finish() {
+        Ok(()) => Ok(()),
+        Err(Failed) => Err(ListError::Write),
+    }
+}
+
+/// Writes the disassembly of a whole story as `disassemble_whole` does, with the notes of `disassemble_with_notes`. Or, where a
+/// write fails, it writes a first part of that, and refuses.
+pub fn disassemble_whole_with_notes<T: Target>(
+    memory: &Memory,
+    whole: &Whole,
+    target: &mut T,
+) -> Result<(), ListError>
+    ensures all { OnOk result
+        (Appends (T.taken target.old) (T.taken target.new) (noted_whole memory.now whole.now)) }
+    ensures part { OnErr result
+        (TookPart (T.taken target.old) (T.taken target.new) (noted_whole memory.now whole.now)) }
+    ensures failed { T.failed target.new ≡ (is_err result || T.failed target.old) }
+    ensures refusal { IfErr result (λ e. e ≡ ListError.Write) }
+{
+    let mut writer = TargetWriter::new(target);
+    write_noted_whole(&mut writer, memory, whole);
     match writer.finish() {
         Ok(()) => Ok(()),
         Err(Failed) => Err(ListError::Write),

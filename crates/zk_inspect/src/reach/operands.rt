@@ -91,7 +91,7 @@ fn takes_variable(operation: Assignment) -> bool
 }
 
 /// Whether the first operand of an opcode is the number of a variable.
-fn names_variable(opcode: Opcode) -> bool
+pub(crate) fn names_variable(opcode: Opcode) -> bool
     ensures { result ≡ names_variable opcode }
 {
     match opcode {

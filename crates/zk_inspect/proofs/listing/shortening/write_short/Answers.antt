@@ -1,0 +1,10 @@
+use Rattle.std.proofs.Common.{sym}
+use Rattle.zk_text.specs.Meaning.{text_units}
+use Rattle.zk_inspect.proofs.Quotes.{checked_fault}
+use Rattle.zk_inspect.proofs.Shortening.{short_fault}
+use Rattle.zk_inspect.proofs.listing.shortening.write_short.Goals as goal
+
+pub returns-in-Err : goal.returns-in-Err
+returns-in-Err g c =
+    let fault = checked_fault c.args.memory.now c.args.address c.in-Err.fault (sym c.in-Err.ensures.value) in
+    rw (short_fault c.args.memory.now (text_units c.args.memory.now c.args.address) c.in-Err.fault fault) c.write_fault.ensures
