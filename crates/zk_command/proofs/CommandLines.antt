@@ -16,7 +16,7 @@ use Rattle.zk_command.specs.declared.options.CommandOption.{CommandOption}
 use Rattle.zk_command.specs.declared.options.CommandTable.{CommandTable}
 use Rattle.zk_command.specs.declared.choice.Choice.TheVariants.{Play, Show, Test, Unpack}
 use Rattle.zk_command.specs.declared.listing.Listing.{Listing}
-use Rattle.zk_command.specs.declared.listing.Listing.TheVariants.{Info, Code, Whole, Findings}
+use Rattle.zk_command.specs.declared.listing.Listing.TheVariants.{Info, Code, Findings}
 
 -- the command line is simple in clap's sense
 pub command_line_is_simple : is_simple command_line ≡ true
@@ -130,21 +130,20 @@ other_name name known test e = let d = bytes_eq-Decides name known in let both :
 -- `play`, `test` and `unpack` list nothing
 no_listing : (name : Text) (rows : List Row) (listing : Listing) → bytes_eq name (codes "info") ≡ false → bytes_eq name (codes "disasm") ≡ false → bytes_eq name (codes "check") ≡ false → SaysListing name rows listing → ⊥
 no_listing name rows (Info sections) i d k h = other_name name (codes "info") i h.0
-no_listing name rows Code i d k h = other_name name (codes "disasm") d h.0
-no_listing name rows Whole i d k h = other_name name (codes "disasm") d h.0
+no_listing name rows (Code c) i d k h = other_name name (codes "disasm") d h.0
 no_listing name rows Findings i d k h = other_name name (codes "check") k h
 
 -- without a path or options `play` asks for nothing
 pub no_play_said : (rows : List Row) → ((path : List ℕ) (o : PlayOptions) → SaysStory rows path → SaysOptions rows o → ⊥) → (c : Choice) → Says (codes "play") rows c → ⊥
 no_play_said rows none (Play story options) h = none story.now options h.1 h.2
-no_play_said rows none (Show stories options listing) h = no_listing (codes "play") rows listing refl refl refl h.1
+no_play_said rows none (Show stories roots options listing) h = no_listing (codes "play") rows listing refl refl refl h.2
 no_play_said rows none (Test paths story bless) h = other_name (codes "play") (codes "test") refl h.0
 no_play_said rows none (Unpack file out) h = other_name (codes "play") (codes "unpack") refl h.0
 
 -- without the paths of two files `unpack` asks for nothing
 pub no_unpack_said : (rows : List Row) → ((file out : List ℕ) → first_of (codes "FILE") rows ≡ Some file → first_of (codes "OUT") rows ≡ Some out → ⊥) → (c : Choice) → Says (codes "unpack") rows c → ⊥
 no_unpack_said rows none (Play story options) h = other_name (codes "unpack") (codes "play") refl h.0
-no_unpack_said rows none (Show stories options listing) h = no_listing (codes "unpack") rows listing refl refl refl h.1
+no_unpack_said rows none (Show stories roots options listing) h = no_listing (codes "unpack") rows listing refl refl refl h.2
 no_unpack_said rows none (Test paths story bless) h = other_name (codes "unpack") (codes "test") refl h.0
 no_unpack_said rows none (Unpack file out) h = none file.now out.now h.1 h.2
 
@@ -158,20 +157,20 @@ no_paths rows paths told is none some same =
 -- without a path `test` asks for nothing
 pub no_test_said : (rows : List Row) (paths : List Text) → paths ≡ unwrap_or (all_of (codes "STORY") rows) [] → length paths ≡ 0 → (c : Choice) → Says (codes "test") rows c → ⊥
 no_test_said rows paths is none (Play story options) h = other_name (codes "test") (codes "play") refl h.0
-no_test_said rows paths is none (Show stories options listing) h = no_listing (codes "test") rows listing refl refl refl h.1
+no_test_said rows paths is none (Show stories roots options listing) h = no_listing (codes "test") rows listing refl refl refl h.2
 no_test_said rows paths is none (Test told story bless) h = no_paths rows paths _ is none h.1.0 h.1.1
 no_test_said rows paths is none (Unpack file out) h = other_name (codes "test") (codes "unpack") refl h.0
 
 -- without stories, or by a name of no listing, nothing is listed
 pub no_stories : (name : Text) (rows : List Row) (paths : List Text) → IsOtherName name → paths ≡ unwrap_or (all_of (codes "STORY") rows) [] → length paths ≡ 0 → (c : Choice) → Says name rows c → ⊥
 no_stories name rows paths other is none (Play story options) h = other_name name (codes "play") other.play h.0
-no_stories name rows paths other is none (Show stories options listing) h = no_paths rows paths _ is none h.0.0 h.0.1
+no_stories name rows paths other is none (Show stories roots options listing) h = no_paths rows paths _ is none h.0.0 h.0.1
 no_stories name rows paths other is none (Test told story bless) h = other_name name (codes "test") other.test h.0
 no_stories name rows paths other is none (Unpack file out) h = other_name name (codes "unpack") other.unpack h.0
 
 pub no_command : (name : Text) (rows : List Row) → IsOtherName name → ((l : Listing) → SaysListing name rows l → ⊥) → (c : Choice) → Says name rows c → ⊥
 no_command name rows other none (Play story options) h = other_name name (codes "play") other.play h.0
-no_command name rows other none (Show stories options listing) h = none listing h.1
+no_command name rows other none (Show stories roots options listing) h = none listing h.2
 no_command name rows other none (Test told story bless) h = other_name name (codes "test") other.test h.0
 no_command name rows other none (Unpack file out) h = other_name name (codes "unpack") other.unpack h.0
 

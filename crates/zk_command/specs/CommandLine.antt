@@ -17,16 +17,19 @@ use Rattle.zk_command.specs.declared.settings.Amount.{Amount}
 use Rattle.zk_command.specs.declared.settings.Amount.TheVariants as amount
 use Rattle.zk_command.specs.declared.settings.PlayOptions.{PlayOptions}
 use Rattle.zk_command.specs.declared.settings.Form.{Form}
-use Rattle.zk_command.specs.declared.settings.Form.TheVariants.{Lines, Rows, Json}
+use Rattle.zk_command.specs.declared.settings.Form.TheVariants.{Lines, Rows, Json, Graph, Picture}
+use Rattle.zk_command.specs.declared.settings.Roots.{Roots}
 use Rattle.zk_command.specs.declared.settings.ShowOptions.{ShowOptions}
 use Rattle.zk_command.specs.declared.choice.Choice.{Choice}
+use Rattle.zk_command.specs.declared.choice.Named.{Named as NamedByCommand}
 use Rattle.zk_command.specs.declared.options.CommandOption.{CommandOption}
-use Rattle.zk_command.specs.declared.options.CommandOption.TheVariants.{Number, File, Folder, Flag, Path, Story, Stories, Walkthroughs}
+use Rattle.zk_command.specs.declared.options.CommandOption.TheVariants.{Number, File, Folder, Address, Flag, Path, Story, Stories, Walkthroughs}
 use Rattle.zk_command.specs.declared.options.CommandTable.{CommandTable}
 use Rattle.zk_command.specs.declared.options.NumberOption.{NumberOption}
 use Rattle.zk_command.specs.declared.choice.Choice.TheVariants.{Play, Show, Test, Unpack}
 use Rattle.zk_command.specs.declared.listing.Listing.{Listing}
-use Rattle.zk_command.specs.declared.listing.Listing.TheVariants.{Info, Code, Whole, Findings}
+use Rattle.zk_command.specs.declared.listing.Listing.TheVariants.{Info, Code, Findings}
+use Rattle.zk_command.specs.declared.listing.CodeListing.{CodeListing}
 use Rattle.zk_command.specs.declared.listing.Sections.{Sections}
 
 -- the option `--name`
@@ -57,6 +60,10 @@ file_argument name = record (new_rule name) { required = true }
 abbrev pub value_option : Text → Rule
 value_option name = record (named_option name) { value_names = 1 }
 
+-- the option `--name VALUE`, as often as it is given
+abbrev pub repeated_option : Text → Rule
+repeated_option name = record (value_option name) { action = Some Append }
+
 -- the flag `--name`
 abbrev pub flag : Text → Rule
 flag name = record (named_option name) { action = Some SetTrue }
@@ -74,6 +81,7 @@ abbrev pub option_rule : CommandOption → Rule
 option_rule (Number o) = number_rule o
 option_rule (File name help) = value_option name.now
 option_rule (Folder name help) = value_option name.now
+option_rule (Address name help) = repeated_option name.now
 option_rule (Flag name help) = flag name.now
 option_rule (Path name help) = file_argument name.now
 option_rule Story = story_argument
@@ -95,7 +103,7 @@ with_tables a [] = a
 with_tables a (t ∷ ts) = with_tables (with_subcommand a (table_command t).top) ts
 
 -- `play [--frames n] [--words n] [--undo n] [--steps n] [--seed n] [--save FILE] [--saves FOLDER] [--script FILE] [--upper] [--boxes] [--width n]
--- [--page n] [--echo] [--record FILE] [--calls] STORY`
+-- [--page n] [--echo] [--record FILE] [--calls] [--cover FILE] STORY`
 abbrev pub play_command : App
 play_command = with_rules (new_app (codes "play")) (
     number_option (codes "frames") (codes "1024")
@@ -113,11 +121,12 @@ play_command = with_rules (new_app (codes "play")) (
     ∷ flag (codes "echo")
     ∷ value_option (codes "record")
     ∷ flag (codes "calls")
+    ∷ value_option (codes "cover")
     ∷ story_argument
     ∷ [])
 
--- `info [--header] [--map] [--abbreviations] [--dictionary] [--objects] [--tree] [--ifid] [--strings] [--rows] [--json] [--recursive]
--- [--files-from FILE] STORY..`
+-- `info [--header] [--map] [--abbreviations] [--dictionary] [--objects] [--tree] [--ifid] [--strings] [--properties] [--globals]
+-- [--alphabets] [--extension] [--notes] [--graph] [--svg] [--rows] [--json] [--recursive] [--files-from FILE] STORY..`
 abbrev pub info_command : App
 info_command = with_rules (new_app (codes "info")) (
     flag (codes "header")
@@ -128,6 +137,13 @@ info_command = with_rules (new_app (codes "info")) (
     ∷ flag (codes "tree")
     ∷ flag (codes "ifid")
     ∷ flag (codes "strings")
+    ∷ flag (codes "properties")
+    ∷ flag (codes "globals")
+    ∷ flag (codes "alphabets")
+    ∷ flag (codes "extension")
+    ∷ flag (codes "notes")
+    ∷ flag (codes "graph")
+    ∷ flag (codes "svg")
     ∷ flag (codes "rows")
     ∷ flag (codes "json")
     ∷ flag (codes "recursive")
@@ -135,13 +151,21 @@ info_command = with_rules (new_app (codes "info")) (
     ∷ story_arguments
     ∷ [])
 
--- `disasm [--all] STORY`
+-- `disasm [--all] [--at ADDRESS].. [--routine ADDRESS].. [--cover FILE] [--notes] [--graph] STORY`
 abbrev pub disasm_command : App
-disasm_command = with_rules (new_app (codes "disasm")) (flag (codes "all") ∷ story_argument ∷ [])
+disasm_command = with_rules (new_app (codes "disasm")) (
+    flag (codes "all")
+    ∷ repeated_option (codes "at")
+    ∷ repeated_option (codes "routine")
+    ∷ value_option (codes "cover")
+    ∷ flag (codes "notes")
+    ∷ flag (codes "graph")
+    ∷ story_argument
+    ∷ [])
 
--- `check [--rows] [--json] [--recursive] [--files-from FILE] STORY..`
+-- `check [--notes] [--summary] [--rows] [--json] [--recursive] [--files-from FILE] STORY..`
 abbrev pub check_command : App
-check_command = with_rules (new_app (codes "check")) (flag (codes "rows") ∷ flag (codes "json") ∷ flag (codes "recursive") ∷ value_option (codes "files-from") ∷ story_arguments ∷ [])
+check_command = with_rules (new_app (codes "check")) (flag (codes "notes") ∷ flag (codes "summary") ∷ flag (codes "rows") ∷ flag (codes "json") ∷ flag (codes "recursive") ∷ value_option (codes "files-from") ∷ story_arguments ∷ [])
 
 -- `test [--files-from FILE] [--story FILE] [--bless] PATH..`
 abbrev pub test_command : App
@@ -214,7 +238,7 @@ abbrev pub SaysText : {S : Type 0} → (S → Text) → List Row → Text → Op
 SaysText {S} text rows option said = option_map text said ≡ first_of option rows
 
 -- what clap found says the options of a play: the limits, the seed, the view, whether boxes are shown, files, the columns of the
--- screen and the lines of a page, and whether what is read is shown, and calls are told
+-- screen and the lines of a page, whether what is read is shown, and calls are told, and the file of addresses that ran
 pub record SaysOptions (rows : List Row) (o : PlayOptions) : Type 0 where
   pub limits : SaysLimits rows o.limits
   pub seed : SaysSeed rows o.seed
@@ -228,13 +252,14 @@ pub record SaysOptions (rows : List Row) (o : PlayOptions) : Type 0 where
   pub page : MaySayAmount rows (codes "page") 2 1000 (Some (codes "auto")) o.page
   pub echo : o.echo ≡ flag_said (first_of (codes "echo") rows)
   pub calls : o.calls ≡ flag_said (first_of (codes "calls") rows)
+  pub cover : SaysText (λ s. s.now) rows (codes "cover") o.cover
 
--- the sections that the flags of `info` ask for: the header where none is given
-abbrev pub sections_said : List Row → Sections
-sections_said rows =
+-- the sections that the flags of `info` name
+abbrev pub sections_named : List Row → Sections
+sections_named rows =
     let given = λ (name : Text). flag_said (first_of name rows) in
     record {
-      header = given (codes "header") || not (given (codes "map") || (given (codes "abbreviations") || (given (codes "dictionary") || (given (codes "objects") || (given (codes "tree") || (given (codes "ifid") || given (codes "strings")))))));
+      header = given (codes "header");
       map = given (codes "map");
       abbreviations = given (codes "abbreviations");
       dictionary = given (codes "dictionary");
@@ -242,7 +267,20 @@ sections_said rows =
       tree = given (codes "tree");
       ifid = given (codes "ifid");
       strings = given (codes "strings");
+      properties = given (codes "properties");
+      globals = given (codes "globals");
+      alphabets = given (codes "alphabets");
+      extension = given (codes "extension");
     }
+
+-- whether a section but the header is among some
+abbrev pub has_others : Sections → Bool
+has_others s =
+    s.map || (s.abbreviations || (s.dictionary || (s.objects || (s.tree || (s.ifid || (s.strings || (s.properties || (s.globals || (s.alphabets || s.extension)))))))))
+
+-- the sections that they ask for: the header where none is named
+abbrev pub sections_said : List Row → Sections
+sections_said rows = record (sections_named rows) { header = (sections_named rows).header || not (has_others (sections_named rows)) }
 
 -- the path of a story
 abbrev pub SaysStory : List Row → Text → Type 0
@@ -252,33 +290,57 @@ SaysStory rows path = first_of (codes "STORY") rows ≡ Some path
 abbrev pub SaysStories : List Row → List Text → Type 0
 SaysStories rows paths = (1 ≤ length paths) × (paths ≡ unwrap_or (all_of (codes "STORY") rows) [])
 
--- the code that `disasm` lists, by `--all`
-abbrev pub code_said : List Row → Listing
-code_said rows = if flag_said (first_of (codes "all") rows) then Whole else Code
+-- the code that `disasm` lists, by `--all` and `--notes`; where it is looked for beside the first instruction is found later
+pub record IsCodeSaid (rows : List Row) (c : CodeListing) : Type 0 where
+  pub all : c.all ≡ flag_said (first_of (codes "all") rows)
+  pub notes : c.notes ≡ flag_said (first_of (codes "notes") rows)
+  pub addresses : c.addresses.now ≡ []
+  pub routines : c.routines.now ≡ []
 
 -- what clap found for a command says what is listed
 abbrev pub SaysListing : Text → List Row → Listing → Type 0
 SaysListing name rows (Info sections) = (name ≡ codes "info") × (sections ≡ sections_said rows)
-SaysListing name rows Code = (name ≡ codes "disasm") × (code_said rows ≡ Code)
-SaysListing name rows Whole = (name ≡ codes "disasm") × (code_said rows ≡ Whole)
+SaysListing name rows (Code c) = (name ≡ codes "disasm") × IsCodeSaid rows c
 SaysListing name rows Findings = name ≡ codes "check"
+
+-- the texts that clap found for an option or a path that may be given several times
+abbrev pub AreTexts : {S : Type 0} → (S → Text) → List Row → Text → List S → Type 0
+AreTexts {S} text rows name said = map text said ≡ unwrap_or (all_of name rows) []
+
+-- where code is looked for, by `--at`, `--routine` and `--cover`
+pub record SaysRoots (rows : List Row) (r : Roots) : Type 0 where
+  pub at : AreTexts (λ s. s.now) rows (codes "at") r.at.items
+  pub routines : AreTexts (λ s. s.now) rows (codes "routine") r.routines.items
+  pub cover : SaysText (λ s. s.now) rows (codes "cover") r.cover
+
+-- the paths and the rest that a command names
+pub record IsNamed (rows : List Row) (n : NamedByCommand) : Type 0 where
+  pub paths : AreTexts (λ s. s.now) rows (codes "STORY") n.paths.items
+  pub roots : SaysRoots rows n.roots
 
 -- the form that the flags of a command ask for: that of `--json` where both are given
 abbrev pub form_said : List Row → Form
 form_said rows =
     if flag_said (first_of (codes "json") rows) then Json
     else if flag_said (first_of (codes "rows") rows) then Rows
+    else if flag_said (first_of (codes "graph") rows) then Graph
+    else if flag_said (first_of (codes "svg") rows) then Picture
     else Lines
 
 -- how stories are looked for and shown
 abbrev pub show_said : List Row → ShowOptions
-show_said rows = record { recursive = flag_said (first_of (codes "recursive") rows); form = form_said rows }
+show_said rows = record {
+  recursive = flag_said (first_of (codes "recursive") rows);
+  form = form_said rows;
+  notes = flag_said (first_of (codes "notes") rows);
+  summary = flag_said (first_of (codes "summary") rows);
+}
 
 -- what clap found for a command says a choice
 abbrev pub Says : Text → List Row → Choice → Type 0
 Says name rows (Play story options) = (name ≡ codes "play") × SaysStory rows story.now × SaysOptions rows options
-Says name rows (Show stories options listing) =
-    SaysStories rows (map (λ s. s.now) stories.items) × SaysListing name rows listing × (options ≡ show_said rows)
+Says name rows (Show stories roots options listing) =
+    SaysStories rows (map (λ s. s.now) stories.items) × SaysRoots rows roots × SaysListing name rows listing × (options ≡ show_said rows)
 Says name rows (Test paths story bless) =
     (name ≡ codes "test") × SaysStories rows (map (λ s. s.now) paths.items) × SaysText (λ s. s.now) rows (codes "story") story
     × (bless ≡ flag_said (first_of (codes "bless") rows))

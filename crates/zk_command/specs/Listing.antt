@@ -7,18 +7,22 @@ use Rattle.zk_mem.specs.Map.{MemoryMap}
 use Rattle.zk_mem.specs.Story.{refusal}
 use Rattle.zk_term.specs.Devices.{Device}
 use Rattle.zk_inspect.specs.AbbreviationLines.{abbreviation_lines}
-use Rattle.zk_inspect.specs.Codes.{IsCodeOf}
+use Rattle.zk_inspect.specs.AlphabetLines.{alphabet_lines}
 use Rattle.zk_inspect.specs.DictionaryLines.{dictionary_lines}
+use Rattle.zk_inspect.specs.ExtensionLines.{extension_lines}
 use Rattle.zk_inspect.specs.FindingLines.{finding_line}
 use Rattle.zk_inspect.specs.Findings.{AreFindings}
+use Rattle.zk_inspect.specs.GlobalLines.{global_lines}
 use Rattle.zk_inspect.specs.HeaderLines.{header_lines}
 use Rattle.zk_inspect.specs.Ifid.{ifid_line}
-use Rattle.zk_inspect.specs.Beside.{IsWhole}
+use Rattle.zk_inspect.specs.Beside.{IsNamedCode, IsWhole}
 use Rattle.zk_inspect.specs.Listing.{disassembly, whole_disassembly}
 use Rattle.zk_inspect.specs.Lists.{IsListOf}
 use Rattle.zk_inspect.specs.LyingTexts.{LiesText, text_lines}
 use Rattle.zk_inspect.specs.MapLines.{map_lines}
+use Rattle.zk_inspect.specs.Notes.{noted_disassembly, noted_whole}
 use Rattle.zk_inspect.specs.ObjectLines.{AreObjectLines}
+use Rattle.zk_inspect.specs.PropertyBytes.{ArePropertyLines}
 use Rattle.zk_inspect.specs.TreeLines.{AreTreeRows}
 use Rattle.zk_inspect.specs.declared.reach.code.Code as code
 use Rattle.zk_inspect.specs.declared.whole.Whole as whole
@@ -31,7 +35,8 @@ use Rattle.zk_command.specs.Playing.{AreRead, EndsBy}
 use Rattle.zk_command.specs.declared.exit.Exit.{Exit}
 use Rattle.zk_command.specs.declared.exit.Exit.TheVariants.{Stopped, Found}
 use Rattle.zk_command.specs.declared.listing.Listing.{Listing}
-use Rattle.zk_command.specs.declared.listing.Listing.TheVariants.{Info, Code, Whole, Findings}
+use Rattle.zk_command.specs.declared.listing.Listing.TheVariants.{Info, Code, Findings}
+use Rattle.zk_command.specs.declared.listing.CodeListing.{CodeListing}
 use Rattle.zk_command.specs.declared.listing.Section.{Section}
 use Rattle.zk_command.specs.declared.listing.Section.TheVariants as section
 use Rattle.zk_command.specs.declared.listing.Sections.{Sections}
@@ -46,6 +51,10 @@ title section.Objects = codes "[objects]\n"
 title section.Tree = codes "[tree]\n"
 title section.Ifid = codes "[ifid]\n"
 title section.Strings = codes "[strings]\n"
+title section.Properties = codes "[properties]\n"
+title section.Globals = codes "[globals]\n"
+title section.Alphabets = codes "[alphabets]\n"
+title section.Extension = codes "[extension]\n"
 
 -- a text is the lines of the texts that lie in a story, by its code and the routines that lie beside
 pub record AreTextLines (m : MemoryMap) (text : List ℕ) : Type 0 where
@@ -65,6 +74,10 @@ IsOfSection section.Objects m text = AreObjectLines m text
 IsOfSection section.Tree m text = AreTreeRows m text
 IsOfSection section.Ifid m text = text ≡ ifid_line m
 IsOfSection section.Strings m text = AreTextLines m text
+IsOfSection section.Properties m text = ArePropertyLines m text
+IsOfSection section.Globals m text = text ≡ global_lines m
+IsOfSection section.Alphabets m text = text ≡ alphabet_lines m
+IsOfSection section.Extension m text = text ≡ extension_lines m
 
 -- a text is a section with its title
 pub record IsSection (s : Section) (m : MemoryMap) (text : List ℕ) : Type 0 where
@@ -82,10 +95,16 @@ asks_for s section.Objects = s.objects
 asks_for s section.Tree = s.tree
 asks_for s section.Ifid = s.ifid
 asks_for s section.Strings = s.strings
+asks_for s section.Properties = s.properties
+asks_for s section.Globals = s.globals
+asks_for s section.Alphabets = s.alphabets
+asks_for s section.Extension = s.extension
 
 -- all sections, in the order in which they are shown
 abbrev pub all_sections : List Section
-all_sections = section.Header ∷ section.Map ∷ section.Abbreviations ∷ section.Dictionary ∷ section.Objects ∷ section.Tree ∷ section.Ifid ∷ section.Strings ∷ []
+all_sections =
+    section.Header ∷ section.Map ∷ section.Abbreviations ∷ section.Dictionary ∷ section.Objects ∷ section.Tree ∷ section.Ifid ∷ section.Strings
+    ∷ section.Properties ∷ section.Globals ∷ section.Alphabets ∷ section.Extension ∷ []
 
 -- a text is nothing, or a section where it is asked for
 abbrev pub IsAsked : Bool → Section → MemoryMap → List ℕ → Type 0
@@ -97,11 +116,24 @@ abbrev pub AreSections : Sections → MemoryMap → List Section → List ℕ �
 AreSections asked m [] text = text ≡ []
 AreSections asked m (s ∷ more) text = (first : List ℕ) × (rest : List ℕ) × IsAsked (asks_for asked s) s m first × AreSections asked m more rest × (text ≡ first ++ rest)
 
+-- the lines of some code, without notes or with them
+abbrev pub code_lines : Bool → MemoryMap → code.Code → List ℕ
+code_lines false m c = disassembly m c
+code_lines true m c = noted_disassembly m c
+
+abbrev pub whole_lines : Bool → MemoryMap → whole.Whole → List ℕ
+whole_lines false m w = whole_disassembly m w
+whole_lines true m w = noted_whole m w
+
+-- a text is that of what is reached where code is named, with the routines that lie beside or without them
+abbrev pub IsCodeText : Bool → CodeListing → MemoryMap → List ℕ → Type 0
+IsCodeText false l m text = (c : code.Code) × IsNamedCode m l.addresses.now l.routines.now c × (text ≡ code_lines l.notes m c)
+IsCodeText true l m text = (w : whole.Whole) × IsWhole m l.addresses.now l.routines.now w × (text ≡ whole_lines l.notes m w)
+
 -- a text is that of a listing
 abbrev pub IsListing : Listing → MemoryMap → List ℕ → Type 0
 IsListing (Info asked) m text = AreSections asked m all_sections text
-IsListing Code m text = (c : code.Code) × IsCodeOf m c × (text ≡ disassembly m c)
-IsListing Whole m text = (w : whole.Whole) × IsWhole m [] [] w × (text ≡ whole_disassembly m w)
+IsListing (Code l) m text = IsCodeText l.all l m text
 IsListing Findings m text = (fs : List Finding) × AreFindings m fs × (text ≡ flat_map finding_line fs)
 
 -- whether a listing tells that something is wrong: a check does where a story has findings, and no other does

@@ -11,14 +11,14 @@ ghost use Rattle.zk_command.specs.declared.choice.Choice.{Choice};
 ghost use Rattle.zk_command.specs.declared.listing.Listing.{Listing};
 ghost use Rattle.zk_command.specs.declared.settings.Amount.{Amount};
 ghost use Rattle.zk_command.specs.declared.settings.PlayOptions.{PlayOptions};
-ghost use Rattle.zk_command.specs.CommandLine.{Asks, HasLimits, IsAmount, IsNumberIn, IsOtherName, IsRefusedWith, MaySayAmount, MetSays, Says, SaysLimits, SaysListing, SaysNumber, SaysOptions, SaysSeed, SaysStory, code_said, command_line, file_argument, flag_said, form_said, named_option, number_in, number_rule, option_rule, sections_said, show_said, story_argument, table_command, usage_status, view_said, with_tables, word_of};
+ghost use Rattle.zk_command.specs.CommandLine.{Asks, HasLimits, IsAmount, IsNumberIn, IsOtherName, IsRefusedWith, MaySayAmount, MetSays, IsCodeSaid, IsNamed, AreTexts, SaysRoots, Says, SaysLimits, SaysListing, SaysNumber, SaysOptions, SaysSeed, SaysStory, command_line, file_argument, flag_said, form_said, has_others, sections_named, named_option, number_in, number_rule, option_rule, sections_said, show_said, story_argument, table_command, usage_status, view_said, with_tables, word_of};
 
-use crate::listing::{Listing, Sections};
+use crate::listing::{CodeListing, Listing, Sections};
 use crate::options::{
     COMMANDS, CommandOption, CommandTable, FRAMES, NumberOption, PAGE, PLAY, SEED, STEPS, UNDO,
     WIDTH, WORDS,
 };
-use crate::settings::{Amount, Form, PlayOptions, ShowOptions};
+use crate::settings::{Amount, Form, PlayOptions, Roots, ShowOptions};
 use clap::error::ErrorKind;
 use clap::{Arg, ArgAction, ArgMatches, Command, Error};
 use std::alloc::{AllocError, Global};
@@ -36,8 +36,9 @@ pub enum Choice<'a> {
     /// To list the stories in files, one at least.
     Show {
         stories: Vec<&'a str>,
+        roots: Roots<'a>,
         options: ShowOptions,
-        listing: Listing,
+        listing: Listing<'static>,
     },
     /// To play walkthroughs, or those in folders, one path at least, and to compare what they show with transcripts, or
     /// to write these. `story` is that of a walkthrough which names none.
@@ -102,6 +103,9 @@ fn option_of<'a>(alloc: Global, option: CommandOption) -> Arg<'a>
         CommandOption::Folder { name, help } => {
             option_named(alloc, name, help).value_name("FOLDER")
         }
+        CommandOption::Address { name, help } => option_named(alloc, name, help)
+            .action(ArgAction::Append)
+            .value_name("ADDRESS"),
         CommandOption::Flag { name, help } => {
             option_named(alloc, name, help).action(ArgAction::SetTrue)
         }
@@ -384,6 +388,7 @@ fn options_of<'a>(alloc: Global, play: &ArgMatches<'a>) -> Result<PlayOptions<'a
     let saves = text_of(play, "saves");
     let script = text_of(play, "script");
     let recorded = text_of(play, "record");
+    let cover = text_of(play, "cover");
     Ok(PlayOptions {
         limits,
         seed,
@@ -397,6 +402,7 @@ fn options_of<'a>(alloc: Global, play: &ArgMatches<'a>) -> Result<PlayOptions<'a
         page,
         echo: has_flag(play, "echo"),
         calls: has_flag(play, "calls"),
+        cover,
     })
 }
 
@@ -463,43 +469,68 @@ fn choose_unpack<'a>(command: &mut Command<'_>, found: &ArgMatches<'a>) -> Resul
     Ok(Choice::Unpack { file, out })
 }
 
+/// Whether a section of `info` is asked for.
+fn has_others(asked: Sections) -> bool
+    ensures { result ≡ has_others asked }
+{
+    asked.map
+        || asked.abbreviations
+        || asked.dictionary
+        || asked.objects
+        || asked.tree
+        || asked.ifid
+        || asked.strings
+        || asked.properties
+        || asked.globals
+        || asked.alphabets
+        || asked.extension
+}
+
+/// The sections that the options of `info` name.
+fn sections_named(info: &ArgMatches<'_>) -> Sections
+    ensures { result ≡ sections_named (rows_of (found_of info.now)) }
+{
+    Sections {
+        header: has_flag(info, "header"),
+        map: has_flag(info, "map"),
+        abbreviations: has_flag(info, "abbreviations"),
+        dictionary: has_flag(info, "dictionary"),
+        objects: has_flag(info, "objects"),
+        tree: has_flag(info, "tree"),
+        ifid: has_flag(info, "ifid"),
+        strings: has_flag(info, "strings"),
+        properties: has_flag(info, "properties"),
+        globals: has_flag(info, "globals"),
+        alphabets: has_flag(info, "alphabets"),
+        extension: has_flag(info, "extension"),
+    }
+}
+
 /// The sections that the options of `info` ask for.
 fn sections_of(info: &ArgMatches<'_>) -> Sections
     ensures { result ≡ sections_said (rows_of (found_of info.now)) }
 {
-    let map = has_flag(info, "map");
-    let abbreviations = has_flag(info, "abbreviations");
-    let dictionary = has_flag(info, "dictionary");
-    let objects = has_flag(info, "objects");
-    let tree = has_flag(info, "tree");
-    let ifid = has_flag(info, "ifid");
-    let strings = has_flag(info, "strings");
-    let others = map || abbreviations || dictionary || objects || tree || ifid || strings;
+    let named = sections_named(info);
     Sections {
-        header: has_flag(info, "header") || !others,
-        map,
-        abbreviations,
-        dictionary,
-        objects,
-        tree,
-        ifid,
-        strings,
+        header: named.header || !has_others(named),
+        ..named
     }
 }
 
 /// Which code is listed.
-fn code_listing_of(found: &ArgMatches<'_>) -> Listing
-    ensures { result ≡ code_said (rows_of (found_of found.now)) }
+fn code_listing_of(found: &ArgMatches<'_>) -> CodeListing<'static>
+    ensures { IsCodeSaid (rows_of (found_of found.now)) result }
 {
-    if has_flag(found, "all") {
-        Listing::Whole
-    } else {
-        Listing::Code
+    CodeListing {
+        all: has_flag(found, "all"),
+        notes: has_flag(found, "notes"),
+        addresses: &[],
+        routines: &[],
     }
 }
 
 /// What a command lists, by its name and what clap found for it.
-fn listing_of(name: &str, found: &ArgMatches<'_>) -> Option<Listing>
+fn listing_of(name: &str, found: &ArgMatches<'_>) -> Option<Listing<'static>>
     ensures says { IfSome result (λ l. SaysListing name.now (rows_of (found_of found.now)) l) }
     ensures says_none { IfNone result
         ((l : Listing) → SaysListing name.now (rows_of (found_of found.now)) l → ⊥) }
@@ -507,7 +538,7 @@ fn listing_of(name: &str, found: &ArgMatches<'_>) -> Option<Listing>
     if name == "info" {
         Some(Listing::Info(sections_of(found)))
     } else if name == "disasm" {
-        Some(code_listing_of(found))
+        Some(Listing::Code(code_listing_of(found)))
     } else if name == "check" {
         Some(Listing::Findings)
     } else {
@@ -523,6 +554,10 @@ fn form_of(found: &ArgMatches<'_>) -> Form
         Form::Json
     } else if has_flag(found, "rows") {
         Form::Rows
+    } else if has_flag(found, "graph") {
+        Form::Graph
+    } else if has_flag(found, "svg") {
+        Form::Picture
     } else {
         Form::Lines
     }
@@ -535,19 +570,27 @@ fn show_options_of(found: &ArgMatches<'_>) -> ShowOptions
     ShowOptions {
         recursive: has_flag(found, "recursive"),
         form: form_of(found),
+        notes: has_flag(found, "notes"),
+        summary: has_flag(found, "summary"),
     }
 }
 
-/// What a command that lists stories asks for, by its name, what clap found for it, and the stories that it names.
+/// What a command names: the paths of stories or walkthroughs, and where code is looked for.
+#[derive(Drop)]
+struct Named<'a> {
+    paths: Vec<&'a str>,
+    roots: Roots<'a>,
+}
+
+/// What a command that lists stories asks for, by its name, what clap found for it, and what it names.
 fn choose_listing<'a>(
     command: &mut Command<'_>,
     name: &str,
     found: &ArgMatches<'a>,
-    stories: Vec<&'a str>,
+    named: Named<'a>,
 ) -> Result<Choice<'a>, Error>
     requires other { IsOtherName name.now }
-    requires stories { map (λ s. s.now) stories.items
-        ≡ unwrap_or (all_of (codes "STORY") (rows_of (found_of found.now))) [] }
+    requires named { IsNamed (rows_of (found_of found.now)) named }
     ensures says { IfOk result (λ c. Says name.now (rows_of (found_of found.now)) c) }
     ensures in_range { IfOk result (λ c. HasLimits c) }
     ensures mistake { IfErr result (λ e. 1 ≤ usage_status (kind_of e)) }
@@ -555,10 +598,11 @@ fn choose_listing<'a>(
         ((c : Choice) → Says name.now (rows_of (found_of found.now)) c → ⊥) }
 {
     match listing_of(name, found) {
-        Some(listing) if !stories.is_empty() => {
+        Some(listing) if !named.paths.is_empty() => {
             let options = show_options_of(found);
             Ok(Choice::Show {
-                stories,
+                stories: named.paths,
+                roots: named.roots,
                 options,
                 listing,
             })
@@ -578,39 +622,37 @@ fn choose_listing<'a>(
 fn choose_test<'a>(
     command: &mut Command<'_>,
     found: &ArgMatches<'a>,
-    paths: Vec<&'a str>,
+    named: Named<'a>,
 ) -> Result<Choice<'a>, Error>
-    requires paths { map (λ s. s.now) paths.items
-        ≡ unwrap_or (all_of (codes "STORY") (rows_of (found_of found.now))) [] }
+    requires { IsNamed (rows_of (found_of found.now)) named }
     ensures says { IfOk result (λ c. Says (codes "test") (rows_of (found_of found.now)) c) }
     ensures in_range { IfOk result (λ c. HasLimits c) }
     ensures mistake { IfErr result (λ e. 1 ≤ usage_status (kind_of e)) }
     ensures says_none { OnErr result
         ((c : Choice) → Says (codes "test") (rows_of (found_of found.now)) c → ⊥) }
 {
-    if paths.is_empty() {
+    if named.paths.is_empty() {
         let text = "the path of a walkthrough is missing";
         return Err(usage_error(command, ErrorKind::MissingRequiredArgument, text));
     }
     let story = text_of(found, "story");
     let bless = has_flag(found, "bless");
     Ok(Choice::Test {
-        paths,
+        paths: named.paths,
         story,
         bless,
     })
 }
 
-/// What a command asks for, by its name, what clap found for it, and the stories that it names.
+/// What a command asks for, by its name, what clap found for it, and what it names.
 fn choose_by<'a>(
     alloc: Global,
     command: &mut Command<'_>,
     name: &str,
     found: &ArgMatches<'a>,
-    stories: Vec<&'a str>,
+    named: Named<'a>,
 ) -> Result<Choice<'a>, Error>
-    requires stories { map (λ s. s.now) stories.items
-        ≡ unwrap_or (all_of (codes "STORY") (rows_of (found_of found.now))) [] }
+    requires { IsNamed (rows_of (found_of found.now)) named }
     ensures says { IfOk result (λ c. Says name.now (rows_of (found_of found.now)) c) }
     ensures in_range { IfOk result (λ c. HasLimits c) }
     ensures mistake { IfErr result (λ e. 1 ≤ usage_status (kind_of e)) }
@@ -622,22 +664,47 @@ fn choose_by<'a>(
     } else if name == "unpack" {
         choose_unpack(command, found)
     } else if name == "test" {
-        choose_test(command, found, stories)
+        choose_test(command, found, named)
     } else {
-        choose_listing(command, name, found, stories)
+        choose_listing(command, name, found, named)
     }
 }
 
-/// The stories, or other paths, that a command names.
-fn stories_of<'a>(alloc: Global, found: &ArgMatches<'a>) -> Result<Vec<&'a str>, AllocError>
-    ensures { IfOk result (λ v. map (λ s. s.now) v.items
-        ≡ unwrap_or (all_of (codes "STORY") (rows_of (found_of found.now))) []) }
+/// The texts of an option or a path that may be given several times.
+fn texts_of<'a>(
+    alloc: Global,
+    found: &ArgMatches<'a>,
+    name: &str,
+) -> Result<Vec<&'a str>, AllocError>
+    ensures { IfOk result (λ v. AreTexts (λ s. s.now) (rows_of (found_of found.now)) name.now v.items) }
 {
     let mut list = Vec::new(alloc);
-    if let Some(stories) = found.get_strs("STORY") {
-        list.extend_from_slice(stories)?;
+    if let Some(texts) = found.get_strs(name) {
+        list.extend_from_slice(texts)?;
     }
     Ok(list)
+}
+
+/// Where code is looked for.
+fn roots_of<'a>(alloc: Global, found: &ArgMatches<'a>) -> Result<Roots<'a>, AllocError>
+    ensures { IfOk result (λ r. SaysRoots (rows_of (found_of found.now)) r) }
+{
+    let at = texts_of(alloc, found, "at")?;
+    let routines = texts_of(alloc, found, "routine")?;
+    Ok(Roots {
+        at,
+        routines,
+        cover: text_of(found, "cover"),
+    })
+}
+
+/// What a command names.
+fn named_in<'a>(alloc: Global, found: &ArgMatches<'a>) -> Result<Named<'a>, AllocError>
+    ensures { IfOk result (λ n. IsNamed (rows_of (found_of found.now)) n) }
+{
+    let paths = texts_of(alloc, found, "STORY")?;
+    let roots = roots_of(alloc, found)?;
+    Ok(Named { paths, roots })
 }
 
 /// What a command asks for, by what clap has met.
@@ -655,8 +722,8 @@ fn choose_met<'a>(
         let text = "a command is missing";
         return Err(usage_error(command, ErrorKind::MissingSubcommand, text));
     };
-    let stories = stories_of(alloc, found)?;
-    choose_by(alloc, command, name, found, stories)
+    let named = named_in(alloc, found)?;
+    choose_by(alloc, command, name, found, named)
 }
 
 /// What the arguments ask for, by the command line.

@@ -1,12 +1,12 @@
 // Listings of a story, from the bytes of its file to the screen.
 
-ghost use Rattle.std.specs.Prelude.{◌≡◌, false, IfOk, None, Some, option_map};
+ghost use Rattle.std.specs.Prelude.{◌≡◌, false, true, IfOk, None, Some, option_map};
 ghost use Rattle.std.specs.Io.KnownBytes.{Appends};
 ghost use Rattle.zk_mem.specs.Fresh.{fresh};
 ghost use Rattle.zk_mem.specs.Story.{refusal};
 ghost use Rattle.zk_term.specs.Devices.{device};
 ghost use Rattle.zk_command.specs.Headings.{heading};
-ghost use Rattle.zk_command.specs.Listing.{AreSections, EndsListing, IsAsked, IsLeftOut, IsListed, IsListing, IsOfSection, IsSection, IsWritten, Tells, all_sections, asks_for, exit_by, title};
+ghost use Rattle.zk_command.specs.Listing.{AreSections, EndsListing, IsAsked, IsLeftOut, IsListed, IsCodeText, IsListing, IsOfSection, IsSection, IsWritten, Tells, all_sections, asks_for, code_lines, exit_by, title, whole_lines};
 ghost use Rattle.zk_command.specs.Playing.{IsReported};
 ghost use Rattle.zk_command.specs.Verdict.{IsStart};
 ghost use Rattle.zk_command.specs.declared.listing.Listing.TheVariants as listing;
@@ -22,11 +22,16 @@ use std::alloc::Global;
 use std::io::Read;
 use zk_inspect::check::finding_lines::write_findings;
 use zk_inspect::error::ListError;
-use zk_inspect::listing::{abbreviations, dictionary, header, ifid, map, objects, tree};
-use zk_inspect::reach::disassembly::{disassemble, disassemble_whole};
-use zk_inspect::reach::reach;
+use zk_inspect::listing::{
+    abbreviations, alphabets, dictionary, extension, globals, header, ifid, map, objects,
+    properties, tree,
+};
+use zk_inspect::reach::code::Code;
+use zk_inspect::reach::disassembly::{
+    disassemble, disassemble_whole, disassemble_whole_with_notes, disassemble_with_notes,
+};
 use zk_inspect::texts::{find_texts, list_texts};
-use zk_inspect::whole::find_whole;
+use zk_inspect::whole::{Whole, find_whole, reach_named};
 use zk_mem::memory::{Memory, Setup};
 use zk_mem::story::Story;
 use zk_term::target::{Failed, Target, write_all};
@@ -46,10 +51,14 @@ pub enum Section {
     Tree,
     Ifid,
     Strings,
+    Properties,
+    Globals,
+    Alphabets,
+    Extension,
 }
 
 /// The sections in the order in which they are shown.
-const SECTIONS: [Section; 8] = [
+const SECTIONS: [Section; 12] = [
     Section::Header,
     Section::Map,
     Section::Abbreviations,
@@ -58,6 +67,10 @@ const SECTIONS: [Section; 8] = [
     Section::Tree,
     Section::Ifid,
     Section::Strings,
+    Section::Properties,
+    Section::Globals,
+    Section::Alphabets,
+    Section::Extension,
 ];
 
 /// Which sections are shown.
@@ -71,7 +84,27 @@ pub struct Sections {
     pub tree: bool,
     pub ifid: bool,
     pub strings: bool,
+    pub properties: bool,
+    pub globals: bool,
+    pub alphabets: bool,
+    pub extension: bool,
 }
+
+/// No section.
+pub const NO_SECTIONS: Sections = Sections {
+    header: false,
+    map: false,
+    abbreviations: false,
+    dictionary: false,
+    objects: false,
+    tree: false,
+    ifid: false,
+    strings: false,
+    properties: false,
+    globals: false,
+    alphabets: false,
+    extension: false,
+};
 
 impl Sections {
     /// Whether a section is shown.
@@ -87,19 +120,34 @@ impl Sections {
             Section::Tree => self.tree,
             Section::Ifid => self.ifid,
             Section::Strings => self.strings,
+            Section::Properties => self.properties,
+            Section::Globals => self.globals,
+            Section::Alphabets => self.alphabets,
+            Section::Extension => self.extension,
         }
     }
 }
 
+/// Which code is listed, and how.
+#[derive(Clone, Copy, PartialEq, Drop)]
+pub struct CodeListing<'a> {
+    /// Whether the routines that lie beside are listed as well.
+    pub all: bool,
+    /// Whether notes stand after instructions.
+    pub notes: bool,
+    /// The byte addresses of instructions from which code is looked for, beside the first one.
+    pub addresses: &'a [u32],
+    /// The byte addresses of routines.
+    pub routines: &'a [u32],
+}
+
 /// What is listed of a story.
-#[derive(Clone, Copy, PartialEq, Eq, Drop)]
-pub enum Listing {
+#[derive(Clone, Copy, PartialEq, Drop)]
+pub enum Listing<'a> {
     /// Sections on its tables.
     Info(Sections),
-    /// Its reachable code.
-    Code,
-    /// The same, with the routines that lie beside.
-    Whole,
+    /// Its code.
+    Code(CodeListing<'a>),
     /// What is wrong with it.
     Findings,
 }
@@ -117,6 +165,10 @@ fn title(section: Section) -> &'static [u8]
         Section::Tree => b"[tree]\n",
         Section::Ifid => b"[ifid]\n",
         Section::Strings => b"[strings]\n",
+        Section::Properties => b"[properties]\n",
+        Section::Globals => b"[globals]\n",
+        Section::Alphabets => b"[alphabets]\n",
+        Section::Extension => b"[extension]\n",
     }
 }
 
@@ -153,6 +205,10 @@ fn list_below<T: Target>(
         Section::Tree => tree(alloc, memory, target),
         Section::Ifid => ifid(memory, target),
         Section::Strings => list_strings(alloc, memory, target),
+        Section::Properties => properties(memory, target),
+        Section::Globals => globals(memory, target),
+        Section::Alphabets => alphabets(memory, target),
+        Section::Extension => extension(memory, target),
     }
 }
 
@@ -206,26 +262,87 @@ fn list_sections<T: Target>(
     Ok(())
 }
 
-/// Writes a disassembly.
-fn list_code<T: Target>(alloc: Global, memory: &Memory, target: &mut T) -> Result<(), ListError>
-    ensures { IsWritten (IsListing listing.Code memory.now) result
+/// Writes the lines of code, with notes or without them.
+fn write_code<T: Target>(
+    memory: &Memory,
+    code: &Code,
+    notes: bool,
+    target: &mut T,
+) -> Result<(), ListError>
+    ensures { IsWritten (λ text. text ≡ code_lines notes memory.now code.now) result
         (device T.taken T.failed target.old) (device T.taken T.failed target.new) }
 {
-    let Ok(code) = reach(alloc, memory) else {
-        return Err(ListError::Memory);
-    };
-    disassemble(memory, &code, target)
+    if notes {
+        disassemble_with_notes(memory, code, target)
+    } else {
+        disassemble(memory, code, target)
+    }
 }
 
-/// Writes a disassembly with the routines that lie beside.
-fn list_whole<T: Target>(alloc: Global, memory: &Memory, target: &mut T) -> Result<(), ListError>
-    ensures { IsWritten (IsListing listing.Whole memory.now) result
+/// Writes the lines of the code of a whole story, with notes or without them.
+fn write_whole<T: Target>(
+    memory: &Memory,
+    whole: &Whole,
+    notes: bool,
+    target: &mut T,
+) -> Result<(), ListError>
+    ensures { IsWritten (λ text. text ≡ whole_lines notes memory.now whole.now) result
         (device T.taken T.failed target.old) (device T.taken T.failed target.new) }
 {
-    let Ok(whole) = find_whole(alloc, memory, &[], &[]) else {
+    if notes {
+        disassemble_whole_with_notes(memory, whole, target)
+    } else {
+        disassemble_whole(memory, whole, target)
+    }
+}
+
+/// Writes the code that is reached.
+fn list_reached<T: Target>(
+    alloc: Global,
+    memory: &Memory,
+    listing: CodeListing<'_>,
+    target: &mut T,
+) -> Result<(), ListError>
+    ensures { IsWritten (IsCodeText false listing.entry memory.now) result
+        (device T.taken T.failed target.old) (device T.taken T.failed target.new) }
+{
+    let Ok(code) = reach_named(alloc, memory, listing.addresses, listing.routines) else {
         return Err(ListError::Memory);
     };
-    disassemble_whole(memory, &whole, target)
+    write_code(memory, &code, listing.notes, target)
+}
+
+/// Writes the code that is reached, with the routines that lie beside.
+fn list_whole<T: Target>(
+    alloc: Global,
+    memory: &Memory,
+    listing: CodeListing<'_>,
+    target: &mut T,
+) -> Result<(), ListError>
+    ensures { IsWritten (IsCodeText true listing.entry memory.now) result
+        (device T.taken T.failed target.old) (device T.taken T.failed target.new) }
+{
+    let Ok(whole) = find_whole(alloc, memory, listing.addresses, listing.routines) else {
+        return Err(ListError::Memory);
+    };
+    write_whole(memory, &whole, listing.notes, target)
+}
+
+/// Writes code.
+fn list_code<T: Target>(
+    alloc: Global,
+    memory: &Memory,
+    listing: CodeListing<'_>,
+    target: &mut T,
+) -> Result<(), ListError>
+    ensures { IsWritten (IsCodeText listing.entry.all listing.entry memory.now) result
+        (device T.taken T.failed target.old) (device T.taken T.failed target.new) }
+{
+    if listing.all {
+        list_whole(alloc, memory, listing, target)
+    } else {
+        list_reached(alloc, memory, listing, target)
+    }
 }
 
 /// Writes what is wrong with a story, and tells whether something is.
@@ -252,12 +369,12 @@ fn list_findings<T: Target>(
 fn list<T: Target>(
     alloc: Global,
     memory: &Memory,
-    listing: Listing,
+    listing: Listing<'_>,
     target: &mut T,
 ) -> Result<bool, ListError>
     requires { IsStart memory.now }
-    ensures tells { IfOk result (λ found. Tells listing memory.now found) }
-    ensures written { IsWritten (IsListing listing memory.now) result
+    ensures tells { IfOk result (λ found. Tells listing.entry memory.now found) }
+    ensures written { IsWritten (IsListing listing.entry memory.now) result
         (device T.taken T.failed target.old) (device T.taken T.failed target.new) }
 {
     match listing {
@@ -265,11 +382,7 @@ fn list<T: Target>(
             Ok(()) => Ok(false),
             Err(error) => Err(error),
         },
-        Listing::Code => match list_code(alloc, memory, target) {
-            Ok(()) => Ok(false),
-            Err(error) => Err(error),
-        },
-        Listing::Whole => match list_whole(alloc, memory, target) {
+        Listing::Code(code) => match list_code(alloc, memory, code, target) {
             Ok(()) => Ok(false),
             Err(error) => Err(error),
         },
@@ -294,11 +407,11 @@ fn list_story<S: Target>(
     alloc: Global,
     story: Story,
     about: &About,
-    listing: Listing,
+    listing: Listing<'_>,
     screen: &mut S,
 ) -> Exit
     requires { refusal story ≡ None }
-    ensures { IsListed listing (fresh story 16) (option_map (λ p. p.now) about.now.heading)
+    ensures { IsListed listing.entry (fresh story 16) (option_map (λ p. p.now) about.now.heading)
         (device S.taken S.failed screen.old) (device S.taken S.failed screen.new) result }
 {
     let setup = Setup {
@@ -329,10 +442,10 @@ pub fn list_file<R: Read + Drop, S: Target>(
     alloc: Global,
     reader: R,
     about: &About,
-    listing: Listing,
+    listing: Listing<'_>,
     screen: &mut S,
 ) -> Exit
-    ensures { EndsListing listing (option_map (λ p. p.now) about.now.heading) (R.remaining reader)
+    ensures { EndsListing listing.entry (option_map (λ p. p.now) about.now.heading) (R.remaining reader)
         (device S.taken S.failed screen.old) (device S.taken S.failed screen.new) result }
 {
     match open_story(alloc, reader, about) {
@@ -346,12 +459,12 @@ pub fn list_and_report<R: Read + Drop, S: Target, E: Target>(
     alloc: Global,
     reader: R,
     about: &About,
-    listing: Listing,
+    listing: Listing<'_>,
     screen: &mut S,
     errors: &mut E,
 ) -> u8
     requires { E.failed errors.old ≡ false }
-    ensures { IsReported (EndsListing listing (option_map (λ p. p.now) about.now.heading) (R.remaining reader)
+    ensures { IsReported (EndsListing listing.entry (option_map (λ p. p.now) about.now.heading) (R.remaining reader)
         (device S.taken S.failed screen.old) (device S.taken S.failed screen.new))
         (device E.taken E.failed errors.old) (device E.taken E.failed errors.new) result }
 {

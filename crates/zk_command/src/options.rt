@@ -28,6 +28,11 @@ pub(crate) enum CommandOption {
         name: &'static str,
         help: &'static str,
     },
+    /// With an address, as often as it is given.
+    Address {
+        name: &'static str,
+        help: &'static str,
+    },
     /// Without a value.
     Flag {
         name: &'static str,
@@ -101,7 +106,7 @@ pub(crate) const PAGE: NumberOption =
     number!("page", None, 2 to 1000, or "auto", "Waits for Enter after this many lines, or as many as the terminal has, where input is a terminal");
 
 /// The options of `play`.
-const PLAY_OPTIONS: [CommandOption; 16] = [
+const PLAY_OPTIONS: [CommandOption; 17] = [
     CommandOption::Number(FRAMES),
     CommandOption::Number(WORDS),
     CommandOption::Number(UNDO),
@@ -141,6 +146,10 @@ const PLAY_OPTIONS: [CommandOption; 16] = [
         name: "calls",
         help: "Tells after a fault or a limit which calls led there",
     },
+    CommandOption::File {
+        name: "cover",
+        help: "The file that gets the addresses of the instructions that were carried out, beside those that it has",
+    },
     CommandOption::Story,
 ];
 
@@ -166,13 +175,23 @@ const JSON: CommandOption = CommandOption::Flag {
     help: "Lists a JSON object for each story, on a line",
 };
 
+const NOTES: CommandOption = CommandOption::Flag {
+    name: "notes",
+    help: "Says beside what is listed what it means",
+};
+
+const GRAPH: CommandOption = CommandOption::Flag {
+    name: "graph",
+    help: "Writes a graph in Graphviz's language: of the calls, or of the tree of objects",
+};
+
 const FILES_FROM: CommandOption = CommandOption::File {
     name: "files-from",
     help: "Takes paths from a file, or from standard input for -, one a line, or each up to a zero byte where there is one",
 };
 
 /// The options of `info`.
-const INFO_OPTIONS: [CommandOption; 13] = [
+const INFO_OPTIONS: [CommandOption; 20] = [
     CommandOption::Flag {
         name: "header",
         help: "Lists what the header says",
@@ -205,6 +224,28 @@ const INFO_OPTIONS: [CommandOption; 13] = [
         name: "strings",
         help: "Lists the texts that lie in the story one after another",
     },
+    CommandOption::Flag {
+        name: "properties",
+        help: "Lists the properties of the objects with their bytes",
+    },
+    CommandOption::Flag {
+        name: "globals",
+        help: "Lists the global variables with their first values",
+    },
+    CommandOption::Flag {
+        name: "alphabets",
+        help: "Lists the letters of the alphabets, and the extra characters",
+    },
+    CommandOption::Flag {
+        name: "extension",
+        help: "Lists the words of the header's extension",
+    },
+    NOTES,
+    GRAPH,
+    CommandOption::Flag {
+        name: "svg",
+        help: "Writes the map as a picture, in SVG",
+    },
     ROWS,
     JSON,
     RECURSIVE,
@@ -220,11 +261,25 @@ const INFO: CommandTable = CommandTable {
 };
 
 /// The options of `disasm`.
-const DISASM_OPTIONS: [CommandOption; 2] = [
+const DISASM_OPTIONS: [CommandOption; 7] = [
     CommandOption::Flag {
         name: "all",
         help: "Lists the routines that lie beside these as well",
     },
+    CommandOption::Address {
+        name: "at",
+        help: "Lists what is reached from the instruction at this byte address as well",
+    },
+    CommandOption::Address {
+        name: "routine",
+        help: "Lists the routine at this byte address as well, with what is reached from it",
+    },
+    CommandOption::File {
+        name: "cover",
+        help: "Lists what is reached from the addresses in this file as well, and marks these",
+    },
+    NOTES,
+    GRAPH,
     CommandOption::Story,
 ];
 
@@ -236,7 +291,12 @@ const DISASM: CommandTable = CommandTable {
 };
 
 /// The options of `check`.
-const CHECK_OPTIONS: [CommandOption; 5] = [
+const CHECK_OPTIONS: [CommandOption; 7] = [
+    NOTES,
+    CommandOption::Flag {
+        name: "summary",
+        help: "Counts the findings of all stories after them, by kind",
+    },
     ROWS,
     JSON,
     RECURSIVE,

@@ -23,6 +23,10 @@ pub enum Form {
     Rows,
     /// As JSON: an object for each story, on a line.
     Json,
+    /// As a graph, in Graphviz's language.
+    Graph,
+    /// As a picture, in SVG.
+    Picture,
 }
 
 /// How stories are looked for and shown.
@@ -31,6 +35,21 @@ pub struct ShowOptions {
     /// Whether a folder stands for the files in it.
     pub recursive: bool,
     pub form: Form,
+    /// Whether notes stand beside what is listed.
+    pub notes: bool,
+    /// Whether the findings of all stories are counted after them.
+    pub summary: bool,
+}
+
+/// Where code is looked for beside the first instruction.
+#[derive(Drop)]
+pub struct Roots<'a> {
+    /// The addresses of instructions, as texts.
+    pub at: Vec<&'a str>,
+    /// The addresses of routines, as texts.
+    pub routines: Vec<&'a str>,
+    /// The file with the addresses of instructions that ran.
+    pub cover: Option<&'a str>,
 }
 
 /// A number of an option.
@@ -67,4 +86,6 @@ pub struct PlayOptions<'a> {
     pub echo: bool,
     /// Whether the calls that led to a fault or a limit are told.
     pub calls: bool,
+    /// The file that gets the addresses of the instructions that were carried out.
+    pub cover: Option<&'a str>,
 }

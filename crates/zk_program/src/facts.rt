@@ -11,7 +11,7 @@ use std::str;
 use zk_command::about::About;
 use zk_command::arguments::NO_TEXT;
 use zk_command::exit::Exit;
-use zk_command::listing::{Listing, Sections, list_file};
+use zk_command::listing::{Listing, NO_SECTIONS, Sections, list_file};
 use zk_command::report::report_listing;
 use zk_command::settings::Form;
 use zk_facts::document::object_about;
@@ -26,31 +26,30 @@ use zk_vm::stop::Stop;
 /// What the header says, alone.
 const HEADER: Listing = Listing::Info(Sections {
     header: true,
-    map: false,
-    abbreviations: false,
-    dictionary: false,
-    objects: false,
-    tree: false,
-    ifid: false,
-    strings: false,
+    ..NO_SECTIONS
 });
 
 /// A listing in memory, and how it ended.
 #[derive(Drop)]
-struct Listed {
-    exit: Exit,
+pub struct Listed {
+    pub exit: Exit,
     text: Vec<u8>,
 }
 
 impl Listed {
     /// The text, which is in UTF-8.
-    fn text(&self) -> &str {
+    pub fn text(&self) -> &str {
         str::from_utf8(self.text.as_slice()).unwrap_or("")
     }
 }
 
 /// Lists the story in a file.
-fn list_in_memory(rt: &HostRuntime, about: &About, path: &str, listing: Listing) -> Listed {
+pub fn list_in_memory(
+    rt: &HostRuntime,
+    about: &About,
+    path: &str,
+    listing: Listing<'_>,
+) -> Listed {
     let mut screen = IoDevice::new(Vec::new(rt.alloc()));
     let exit = match File::open(rt, path) {
         Err(error) => Exit::Unread(error),
@@ -63,13 +62,13 @@ fn list_in_memory(rt: &HostRuntime, about: &About, path: &str, listing: Listing)
 }
 
 /// The entries of the objects of the story in a file, where its header can be read and names some.
-fn entries_of(rt: &HostRuntime, path: &str) -> Option<Entries> {
+pub fn entries_of(rt: &HostRuntime, path: &str) -> Option<Entries> {
     let listed = list_in_memory(rt, &About::new(path, ""), path, HEADER);
     entries_in(listed.text())
 }
 
 /// What came of a look at the story in a file.
-fn outcome_of<'a>(listed: &'a Listed, listing: Listing, entries: Option<Entries>) -> Outcome<'a> {
+fn outcome_of<'a>(listed: &'a Listed, listing: Listing<'_>, entries: Option<Entries>) -> Outcome<'a> {
     match &listed.exit {
         Exit::Refused(OpenError::OutOfMemory) | Exit::Stopped(Stop::Memory | Stop::Write) => {
             Outcome::Unread("out of memory")
@@ -119,7 +118,7 @@ fn facts_in(
 }
 
 /// Lists the facts of the story in a file, and answers the program's status.
-pub fn list_facts(rt: &HostRuntime, path: &str, listing: Listing, form: Form) -> u8 {
+pub fn list_facts(rt: &HostRuntime, path: &str, listing: Listing<'_>, form: Form) -> u8 {
     let about = About::listed(path, None);
     let listed = list_in_memory(rt, &about, path, listing);
     let entries = match listing {

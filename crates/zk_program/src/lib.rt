@@ -2,11 +2,13 @@
 #![tactic(auto)]
 
 pub mod boxes;
+mod cover;
 mod facts;
 pub mod files;
 mod held_prompt;
 pub mod list;
 pub mod play;
+mod readable;
 mod session;
 pub mod suite;
 pub mod told;

@@ -2,22 +2,30 @@
 
 ghost use Rattle.std.specs.Prelude.{◌≡◌, false};
 
+use crate::cover::{CodeRoots, code_roots};
 use crate::facts::list_facts;
 use crate::files::files_of;
 use crate::play::screen_of;
+use crate::readable::{Request, list_counts, list_readable};
 use crate::told::out_of_memory;
 use std::fs::File;
 use zk_command::about::About;
 use zk_command::exit::Exit;
-use zk_command::listing::{Listing, leave_out, list_and_report};
+use zk_command::listing::{CodeListing, Listing, leave_out, list_and_report};
 use zk_command::report::report_listing;
-use zk_command::settings::{Form, ShowOptions};
+use zk_command::settings::{Form, Roots, ShowOptions};
 use zk_command::shown::Shown;
 use zk_command::terminal::{columns, is_told_at};
+use zk_notes::counts::Counts;
 use zk_term::io_device::IoDevice;
 
 /// Lists the story in a file, below its heading where it is one of several, and answers the program's status.
-fn list<'a>(rt: &HostRuntime, path: &'a str, heading: Option<&'a str>, listing: Listing) -> u8 {
+fn list<'a>(
+    rt: &HostRuntime,
+    path: &'a str,
+    heading: Option<&'a str>,
+    listing: Listing<'_>,
+) -> u8 {
     let mut errors = IoDevice::new(rt.stderr());
     let about = About::listed(path, heading);
     let mut screen = screen_of(rt, &about);
@@ -31,34 +39,63 @@ fn list<'a>(rt: &HostRuntime, path: &'a str, heading: Option<&'a str>, listing: 
 }
 
 /// Lists one of several stories, below its path where lines are shown, and answers the program's status.
-fn list_one_of_several(rt: &HostRuntime, path: &str, listing: Listing, form: Form) -> u8 {
-    match form {
-        Form::Lines => {}
-        form => return list_facts(rt, path, listing, form),
+fn list_one_of_several(
+    rt: &HostRuntime,
+    path: &str,
+    request: &Request<'_>,
+    counts: &mut Counts,
+    counted: bool,
+) -> u8 {
+    match request.form {
+        Form::Rows | Form::Json => return list_facts(rt, path, request.listing, request.form),
+        _ => {}
     }
     match format!(in rt.alloc(); "{}", Shown(path)) {
-        Ok(heading) => list(rt, path, Some(heading.as_str()), listing),
+        Ok(heading) => list_one(rt, path, Some(heading.as_str()), request, counts, counted),
         Err(_) => out_of_memory(rt),
     }
 }
 
-/// Lists the stories in files, and answers the greatest status. They are counted on standard error while they are looked
-/// at, where that is asked for.
-fn list_each(
+/// Lists a story, below its heading where it is one of several, and answers the program's status.
+fn list_one<'a>(
     rt: &HostRuntime,
-    stories: &[&str],
-    listing: Listing,
-    form: Form,
+    path: &'a str,
+    heading: Option<&'a str>,
+    request: &Request<'_>,
+    counts: &mut Counts,
     counted: bool,
 ) -> u8 {
+    if request.is_plain() && !counted {
+        return list(rt, path, heading, request.listing);
+    }
+    list_readable(rt, path, heading, request, counts)
+}
+
+/// Which stories are listed, and what is shown beside them.
+#[derive(Clone, Copy, Drop)]
+struct Several<'a> {
+    stories: &'a [&'a str],
+    /// Whether their findings are counted.
+    summary: bool,
+    /// Whether they are counted on standard error while they are looked at.
+    told: bool,
+}
+
+/// Lists the stories in files, and answers the greatest status.
+fn list_each(
+    rt: &HostRuntime,
+    several: Several<'_>,
+    request: &Request<'_>,
+    counts: &mut Counts,
+) -> u8 {
     let mut status = 0;
-    for (number, path) in stories.iter().enumerate() {
-        status = list_one_of_several(rt, path, listing, form).max(status);
-        if counted {
-            let _ = eprint!(rt; "\r{} of {}", number + 1, stories.len());
+    for (number, path) in several.stories.iter().enumerate() {
+        status = list_one_of_several(rt, path, request, counts, several.summary).max(status);
+        if several.told {
+            let _ = eprint!(rt; "\r{} of {}", number + 1, several.stories.len());
         }
     }
-    if counted {
+    if several.told {
         let _ = eprintln!(rt;);
     }
     status
@@ -67,12 +104,11 @@ fn list_each(
 /// Lists the stories in files and in folders, and answers the greatest status: 4 at least where a folder can't be read.
 fn list_folders(
     rt: &HostRuntime,
-    paths: &[&str],
-    listing: Listing,
-    form: Form,
-    counted: bool,
+    paths: Several<'_>,
+    request: &Request<'_>,
+    counts: &mut Counts,
 ) -> u8 {
-    let Ok(files) = files_of(rt, paths) else {
+    let Ok(files) = files_of(rt, paths.stories) else {
         return out_of_memory(rt);
     };
     let Ok(stories) = files
@@ -83,26 +119,80 @@ fn list_folders(
     else {
         return out_of_memory(rt);
     };
-    let status = list_each(rt, stories.as_slice(), listing, form, counted);
+    let several = Several {
+        stories: stories.as_slice(),
+        ..paths
+    };
+    let status = list_each(rt, several, request, counts);
     if files.all { status } else { status.max(4) }
 }
 
-/// Lists the stories that paths name, as options say, and answers the greatest status. Those of a list and in folders are
-/// counted at a terminal that does not show the listing.
-pub fn list_all(
+/// Lists the stories that paths name, and counts their findings. Those of a list and in folders are counted at a terminal that
+/// does not show the listing.
+fn list_paths(
     rt: &HostRuntime,
     paths: &[&str],
     options: ShowOptions,
-    listing: Listing,
+    request: &Request<'_>,
+    listed: bool,
+    counts: &mut Counts,
+) -> u8 {
+    let several = Several {
+        stories: paths,
+        summary: options.summary,
+        told: (listed || options.recursive) && is_told_at(rt) && columns(rt).is_none(),
+    };
+    if options.recursive {
+        return list_folders(rt, several, request, counts);
+    }
+    match (paths, request.form) {
+        (_, Form::Rows | Form::Json) => {}
+        ([path], _) if !listed => {
+            return list_one(rt, path, None, request, counts, options.summary);
+        }
+        _ => {}
+    }
+    list_each(rt, several, request, counts)
+}
+
+/// Lists the stories that paths name, as options say, and answers the greatest status.
+pub fn list_all(
+    rt: &HostRuntime,
+    paths: &[&str],
+    roots: &Roots<'_>,
+    options: ShowOptions,
+    listing: Listing<'_>,
     listed: bool,
 ) -> u8 {
-    let ShowOptions { recursive, form } = options;
-    let counted = (listed || recursive) && is_told_at(rt) && columns(rt).is_none();
-    if recursive {
-        return list_folders(rt, paths, listing, form, counted);
+    let roots = match code_roots(rt, roots) {
+        Ok(roots) => roots,
+        Err(status) => return status,
+    };
+    let request = Request {
+        listing: with_roots(listing, &roots),
+        form: options.form,
+        notes: options.notes,
+        covered: match &roots.covered {
+            Some(covered) => Some(covered.as_slice()),
+            None => None,
+        },
+    };
+    let mut counts = Counts::new();
+    let status = list_paths(rt, paths, options, &request, listed, &mut counts);
+    match options.form {
+        Form::Lines if options.summary => list_counts(rt, &counts, status),
+        _ => status,
     }
-    if let ([path], false, Form::Lines) = (paths, listed, form) {
-        return list(rt, path, None, listing);
+}
+
+/// A listing of code that is looked for from roots as well.
+fn with_roots<'a>(listing: Listing<'a>, roots: &'a CodeRoots) -> Listing<'a> {
+    match listing {
+        Listing::Code(code) => Listing::Code(CodeListing {
+            addresses: roots.addresses.as_slice(),
+            routines: roots.routines.as_slice(),
+            ..code
+        }),
+        listing => listing,
     }
-    list_each(rt, paths, listing, form, counted)
 }

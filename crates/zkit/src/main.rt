@@ -65,6 +65,7 @@ fn option_on_story(rt: &HostRuntime, story: &str, options: &PlayOptions) -> Opti
         ("save", options.save),
         ("script", options.script),
         ("record", options.recorded),
+        ("cover", options.cover),
     ] {
         match path {
             Some(path) if is_same_file(rt, story, path) => return Some(option),
@@ -113,10 +114,18 @@ fn answer_texts(rt: &HostRuntime, arguments: &[&str], counted: bool) -> u8 {
         Ok(
             Choice::Show {
                 stories,
+                roots,
                 options,
                 listing,
             },
-        ) => list_all(rt, stories.as_slice(), options, listing, counted),
+        ) => list_all(
+            rt,
+            stories.as_slice(),
+            &roots,
+            options,
+            listing,
+            counted,
+        ),
         _ if !are_text => tell_no_text(rt),
         Ok(Choice::Play { story, options }) => play_with(rt, story, &options),
         Ok(

@@ -1,0 +1,193 @@
+// Listings for readers: with notes, marks and counts, as graphs and as pictures.
+
+ghost use Rattle.std.specs.Prelude.{◌≡◌, false};
+
+use crate::facts::{entries_of, list_in_memory};
+use crate::play::screen_of;
+use crate::told::out_of_memory;
+use std::alloc::AllocError;
+use std::fs::File;
+use std::io::Read;
+use zk_command::about::About;
+use zk_command::exit::Exit;
+use zk_command::heading::write_heading;
+use zk_command::listing::{CodeListing, Listing, NO_SECTIONS, Sections, leave_out};
+use zk_command::report::report_listing;
+use zk_command::settings::Form;
+use zk_notes::counts::Counts;
+use zk_notes::cover::{marked, without_instruction, without_routine};
+use zk_notes::findings;
+use zk_notes::graph::{code_graph, tree_graph};
+use zk_notes::info_notes::{self, compiler_in};
+use zk_notes::picture::map_picture;
+use zk_term::io_device::IoDevice;
+use zk_term::target::{Failed, write_all};
+use zk_vm::stop::Stop;
+
+/// How many bytes of a story's file are looked at for its compiler.
+const HEADER_LENGTH: usize = 64;
+
+/// What is asked of each story.
+#[derive(Clone, Copy, Drop)]
+pub struct Request<'a> {
+    pub listing: Listing<'a>,
+    pub form: Form,
+    /// Whether notes stand beside what is listed.
+    pub notes: bool,
+    /// The addresses that ran, ascending, where they are marked.
+    pub covered: Option<&'a [u32]>,
+}
+
+impl<'a> Request<'a> {
+    /// Whether the listing is shown as it is written.
+    pub fn is_plain(&self) -> bool {
+        match (self.form, self.listing) {
+            (Form::Lines, Listing::Code(code)) => {
+                self.covered.is_none() && code.addresses.is_empty() && code.routines.is_empty()
+            }
+            (Form::Lines, _) => !self.notes,
+            _ => false,
+        }
+    }
+
+    /// What is listed for the form: for a graph the tree of objects, or code with notes, and for a picture the map.
+    fn listing(&self) -> Listing<'a> {
+        match (self.form, self.listing) {
+            (Form::Graph, Listing::Code(code)) => Listing::Code(CodeListing {
+                notes: true,
+                ..code
+            }),
+            (Form::Graph, Listing::Info(_)) => Listing::Info(Sections {
+                tree: true,
+                ..NO_SECTIONS
+            }),
+            (Form::Picture, Listing::Info(_)) => Listing::Info(Sections {
+                header: true,
+                map: true,
+                ..NO_SECTIONS
+            }),
+            (_, listing) => listing,
+        }
+    }
+}
+
+/// The first bytes of a file: none where it can't be read or has fewer.
+fn header_of(rt: &HostRuntime, path: &str) -> [u8; HEADER_LENGTH] {
+    let mut header = [0; HEADER_LENGTH];
+    let read = match File::open(rt, path) {
+        Ok(mut file) => file.read_exact(&mut header).is_ok(),
+        Err(_) => false,
+    };
+    if read { header } else { [0; HEADER_LENGTH] }
+}
+
+/// The sections of `info` with notes.
+fn info_with_notes(rt: &HostRuntime, path: &str, text: &str) -> Result<Vec<u8>, AllocError> {
+    let header = header_of(rt, path);
+    info_notes::explain(rt.alloc(), text, compiler_in(&header))
+}
+
+/// The text that shows a listing.
+fn shown_text(
+    rt: &HostRuntime,
+    path: &str,
+    text: &str,
+    request: &Request<'_>,
+) -> Result<Vec<u8>, AllocError> {
+    match (request.form, request.listing) {
+        (Form::Graph, Listing::Code(_)) => code_graph(rt.alloc(), text),
+        (Form::Graph, _) => tree_graph(rt.alloc(), text),
+        (Form::Picture, _) => map_picture(rt.alloc(), text),
+        (_, Listing::Code(_)) => match request.covered {
+            Some(covered) => marked(rt.alloc(), text, covered),
+            None => copy_of(rt, text),
+        },
+        (_, Listing::Info(_)) if request.notes => info_with_notes(rt, path, text),
+        (_, Listing::Findings) if request.notes => {
+            findings::explain(rt.alloc(), text, entries_of(rt, path))
+        }
+        _ => copy_of(rt, text),
+    }
+}
+
+/// A text's bytes.
+fn copy_of(rt: &HostRuntime, text: &str) -> Result<Vec<u8>, AllocError> {
+    let mut copy = Vec::new(rt.alloc());
+    copy.extend_from_slice(text.as_bytes())?;
+    Ok(copy)
+}
+
+/// Tells which of the addresses that are named have no instruction or no routine.
+fn tell_missing(rt: &HostRuntime, text: &str, code: &CodeListing<'_>) -> Result<(), AllocError> {
+    for address in &without_instruction(rt.alloc(), text, code.addresses)? {
+        let _ = eprintln!(rt; "zkit: no instruction at {:05x}", *address);
+    }
+    for address in &without_routine(rt.alloc(), text, code.routines)? {
+        let _ = eprintln!(rt; "zkit: no routine at {:05x}", *address);
+    }
+    Ok(())
+}
+
+/// Writes the text that shows a listing, below the story's path where it is one of several.
+fn write_shown(
+    rt: &HostRuntime,
+    about: &About,
+    path: &str,
+    text: &str,
+    request: &Request<'_>,
+) -> Result<Result<(), Failed>, AllocError> {
+    if let Listing::Code(code) = request.listing {
+        tell_missing(rt, text, &code)?;
+    }
+    let shown = shown_text(rt, path, text, request)?;
+    let mut screen = screen_of(rt, about);
+    match write_heading(&mut screen, about.heading, None) {
+        Ok(()) => Ok(write_all(&mut screen, shown.as_slice())),
+        Err(Failed) => Ok(Err(Failed)),
+    }
+}
+
+/// Lists the story in a file in memory, and shows what is made of that, below its path where it is one of several; and counts
+/// its findings. Answers the program's status.
+pub fn list_readable<'a>(
+    rt: &HostRuntime,
+    path: &'a str,
+    heading: Option<&'a str>,
+    request: &Request<'_>,
+    counts: &mut Counts,
+) -> u8 {
+    let about = About::listed(path, heading);
+    let listed = list_in_memory(rt, &About::listed(path, None), path, request.listing());
+    let exit = match listed.exit {
+        Exit::Found | Exit::Stopped(Stop::Quit) => {
+            counts.add(listed.text());
+            match write_shown(rt, &about, path, listed.text(), request) {
+                Ok(Ok(())) => listed.exit,
+                Ok(Err(Failed)) => Exit::Stopped(Stop::Write),
+                Err(_) => return out_of_memory(rt),
+            }
+        }
+        Exit::Refused(_) | Exit::Unread(_) => {
+            counts.add_unlisted();
+            leave_out(&about, listed.exit, &mut screen_of(rt, &about))
+        }
+        _ => listed.exit,
+    };
+    report_listing(rt.alloc(), &exit, &about, &mut IoDevice::new(rt.stderr()))
+}
+
+/// Writes how many findings of each kind stories have, and answers the program's status: that of the listings, unless the
+/// write fails.
+pub fn list_counts(rt: &HostRuntime, counts: &Counts, status: u8) -> u8 {
+    let Ok(text) = counts.text(rt.alloc()) else {
+        return out_of_memory(rt);
+    };
+    let about = About::listed("", None);
+    match write_all(&mut screen_of(rt, &about), text.as_slice()) {
+        Ok(()) => status,
+        Err(Failed) => {
+            let exit = Exit::Stopped(Stop::Write);
+            report_listing(rt.alloc(), &exit, &about, &mut IoDevice::new(rt.stderr()))
+        }
+    }
+}
