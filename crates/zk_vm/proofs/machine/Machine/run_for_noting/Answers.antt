@@ -1,16 +1,14 @@
-use Rattle.std.proofs.Common.{◌∙◌, ◌-◌, inl, inr, ℕ, List, [], Option, Some, ap, sym, refl, arith}
-use Rattle.zk_vm.specs.declared.stop.Stop.{Stop}
+use Rattle.std.proofs.Common.{◌∙◌, ◌-◌, inl, inr, ℕ, List, [], Some, Ok, Err, ap, sym, refl, arith}
 use Rattle.zk_vm.specs.declared.stop.Stop.TheVariants.{Write}
 use Rattle.zk_vm.specs.declared.limits.Limits.{Limits}
 use Rattle.zk_vm.specs.Outcome.{Session}
 use Rattle.zk_vm.specs.Sound.{state_seen}
 use Rattle.zk_vm.specs.Step.{State}
-use Rattle.zk_vm.specs.Places.{left_by}
 use Rattle.zk_vm.proofs.Answering.{answerable}
 use Rattle.zk_vm.proofs.Following.{never_fails}
 use Rattle.zk_vm.proofs.Halting.{paused_due, paused_untold, run_stopped, run_waits, run_stops, run_cut, run_untold, never_cut, once_due, halted_waits}
 use Rattle.zk_vm.proofs.Keeping.{seen}
-use Rattle.zk_vm.proofs.Placing.{noted_halt, places_none}
+use Rattle.zk_vm.proofs.Placing.{none_noted, noted_halt, stopped_noted}
 use Rattle.zk_vm.proofs.machine.Machine.run_for_noting.Goals as goal
 
 pub returns-in-Some-clause-run : goal.returns-in-Some-clause-run
@@ -84,21 +82,23 @@ returns-then-has_failed-clause-run g c =
     rw (← c.self.view_is) (inr (run_untold g.S.Screen.shows g.met.S.Screen.nothing g.S.Screen.failed _ _ (seen c.self.inside) new c.in_default.is first (sym c.has_failed.ensures ∙ c.if-has_failed.true) free there, refl))
 
 pub returns-in-Some-clause-places : goal.returns-in-Some-clause-places
-returns-in-Some-clause-places g c = rw (← c.self.view_is) (inl (rw (ap (λ (x : Option Stop). left_by x (c.self.inside.limits.steps - c.self.inside.steps)) c.in-Some.is, places_none 0 (record (state_seen c.self.inside) { due = [] }) refl) (g.met.P.Places.nothing _)))
+returns-in-Some-clause-places g c = rw (← c.self.view_is) (inl (stopped_noted (g.P.Places.noted c.args.places.now c.args.places.now) c.self.inside.stopped c.in-Some.stop _ _ c.in-Some.is (g.met.P.Places.nothing _)))
 
 pub returns-then-has_failed-clause-places : goal.returns-then-has_failed-clause-places
-returns-then-has_failed-clause-places g c = rw (← c.self.view_is) (inr (inl (refl, rw (places_none _ _ (omega arith)) (g.met.P.Places.nothing _))))
+returns-then-has_failed-clause-places g c =
+    rw (← c.self.view_is) (inr (inl (refl, none_noted (g.P.Places.noted c.args.places.now c.args.places.now) (c.self.inside.steps - c.self.inside.steps) (record (state_seen c.self.inside) { due = [] }) (omega arith) (g.met.P.Places.nothing _))))
 
 pub returns-then-is_full-clause-places : goal.returns-then-is_full-clause-places
-returns-then-is_full-clause-places g c = rw (← c.self.view_is, places_none _ _ (omega arith)) (g.met.P.Places.nothing _)
+returns-then-is_full-clause-places g c =
+    rw (← c.self.view_is) (none_noted (g.P.Places.noted c.args.places.now c.args.places.now) (c.self.inside.steps - c.self.inside.steps) (record (state_seen c.self.inside) { due = [] }) (omega arith) (g.met.P.Places.nothing _))
 
 pub returns-in-Ok-clause-places : goal.returns-in-Ok-clause-places
 returns-in-Ok-clause-places g c = rw (← c.self.view_is) (rw c.clear.ensures at c.in-Ok.ensures.places)
 
 pub returns-in-Err-Ok-clause-places : goal.returns-in-Err-Ok-clause-places
 returns-in-Err-Ok-clause-places g c =
-    rw (← c.self.view_is) (noted_halt _ (seen c.self.inside) c.steps_to_pause.new.self _ _ c.in_default.is (rw (c.clear.ensures, c.in-Err-Ok.field-0-is) at c.in-Err-Ok.ensures.places) (ap (λ (m : Session). m.state.steps) c.self-2.view_is))
+    rw (← c.self.view_is) (noted_halt (g.P.Places.noted c.args.places.now c.steps_to_pause.new.places) (seen c.self.inside) c.steps_to_pause.new.self c.steps_to_pause.new.self (Ok c.in-Err-Ok.event) c.in_default.is (rw (c.clear.ensures, c.in-Err-Ok.field-0-is) at c.in-Err-Ok.ensures.places) refl)
 
 pub returns-in-Err-Err-clause-places : goal.returns-in-Err-Err-clause-places
 returns-in-Err-Err-clause-places g c =
-    rw (← c.self.view_is) (noted_halt _ (seen c.self.inside) c.steps_to_pause.new.self _ _ c.in_default.is (rw (c.clear.ensures, c.in-Err-Err.field-0-is) at c.in-Err-Err.ensures.places) (ap (λ (m : Session). m.state.steps) c.self-2.view_is))
+    rw (← c.self.view_is) (noted_halt (g.P.Places.noted c.args.places.now c.steps_to_pause.new.places) (seen c.self.inside) c.steps_to_pause.new.self (seen (record c.self-2.inside { stopped = Some c.in-Err-Err.stop })) (Err c.in-Err-Err.stop) c.in_default.is (rw (c.clear.ensures, c.in-Err-Err.field-0-is) at c.in-Err-Err.ensures.places) (ap (λ (m : Session). m.state.steps) c.self-2.view_is))

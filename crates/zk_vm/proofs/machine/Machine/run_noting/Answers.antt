@@ -1,4 +1,4 @@
-use Rattle.std.proofs.Common.{◌∙◌, ap, arith}
+use Rattle.std.proofs.Common.{arith}
 use Rattle.zk_vm.proofs.Halting.{never_pauses}
 use Rattle.zk_vm.proofs.machine.Machine.run_noting.Goals as goal
 
