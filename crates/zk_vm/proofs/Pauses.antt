@@ -1,10 +1,10 @@
 -- A pause divides a run, and changes nothing.
-use Rattle.std.proofs.Common.{◌≡◌, ◌∙◌, ◌≤◌, ℕ, ◌+◌, ◌-◌, List, [], ◌∷◌, Option, None, Result, Ok, Err, arith, refl, ap, sym}
+use Rattle.std.proofs.Common.{◌≡◌, ◌∙◌, ◌≤◌, ℕ, ◌+◌, ◌-◌, List, [], ◌∷◌, Option, Some, None, Result, Ok, Err, arith, refl, ap, sym, subst}
 use Rattle.zk_step.specs.Routing.{Texts, on_script, text_joined}
 use Rattle.zk_vm.specs.declared.stop.Stop.{Stop}
 use Rattle.zk_vm.specs.declared.waiting.Waiting.{Waiting}
 use Rattle.zk_vm.specs.Answers.{Answer}
-use Rattle.zk_vm.specs.Laws.{PausesOnlyDivide}
+use Rattle.zk_vm.specs.Laws.{IsDivided, PausesOnlyDivide}
 use Rattle.zk_vm.specs.Outcome.{Leads, Outcome, Segment, Session, behind_due, ended, followed, given, outcome, ran, segment, segment_by, segment_of}
 use Rattle.zk_vm.specs.Step.{State}
 use Rattle.zk_vm.proofs.Runs.{same_text, segment_whole}
