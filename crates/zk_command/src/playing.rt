@@ -15,6 +15,7 @@ use crate::report::report;
 use crate::settings::Settings;
 use std::alloc::Global;
 use std::io::Read;
+use zk_fast::places::Places;
 use zk_mem::fault::Fault;
 use zk_term::source::Source;
 use zk_term::target::{Failed, Target};
@@ -60,13 +61,15 @@ pub fn note_stop(alloc: Global, about: &About, machine: &Machine, stop: &Stop) {
     note_calls(alloc, about, machine, stop);
 }
 
-/// Plays the story that a reader gives: the lines of the input answer its reads, and the slot keeps its saved game.
-pub fn play_file<R: Read + Drop, I: Source, S: Target, T: Target, K: SaveSlot>(
+/// Plays the story that a reader gives: the lines of the input answer its reads, and the slot keeps its saved game. Where the
+/// instructions stand that are carried out is noted.
+pub fn play_file<R: Read + Drop, I: Source, S: Target, T: Target, K: SaveSlot, P: Places>(
     alloc: Global,
     reader: R,
     about: &About,
     settings: Settings,
     devices: &mut Devices<I, S, T, K>,
+    places: &mut P,
 ) -> Exit
     requires in_range { AreInRange settings.limits }
     requires works { Work I.failed S.failed T.failed devices.old }
@@ -98,6 +101,7 @@ pub fn play_file<R: Read + Drop, I: Source, S: Target, T: Target, K: SaveSlot>(
             &mut devices.script,
             &mut devices.slot,
             &mut machine,
+            places,
         ),
     };
     note_stop(alloc, about, &machine, &stop);
@@ -105,12 +109,21 @@ pub fn play_file<R: Read + Drop, I: Source, S: Target, T: Target, K: SaveSlot>(
 }
 
 /// Plays the story that a reader gives, reports how that ends, and answers the program's status.
-pub fn play_and_report<R: Read + Drop, I: Source, S: Target, T: Target, K: SaveSlot, E: Target>(
+pub fn play_and_report<
+    R: Read + Drop,
+    I: Source,
+    S: Target,
+    T: Target,
+    K: SaveSlot,
+    P: Places,
+    E: Target,
+>(
     alloc: Global,
     reader: R,
     about: &About,
     settings: Settings,
     devices: &mut Devices<I, S, T, K>,
+    places: &mut P,
     errors: &mut E,
 ) -> u8
     requires in_range { AreInRange settings.limits }
@@ -121,6 +134,6 @@ pub fn play_and_report<R: Read + Drop, I: Source, S: Target, T: Target, K: SaveS
         devices.old devices.new) (R.remaining reader) settings)
         (device E.taken E.failed errors.old) (device E.taken E.failed errors.new) result }
 {
-    let exit = play_file(alloc, reader, about, settings, devices);
+    let exit = play_file(alloc, reader, about, settings, devices, places);
     report(alloc, &exit, &settings.limits, about, errors)
 }

@@ -14,6 +14,7 @@ use zk_command::opening::open_story;
 use zk_command::playing::{Devices, note_stop};
 use zk_command::report::report;
 use zk_command::settings::Settings;
+use zk_fast::places::Places;
 use zk_mem::memory::Memory;
 use zk_step::output::status::status_line;
 use zk_step::output::view::show_status_line;
@@ -161,11 +162,12 @@ fn answer_read<I: Source, S: Target>(
 }
 
 /// Runs a machine up to its next event, shows its text, and answers the event.
-fn go_on<I: Source, S: Target, T: Target, K: SaveSlot>(
+fn go_on<I: Source, S: Target, T: Target, K: SaveSlot, P: Places>(
     alloc: Global,
     devices: &mut Devices<I, HeldPrompt<S>, T, K>,
     lines: &mut Lines,
     machine: &mut Machine,
+    places: &mut P,
     width: Option<u8>,
 ) -> Result<(), Stop>
     requires free { machine.old.waiting ≡ None }
@@ -176,7 +178,7 @@ fn go_on<I: Source, S: Target, T: Target, K: SaveSlot>(
     ensures script_works { OnOk result (T.failed devices.new.script ≡ false) }
 {
     let screen = &mut devices.screen;
-    match run_on(screen, &mut devices.script, machine) {
+    match run_on(screen, &mut devices.script, machine, places) {
         Ok(event) if is_read(event) => {
             show_prompt(alloc, screen, machine, width)?;
             answer_read(&mut devices.input, screen, lines, machine, event)
@@ -195,10 +197,11 @@ fn go_on<I: Source, S: Target, T: Target, K: SaveSlot>(
 
 /// Plays a story up to its stop, as `zk_vm`'s `play` does, and shows before each read the status line and the rows of the upper
 /// window above the prompt, also those that were taken away since the read before. The machine shows none of them by itself.
-pub fn play_with_boxes<I: Source, S: Target, T: Target, K: SaveSlot>(
+pub fn play_with_boxes<I: Source, S: Target, T: Target, K: SaveSlot, P: Places>(
     alloc: Global,
     devices: &mut Devices<I, HeldPrompt<S>, T, K>,
     machine: &mut Machine,
+    places: &mut P,
     width: Option<u8>,
 ) -> Stop
     requires free { machine.old.waiting ≡ None }
@@ -208,7 +211,7 @@ pub fn play_with_boxes<I: Source, S: Target, T: Target, K: SaveSlot>(
     let mut lines = Lines::new();
     // a machine's limits end it long before
     for _k in 0..u64::MAX {
-        match go_on(alloc, devices, &mut lines, machine, width) {
+        match go_on(alloc, devices, &mut lines, machine, places, width) {
             Ok(()) => {}
             Err(stop) => return stop,
         }
@@ -217,12 +220,13 @@ pub fn play_with_boxes<I: Source, S: Target, T: Target, K: SaveSlot>(
 }
 
 /// Plays the story that a reader gives, with the status line and the upper window above the prompt.
-fn play_file_with_boxes<R: Read + Drop, I: Source, S: Target, T: Target, K: SaveSlot>(
+fn play_file_with_boxes<R: Read + Drop, I: Source, S: Target, T: Target, K: SaveSlot, P: Places>(
     alloc: Global,
     reader: R,
     about: &About,
     settings: Settings,
     devices: &mut Devices<I, HeldPrompt<S>, T, K>,
+    places: &mut P,
     width: Option<u8>,
 ) -> Exit
     requires in_range { AreInRange settings.limits }
@@ -241,7 +245,7 @@ fn play_file_with_boxes<R: Read + Drop, I: Source, S: Target, T: Target, K: Save
     // a write of no bytes makes the script's file before the run
     let stop = match devices.script.write(&[]) {
         Err(Failed) => Stop::Write,
-        Ok(_) => play_with_boxes(alloc, devices, &mut machine, width),
+        Ok(_) => play_with_boxes(alloc, devices, &mut machine, places, width),
     };
     note_stop(alloc, about, &machine, &stop);
     Exit::Stopped(stop)
@@ -255,6 +259,7 @@ pub fn play_with_boxes_and_report<
     S: Target,
     T: Target,
     K: SaveSlot,
+    P: Places,
     E: Target,
 >(
     alloc: Global,
@@ -262,6 +267,7 @@ pub fn play_with_boxes_and_report<
     about: &About,
     settings: Settings,
     devices: &mut Devices<I, HeldPrompt<S>, T, K>,
+    places: &mut P,
     width: Option<u8>,
     errors: &mut E,
 ) -> u8
@@ -270,6 +276,6 @@ pub fn play_with_boxes_and_report<
     requires script_works { T.failed devices.old.script ≡ false }
     requires errors_work { E.failed errors.old ≡ false }
 {
-    let exit = play_file_with_boxes(alloc, reader, about, settings, devices, width);
+    let exit = play_file_with_boxes(alloc, reader, about, settings, devices, places, width);
     report(alloc, &exit, &settings.limits, about, errors)
 }

@@ -22,6 +22,7 @@ use zk_command::settings::{Amount, PlayOptions, Settings};
 use zk_command::shown::Shown;
 use zk_command::terminal::{columns, is_typed_at, lines, seed_of_clock};
 use zk_command::watched::Watched;
+use zk_fast::places::{Places, Unnoted};
 use zk_term::echo::Echo;
 use zk_term::io_device::IoDevice;
 use zk_term::source::Source;
@@ -203,13 +204,21 @@ struct Boxes {
 }
 
 /// Plays the story in an open file on devices, with boxes or without, and answers the program's status.
-fn play_shown<I: Source + Drop, S: Target + Drop, T: Target + Drop, K: SaveSlot + Drop, E: Target>(
+fn play_shown<
+    I: Source + Drop,
+    S: Target + Drop,
+    T: Target + Drop,
+    K: SaveSlot + Drop,
+    P: Places,
+    E: Target,
+>(
     alloc: Global,
     file: File,
     about: &About,
     settings: Settings,
     devices: Devices<I, S, T, K>,
     boxes: Boxes,
+    places: &mut P,
     errors: &mut E,
 ) -> u8
     requires in_range { AreInRange settings.limits }
@@ -218,7 +227,7 @@ fn play_shown<I: Source + Drop, S: Target + Drop, T: Target + Drop, K: SaveSlot 
 {
     let mut devices = devices;
     if !boxes.shown {
-        return play_and_report(alloc, file, about, settings, &mut devices, errors);
+        return play_and_report(alloc, file, about, settings, &mut devices, places, errors);
     }
     let Devices {
         input,
@@ -238,6 +247,7 @@ fn play_shown<I: Source + Drop, S: Target + Drop, T: Target + Drop, K: SaveSlot 
         about,
         settings,
         &mut devices,
+        places,
         boxes.width,
         errors,
     )
@@ -245,7 +255,7 @@ fn play_shown<I: Source + Drop, S: Target + Drop, T: Target + Drop, K: SaveSlot 
 
 /// Plays the story in an open file as options say, with its lines recorded where there is a file for them, and a name that
 /// is offered for saved games, and answers the program's status.
-fn play_on<'a>(
+fn play_on<'a, P: Places>(
     rt: &'a HostRuntime,
     file: File,
     about: &'a About<'a>,
@@ -254,6 +264,7 @@ fn play_on<'a>(
     width: Option<u8>,
     record: Option<&'a File>,
     offered: String,
+    places: &mut P,
 ) -> u8
     requires in_range { AreInRange settings.limits }
 {
@@ -276,6 +287,7 @@ fn play_on<'a>(
         settings,
         devices,
         boxes,
+        places,
         &mut errors,
     )
 }
@@ -334,6 +346,7 @@ pub fn play<'a>(rt: &HostRuntime, story: &'a str, options: &PlayOptions<'a>) -> 
         width,
         record.as_ref(),
         offered,
+        &mut Unnoted,
     );
     if let (Some(error), Some(path)) = (about.record.failure(), options.recorded) {
         tell_reason(rt, path, &error);

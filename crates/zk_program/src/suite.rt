@@ -15,6 +15,7 @@ use zk_command::playing::{Devices, play_and_report};
 use zk_command::reason::Reason;
 use zk_command::settings::{Amount, PlayOptions, Settings};
 use zk_command::shown::Shown;
+use zk_fast::places::Unnoted;
 use zk_suite::difference::Difference;
 use zk_suite::search::contains;
 use zk_suite::walkthrough::{Check, Walkthrough};
@@ -202,7 +203,15 @@ fn play_in(
         script: Nothing,
         slot: MemorySlot::new(rt.alloc()),
     };
-    play_and_report(rt.alloc(), file, &about, settings, &mut devices, errors)
+    play_and_report(
+        rt.alloc(),
+        file,
+        &about,
+        settings,
+        &mut devices,
+        &mut Unnoted,
+        errors,
+    )
 }
 
 /// The manner of a play by options. There is none where the program would have to find a number.

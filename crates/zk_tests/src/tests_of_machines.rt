@@ -7,6 +7,7 @@ use std::alloc::Global;
 use std::io::{self, Write};
 use std::process::Abort;
 use std::test::Fail;
+use zk_fast::places::Unnoted;
 use zk_mem::story::Story;
 use zk_state::refusal::Limit;
 use zk_step::state::ending::Event;
@@ -53,7 +54,7 @@ fn quiet_turn(alloc: Global, machine: &mut Machine) -> Result<Event, Stop>
     requires { machine.old.waiting ≡ None }
     ensures { OnErr result (machine.new.waiting ≡ None) }
 {
-    turn(alloc, &mut Nothing, &mut Nothing, &mut NoSlot, machine)
+    turn(alloc, &mut Nothing, &mut Nothing, &mut NoSlot, machine, &mut Unnoted)
 }
 
 #[test]
@@ -129,6 +130,7 @@ fn nothing_is_written_after_a_failure(rt: HostRuntime) -> Result<(), Fail> {
         &mut script,
         &mut NoSlot,
         &mut machine,
+        &mut Unnoted,
     );
     same(&rt, stop, Err(Stop::Write));
     let FailsOnce { taken, has_failed } = screen.into_inner();

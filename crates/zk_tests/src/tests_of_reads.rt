@@ -5,6 +5,7 @@ use crate::tests_same::{demand, same};
 use std::cell::Cell;
 use std::io::{self, Read, Write};
 use std::test::Fail;
+use zk_fast::places::Unnoted;
 use zk_step::state::ending::Event;
 use zk_term::io_device::IoDevice;
 use zk_term::nothing::Nothing;
@@ -77,6 +78,7 @@ fn turns_go_from_read_to_read(rt: HostRuntime) -> Result<(), Fail> {
         &mut Nothing,
         &mut NoSlot,
         &mut machine,
+        &mut Unnoted,
     );
     same(&rt, first, Ok(Event::Char));
     same(&rt, taken.get(), 1);
@@ -91,6 +93,7 @@ fn turns_go_from_read_to_read(rt: HostRuntime) -> Result<(), Fail> {
             &mut Nothing,
             &mut NoSlot,
             &mut machine,
+            &mut Unnoted,
         );
         same(&rt, last, Err(Stop::Quit));
         same(&rt, taken.get(), 1);
@@ -120,6 +123,7 @@ fn all_text_is_written_before_the_reader_is_asked(rt: HostRuntime) -> Result<(),
         &mut Nothing,
         &mut NoSlot,
         &mut machine,
+        &mut Unnoted,
     );
     same(&rt, stop, Stop::Quit);
     // each of the four bytes was asked for when one, one, three and three bytes were written

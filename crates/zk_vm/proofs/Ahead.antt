@@ -33,7 +33,7 @@ pub record IsSilentStep (s : State) (v : GameState) (q : ℕ) : Type 0 where
   pub goes : verdict_of s (step s) ≡ GoesOn
   pub shows : text_of s (step s) ≡ no_text
 
-silent_step : (s : State) (v : GameState) (q : ℕ) → IsQuietStep s.game s.pc v q → IsSilentStep s v q
+pub silent_step : (s : State) (v : GameState) (q : ℕ) → IsQuietStep s.game s.pc v q → IsSilentStep s v q
 silent_step s v q quiet =
     let at = at_step s quiet.instruction v q no_text quiet.fetched quiet.carried in
     record {
@@ -110,7 +110,7 @@ comes_ahead old new ahead runs silent text taken comes =
     comes_behind ahead.steps _ _ _ _ ahead.quiet_steps old refl refl runs silent text taken (subst (λ (s : Session). ComesToKeepAt s text taken) ahead.there comes)
 
 -- an instruction that is refused after them
-refused_step : (s : State) (r : Refusal) → IsRefused s.game s.pc r → (verdict_of s (step s) ≡ StopsBy (stop_by s.pc r)) × (text_of s (step s) ≡ no_text)
+pub refused_step : (s : State) (r : Refusal) → IsRefused s.game s.pc r → (verdict_of s (step s) ≡ StopsBy (stop_by s.pc r)) × (text_of s (step s) ≡ no_text)
 refused_step s r refused =
     let parts = err_step s refused.instruction (carried_out s.game refused.instruction) r refused.refused in
     let is = fetched_is s refused.instruction refused.fetched in

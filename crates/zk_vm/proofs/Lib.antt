@@ -16,6 +16,7 @@ pub mod Turns
 pub mod Playing
 pub mod Runs
 pub mod Pauses
+pub mod Placing
 pub mod RunningOn
 pub mod Transcripts
 pub mod Popping

@@ -14,6 +14,7 @@ use Rattle.zk_vm.specs.Bounds.{AreInRange}
 use Rattle.zk_vm.specs.Calls.{locals_and_return}
 use Rattle.zk_vm.specs.Halts.{event_waited}
 use Rattle.zk_vm.specs.Outcome.{Outcome, Session, begun, given, outcome, ran, with_stop}
+use Rattle.zk_vm.specs.Places.{places}
 use Rattle.zk_vm.specs.Plays.{codes_read}
 
 -- a story of version 5 with its static base and its first instruction at 64, where this code stands
@@ -148,6 +149,16 @@ MachinesWait =
     × ((given (ran (starts echoes (limits_of 1 1 10))) (Typed (codes "a"))).state.pc ≡ 68)
     × ((given (ran (starts echoes (limits_of 1 1 10))) (Typed (codes "a"))).state.reads ≡ 1)
     × ((given (ran (starts echoes (limits_of 1 1 10))) (Typed (codes "a"))).waiting ≡ None)
+
+-- ---- places
+
+-- a step has the address of its instruction, also one that ends the story, is a fault or waits; of as many steps as may be made
+abbrev pub StepsHavePlaces : Type 0
+StepsHavePlaces =
+    (places 10 (starts (story_of (0x02 ∷ 1 ∷ 2 ∷ 0xc3 ∷ 0xba ∷ 0xb2 ∷ 0x98 ∷ 0xe8 ∷ 0xba ∷ [])) (limits_of 1 0 10)).state ≡ 64 ∷ 69 ∷ 72 ∷ [])
+    × (places 10 (starts (story_of (0xb2 ∷ 0x98 ∷ 0xe8 ∷ 0x17 ∷ 5 ∷ 0 ∷ 0 ∷ [])) (limits_of 1 9 10)).state ≡ 64 ∷ 67 ∷ [])
+    × (places 10 (starts echoes (limits_of 1 1 10)).state ≡ 64 ∷ [])
+    × (places 1 (starts prints_and_quits (limits_of 1 0 10)).state ≡ 64 ∷ [])
 
 -- ---- the upper window and the transcript
 

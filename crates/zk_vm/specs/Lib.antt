@@ -7,6 +7,7 @@ pub mod Laws
 pub mod Outcome
 pub mod Parts
 pub mod Sound
+pub mod Places
 pub mod Plays
 pub mod Step
 pub mod Examples

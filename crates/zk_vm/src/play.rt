@@ -19,6 +19,7 @@ use crate::machine::{Machine, is_read};
 use crate::slot::SaveSlot;
 use crate::stop::Stop;
 use std::alloc::{AllocError, Global};
+use zk_fast::places::Places;
 use zk_step::state::ending::Event;
 use zk_term::buffered_screen::BufferedScreen;
 use zk_term::lines::{Input, Lines};
@@ -123,10 +124,11 @@ fn bring<K: SaveSlot>(alloc: Global, slot: &mut K, machine: &mut Machine) -> Res
 /// Runs a story up to its next event, a read or a saved game, or its stop. Text goes out as UTF-8, some of it at a time: when
 /// it returns, all text up to there is written. Once a write has failed nothing more is written to either target, and the
 /// machine is closed with `Write`. It is not waiting, and neither target has failed.
-pub fn run_on<S: Target, T: Target>(
+pub fn run_on<S: Target, T: Target, P: Places>(
     screen: &mut S,
     script: &mut T,
     machine: &mut Machine,
+    places: &mut P,
 ) -> Result<Event, Stop>
     requires free { machine.old.waiting ≡ None }
     requires screen_works { S.failed screen.old ≡ false }
@@ -157,7 +159,7 @@ pub fn run_on<S: Target, T: Target>(
     ensures within { IsWithin machine.new.limits machine.new.state }
 {
     let mut console = BufferedScreen::new(screen, script);
-    let answer = machine.run(&mut console);
+    let answer = machine.run_noting(&mut console, places);
     console.finish();
     if console.has_failed() {
         machine.close(Stop::Write);
@@ -171,12 +173,13 @@ pub fn run_on<S: Target, T: Target>(
 /// written, and the screen holds nothing back. Once a write has failed nothing more is written to either target, the
 /// slot is not asked, and the machine is closed with `Write`; what went out is a first part of the text. Where there is no memory for a saved game or a state that is to be kept,
 /// the stop is `Memory`. The machine is not waiting, and neither target has failed.
-pub fn turn<S: Target, T: Target, K: SaveSlot>(
+pub fn turn<S: Target, T: Target, K: SaveSlot, P: Places>(
     alloc: Global,
     screen: &mut S,
     script: &mut T,
     slot: &mut K,
     machine: &mut Machine,
+    places: &mut P,
 ) -> Result<Event, Stop>
     requires free { machine.old.waiting ≡ None }
     requires screen_works { S.failed screen.old ≡ false }
@@ -199,7 +202,7 @@ pub fn turn<S: Target, T: Target, K: SaveSlot>(
     ensures within { IsWithin machine.new.limits machine.new.state }
 {
     loop {
-        let event = match run_on(screen, script, machine) {
+        let event = match run_on(screen, script, machine, places) {
             Ok(event) => event,
             Err(stop) => return Err(stop),
         };
@@ -282,13 +285,14 @@ fn close(machine: &mut Machine, stop: Stop) -> Stop
 /// `Read`, and the reader is not asked again; a story that does not read leaves it alone. Once a write has failed nothing more is written to either target, and the stop is `Write`: what
 /// went out is a first part of the text. The slot keeps and gives saved games; where there is no memory for one, or
 /// for a state that is to be kept, the stop is `Memory`. The machine is not waiting, and no device has failed.
-pub fn play<R: Source, S: Target, T: Target, K: SaveSlot>(
+pub fn play<R: Source, S: Target, T: Target, K: SaveSlot, P: Places>(
     alloc: Global,
     reader: &mut R,
     screen: &mut S,
     script: &mut T,
     slot: &mut K,
     machine: &mut Machine,
+    places: &mut P,
 ) -> Stop
     requires free { machine.old.waiting ≡ None }
     requires reader_works { R.failed reader.old ≡ false }
@@ -316,7 +320,7 @@ pub fn play<R: Source, S: Target, T: Target, K: SaveSlot>(
 {
     let mut lines = Lines::new();
     loop {
-        let event = match turn(alloc, screen, script, slot, machine) {
+        let event = match turn(alloc, screen, script, slot, machine, places) {
             Ok(event) => event,
             Err(stop) => return stop,
         };

@@ -6,6 +6,7 @@ ghost use Rattle.zk_code.specs.Reading.{instr_at};
 ghost use Rattle.zk_vm.specs.Going.{IsAhead, Settles, LacksMemory, IsHalted, Pauses};
 ghost use Rattle.zk_vm.specs.Halts.{HasPaused, IfRan, IsRun, IsStep, IsCutOff, LeadsOn, ShowsLast, StopsAtOnce, event_waited};
 ghost use Rattle.zk_vm.specs.Laws.{IsWithin};
+ghost use Rattle.zk_vm.specs.Places.{HasNoted, HasNotedAhead, HasNotedSteps, HasNotedUpTo, made};
 ghost use Rattle.zk_vm.specs.Step.{asked, is_read, text_of};
 
 use crate::machine::{MOST_READS, Machine, go_on, halt, is_read, pc_of_save, stop_at};
@@ -15,6 +16,7 @@ use crate::waiting::{Halt, Waiting};
 use zk_code::decode::decode;
 use zk_code::instr::Instr;
 use zk_fast::ahead::run_ahead;
+use zk_fast::places::{Places, Unnoted};
 use zk_state::refusal::Limit;
 use zk_step::input::inputs::answer_result;
 use zk_step::instruction::carry_out;
@@ -49,9 +51,8 @@ impl Machine {
         ensures frames { IsBounded self.new.state.game.frames }
         ensures within { IsWithin self.new.limits self.new.state }
     {
-        match self.run_for(screen, u32::MAX) {
-            Ok(Some(event)) => Ok(event),
-            Ok(None) => unreachable!(),
+        match self.run_noting(screen, &mut Unnoted) {
+            Ok(event) => Ok(event),
             Err(stop) => Err(stop),
         }
     }
@@ -84,6 +85,79 @@ impl Machine {
         ensures frames { IsBounded self.new.state.game.frames }
         ensures within { IsWithin self.new.limits self.new.state }
     {
+        match self.run_for_noting(screen, &mut Unnoted, most) {
+            Ok(asked) => Ok(asked),
+            Err(stop) => Err(stop),
+        }
+    }
+
+    /// Runs the story as `run` does, and notes where the instructions stand that it carries out.
+    pub fn run_noting<S: Screen, P: Places>(
+        &mut self,
+        screen: &mut S,
+        places: &mut P,
+    ) -> Result<Event, Stop>
+        requires free { self.old.waiting ≡ None }
+        requires endless { (a : S) → S.full a ≡ false }
+        ensures run { IsRun self.old self.new result
+            (λ t. S.shows screen.old screen.new t.screen t.script)
+            ⊎ (IsCutOff ShowsLast S.shows S.failed screen.old screen.new self.old self.new result
+            × (self.new.stopped ≡ Some Stop.Write)) }
+        ensures at_once { StopsAtOnce S.shows S.failed screen.old screen.new self.old result }
+        ensures free { OnErr result (self.new.waiting ≡ None) }
+        ensures asks { IfOk result (λ event. event_waited self.new.waiting ≡ Some event) }
+        ensures reads { IfOk result
+            (λ event. is_read event ≡ true → self.new.state.reads < 16777216) }
+        ensures same_reads { OnOk result (self.new.state.reads ≡ self.old.state.reads) }
+        ensures steps { OnOk result ((self.old.state.steps ≤ self.new.state.steps)
+            × (self.new.state.steps < self.new.limits.steps)) }
+        ensures runs { OnOk result (self.new.stopped ≡ None) }
+        ensures limits { self.new.limits ≡ self.old.limits }
+        ensures frames { IsBounded self.new.state.game.frames }
+        ensures within { IsWithin self.new.limits self.new.state }
+        ensures places { HasNoted (P.noted places.old places.new) self.old self.new result }
+    {
+        match self.run_for_noting(screen, places, u32::MAX) {
+            Ok(Some(event)) => Ok(event),
+            Ok(None) => unreachable!(),
+            Err(stop) => Err(stop),
+        }
+    }
+
+    /// Runs the story as `run_for` does, and notes where the instructions stand that it carries out.
+    pub fn run_for_noting<S: Screen, P: Places>(
+        &mut self,
+        screen: &mut S,
+        places: &mut P,
+        most: u32,
+    ) -> Result<Option<Event>, Stop>
+        requires free { self.old.waiting ≡ None }
+        requires room { S.full screen.old ≡ false }
+        ensures run { IfRan result (λ answer. IsRun self.old self.new answer
+            (λ t. S.shows screen.old screen.new t.screen t.script)
+            ⊎ (IsCutOff ShowsLast S.shows S.failed screen.old screen.new self.old self.new answer
+            × (self.new.stopped ≡ Some Stop.Write)))
+            (HasPaused S.shows S.full screen.old screen.new most self.old self.new) }
+        ensures at_once { IfRan result
+            (λ answer. StopsAtOnce S.shows S.failed screen.old screen.new self.old answer)
+            (S.failed screen.new ≡ false) }
+        ensures free { OnErr result (self.new.waiting ≡ None) }
+        ensures asks { IfOk result (λ event. event_waited self.new.waiting ≡ event) }
+        ensures reads { IfOk result (λ asked. IfSome asked
+            (λ event. is_read event ≡ true → self.new.state.reads < 16777216)) }
+        ensures same_reads { OnOk result (self.new.state.reads ≡ self.old.state.reads) }
+        ensures more { OnOk result (self.old.state.steps ≤ self.new.state.steps) }
+        ensures steps { IfOk result
+            (λ asked. OnSome asked (self.new.state.steps < self.new.limits.steps)) }
+        ensures runs { OnOk result (self.new.stopped ≡ None) }
+        ensures word { self.old.limits.steps < 2 ^ 32 }
+        ensures limits { self.new.limits ≡ self.old.limits }
+        ensures frames { IsBounded self.new.state.game.frames }
+        ensures within { IsWithin self.new.limits self.new.state }
+        ensures places { IfRan result
+            (λ answer. HasNoted (P.noted places.old places.new) self.old self.new answer)
+            (HasNotedSteps (P.noted places.old places.new) self.old (made self.old self.new)) }
+    {
         if let Some(stop) = self.stopped {
             self.is_within();
             return Err(stop);
@@ -100,7 +174,7 @@ impl Machine {
             return Ok(None);
         }
         let bound = self.steps.saturating_add(most).min(self.limits.steps);
-        match self.steps_to_pause(screen, bound) {
+        match self.steps_to_pause(screen, places, bound) {
             Ok(()) => {
                 self.is_within();
                 Ok(None)
@@ -118,8 +192,13 @@ impl Machine {
     }
 
     /// Steps up to an event or a stop, `Write` after the step at which the screen fails; or up to a pause, once so many steps
-    /// were made in all, and after the step at which the screen comes to ask for it.
-    fn steps_to_pause<S: Screen>(&mut self, screen: &mut S, bound: u32) -> Result<(), Halt>
+    /// were made in all, and after the step at which the screen comes to ask for it. Where they stand is noted.
+    fn steps_to_pause<S: Screen, P: Places>(
+        &mut self,
+        screen: &mut S,
+        places: &mut P,
+        bound: u32,
+    ) -> Result<(), Halt>
         requires free { self.old.waiting ≡ None }
         requires runs { self.old.stopped ≡ None }
         requires silent { self.old.state.due ≡ [] }
@@ -137,15 +216,17 @@ impl Machine {
         ensures reads { self.new.state.reads ≡ self.old.state.reads }
         ensures more { self.old.state.steps ≤ self.new.state.steps }
         ensures limits { self.new.limits ≡ self.old.limits }
+        ensures places { HasNotedUpTo (P.noted places.old places.new) self.old self.new result }
     {
         for _i in self.steps..bound {
-            match self.go_ahead(bound) {
+            match self.go_ahead(places, bound) {
                 Ok(()) => {}
                 Err(halt) => return Err(halt),
             }
             if self.steps >= bound {
                 return self.pause();
             }
+            places.note(self.pc);
             match self.step(screen) {
                 Ok(()) => {}
                 Err(halt) => return Err(halt),
@@ -175,7 +256,7 @@ impl Machine {
 
     /// Makes the steps that show nothing and go on in the story, as many as there may be up to a bound, by instructions that
     /// are kept.
-    fn go_ahead(&mut self, bound: u32) -> Result<(), Halt>
+    fn go_ahead<P: Places>(&mut self, places: &mut P, bound: u32) -> Result<(), Halt>
         requires free { self.old.waiting ≡ None }
         requires runs { self.old.stopped ≡ None }
         requires from { self.old.state.steps ≤ bound }
@@ -185,9 +266,10 @@ impl Machine {
         ensures more { self.old.state.steps ≤ self.new.state.steps }
         ensures few { OnOk result (self.new.state.steps ≤ bound) }
         ensures limits { self.new.limits ≡ self.old.limits }
+        ensures places { HasNotedAhead (P.noted places.old places.new) self.old self.new result }
     {
         let most = bound - self.steps;
-        let batch = run_ahead(&mut self.game, &mut self.cache, self.pc, most);
+        let batch = run_ahead(&mut self.game, &mut self.cache, places, self.pc, most);
         self.pc = batch.pc;
         self.steps += batch.made;
         match batch.refused {

@@ -9,7 +9,7 @@ returns-then-has_failed-clause-run g c =
     let broken : c.finish.new.self.failed ≡ true = sym c.has_failed.ensures ∙ c.if-has_failed.true in
     let stopped : c.close.new.self.stopped ≡ Some stop.Write = ap (λ (s : Session). s.stopped) c.close.ensures in
     let free : c.close.new.self.waiting ≡ None = ap (λ (s : Session). s.waiting) c.close.ensures in
-    elim c.run-answer.ensures.run [
+    elim c.run_noting-answer.ensures.run [
       | inl run ↦
           let ends = ran_into _ _ _ _ c.close.new.self _ _ _ _ run c.finish.ensures.written (record { screen = search rules; script = search rules; failed = search rules; either = search rules }) (record { screen = c.finish.ensures.no_text; script = c.finish.ensures.no_script }) broken stopped free in
           search (rules, ends)
@@ -22,7 +22,7 @@ returns-then-has_failed-clause-run g c =
 pub returns-clause-run : goal.returns-clause-run
 returns-clause-run g c =
     let sound : c.finish.new.self.failed ≡ false = sym c.has_failed.ensures ∙ c.if-has_failed.false in
-    elim c.run-answer.ensures.run [
+    elim c.run_noting-answer.ensures.run [
       | inl run ↦
           let goes = ran_on _ _ _ _ _ _ _ _ run c.finish.ensures.written (record { screen = search rules; script = search rules; failed = search rules; either = search rules }) (record { screen = c.finish.ensures.no_text; script = c.finish.ensures.no_script }) sound in
           let same = run_same _ _ _ _ _ _ _ run in

@@ -1,4 +1,5 @@
 use Rattle.std.proofs.Common.{◌≡◌, ◌≤◌, false}
+use Rattle.zk_vm.specs.Places.{made, places}
 use Rattle.zk_vm.proofs.Following.{Follows}
 use Rattle.zk_vm.proofs.machine.Machine.steps_to_pause.Given as goal
 
@@ -11,4 +12,5 @@ invariant-loop-i g l = record {
   works : g.S.Screen.failed l.screen ≡ false;
   room : g.S.Screen.full l.screen ≡ false;
   under : l.self.state.steps ≤ l.fn.bound;
+  noted : g.P.Places.noted l.fn.places l.places (places (made l.fn.self l.self) l.fn.self.state);
 }

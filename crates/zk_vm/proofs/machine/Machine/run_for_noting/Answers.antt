@@ -1,4 +1,4 @@
-use Rattle.std.proofs.Common.{◌∙◌, inl, inr, ℕ, List, Some, ap, sym, refl, arith}
+use Rattle.std.proofs.Common.{◌∙◌, ◌-◌, inl, inr, ℕ, List, [], Some, Ok, Err, ap, sym, refl, arith}
 use Rattle.zk_vm.specs.declared.stop.Stop.TheVariants.{Write}
 use Rattle.zk_vm.specs.declared.limits.Limits.{Limits}
 use Rattle.zk_vm.specs.Outcome.{Session}
@@ -8,7 +8,8 @@ use Rattle.zk_vm.proofs.Answering.{answerable}
 use Rattle.zk_vm.proofs.Following.{never_fails}
 use Rattle.zk_vm.proofs.Halting.{paused_due, paused_untold, run_stopped, run_waits, run_stops, run_cut, run_untold, never_cut, once_due, halted_waits}
 use Rattle.zk_vm.proofs.Keeping.{seen}
-use Rattle.zk_vm.proofs.machine.Machine.run_for.Goals as goal
+use Rattle.zk_vm.proofs.Placing.{none_noted, noted_halt, stopped_noted}
+use Rattle.zk_vm.proofs.machine.Machine.run_for_noting.Goals as goal
 
 pub returns-in-Some-clause-run : goal.returns-in-Some-clause-run
 returns-in-Some-clause-run g c =
@@ -79,3 +80,25 @@ returns-then-has_failed-clause-run g c =
     let there = ap (λ (due : List ℕ). let s : State = record (state_seen c.self.inside) { due = due } in s) c.clear.ensures in
     let new : Session = record (seen c.self.inside) { state = record (state_seen c.self.inside) { due = c.clear.new.self.items }; stopped = Some Write } in
     rw (← c.self.view_is) (inr (run_untold g.S.Screen.shows g.met.S.Screen.nothing g.S.Screen.failed _ _ (seen c.self.inside) new c.in_default.is first (sym c.has_failed.ensures ∙ c.if-has_failed.true) free there, refl))
+
+pub returns-in-Some-clause-places : goal.returns-in-Some-clause-places
+returns-in-Some-clause-places g c = rw (← c.self.view_is) (inl (stopped_noted (g.P.Places.noted c.args.places.now c.args.places.now) c.self.inside.stopped c.in-Some.stop _ _ c.in-Some.is (g.met.P.Places.nothing _)))
+
+pub returns-then-has_failed-clause-places : goal.returns-then-has_failed-clause-places
+returns-then-has_failed-clause-places g c =
+    rw (← c.self.view_is) (inr (inl (refl, none_noted (g.P.Places.noted c.args.places.now c.args.places.now) (c.self.inside.steps - c.self.inside.steps) (record (state_seen c.self.inside) { due = [] }) (omega arith) (g.met.P.Places.nothing _))))
+
+pub returns-then-is_full-clause-places : goal.returns-then-is_full-clause-places
+returns-then-is_full-clause-places g c =
+    rw (← c.self.view_is) (none_noted (g.P.Places.noted c.args.places.now c.args.places.now) (c.self.inside.steps - c.self.inside.steps) (record (state_seen c.self.inside) { due = [] }) (omega arith) (g.met.P.Places.nothing _))
+
+pub returns-in-Ok-clause-places : goal.returns-in-Ok-clause-places
+returns-in-Ok-clause-places g c = rw (← c.self.view_is) (rw c.clear.ensures at c.in-Ok.ensures.places)
+
+pub returns-in-Err-Ok-clause-places : goal.returns-in-Err-Ok-clause-places
+returns-in-Err-Ok-clause-places g c =
+    rw (← c.self.view_is) (noted_halt (g.P.Places.noted c.args.places.now c.steps_to_pause.new.places) (seen c.self.inside) c.steps_to_pause.new.self c.steps_to_pause.new.self (Ok c.in-Err-Ok.event) c.in_default.is (rw (c.clear.ensures, c.in-Err-Ok.field-0-is) at c.in-Err-Ok.ensures.places) refl)
+
+pub returns-in-Err-Err-clause-places : goal.returns-in-Err-Err-clause-places
+returns-in-Err-Err-clause-places g c =
+    rw (← c.self.view_is) (noted_halt (g.P.Places.noted c.args.places.now c.steps_to_pause.new.places) (seen c.self.inside) c.steps_to_pause.new.self (seen (record c.self-2.inside { stopped = Some c.in-Err-Err.stop })) (Err c.in-Err-Err.stop) c.in_default.is (rw (c.clear.ensures, c.in-Err-Err.field-0-is) at c.in-Err-Err.ensures.places) (ap (λ (m : Session). m.state.steps) c.self-2.view_is))
