@@ -26,7 +26,7 @@ pub struct Looked<'a> {
 }
 
 /// The number of the object that a finding is about, where its address is that of an object's entry.
-pub(crate) fn object_of(kind: &str, address: &str, entries: Option<Entries>) -> Option<u32> {
+pub fn object_of(kind: &str, address: &str, entries: Option<Entries>) -> Option<u32> {
     let entries = entries?;
     match kind {
         "C5" | "C6" | "C7" => {}
