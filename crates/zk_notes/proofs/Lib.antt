@@ -1,0 +1,4 @@
+pub mod AddressWords
+pub mod LineLoops
+pub mod Covered
+pub mod Unions

@@ -1,0 +1,10 @@
+// Listings with notes, counts, marks and pictures.
+#![tactic(auto)]
+
+mod addresses;
+pub mod counts;
+pub mod cover;
+pub mod findings;
+pub mod info_notes;
+mod kinds;
+mod lists;
