@@ -6,5 +6,6 @@ pub mod counts;
 pub mod cover;
 pub mod findings;
 pub mod info_notes;
+pub mod graph;
 mod kinds;
 mod lists;
