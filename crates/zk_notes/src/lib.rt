@@ -9,3 +9,4 @@ pub mod info_notes;
 pub mod graph;
 mod kinds;
 mod lists;
+pub mod picture;
