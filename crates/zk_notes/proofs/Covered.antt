@@ -1,6 +1,5 @@
 -- What a binary search says of what ran.
 use Rattle.std.specs.Prelude.{is_ok, MatchResult}
-use Rattle.std.specs.List.{list_any}
 use Rattle.std.specs.List.Sorted.{IsBinarySearchResult, IsNonDecreasing}
 use Rattle.std.specs.Ordering.{nat_cmp}
 use Rattle.std.proofs.Common.{◌≡◌, ◌≢◌, ℕ, ◌<◌, ◌≤◌, ◌==◌, Bool, true, false, List, length, get_or, Result, Ok, Err, refl, sym, arith, nat_lt, ◌⊎◌, inl, inr}

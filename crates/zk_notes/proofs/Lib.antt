@@ -2,3 +2,4 @@ pub mod AddressWords
 pub mod LineLoops
 pub mod Covered
 pub mod Unions
+pub mod Versions

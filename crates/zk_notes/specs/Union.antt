@@ -1,6 +1,6 @@
 -- The union of lists of addresses, which lie one after another in a text.
-use Rattle.std.specs.Prelude.{◌≡◌, ℕ, ◌==◌, ◌&&◌, Bool, true, false, List, length, not, is_none, Option}
-use Rattle.std.specs.List.{filter_map, list_any, Contains}
+use Rattle.std.specs.Prelude.{ℕ, ◌==◌, ◌&&◌, Bool, List, length, not, is_none, Option}
+use Rattle.std.specs.List.{filter_map, Contains}
 use Rattle.std.specs.List.Sorted.{IsStrictlyIncreasing}
 use Rattle.std.specs.Str.{trim}
 use Rattle.zk_notes.specs.Addresses.{address_of}

@@ -8,7 +8,9 @@ ghost use Rattle.zk_notes.specs.Addresses.{address_of, is_hex_digit};
 fn is_hexadecimal(word: &str) -> bool
     ensures { result ≡ list_all is_hex_digit word.now }
 {
-    word.as_bytes().iter().all(|byte| (*byte as char).is_digit(16))
+    word.as_bytes()
+        .iter()
+        .all(|byte| (*byte as char).is_digit(16))
 }
 
 /// The address that a word is: five hexadecimal digits at least.

@@ -141,7 +141,10 @@ impl Counts {
         let wrong = self.wrong;
         let stories = self.stories;
         let last = if stories == 1 { "story" } else { "stories" };
-        writeln!(out, "total {findings} {noun} in {wrong} of {stories} {last}")?;
+        writeln!(
+            out,
+            "total {findings} {noun} in {wrong} of {stories} {last}"
+        )?;
         Ok(out.into_bytes())
     }
 }

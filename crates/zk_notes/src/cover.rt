@@ -129,9 +129,17 @@ impl Coverage<'_> {
 
     /// The line that says how much ran.
     fn summary(&self, alloc: Global) -> Result<String, AllocError> {
-        let ran = self.instructions.iter().filter(|a| self.has_run(**a)).count();
+        let ran = self
+            .instructions
+            .iter()
+            .filter(|a| self.has_run(**a))
+            .count();
         let listed = self.instructions.len();
-        let entered = self.routines.iter().filter(|r| self.was_entered(**r)).count();
+        let entered = self
+            .routines
+            .iter()
+            .filter(|r| self.was_entered(**r))
+            .count();
         let routines = self.routines.len();
         format!(in alloc; "ran: {ran} of {listed} instructions, {entered} of {routines} routines\n")
     }

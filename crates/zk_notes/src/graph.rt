@@ -216,7 +216,11 @@ fn has_start(disassembly: &str, routines: &[Routine]) -> bool {
 fn add_routines(out: &mut String, routines: &[Routine]) -> Result<(), AllocError> {
     for routine in routines {
         let address = routine.address;
-        let style = if routine.beside { " [style=dashed]" } else { "" };
+        let style = if routine.beside {
+            " [style=dashed]"
+        } else {
+            ""
+        };
         writeln!(out, "  \"{address:05x}\"{style};")?;
     }
     Ok(())

@@ -1,5 +1,7 @@
 // Listings of `info`, with notes.
 
+ghost use Rattle.std.specs.Prelude.{◌≡◌, option_map};
+ghost use Rattle.zk_notes.specs.Compilers.{compiler_in, is_version};
 
 use itoa::Buffer;
 use std::alloc::{AllocError, Global};
@@ -7,11 +9,10 @@ use std::str;
 use zk_facts::fact::Section;
 use zk_facts::words::cut_word;
 
-/// Where the bytes of a story's header lie that name the compiler.
-const COMPILER: usize = 0x3C;
-
 /// Whether bytes are the version of a compiler, as `6.12`.
-fn is_version(bytes: &[u8]) -> bool {
+fn is_version(bytes: &[u8]) -> bool
+    ensures { result ≡ is_version bytes.now }
+{
     match bytes {
         [major, b'.', tens, ones] => {
             major.is_ascii_digit() && tens.is_ascii_digit() && ones.is_ascii_digit()
@@ -22,8 +23,14 @@ fn is_version(bytes: &[u8]) -> bool {
 
 /// The version of Inform that compiled a story, by the bytes that the story begins with: a digit, a full stop and two digits, at
 /// $3C to $3F; none where something else stands there.
-pub fn compiler_in(header: &[u8]) -> Option<&str> {
-    let version = header.get(COMPILER..COMPILER + 4)?;
+#[tactic(auto, using(crate::proofs::Versions::short_is_none, crate::proofs::Versions::other_is_none))]
+pub fn compiler_in(header: &[u8]) -> Option<&str>
+    ensures { option_map (λ v. v.now) result ≡ compiler_in header.now }
+{
+    if header.len() < 64 {
+        return None;
+    }
+    let version = &header[60..64];
     if !is_version(version) {
         return None;
     }
@@ -39,34 +46,94 @@ struct Flag {
 
 /// The first flags of version 3 (Standard, section 11.1), but for the kind of its status line.
 const FLAGS_1_OF_3: [Flag; 5] = [
-    Flag { bit: 4, words: "story file split over two discs" },
-    Flag { bit: 8, words: "Tandy" },
-    Flag { bit: 16, words: "status line not available" },
-    Flag { bit: 32, words: "screen-splitting available" },
-    Flag { bit: 64, words: "variable-pitch font by default" },
+    Flag {
+        bit: 4,
+        words: "story file split over two discs",
+    },
+    Flag {
+        bit: 8,
+        words: "Tandy",
+    },
+    Flag {
+        bit: 16,
+        words: "status line not available",
+    },
+    Flag {
+        bit: 32,
+        words: "screen-splitting available",
+    },
+    Flag {
+        bit: 64,
+        words: "variable-pitch font by default",
+    },
 ];
 
 /// The first flags from version 4 on.
 const FLAGS_1: [Flag; 7] = [
-    Flag { bit: 1, words: "colours available" },
-    Flag { bit: 2, words: "pictures available" },
-    Flag { bit: 4, words: "boldface available" },
-    Flag { bit: 8, words: "italic available" },
-    Flag { bit: 16, words: "fixed-space style available" },
-    Flag { bit: 32, words: "sound effects available" },
-    Flag { bit: 128, words: "timed input available" },
+    Flag {
+        bit: 1,
+        words: "colours available",
+    },
+    Flag {
+        bit: 2,
+        words: "pictures available",
+    },
+    Flag {
+        bit: 4,
+        words: "boldface available",
+    },
+    Flag {
+        bit: 8,
+        words: "italic available",
+    },
+    Flag {
+        bit: 16,
+        words: "fixed-space style available",
+    },
+    Flag {
+        bit: 32,
+        words: "sound effects available",
+    },
+    Flag {
+        bit: 128,
+        words: "timed input available",
+    },
 ];
 
 /// The second flags.
 const FLAGS_2: [Flag; 8] = [
-    Flag { bit: 1, words: "transcripting is on" },
-    Flag { bit: 2, words: "fixed-pitch printing forced" },
-    Flag { bit: 8, words: "wants pictures" },
-    Flag { bit: 16, words: "wants UNDO" },
-    Flag { bit: 32, words: "wants a mouse" },
-    Flag { bit: 64, words: "wants colours" },
-    Flag { bit: 128, words: "wants sound effects" },
-    Flag { bit: 256, words: "wants menus" },
+    Flag {
+        bit: 1,
+        words: "transcripting is on",
+    },
+    Flag {
+        bit: 2,
+        words: "fixed-pitch printing forced",
+    },
+    Flag {
+        bit: 8,
+        words: "wants pictures",
+    },
+    Flag {
+        bit: 16,
+        words: "wants UNDO",
+    },
+    Flag {
+        bit: 32,
+        words: "wants a mouse",
+    },
+    Flag {
+        bit: 64,
+        words: "wants colours",
+    },
+    Flag {
+        bit: 128,
+        words: "wants sound effects",
+    },
+    Flag {
+        bit: 256,
+        words: "wants menus",
+    },
 ];
 
 /// The bit of the first flags of version 3 that says which status line the story wants.
@@ -199,7 +266,11 @@ impl<'a> Notes<'a> {
         if let Some(alike) = self.alike {
             if alike.text == text {
                 let count = alike.count.saturating_add(1);
-                self.alike = Some(Alike { last: number, count, ..alike });
+                self.alike = Some(Alike {
+                    last: number,
+                    count,
+                    ..alike
+                });
                 return Ok(());
             }
             add_alike(&mut self.out, alike)?;

@@ -55,16 +55,20 @@ pub(crate) fn meaning(number: u8) -> &'static str
     match number {
         1 => "the sum of the file's bytes is not the checksum that its header states",
         2 => "the header states more bytes than the file has",
-        3 => "the dictionary says that it is sorted, and the key of this entry is not above the one before it",
-        4 => "there is no dictionary at the address that the header names, or not all of it can be read",
-        5 => "the parent, the sibling or the child of this object has a number past the last object",
+        3 =>
+            "the dictionary says that it is sorted, and the key of this entry is not above the one before it",
+        4 =>
+            "there is no dictionary at the address that the header names, or not all of it can be read",
+        5 =>
+            "the parent, the sibling or the child of this object has a number past the last object",
         6 => "the children of this object go round",
         7 => "the properties of this object do not end in readable data",
         8 => "this text, or one of its abbreviations, has no end in the story",
         9 => "an abbreviation of this text uses an abbreviation",
         10 => "code leads to this address, and there is no instruction here",
         11 => "this instruction branches or jumps out of the story, or calls what is no routine",
-        12 => "this instruction has a byte below the static base, or calls an address that lies there",
+        12 =>
+            "this instruction has a byte below the static base, or calls an address that lies there",
         _ => "",
     }
 }

@@ -4,9 +4,10 @@
 mod addresses;
 pub mod counts;
 pub mod cover;
+pub mod examples;
 pub mod findings;
-pub mod info_notes;
 pub mod graph;
+pub mod info_notes;
 mod kinds;
 mod lists;
 pub mod picture;

@@ -14,16 +14,18 @@ const MARGIN: u64 = 20;
 
 /// Where the bar begins, from above, and how high it is.
 const BAR_TOP: u64 = 40;
+
 const BAR_HEIGHT: u64 = 60;
 
 /// Where the list below the bar begins, and how high each of its rows is.
 const LIST_TOP: u64 = 130;
+
 const ROW_HEIGHT: u64 = 22;
 
 /// The fills of parts, one after the other and again from the first.
 const FILLS: [&str; 10] = [
-    "#4e79a7", "#f28e2b", "#e15759", "#76b7b2", "#59a14f", "#edc948", "#b07aa1", "#ff9da7", "#9c755f",
-    "#bab0ac",
+    "#4e79a7", "#f28e2b", "#e15759", "#76b7b2", "#59a14f", "#edc948", "#b07aa1", "#ff9da7",
+    "#9c755f", "#bab0ac",
 ];
 
 /// A part of a story.
@@ -149,7 +151,10 @@ fn add_row(out: &mut String, placed: &Placed<'_>) -> Result<(), AllocError> {
     let fill = placed.fill;
     let address = placed.part.address;
     let size = placed.size;
-    writeln!(out, "<rect x=\"{MARGIN}\" y=\"{top}\" width=\"14\" height=\"14\" fill=\"{fill}\"/>")?;
+    writeln!(
+        out,
+        "<rect x=\"{MARGIN}\" y=\"{top}\" width=\"14\" height=\"14\" fill=\"{fill}\"/>"
+    )?;
     write!(out, "<text x=\"44\" y=\"{base}\">{address:05x} ")?;
     add_text(out, placed.part.name)?;
     let unit = if size == 1 { "byte" } else { "bytes" };
@@ -158,12 +163,23 @@ fn add_row(out: &mut String, placed: &Placed<'_>) -> Result<(), AllocError> {
 
 /// Adds the head of a picture of so many parts, with the addresses at both ends of the bar.
 fn add_head(out: &mut String, count: usize, end: u64) -> Result<(), AllocError> {
-    let height = (count as u64).saturating_mul(ROW_HEIGHT).saturating_add(LIST_TOP);
+    let height = (count as u64)
+        .saturating_mul(ROW_HEIGHT)
+        .saturating_add(LIST_TOP);
     let right = WIDTH - MARGIN;
-    writeln!(out, "<svg xmlns=\"http://www.w3.org/2000/svg\" version=\"1.1\" width=\"{WIDTH}\" height=\"{height}\" font-family=\"sans-serif\" font-size=\"14\">")?;
-    writeln!(out, "<rect width=\"100%\" height=\"100%\" fill=\"#ffffff\"/>")?;
+    writeln!(
+        out,
+        "<svg xmlns=\"http://www.w3.org/2000/svg\" version=\"1.1\" width=\"{WIDTH}\" height=\"{height}\" font-family=\"sans-serif\" font-size=\"14\">"
+    )?;
+    writeln!(
+        out,
+        "<rect width=\"100%\" height=\"100%\" fill=\"#ffffff\"/>"
+    )?;
     writeln!(out, "<text x=\"{MARGIN}\" y=\"30\">00000</text>")?;
-    writeln!(out, "<text x=\"{right}\" y=\"30\" text-anchor=\"end\">{end:05x}</text>")
+    writeln!(
+        out,
+        "<text x=\"{right}\" y=\"30\" text-anchor=\"end\">{end:05x}</text>"
+    )
 }
 
 /// The fill of a part, by its place among the parts.
@@ -182,7 +198,9 @@ fn add_parts(out: &mut String, map: &Map<'_>, end: u64) -> Result<(), AllocError
             part: *part,
             size: next.saturating_sub(part.address),
             fill: fill_of(at),
-            row: (at as u64).saturating_mul(ROW_HEIGHT).saturating_add(LIST_TOP),
+            row: (at as u64)
+                .saturating_mul(ROW_HEIGHT)
+                .saturating_add(LIST_TOP),
         };
         add_rectangle(out, &placed, end)?;
         add_row(out, &placed)?;
