@@ -51,11 +51,12 @@ FindingsAreCounted =
     × (capped (2 ^ 64 - 1) ≡ 2 ^ 64 - 1)
     × (capped (2 ^ 64) ≡ 2 ^ 64 - 1)
 
--- 01000 has its first instruction at 01001, which ran; 01010 has none before 01020, whose first did not run
+-- 01000 has its first instruction at 01001, which ran; 01010 has none before 01020, whose first did not run, nor has 01021
+-- before 01030, which is the last and whose first ran
 abbrev pub LinesAreMarked : Type 0
 LinesAreMarked =
-    marked_lines (4097 ∷ 8192 ∷ []) (lines (codes "01001 rtrue\n01021 rtrue\n\nroutine 01000\nroutine 01010\nroutine 01020\nroutine 01021"))
-    ≡ codes "+ 01001 rtrue\n  01021 rtrue\n  \n+ routine 01000\n  routine 01010\n  routine 01020\n  routine 01021\n"
+    marked_lines (4097 ∷ 4145 ∷ 8192 ∷ []) (lines (codes "01001 rtrue\n01021 rtrue\n01031 rfalse\n\nroutine 01000\nroutine 01010\nroutine 01020\nroutine 01021\nroutine 01030"))
+    ≡ codes "+ 01001 rtrue\n  01021 rtrue\n+ 01031 rfalse\n  \n+ routine 01000\n  routine 01010\n  routine 01020\n  routine 01021\n+ routine 01030\n"
 
 -- the bytes at 60 to 63 are a digit, a full stop and two digits
 abbrev pub CompilersAreKnown : Type 0
