@@ -1,6 +1,6 @@
 // JSON (RFC 8259): an object for each story.
 
-use crate::fact::{Fact, Object, Section, fact_on};
+use crate::fact::{Fact, Object, Property, Section, StoredWord, Value, fact_on};
 use crate::objects::Entries;
 use crate::outcome::{Looked, Outcome, object_of};
 use crate::words::{Text, meant};
@@ -164,6 +164,50 @@ fn put_lying_text(
     json.end_object()
 }
 
+/// Writes a word of the story.
+fn put_stored_word(json: &mut Writer, word: StoredWord<'_>) -> Result<(), AllocError> {
+    json.begin_object()?;
+    put_count(json, "number", word.number)?;
+    put_member(json, "address", word.address)?;
+    match word.value {
+        Value::Digits(digits) => put_member(json, "value", digits)?,
+        Value::Fault(fault) => put_member(json, "fault", fault)?,
+    }
+    json.end_object()
+}
+
+/// Writes an alphabet.
+fn put_alphabet(
+    json: &mut Writer,
+    alloc: Global,
+    name: &str,
+    characters: Text<'_>,
+) -> Result<(), AllocError> {
+    json.begin_object()?;
+    put_member(json, "name", name)?;
+    put_quoted(json, alloc, "characters", characters)?;
+    json.end_object()
+}
+
+/// Writes a property with its bytes.
+fn put_property_data(json: &mut Writer, property: Property<'_>) -> Result<(), AllocError> {
+    json.begin_object()?;
+    put_count(json, "object", property.object)?;
+    put_count(json, "number", property.number)?;
+    put_member(json, "address", property.address)?;
+    put_count(json, "length", property.length)?;
+    put_member(json, "bytes", property.bytes)?;
+    json.end_object()
+}
+
+/// Writes what is wrong with the property list of an object.
+fn put_no_properties(json: &mut Writer, object: &str, fault: &str) -> Result<(), AllocError> {
+    json.begin_object()?;
+    put_count(json, "object", object)?;
+    put_member(json, "fault", fault)?;
+    json.end_object()
+}
+
 /// Writes an object of the tree.
 fn put_node(
     json: &mut Writer,
@@ -243,6 +287,11 @@ fn put_fact(
             packed,
             text,
         } => put_lying_text(json, alloc, address, packed, text),
+        Fact::Global(word) => put_stored_word(json, word),
+        Fact::Alphabet { name, characters } => put_alphabet(json, alloc, name, characters),
+        Fact::Extension(word) => put_stored_word(json, word),
+        Fact::Property(property) => put_property_data(json, property),
+        Fact::NoProperties { object, fault } => put_no_properties(json, object, fault),
         Fact::Finding {
             kind,
             address,

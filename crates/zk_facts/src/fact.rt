@@ -1,7 +1,7 @@
 // What a line of a listing says.
 
-pub use crate::words::Text;
-use crate::words::{cut_text, cut_word};
+pub use crate::words::{Text, Value};
+use crate::words::{cut_text, cut_word, value_on};
 
 /// A section of a listing.
 #[derive(Clone, Copy, PartialEq, Eq, Drop)]
@@ -14,6 +14,10 @@ pub enum Section {
     Tree,
     Ifid,
     Strings,
+    Globals,
+    Alphabets,
+    Extension,
+    Properties,
     Findings,
 }
 
@@ -29,6 +33,10 @@ impl Section {
             "[tree]" => Some(Section::Tree),
             "[ifid]" => Some(Section::Ifid),
             "[strings]" => Some(Section::Strings),
+            "[globals]" => Some(Section::Globals),
+            "[alphabets]" => Some(Section::Alphabets),
+            "[extension]" => Some(Section::Extension),
+            "[properties]" => Some(Section::Properties),
             _ => None,
         }
     }
@@ -44,6 +52,10 @@ impl Section {
             Section::Tree => "tree",
             Section::Ifid => "ifid",
             Section::Strings => "strings",
+            Section::Globals => "globals",
+            Section::Alphabets => "alphabets",
+            Section::Extension => "extension",
+            Section::Properties => "properties",
             Section::Findings => "findings",
         }
     }
@@ -61,6 +73,28 @@ pub struct Object<'a> {
     pub attributes: &'a str,
     /// Its properties by number and length, as `18:4,17:2`, or `-`.
     pub properties: Text<'a>,
+}
+
+/// A word that lies in the story, by its number and its byte address.
+#[derive(Clone, Copy, Drop)]
+pub struct StoredWord<'a> {
+    pub number: &'a str,
+    pub address: &'a str,
+    pub value: Value<'a>,
+}
+
+/// A property of an object, as `info --properties` lists it.
+#[derive(Clone, Copy, Drop)]
+pub struct Property<'a> {
+    /// The number of the object.
+    pub object: &'a str,
+    pub number: &'a str,
+    /// The byte address of its data.
+    pub address: &'a str,
+    /// How many bytes it has.
+    pub length: &'a str,
+    /// Its bytes, each of two hexadecimal digits.
+    pub bytes: &'a str,
 }
 
 /// What a line of a listing says.
@@ -115,6 +149,21 @@ pub enum Fact<'a> {
         address: &'a str,
         packed: &'a str,
         text: Text<'a>,
+    },
+    /// A global variable, with its first value.
+    Global(StoredWord<'a>),
+    /// An alphabet of texts, or the characters that its story adds to ZSCII.
+    Alphabet {
+        name: &'a str,
+        characters: Text<'a>,
+    },
+    /// A word of the header's extension.
+    Extension(StoredWord<'a>),
+    Property(Property<'a>),
+    /// What is wrong with the property list of an object.
+    NoProperties {
+        object: &'a str,
+        fault: &'a str,
     },
     Finding {
         kind: &'a str,
@@ -208,6 +257,47 @@ fn text_on(line: &str) -> Fact<'_> {
     }
 }
 
+/// The word of the story on a line.
+fn stored_word_on(line: &str) -> StoredWord<'_> {
+    let (number, rest) = cut_word(line);
+    let (address, value) = cut_word(rest);
+    StoredWord {
+        number: number.trim_start_matches('g'),
+        address,
+        value: value_on(value),
+    }
+}
+
+/// The alphabet on a line.
+fn alphabet_on(line: &str) -> Fact<'_> {
+    let (name, text) = cut_word(line);
+    Fact::Alphabet {
+        name,
+        characters: cut_text(text).0,
+    }
+}
+
+/// The property on a line.
+fn property_on(line: &str) -> Fact<'_> {
+    let (object, rest) = cut_word(line);
+    let (number, rest) = cut_word(rest);
+    if number == "!" {
+        return Fact::NoProperties {
+            object,
+            fault: rest,
+        };
+    }
+    let (address, rest) = cut_word(rest);
+    let (length, bytes) = cut_word(rest);
+    Fact::Property(Property {
+        object,
+        number,
+        address,
+        length,
+        bytes,
+    })
+}
+
 /// What a line in a section says.
 pub fn fact_on(section: Section, line: &str) -> Fact<'_> {
     match section {
@@ -217,6 +307,10 @@ pub fn fact_on(section: Section, line: &str) -> Fact<'_> {
         Section::Tree => node_on(line),
         Section::Ifid => Fact::Ifid(line),
         Section::Strings => text_on(line),
+        Section::Globals => Fact::Global(stored_word_on(line)),
+        Section::Alphabets => alphabet_on(line),
+        Section::Extension => Fact::Extension(stored_word_on(line)),
+        Section::Properties => property_on(line),
         Section::Map => {
             let (address, name) = cut_word(line);
             Fact::Part { address, name }

@@ -7,4 +7,4 @@ pub mod fact;
 pub mod objects;
 pub mod outcome;
 pub mod rows;
-mod words;
+pub mod words;

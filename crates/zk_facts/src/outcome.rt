@@ -1,5 +1,7 @@
 // What came of a look at a story.
 
+ghost use Rattle.std.specs.Prelude.{◌≡◌};
+
 use crate::objects::Entries;
 
 /// What came of a look at the story in a file.
@@ -26,7 +28,9 @@ pub struct Looked<'a> {
 }
 
 /// The number of the object that a finding is about, where its address is that of an object's entry.
-pub(crate) fn object_of(kind: &str, address: &str, entries: Option<Entries>) -> Option<u32> {
+pub fn object_of(kind: &str, address: &str, entries: Option<Entries>) -> Option<u32>
+    ensures { entries ≡ None → result ≡ None }
+{
     let entries = entries?;
     match kind {
         "C5" | "C6" | "C7" => {}

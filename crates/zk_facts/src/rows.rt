@@ -4,7 +4,7 @@ ghost use Rattle.std.specs.Prelude.{◌≡◌, ◌++◌, OnOk};
 ghost use Rattle.std.specs.List.{flat_map};
 ghost use Rattle.zk_facts.specs.Rows.{escaped, quoted};
 
-use crate::fact::{Fact, Object, Section, fact_on};
+use crate::fact::{Fact, Object, Property, Section, StoredWord, Value, fact_on};
 use crate::objects::Entries;
 use crate::outcome::{Looked, Outcome, object_of};
 use crate::words::{Text, meant};
@@ -114,6 +114,33 @@ fn add_header_field(rows: &mut Vec<u8>, path: &str, fields: [&str; 3]) -> Result
     add_row(rows, path, "header", &fields[..count])
 }
 
+/// Adds the row of a word of the story.
+fn add_stored_word(
+    rows: &mut Vec<u8>,
+    path: &str,
+    kind: &str,
+    word: StoredWord<'_>,
+) -> Result<(), AllocError> {
+    let value = match word.value {
+        Value::Digits(digits) => Field::Plain(digits),
+        Value::Fault(fault) => Field::Text(Text::Fault(fault)),
+    };
+    let fields = [Field::Plain(word.number), Field::Plain(word.address), value];
+    add_row(rows, path, kind, &fields)
+}
+
+/// Adds the row of a property.
+fn add_property(rows: &mut Vec<u8>, path: &str, property: Property<'_>) -> Result<(), AllocError> {
+    let fields = [
+        Field::Plain(property.object),
+        Field::Plain(property.number),
+        Field::Plain(property.address),
+        Field::Plain(property.length),
+        Field::Plain(property.bytes),
+    ];
+    add_row(rows, path, "property", &fields)
+}
+
 /// Adds the row of a fact.
 fn add_fact(
     rows: &mut Vec<u8>,
@@ -200,6 +227,25 @@ fn add_fact(
                 Field::Text(text),
             ];
             add_row(rows, path, "string", &fields)
+        }
+        Fact::Global(word) => add_stored_word(rows, path, "global", word),
+        Fact::Alphabet { name, characters } => {
+            add_row(
+                rows,
+                path,
+                "alphabet",
+                &[Field::Plain(name), Field::Text(characters)],
+            )
+        }
+        Fact::Extension(word) => add_stored_word(rows, path, "extension", word),
+        Fact::Property(property) => add_property(rows, path, property),
+        Fact::NoProperties { object, fault } => {
+            add_row(
+                rows,
+                path,
+                "property",
+                &[Field::Plain(object), Field::Text(Text::Fault(fault))],
+            )
         }
         Fact::Finding {
             kind,

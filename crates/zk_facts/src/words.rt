@@ -2,9 +2,13 @@
 
 ghost use Rattle.std.specs.Prelude.{◌≡◌};
 ghost use Rattle.zk_facts.specs.Rows.{meant};
+ghost use Rattle.zk_facts.specs.Words.{after_word, first_word};
 
 /// A text up to the first space in it, and what comes after the space: nothing where there is none.
-pub(crate) fn cut_word(text: &str) -> (&str, &str) {
+pub fn cut_word(text: &str) -> (&str, &str)
+    ensures word { result.0.now ≡ first_word text.now }
+    ensures rest { result.1.now ≡ after_word text.now }
+{
     match text.split_once(' ') {
         Some((word, rest)) => (word, rest),
         None => (text, ""),
@@ -35,6 +39,23 @@ pub(crate) fn cut_text(line: &str) -> (Text<'_>, &str) {
             };
             (Text::Quoted(text), rest.strip_prefix(' ').unwrap_or(rest))
         }
+    }
+}
+
+/// What stands in a place for a word of the story: its value, or the number of the fault that it has.
+#[derive(Clone, Copy, Drop)]
+pub enum Value<'a> {
+    /// The value, as four hexadecimal digits.
+    Digits(&'a str),
+    /// The fault, as `F6`.
+    Fault(&'a str),
+}
+
+/// The value that a line is, as `#0012`, or the fault in its place, as `! F6`.
+pub(crate) fn value_on(line: &str) -> Value<'_> {
+    match line.strip_prefix("! ") {
+        Some(fault) => Value::Fault(fault),
+        None => Value::Digits(line.trim_start_matches('#')),
     }
 }
 

@@ -1,0 +1,5 @@
+pub mod AddressWords
+pub mod LineLoops
+pub mod Covered
+pub mod Unions
+pub mod Versions

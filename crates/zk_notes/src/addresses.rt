@@ -1,0 +1,28 @@
+// Addresses in lines.
+
+ghost use Rattle.std.specs.Prelude.{◌≡◌};
+ghost use Rattle.std.specs.List.{list_all};
+ghost use Rattle.zk_notes.specs.Addresses.{address_of, is_hex_digit};
+
+/// Whether a word has hexadecimal digits alone.
+fn is_hexadecimal(word: &str) -> bool
+    ensures { result ≡ list_all is_hex_digit word.now }
+{
+    word.as_bytes()
+        .iter()
+        .all(|byte| (*byte as char).is_digit(16))
+}
+
+/// The address that a word is: five hexadecimal digits at least.
+#[tactic(auto, using(crate::proofs::AddressWords::short_is_none, crate::proofs::AddressWords::other_is_none, crate::proofs::AddressWords::read_is_address))]
+pub(crate) fn address_of(word: &str) -> Option<u32>
+    ensures { result ≡ address_of word.now }
+{
+    if word.len() < 5 {
+        return None;
+    }
+    if !is_hexadecimal(word) {
+        return None;
+    }
+    u32::from_str_radix(word, 16).ok()
+}

@@ -1,0 +1,150 @@
+// Findings of many stories, counted.
+
+ghost use Rattle.std.specs.Prelude.{◌≡◌, ℕ, ◌+◌, ◌<◌, ◌≤◌, count_by, length, slice_index, EachIndex, if◌then◌else◌};
+ghost use Rattle.std.specs.List.{list_any};
+ghost use Rattle.std.specs.Str.Lines.{lines};
+ghost use Rattle.zk_notes.specs.Counts.{capped, is_finding, is_of};
+
+use crate::kinds::{name, number_of};
+use std::alloc::{AllocError, Global};
+use std::fmt::Write;
+use zk_facts::words::cut_word;
+
+/// Whether a line has a finding of the kind of a number.
+fn is_of(line: &str, number: u8) -> bool
+    ensures { result ≡ is_of number line.now }
+{
+    match number_of(cut_word(line).0) {
+        Some(kind) => kind == number,
+        None => false,
+    }
+}
+
+/// How many lines have a finding of the kind of a number.
+fn count_of(findings: &str, number: u8) -> u64
+    ensures { result ≡ capped (count_by (is_of number) (lines findings.now)) }
+{
+    let mut count: u64 = 0;
+    for line in findings.lines() {
+        if is_of(line, number) {
+            count = count.saturating_add(1);
+        }
+    }
+    count
+}
+
+/// Whether a line has a finding.
+fn is_finding(line: &str) -> bool
+    ensures { result ≡ is_finding line.now }
+{
+    number_of(cut_word(line).0).is_some()
+}
+
+/// Whether lines have a finding.
+fn has_finding(findings: &str) -> bool
+    ensures { result ≡ list_any is_finding (lines findings.now) }
+{
+    for line in findings.lines() {
+        if is_finding(line) {
+            return true;
+        }
+    }
+    false
+}
+
+/// Adds the findings of a story to those of each kind.
+fn add_counts(kinds: &mut [u64], findings: &str)
+    requires { length kinds.old ≤ 12 }
+    ensures { EachIndex kinds.new (λ k. slice_index kinds.new k
+        ≡ capped (slice_index kinds.old k + count_by (is_of (k + 1)) (lines findings.now))) }
+{
+    for at in 0..kinds.len() {
+        kinds[at] = kinds[at].saturating_add(count_of(findings, at as u8 + 1));
+    }
+}
+
+/// How many findings stories have, by kind. A number that 64 bits don't hold stays at the greatest that they do.
+#[derive(Drop)]
+pub struct Counts {
+    /// The findings of each kind, from `C1` on.
+    kinds: [u64; 12],
+    /// The stories.
+    stories: u64,
+    /// The stories with a finding.
+    wrong: u64,
+}
+
+impl Counts {
+    /// No stories.
+    pub fn new() -> Counts
+        ensures kinds { EachIndex result.kinds (λ k. slice_index result.kinds k ≡ 0) }
+        ensures stories { result.stories ≡ 0 }
+        ensures wrong { result.wrong ≡ 0 }
+    {
+        Counts {
+            kinds: [0; 12],
+            stories: 0,
+            wrong: 0,
+        }
+    }
+
+    /// Adds a story, by the lines that `check` lists of it.
+    pub fn add(&mut self, findings: &str)
+        ensures kinds { EachIndex self.new.kinds (λ k. slice_index self.new.kinds k
+            ≡ capped (slice_index self.old.kinds k + count_by (is_of (k + 1)) (lines findings.now))) }
+        ensures stories { self.new.stories ≡ capped (self.old.stories + 1) }
+        ensures wrong { self.new.wrong ≡ capped (self.old.wrong
+            + (if list_any is_finding (lines findings.now) then 1 else 0)) }
+    {
+        add_counts(&mut self.kinds, findings);
+        self.stories = self.stories.saturating_add(1);
+        self.wrong = self.wrong.saturating_add(u64::from(has_finding(findings)));
+    }
+
+    /// Adds a story that could not be listed.
+    pub fn add_unlisted(&mut self)
+        ensures kinds { self.new.kinds ≡ self.old.kinds }
+        ensures stories { self.new.stories ≡ capped (self.old.stories + 1) }
+        ensures wrong { self.new.wrong ≡ self.old.wrong }
+    {
+        self.stories = self.stories.saturating_add(1);
+    }
+
+    /// How many findings there are.
+    fn findings(&self) -> u64 {
+        let mut all: u64 = 0;
+        for count in &self.kinds {
+            all = all.saturating_add(*count);
+        }
+        all
+    }
+
+    /// Adds the line of each kind that occurs.
+    fn add_kinds(&self, out: &mut String) -> Result<(), AllocError> {
+        for (at, count) in self.kinds.iter().enumerate() {
+            let number = at as u8 + 1;
+            if *count > 0 {
+                let words = name(number);
+                writeln!(out, "total C{number} {count} {words}")?;
+            }
+        }
+        Ok(())
+    }
+
+    /// The counts as lines: `total C5 3 object links` for each kind that occurs, by its number, and then `total 4 findings in 2
+    /// of 7 stories`, or `total 1 finding in 1 of 1 story`.
+    pub fn text(&self, alloc: Global) -> Result<Vec<u8>, AllocError> {
+        let mut out = String::new(alloc);
+        self.add_kinds(&mut out)?;
+        let findings = self.findings();
+        let noun = if findings == 1 { "finding" } else { "findings" };
+        let wrong = self.wrong;
+        let stories = self.stories;
+        let last = if stories == 1 { "story" } else { "stories" };
+        writeln!(
+            out,
+            "total {findings} {noun} in {wrong} of {stories} {last}"
+        )?;
+        Ok(out.into_bytes())
+    }
+}

@@ -1,0 +1,255 @@
+// Graphs of the objects and of the calls of a story, for Graphviz.
+
+use crate::addresses::address_of;
+use std::alloc::{AllocError, Global};
+use std::fmt::Write;
+use zk_facts::fact::{Fact, Section, Text, fact_on};
+use zk_facts::words::cut_word;
+
+/// Adds a character of a label between quotes, where `^` stands for a new line and `~` for a quote. Control characters are left
+/// out.
+fn add_character(out: &mut String, shown: char) -> Result<(), AllocError> {
+    match shown {
+        '^' => out.push_str("\\n"),
+        '~' | '"' => out.push_str("\\\""),
+        '\\' => out.push_str("\\\\"),
+        shown if shown.is_control() => Ok(()),
+        shown => out.push(shown),
+    }
+}
+
+/// Adds a text of a label.
+fn add_label(out: &mut String, text: &str) -> Result<(), AllocError> {
+    for shown in text.chars() {
+        add_character(out, shown)?;
+    }
+    Ok(())
+}
+
+/// Adds the node of an object.
+fn add_object(out: &mut String, number: u64, name: Text<'_>) -> Result<(), AllocError> {
+    write!(out, "  o{number} [label=\"{number} ")?;
+    match name {
+        Text::Quoted(text) => add_label(out, text)?,
+        Text::Fault(fault) => {
+            out.push_str("! ")?;
+            add_label(out, fault)?;
+        }
+    }
+    out.push_str("\"];\n")
+}
+
+/// Objects of a tree, one below the other: those that the next line may lie below.
+#[derive(Drop)]
+struct Tree {
+    out: String,
+    path: Vec<u64>,
+}
+
+impl Tree {
+    /// Adds the edge to an object so many levels below the top, from the one above it.
+    fn add_edge(&mut self, depth: usize, number: u64) -> Result<(), AllocError> {
+        self.path.truncate(depth);
+        if let Some(parent) = self.path.last() {
+            writeln!(self.out, "  o{parent} -> o{number};")?;
+        }
+        Ok(())
+    }
+
+    /// Takes a line of the tree.
+    fn take(&mut self, line: &str) -> Result<(), AllocError> {
+        match fact_on(Section::Tree, line) {
+            Fact::Node {
+                depth,
+                number,
+                name,
+            } => {
+                let Ok(number) = number.parse::<u64>() else {
+                    return Ok(());
+                };
+                add_object(&mut self.out, number, name)?;
+                self.add_edge(depth, number)?;
+                self.path.push(number)?;
+                Ok(())
+            }
+            Fact::NodeAgain { depth, number } => match number.parse::<u64>() {
+                Ok(number) => self.add_edge(depth, number),
+                Err(_) => Ok(()),
+            },
+            _ => Ok(()),
+        }
+    }
+}
+
+/// The section `[tree]` of a listing of `info` as a graph for Graphviz: a node for each object, with its number and its name,
+/// and an edge to each from the object above it. A line whose first word is no number is left out.
+pub fn tree_graph(alloc: Global, info: &str) -> Result<Vec<u8>, AllocError> {
+    let head = "digraph tree {\n  rankdir=LR; node [shape=box, fontname=\"sans-serif\"];\n";
+    let mut tree = Tree {
+        out: String::from_str(alloc, head)?,
+        path: Vec::new(alloc),
+    };
+    let mut section = None;
+    for line in info.lines() {
+        match Section::begun_by(line) {
+            Some(begun) => section = Some(begun),
+            None if section == Some(Section::Tree) => tree.take(line)?,
+            None => {}
+        }
+    }
+    tree.out.push_str("}\n")?;
+    Ok(tree.out.into_bytes())
+}
+
+/// A routine that is listed.
+#[derive(Clone, Copy, Drop)]
+struct Routine {
+    address: u32,
+    /// Whether nothing that is reached calls it by a constant.
+    beside: bool,
+}
+
+/// The routine on a line, as `routine 015bc locals 0 beside`.
+fn routine_on(line: &str) -> Option<Routine> {
+    let (word, rest) = cut_word(line);
+    if word != "routine" {
+        return None;
+    }
+    Some(Routine {
+        address: address_of(cut_word(rest).0)?,
+        beside: line.ends_with(" beside"),
+    })
+}
+
+/// The routines that a disassembly lists.
+fn routines_in(alloc: Global, disassembly: &str) -> Result<Vec<Routine>, AllocError> {
+    let mut routines = Vec::new(alloc);
+    for line in disassembly.lines() {
+        if let Some(routine) = routine_on(line) {
+            routines.push(routine)?;
+        }
+    }
+    Ok(routines)
+}
+
+/// The last routine whose address is below another, where routines ascend.
+fn routine_below(routines: &[Routine], address: u32) -> Option<u32> {
+    let count = routines.partition_point(|routine| routine.address < address);
+    let last = routines[..count].last()?;
+    Some(last.address)
+}
+
+/// Whether an opcode calls a routine.
+fn is_call(opcode: &str) -> bool {
+    matches!(
+        opcode,
+        "call"
+            | "call_vs"
+            | "call_1s"
+            | "call_2s"
+            | "call_vs2"
+            | "call_vn"
+            | "call_1n"
+            | "call_2n"
+            | "call_vn2"
+    )
+}
+
+/// A call by a constant.
+#[derive(Clone, Copy, PartialEq, Eq, PartialOrd, Ord, Drop)]
+struct Call {
+    /// The routine that calls; none where it is the code that a story begins with.
+    caller: Option<u32>,
+    routine: u32,
+}
+
+/// The routine that a line calls by a constant, by its first note.
+fn called_on(line: &str) -> Option<u32> {
+    let (_, rest) = cut_word(line);
+    if !is_call(cut_word(rest).0) {
+        return None;
+    }
+    let (_, note) = line.split_once("  ; routine ")?;
+    let word = cut_word(note).0;
+    address_of(word.strip_suffix(';').unwrap_or(word))
+}
+
+/// The call on a line of a disassembly with these routines.
+fn call_on(line: &str, routines: &[Routine]) -> Option<Call> {
+    let address = address_of(cut_word(line).0)?;
+    Some(Call {
+        caller: routine_below(routines, address),
+        routine: called_on(line)?,
+    })
+}
+
+/// The calls of a disassembly, each once.
+fn calls_in(
+    alloc: Global,
+    disassembly: &str,
+    routines: &[Routine],
+) -> Result<Vec<Call>, AllocError> {
+    let mut calls = Vec::new(alloc);
+    for line in disassembly.lines() {
+        if let Some(call) = call_on(line, routines) {
+            calls.push(call)?;
+        }
+    }
+    calls.sort_unstable();
+    calls.dedup();
+    Ok(calls)
+}
+
+/// Whether a disassembly has an instruction that lies in no routine.
+fn has_start(disassembly: &str, routines: &[Routine]) -> bool {
+    for line in disassembly.lines() {
+        if let Some(address) = address_of(cut_word(line).0)
+            && routine_below(routines, address).is_none()
+        {
+            return true;
+        }
+    }
+    false
+}
+
+/// Adds the node of each routine.
+fn add_routines(out: &mut String, routines: &[Routine]) -> Result<(), AllocError> {
+    for routine in routines {
+        let address = routine.address;
+        let style = if routine.beside {
+            " [style=dashed]"
+        } else {
+            ""
+        };
+        writeln!(out, "  \"{address:05x}\"{style};")?;
+    }
+    Ok(())
+}
+
+/// Adds the edge of each call.
+fn add_calls(out: &mut String, calls: &[Call]) -> Result<(), AllocError> {
+    for call in calls {
+        let routine = call.routine;
+        match call.caller {
+            Some(caller) => writeln!(out, "  \"{caller:05x}\" -> \"{routine:05x}\";")?,
+            None => writeln!(out, "  start -> \"{routine:05x}\";")?,
+        }
+    }
+    Ok(())
+}
+
+/// The calls by constants in a disassembly with notes as a graph for Graphviz: a node for each routine that is listed, dashed
+/// where it is one beside; `start` for the code that lies in none; and an edge from each routine to each that it calls.
+pub fn code_graph(alloc: Global, disassembly: &str) -> Result<Vec<u8>, AllocError> {
+    let routines = routines_in(alloc, disassembly)?;
+    let calls = calls_in(alloc, disassembly, routines.as_slice())?;
+    let head = "digraph calls {\n  rankdir=LR; node [shape=box, fontname=\"sans-serif\"];\n";
+    let mut out = String::from_str(alloc, head)?;
+    if has_start(disassembly, routines.as_slice()) {
+        out.push_str("  start;\n")?;
+    }
+    add_routines(&mut out, routines.as_slice())?;
+    add_calls(&mut out, calls.as_slice())?;
+    out.push_str("}\n")?;
+    Ok(out.into_bytes())
+}

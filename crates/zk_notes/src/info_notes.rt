@@ -1,0 +1,323 @@
+// Listings of `info`, with notes.
+
+ghost use Rattle.std.specs.Prelude.{◌≡◌, option_map};
+ghost use Rattle.zk_notes.specs.Compilers.{compiler_in, is_version};
+
+use itoa::Buffer;
+use std::alloc::{AllocError, Global};
+use std::str;
+use zk_facts::fact::Section;
+use zk_facts::words::cut_word;
+
+/// Whether bytes are the version of a compiler, as `6.12`.
+fn is_version(bytes: &[u8]) -> bool
+    ensures { result ≡ is_version bytes.now }
+{
+    match bytes {
+        [major, b'.', tens, ones] => {
+            major.is_ascii_digit() && tens.is_ascii_digit() && ones.is_ascii_digit()
+        }
+        _ => false,
+    }
+}
+
+/// The version of Inform that compiled a story, by the bytes that the story begins with: a digit, a full stop and two digits, at
+/// $3C to $3F; none where something else stands there.
+#[tactic(auto, using(crate::proofs::Versions::short_is_none, crate::proofs::Versions::other_is_none))]
+pub fn compiler_in(header: &[u8]) -> Option<&str>
+    ensures { option_map (λ v. v.now) result ≡ compiler_in header.now }
+{
+    if header.len() < 64 {
+        return None;
+    }
+    let version = &header[60..64];
+    if !is_version(version) {
+        return None;
+    }
+    str::from_utf8(version).ok()
+}
+
+/// A bit of a word of flags, and what it means where it is set.
+#[derive(Clone, Copy, Drop)]
+struct Flag {
+    bit: u16,
+    words: &'static str,
+}
+
+/// The first flags of version 3 (Standard, section 11.1), but for the kind of its status line.
+const FLAGS_1_OF_3: [Flag; 5] = [
+    Flag {
+        bit: 4,
+        words: "story file split over two discs",
+    },
+    Flag {
+        bit: 8,
+        words: "Tandy",
+    },
+    Flag {
+        bit: 16,
+        words: "status line not available",
+    },
+    Flag {
+        bit: 32,
+        words: "screen-splitting available",
+    },
+    Flag {
+        bit: 64,
+        words: "variable-pitch font by default",
+    },
+];
+
+/// The first flags from version 4 on.
+const FLAGS_1: [Flag; 7] = [
+    Flag {
+        bit: 1,
+        words: "colours available",
+    },
+    Flag {
+        bit: 2,
+        words: "pictures available",
+    },
+    Flag {
+        bit: 4,
+        words: "boldface available",
+    },
+    Flag {
+        bit: 8,
+        words: "italic available",
+    },
+    Flag {
+        bit: 16,
+        words: "fixed-space style available",
+    },
+    Flag {
+        bit: 32,
+        words: "sound effects available",
+    },
+    Flag {
+        bit: 128,
+        words: "timed input available",
+    },
+];
+
+/// The second flags.
+const FLAGS_2: [Flag; 8] = [
+    Flag {
+        bit: 1,
+        words: "transcripting is on",
+    },
+    Flag {
+        bit: 2,
+        words: "fixed-pitch printing forced",
+    },
+    Flag {
+        bit: 8,
+        words: "wants pictures",
+    },
+    Flag {
+        bit: 16,
+        words: "wants UNDO",
+    },
+    Flag {
+        bit: 32,
+        words: "wants a mouse",
+    },
+    Flag {
+        bit: 64,
+        words: "wants colours",
+    },
+    Flag {
+        bit: 128,
+        words: "wants sound effects",
+    },
+    Flag {
+        bit: 256,
+        words: "wants menus",
+    },
+];
+
+/// The bit of the first flags of version 3 that says which status line the story wants.
+const HOURS: u16 = 2;
+
+/// Adds a text.
+fn add(out: &mut Vec<u8>, text: &str) -> Result<(), AllocError> {
+    out.extend_from_slice(text.as_bytes())
+}
+
+/// Adds a line.
+fn add_line(out: &mut Vec<u8>, line: &str) -> Result<(), AllocError> {
+    add(out, line)?;
+    add(out, "\n")
+}
+
+/// Adds the words of flags that are set, with commas between them, after some that stand there or not; `none` where there are none.
+fn add_flags(out: &mut Vec<u8>, flags: &[Flag], set: u16, first: &str) -> Result<(), AllocError> {
+    add(out, "  ; ")?;
+    add(out, first)?;
+    let mut none = first.is_empty();
+    for flag in flags {
+        if set & flag.bit != 0 {
+            add(out, if none { "" } else { ", " })?;
+            add(out, flag.words)?;
+            none = false;
+        }
+    }
+    add(out, if none { "none\n" } else { "\n" })
+}
+
+/// Adds a line of the header with its first flags, by the version of the story.
+fn add_first_flags(out: &mut Vec<u8>, version: u8, set: u16) -> Result<(), AllocError> {
+    if version != 3 {
+        return add_flags(out, &FLAGS_1, set, "");
+    }
+    let status_line = if set & HOURS != 0 {
+        "status line shows hours and minutes"
+    } else {
+        "status line shows score and turns"
+    };
+    add_flags(out, &FLAGS_1_OF_3, set, status_line)
+}
+
+/// Abbreviations one after another that have one text.
+#[derive(Clone, Copy, Drop)]
+struct Alike<'a> {
+    /// The line of the first.
+    line: &'a str,
+    first: &'a str,
+    last: &'a str,
+    text: &'a str,
+    count: u64,
+}
+
+/// Adds abbreviations that have one text as a line.
+fn add_alike(out: &mut Vec<u8>, alike: Alike<'_>) -> Result<(), AllocError> {
+    if alike.count == 1 {
+        return add_line(out, alike.line);
+    }
+    let mut buffer = Buffer::new();
+    let parts = [
+        alike.first,
+        " to ",
+        alike.last,
+        " ",
+        alike.text,
+        "  ; ",
+        buffer.format(alike.count),
+        " alike\n",
+    ];
+    for part in &parts {
+        add(out, part)?;
+    }
+    Ok(())
+}
+
+/// A listing that gets its notes line by line.
+#[derive(Drop)]
+struct Notes<'a> {
+    out: Vec<u8>,
+    section: Option<Section>,
+    version: u8,
+    compiler: Option<&'a str>,
+    /// The abbreviations that the next one may be like.
+    alike: Option<Alike<'a>>,
+}
+
+impl<'a> Notes<'a> {
+    /// Adds what is still to come of a section.
+    fn end_section(&mut self) -> Result<(), AllocError> {
+        if let Some(alike) = self.alike {
+            add_alike(&mut self.out, alike)?;
+            self.alike = None;
+        }
+        match (self.section, self.compiler) {
+            (Some(Section::Header), Some(compiler)) => {
+                add(&mut self.out, "compiler Inform ")?;
+                add_line(&mut self.out, compiler)
+            }
+            _ => Ok(()),
+        }
+    }
+
+    /// Adds a line of the header.
+    fn header_line(&mut self, line: &'a str) -> Result<(), AllocError> {
+        let (name, value) = cut_word(line);
+        if name == "version" {
+            self.version = value.parse().unwrap_or(0);
+        }
+        let Ok(set) = u16::from_str_radix(value, 16) else {
+            return add_line(&mut self.out, line);
+        };
+        match name {
+            "flags1" => {
+                add(&mut self.out, line)?;
+                add_first_flags(&mut self.out, self.version, set)
+            }
+            "flags2" => {
+                add(&mut self.out, line)?;
+                add_flags(&mut self.out, &FLAGS_2, set, "")
+            }
+            _ => add_line(&mut self.out, line),
+        }
+    }
+
+    /// Takes the line of an abbreviation, which waits for the next.
+    fn abbreviation(&mut self, line: &'a str) -> Result<(), AllocError> {
+        let (number, text) = cut_word(line);
+        if let Some(alike) = self.alike {
+            if alike.text == text {
+                let count = alike.count.saturating_add(1);
+                self.alike = Some(Alike {
+                    last: number,
+                    count,
+                    ..alike
+                });
+                return Ok(());
+            }
+            add_alike(&mut self.out, alike)?;
+        }
+        self.alike = Some(Alike {
+            line,
+            first: number,
+            last: number,
+            text,
+            count: 1,
+        });
+        Ok(())
+    }
+
+    /// Takes a line.
+    fn take(&mut self, line: &'a str) -> Result<(), AllocError> {
+        if let Some(begun) = Section::begun_by(line) {
+            self.end_section()?;
+            self.section = Some(begun);
+            return add_line(&mut self.out, line);
+        }
+        match self.section {
+            Some(Section::Header) => self.header_line(line),
+            Some(Section::Abbreviations) => self.abbreviation(line),
+            _ => add_line(&mut self.out, line),
+        }
+    }
+}
+
+/// A listing of `info` with notes. After the flags of the header stand two spaces, `; ` and what is set, with commas between, or
+/// `none`; after the header's last line stands `compiler Inform 6.12`, where the compiler's version is given. Abbreviations one
+/// after another with one text are a line, as `0 to 95 "   "  ; 96 alike`. All other lines are as they were.
+pub fn explain(
+    alloc: Global,
+    listing: &str,
+    compiler: Option<&str>,
+) -> Result<Vec<u8>, AllocError> {
+    let mut notes = Notes {
+        out: Vec::new(alloc),
+        section: None,
+        version: 0,
+        compiler,
+        alike: None,
+    };
+    for line in listing.lines() {
+        notes.take(line)?;
+    }
+    notes.end_section()?;
+    Ok(notes.out)
+}

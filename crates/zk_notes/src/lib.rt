@@ -1,0 +1,13 @@
+// Listings with notes, counts, marks and pictures.
+#![tactic(auto)]
+
+mod addresses;
+pub mod counts;
+pub mod cover;
+pub mod examples;
+pub mod findings;
+pub mod graph;
+pub mod info_notes;
+mod kinds;
+mod lists;
+pub mod picture;

@@ -1,0 +1,222 @@
+// A picture of a story's map.
+
+use crate::addresses::address_of;
+use std::alloc::{AllocError, Global};
+use std::fmt::Write;
+use zk_facts::fact::Section;
+use zk_facts::words::cut_word;
+
+/// The width of a picture, in pixels.
+const WIDTH: u64 = 900;
+
+/// The pixels to the left and to the right of the bar.
+const MARGIN: u64 = 20;
+
+/// Where the bar begins, from above, and how high it is.
+const BAR_TOP: u64 = 40;
+
+const BAR_HEIGHT: u64 = 60;
+
+/// Where the list below the bar begins, and how high each of its rows is.
+const LIST_TOP: u64 = 130;
+
+const ROW_HEIGHT: u64 = 22;
+
+/// The fills of parts, one after the other and again from the first.
+const FILLS: [&str; 10] = [
+    "#4e79a7", "#f28e2b", "#e15759", "#76b7b2", "#59a14f", "#edc948", "#b07aa1", "#ff9da7",
+    "#9c755f", "#bab0ac",
+];
+
+/// A part of a story.
+#[derive(Clone, Copy, Drop)]
+struct Part<'a> {
+    address: u64,
+    name: &'a str,
+}
+
+/// The part on a line of the map.
+fn part_on(line: &str) -> Option<Part<'_>> {
+    let (address, name) = cut_word(line);
+    Some(Part {
+        address: address_of(address)? as u64,
+        name,
+    })
+}
+
+/// What a listing says of a story's map.
+#[derive(Drop)]
+struct Map<'a> {
+    parts: Vec<Part<'a>>,
+    /// The bytes of the file, or as many as the header states.
+    size: u64,
+}
+
+impl<'a> Map<'a> {
+    /// Takes a line of a section.
+    fn take(&mut self, section: Section, line: &'a str) -> Result<(), AllocError> {
+        if section == Section::Map
+            && let Some(part) = part_on(line)
+        {
+            self.parts.push(part)?;
+        }
+        if section == Section::Header
+            && let ("file" | "length", count) = cut_word(line)
+        {
+            self.size = self.size.max(count.parse::<u32>().unwrap_or(0) as u64);
+        }
+        Ok(())
+    }
+
+    /// The byte address after the last part: where the file ends, or where the last part begins if that lies beyond.
+    fn end(&self) -> u64 {
+        let mut end = self.size.max(1);
+        for part in &self.parts {
+            end = end.max(part.address);
+        }
+        end
+    }
+}
+
+/// The map in a listing of `info`.
+fn map_in(alloc: Global, info: &str) -> Result<Map<'_>, AllocError> {
+    let mut map = Map {
+        parts: Vec::new(alloc),
+        size: 0,
+    };
+    let mut section = Section::Ifid;
+    for line in info.lines() {
+        match Section::begun_by(line) {
+            Some(begun) => section = begun,
+            None => map.take(section, line)?,
+        }
+    }
+    Ok(map)
+}
+
+/// Adds a text of the picture. Control characters are left out.
+fn add_text(out: &mut String, text: &str) -> Result<(), AllocError> {
+    for shown in text.chars() {
+        match shown {
+            '&' => out.push_str("&amp;")?,
+            '<' => out.push_str("&lt;")?,
+            '>' => out.push_str("&gt;")?,
+            shown if shown.is_control() => {}
+            shown => out.push(shown)?,
+        }
+    }
+    Ok(())
+}
+
+/// Hundredths of a pixel along the bar, for bytes of so many.
+fn along(bytes: u64, end: u64) -> u64 {
+    let width = (WIDTH - 2 * MARGIN) * 100;
+    bytes.saturating_mul(width) / end.max(1)
+}
+
+/// Adds a number of hundredths.
+fn add_hundredths(out: &mut String, hundredths: u64) -> Result<(), AllocError> {
+    let whole = hundredths / 100;
+    let rest = hundredths % 100;
+    write!(out, "{whole}.{rest:02}")
+}
+
+/// A part with its place in the picture.
+#[derive(Clone, Copy, Drop)]
+struct Placed<'a> {
+    part: Part<'a>,
+    /// How many bytes it has.
+    size: u64,
+    fill: &'static str,
+    /// Where its row of the list begins, from above.
+    row: u64,
+}
+
+/// Adds the rectangle of a part in the bar, for a story that ends at an address.
+fn add_rectangle(out: &mut String, placed: &Placed<'_>, end: u64) -> Result<(), AllocError> {
+    let left = along(placed.part.address, end);
+    let right = along(placed.part.address.saturating_add(placed.size), end);
+    let fill = placed.fill;
+    out.push_str("<rect x=\"")?;
+    add_hundredths(out, left.saturating_add(MARGIN * 100))?;
+    write!(out, "\" y=\"{BAR_TOP}\" width=\"")?;
+    add_hundredths(out, right.saturating_sub(left))?;
+    writeln!(out, "\" height=\"{BAR_HEIGHT}\" fill=\"{fill}\"/>")
+}
+
+/// Adds the row of a part in the list.
+fn add_row(out: &mut String, placed: &Placed<'_>) -> Result<(), AllocError> {
+    let top = placed.row;
+    let base = top.saturating_add(12);
+    let fill = placed.fill;
+    let address = placed.part.address;
+    let size = placed.size;
+    writeln!(
+        out,
+        "<rect x=\"{MARGIN}\" y=\"{top}\" width=\"14\" height=\"14\" fill=\"{fill}\"/>"
+    )?;
+    write!(out, "<text x=\"44\" y=\"{base}\">{address:05x} ")?;
+    add_text(out, placed.part.name)?;
+    let unit = if size == 1 { "byte" } else { "bytes" };
+    writeln!(out, ", {size} {unit}</text>")
+}
+
+/// Adds the head of a picture of so many parts, with the addresses at both ends of the bar.
+fn add_head(out: &mut String, count: usize, end: u64) -> Result<(), AllocError> {
+    let height = (count as u64)
+        .saturating_mul(ROW_HEIGHT)
+        .saturating_add(LIST_TOP);
+    let right = WIDTH - MARGIN;
+    writeln!(
+        out,
+        "<svg xmlns=\"http://www.w3.org/2000/svg\" version=\"1.1\" width=\"{WIDTH}\" height=\"{height}\" font-family=\"sans-serif\" font-size=\"14\">"
+    )?;
+    writeln!(
+        out,
+        "<rect width=\"100%\" height=\"100%\" fill=\"#ffffff\"/>"
+    )?;
+    writeln!(out, "<text x=\"{MARGIN}\" y=\"30\">00000</text>")?;
+    writeln!(
+        out,
+        "<text x=\"{right}\" y=\"30\" text-anchor=\"end\">{end:05x}</text>"
+    )
+}
+
+/// The fill of a part, by its place among the parts.
+fn fill_of(at: usize) -> &'static str {
+    FILLS[at % 10]
+}
+
+/// Adds the rectangle and the row of each part.
+fn add_parts(out: &mut String, map: &Map<'_>, end: u64) -> Result<(), AllocError> {
+    for (at, part) in map.parts.iter().enumerate() {
+        let next = match map.parts.get(at + 1) {
+            Some(next) => next.address,
+            None => end,
+        };
+        let placed = Placed {
+            part: *part,
+            size: next.saturating_sub(part.address),
+            fill: fill_of(at),
+            row: (at as u64)
+                .saturating_mul(ROW_HEIGHT)
+                .saturating_add(LIST_TOP),
+        };
+        add_rectangle(out, &placed, end)?;
+        add_row(out, &placed)?;
+    }
+    Ok(())
+}
+
+/// The sections `[header]` and `[map]` of a listing of `info` as a picture, an SVG 1.1 of 900 pixels: a bar with a rectangle for
+/// each part, to scale, from its address to the next one's, and the last to the end of the file; below it each part's address,
+/// name and bytes, with a swatch of its fill.
+pub fn map_picture(alloc: Global, info: &str) -> Result<Vec<u8>, AllocError> {
+    let map = map_in(alloc, info)?;
+    let end = map.end();
+    let mut out = String::from_str(alloc, "<?xml version=\"1.0\" encoding=\"UTF-8\"?>\n")?;
+    add_head(&mut out, map.parts.len(), end)?;
+    add_parts(&mut out, &map, end)?;
+    out.push_str("</svg>\n")?;
+    Ok(out.into_bytes())
+}
