@@ -21,7 +21,7 @@ TABLE = TOP / "crates" / "zk_command" / "src" / "options.rt"
 
 
 # What stands after an option of each kind.
-VALUES = {"File": "FILE", "Folder": "FOLDER", "Flag": ""}
+VALUES = {"File": "FILE", "Folder": "FOLDER", "Address": "ADDRESS", "Flag": ""}
 
 
 class Option(NamedTuple):
@@ -40,7 +40,8 @@ class Option(NamedTuple):
 
     def usage(self) -> str:
         """The option as a usage line has it."""
-        return f"[--{self.name}{self.value and ' ' + self.values()}]"
+        again = "..." if self.value == VALUES["Address"] else ""
+        return f"[--{self.name}{self.value and ' ' + self.values()}]{again}"
 
 
 def read_numbers(text: str) -> dict[str, Option]:
@@ -66,7 +67,7 @@ def read_options(text: str, constant: str) -> list[Option]:
     """The options of a command, in their order."""
     known = {**read_numbers(text), **read_shared(text)}
     listed = text[text.index(f"const {constant}:"):].split("= [", 1)[1].split("];")[0]
-    row = r'CommandOption::(?:Number\((\w+)\)|(File|Folder|Flag) \{\s*name: "([\w-]+)")|\b([A-Z_]{4,}),?'
+    row = r'CommandOption::(?:Number\((\w+)\)|(File|Folder|Address|Flag) \{\s*name: "([\w-]+)")|\b([A-Z_]{4,}),?'
     listed = re.sub(r'help: ".*"', "", listed)
     return [
         known[number or shared] if number or shared else Option(name, VALUES[kind])
@@ -133,6 +134,7 @@ def made() -> dict[Path, str]:
     commands = [
         ("play", play, "STORY"),
         ("info", read_options(text, "INFO_OPTIONS"), "STORY..."),
+        ("disasm", read_options(text, "DISASM_OPTIONS"), "STORY"),
         ("check", read_options(text, "CHECK_OPTIONS"), "STORY..."),
         ("test", read_options(text, "TEST_OPTIONS"), "PATH..."),
     ]

@@ -36,3 +36,4 @@ pub mod Examples
 pub mod ListExamples
 pub mod CheckExamples
 pub mod LowExamples
+pub mod NoteExamples

@@ -4,6 +4,7 @@ ghost use Rattle.zk_inspect.specs.Examples.{AddressesHaveFiveDigits, WordsHaveFo
 ghost use Rattle.zk_inspect.specs.ListExamples.{FindingsAreLines, AllAbbreviationsAreLines, KeysAreInOrder, KeysBeginEntries, LinksPastTheLast, QuestionsOnObjects, LateObjectsAreLines};
 ghost use Rattle.zk_inspect.specs.CheckExamples.{EntriesAtTables, EntriesBelowTables, LinksLeadPast, NoTableNoObjects, TextsByConstants, WordsAreAddresses, WordsPastTheEnd};
 ghost use Rattle.zk_inspect.specs.NameExamples.{NamesByHeaders, NamesInFiles};
+ghost use Rattle.zk_inspect.specs.NoteExamples.{CallsNameRoutines, ExtensionsAreLines, GlobalsAreLines, GlobalsAreNoted, LongTextsAreShortened, ObjectsAreNoted, PropertiesAreLines, TextsAreNoted, TheThirdAlphabetBeginsLater};
 ghost use Rattle.zk_inspect.specs.LowExamples.{LowInstructions, LowRoutines};
 
 /// Addresses, words and bytes by their digits.
@@ -133,4 +134,21 @@ pub fn texts_by_example()
     ensures texts_by_constants { TextsByConstants }
     ensures words_past_the_end { WordsPastTheEnd }
     ensures words_are_addresses { WordsAreAddresses }
+{}
+
+/// What the constants and the global variables of instructions stand for (Standard, sections 4.2, 6.2 and 15).
+pub fn notes_by_example()
+    ensures calls_name_routines { CallsNameRoutines }
+    ensures texts_are_noted { TextsAreNoted }
+    ensures long_texts_are_shortened { LongTextsAreShortened }
+    ensures objects_are_noted { ObjectsAreNoted }
+    ensures globals_are_noted { GlobalsAreNoted }
+{}
+
+/// Global variables, alphabets, the header's extension and properties (Standard, sections 3.5.3, 6.2, 11.1.7 and 12.4).
+pub fn tables_by_example()
+    ensures globals_are_lines { GlobalsAreLines }
+    ensures extensions_are_lines { ExtensionsAreLines }
+    ensures the_third_alphabet_begins_later { TheThirdAlphabetBeginsLater }
+    ensures properties_are_lines { PropertiesAreLines }
 {}

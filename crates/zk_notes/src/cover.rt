@@ -13,14 +13,14 @@ use std::alloc::{AllocError, Global};
 use zk_facts::words::cut_word;
 
 /// The address of the instruction on a line.
-fn instruction_on(line: &str) -> Option<u32>
+pub(crate) fn instruction_on(line: &str) -> Option<u32>
     ensures { result ≡ instruction_on line.now }
 {
     address_of(cut_word(line).0)
 }
 
 /// The address of the routine on a line.
-fn routine_on(line: &str) -> Option<u32>
+pub(crate) fn routine_on(line: &str) -> Option<u32>
     ensures { result ≡ routine_on line.now }
 {
     let (word, rest) = cut_word(line);

@@ -10,4 +10,5 @@ pub mod graph;
 pub mod info_notes;
 mod kinds;
 mod lists;
+pub mod missing;
 pub mod picture;

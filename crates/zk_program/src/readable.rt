@@ -15,10 +15,11 @@ use zk_command::listing::{CodeListing, Listing, NO_SECTIONS, Sections, leave_out
 use zk_command::report::report_listing;
 use zk_command::settings::Form;
 use zk_notes::counts::Counts;
-use zk_notes::cover::{marked, without_instruction, without_routine};
+use zk_notes::cover::marked;
 use zk_notes::findings;
 use zk_notes::graph::{code_graph, tree_graph};
 use zk_notes::info_notes::{self, compiler_in};
+use zk_notes::missing::{without_instruction, without_routine};
 use zk_notes::picture::map_picture;
 use zk_term::io_device::IoDevice;
 use zk_term::target::{Failed, write_all};
