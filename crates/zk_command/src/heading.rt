@@ -64,7 +64,7 @@ fn write_refused<S: Target>(screen: &mut S, path: &str, error: &OpenError) -> Re
 }
 
 /// Writes the line before a listing, by the path of one of several stories; where that one is not listed the line says why.
-pub(crate) fn write_heading<S: Target>(
+pub fn write_heading<S: Target>(
     screen: &mut S,
     path: Option<&str>,
     refused: Option<&Exit>,

@@ -10,7 +10,7 @@ mod calls;
 pub mod choice;
 pub mod clean;
 pub mod exit;
-mod heading;
+pub mod heading;
 mod keeping;
 pub mod listing;
 mod no_game;

@@ -67,8 +67,8 @@ GlobalsAreLines =
 -- two words after their count, which stands at 4 (section 11.1.7)
 abbrev pub ExtensionsAreLines : Type 0
 ExtensionsAreLines =
-    (extension_lines (memory_by 5 (replicate 54 0 ++ 0 ∷ 4 ∷ []) (0 ∷ 0 ∷ 0 ∷ 0 ∷ 0 ∷ 2 ∷ 1 ∷ 2 ∷ 3 ∷ 4 ∷ 5 ∷ 6 ∷ [])) ≡ codes "1 00006 #0102\n2 00008 #0304\n")
-    × (extension_lines (memory_by 5 (replicate 54 0 ++ 0 ∷ 0 ∷ []) (0 ∷ 2 ∷ 1 ∷ 2 ∷ 3 ∷ 4 ∷ [])) ≡ [])
+    (extension_lines (memory_by 5 (5 ∷ replicate 53 0 ++ 0 ∷ 4 ∷ []) (0 ∷ 0 ∷ 0 ∷ 0 ∷ 0 ∷ 2 ∷ 1 ∷ 2 ∷ 3 ∷ 4 ∷ 5 ∷ 6 ∷ [])) ≡ codes "1 00006 #0102\n2 00008 #0304\n")
+    × (extension_lines (memory_by 5 (5 ∷ replicate 53 0 ++ 0 ∷ 0 ∷ []) (0 ∷ 2 ∷ 1 ∷ 2 ∷ 3 ∷ 4 ∷ [])) ≡ [])
 
 -- 6 in A2 begins a code, and 7 is a new line (section 3.5.3)
 abbrev pub TheThirdAlphabetBeginsLater : Type 0
