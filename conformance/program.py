@@ -176,6 +176,7 @@ EMPTY = "[abbreviations]\n[dictionary]\n[objects]\n"
 CALLING = "00040 call_1s #0012 -> sp\n00044 print_num sp\n00047 quit\n"
 # What `check` shows where the checksum is another.
 CHECKSUM = "C1 0001c checksum\n"
+NOTED_CHECKSUM = "C1 0001c checksum  ; the sum of the file's bytes is not the checksum that its header states\n"
 # Five objects of version 3 from 7E on, whose property tables stand at AB: 2 and 3 are children of 1.
 FAMILY = story(
     "",
@@ -323,6 +324,11 @@ FILES: dict[str, bytes] = {
 }
 
 # What a usage error says last is clap's.
+# The code of whole.z3 with the return at 47.
+WITH_A_RETURN = (
+    "00040 call #0025 -> sp\n00045 quit\n00047 rtrue\n0004d jz l1 ?00052\n00050 ret #07\n00052 print_paddr #002c\n"
+    "00055 rfalse\n"
+)
 USAGE: Wanted = (1, "", ANY)
 NO_TEXT: Wanted = (1, "", "zkit: the words after the program's name are no text")
 HI: Wanted = (0, "hi\n", "")
@@ -618,6 +624,54 @@ CASES: list[tuple[Words, Wanted]] = [
         ),
     ),
     ("disasm --all hello.z3", (0, '00040 print "hi"\n00043 new_line\n00044 quit\n', "")),
+    (
+        "disasm --notes whole.z3",
+        (
+            0,
+            "00040 call #0025 -> sp  ; routine 0004a\n00045 quit\n0004d jz l1 ?00052\n00050 ret #07\n"
+            '00052 print_paddr #002c  ; "h"\n00055 rfalse\nroutine 0004a locals 1\n',
+            "",
+        ),
+    ),
+    (
+        "disasm --all --notes whole.z3",
+        (
+            0,
+            "00040 call #0025 -> sp  ; routine 0004a\n00045 quit\n00047 rtrue\n0004d jz l1 ?00052\n00050 ret #07\n"
+            '00052 print_paddr #002c  ; "h"\n00055 rfalse\n'
+            "routine 00046 locals 0 beside\nroutine 0004a locals 1 reached\n",
+            "",
+        ),
+    ),
+    ("disasm --at 43 hello.z3", (0, '00040 print "hi"\n00043 new_line\n00044 quit\n', "")),
+    ("disasm --at=47 whole.z3", (0, WITH_A_RETURN + "routine 0004a locals 1\n", "")),
+    ("disasm --routine 46 whole.z3", (0, WITH_A_RETURN + "routine 00046 locals 0\nroutine 0004a locals 1\n", "")),
+    (
+        "disasm --at 47 --at 99999 --routine 46 --routine 45 whole.z3",
+        (
+            0,
+            WITH_A_RETURN + "routine 00046 locals 0\nroutine 0004a locals 1\n",
+            "zkit: no instruction at 99999\nzkit: no routine at 00045",
+        ),
+    ),
+    ("disasm --at xyz hello.z3", (1, "", "zkit: 'xyz' is no address: hexadecimal digits are one")),
+    ("disasm --cover missing hello.z3", (4, "", "zkit: missing: No such file or directory (os error 2)")),
+    (
+        "disasm --graph whole.z3",
+        (
+            0,
+            'digraph calls {\n  rankdir=LR; node [shape=box, fontname="sans-serif"];\n  start;\n  "0004a";\n'
+            '  start -> "0004a";\n}\n',
+            "",
+        ),
+    ),
+    (
+        "info --tree --graph hello.z3",
+        (0, 'digraph tree {\n  rankdir=LR; node [shape=box, fontname="sans-serif"];\n}\n', ""),
+    ),
+    ("info --globals hello.z3", (0, "[globals]\n", "")),
+    ("info --extension --properties hello.z3", (0, "[properties]\n[extension]\n", "")),
+    ("info --svg missing", UNREAD),
     ("info --strings whole.z3", (0, '[strings]\n00056 #002b "i"\n00058 #002c "h"\n', "")),
     ("info --strings hello.z3", (0, "[strings]\n", "")),
     ("disasm missing", UNREAD),
@@ -628,6 +682,17 @@ CASES: list[tuple[Words, Wanted]] = [
     ("check --map hello.z3", USAGE),
     ("check --help", (0, ANY, "")),
     ("check hello.z3", (6, CHECKSUM, "")),
+    ("check --notes hello.z3", (6, NOTED_CHECKSUM, "")),
+    ("check --summary hello.z3", (6, CHECKSUM + "total C1 1 checksum\ntotal 1 finding in 1 of 1 story\n", "")),
+    (
+        "check --notes --summary hello.z3 loop.z3 missing",
+        (
+            6,
+            f"hello.z3:\n{NOTED_CHECKSUM}loop.z3:\n{NOTED_CHECKSUM}missing: read failed\n"
+            "total C1 2 checksum\ntotal 2 findings in 2 of 3 stories\n",
+            ANY,
+        ),
+    ),
     ("check loop.z3", (6, CHECKSUM, "")),
     ("check undoes.z4", (6, f"{CHECKSUM}C10 00040 undecodable code\n", "")),
     *((f"check {EXAMPLES}/lighthouse.z{version}", (0, "", "")) for version in (3, 4, 5, 8)),
@@ -797,10 +862,14 @@ HELPED: list[tuple[str, list[str]]] = [
         "info --help",
         [
             "--header", "--map", "--abbreviations", "--dictionary", "--objects", "--tree", "--ifid", "--strings",
-            "STORY", "Example",
+            "--properties", "--globals", "--alphabets", "--extension", "--notes", "--graph", "--svg", "STORY",
+            "Example",
         ],
     ),
-    ("disasm --help", ["--all", "STORY", "Example"]),
+    (
+        "disasm --help",
+        ["--all", "--at <ADDRESS>", "--routine <ADDRESS>", "--cover <FILE>", "--notes", "STORY", "Example"],
+    ),
     ("check --help", ["STORY", "zkit info --objects", "zkit disasm", "works out", "Example"]),
     (
         "play --help",

@@ -671,6 +671,60 @@ def files_without_a_story(case: Case) -> Optional[str]:
     ))
 
 
+def covers_are_kept(case: Case) -> Optional[str]:
+    """The addresses of what was carried out, beside those that the file has, however the play ends."""
+    case.write(had__txt="00047\n00040\n", wrong__txt="00040\nhere\n")
+    plain = case.run("play --cover ran.txt hello.z3")
+    again = case.run("play --cover had.txt hello.z3")
+    limited = case.run("play --steps 5 --cover loop.txt loop.z3")
+    wrong = case.run("play --cover wrong.txt hello.z3")
+    return first_of((
+        differs((0, "hi\n", ""), plain),
+        differs(b"00040\n00043\n00044\n", case.read("ran.txt")),
+        differs((0, "hi\n", ""), again),
+        differs(b"00040\n00043\n00044\n00047\n", case.read("had.txt")),
+        differs((3, b"00040\n"), (limited[0], case.read("loop.txt"))),
+        differs((4, "", b"00040\nhere\n"), (*wrong[:2], case.read("wrong.txt"))),
+        differs((1, ""), case.run("play --cover hello.z3 hello.z3")[:2]),
+        differs(FILES["hello.z3"], case.read("hello.z3")),
+    ))
+
+
+def covers_are_marked(case: Case) -> Optional[str]:
+    """Code is looked for from what ran, which is marked and counted."""
+    case.write(whole__z3=FILES["whole.z3"], all__txt="00040\n00043\n00044\n", some__txt="00047\n0004d\n")
+    all_ran = '+ 00040 print "hi"\n+ 00043 new_line\n+ 00044 quit\nran: 3 of 3 instructions, 0 of 0 routines\n'
+    some_ran = (
+        "  00040 call #0025 -> sp\n  00045 quit\n+ 00047 rtrue\n+ 0004d jz l1 ?00052\n  00050 ret #07\n"
+        "  00052 print_paddr #002c\n  00055 rfalse\n+ routine 0004a locals 1\n"
+        "ran: 2 of 7 instructions, 1 of 1 routines\n"
+    )
+    return first_of((
+        differs((0, all_ran, ""), case.run("disasm --cover all.txt hello.z3")),
+        differs((0, some_ran, ""), case.run("disasm --cover some.txt whole.z3")),
+        differs((0, "zkit: no instruction at 00047\nzkit: no instruction at 0004d\n"),
+                case.run("disasm --cover some.txt hello.z3")[::2]),
+    ))
+
+
+def facts_of_tables(case: Case) -> Optional[str]:
+    """Globals, alphabets, the extension and properties, in rows and in JSON."""
+    row = "lighthouse.z5\textension\t{}\t{}\t0000\n"
+    extension = "".join(row.format(number, address) for number, address in ((1, "0013e"), (2, "00140"), (3, "00142")))
+    words = json.loads(case.run("info --objects --properties --alphabets --globals --json lighthouse.z5")[1])
+    listed = [
+        (it["number"], has["number"], has["length"]) for it in words["objects"] for has in it["properties"]
+    ]
+    return first_of((
+        differs((0, extension, ""), case.run("info --extension --rows lighthouse.z5")),
+        differs(listed, [(it["object"], it["number"], it["length"]) for it in words["properties"]]),
+        differs(True, all(len(it["bytes"]) == 2 * it["length"] for it in words["properties"])),
+        differs({"name": "A0", "characters": "abcdefghijklmnopqrstuvwxyz"}, words["alphabets"][0]),
+        differs([{"number": n, "address": f"{0x97e + 2 * n:05x}"} for n in range(240)],
+                [{name: it[name] for name in ("number", "address")} for it in words["globals"]]),
+    ))
+
+
 CASES: tuple[Callable[[Case], Optional[str]], ...] = (
     seeds_of_the_clock, widths_without_a_terminal, numbers_out_of_range, saves_by_name, saves_ask_before_they_replace,
     names_of_files_alone, lines_are_recorded, records_in_folders, records_that_fail, calls_are_told, many_calls_are_cut,
@@ -679,7 +733,7 @@ CASES: tuple[Callable[[Case], Optional[str]], ...] = (
     a_quotation_stands_in_its_box, suites_pass, wrong_texts_fail,
     checks_that_do_not_hold, wrong_seeds_fail, faults_and_limits_fail, settings_that_are_none, saves_in_tests,
     folders_are_looked_through, lists_of_paths, facts_in_rows, facts_in_json, files_are_counted_at_a_terminal,
-    names_of_stories, stories_are_unpacked, files_without_a_story,
+    names_of_stories, stories_are_unpacked, files_without_a_story, covers_are_kept, covers_are_marked, facts_of_tables,
 )
 
 

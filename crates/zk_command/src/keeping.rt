@@ -5,6 +5,7 @@ ghost use Rattle.zk_command.specs.SaveFiles.{rights_left};
 
 use crate::beside::{is_at, make_beside};
 use crate::no_game::{NoGame, standing};
+use crate::shown::Shown;
 use std::alloc::Global;
 use std::fs::{self, File, Metadata, OpenOptions, Permissions};
 use std::io::{self, ErrorKind, Read, Write};
@@ -112,6 +113,22 @@ fn replace(rt: &HostRuntime, place: &SaveTarget, bytes: &[u8]) -> Result<bool, N
 pub(crate) fn keep(rt: &HostRuntime, path: &str, bytes: &[u8]) -> Result<bool, NoGame> {
     let place = save_place(rt, path)?;
     replace(rt, &place, bytes)
+}
+
+/// Keeps a list in a file as a saved game is kept, and tells why where it can't.
+pub fn keep_list(rt: &HostRuntime, path: &str, bytes: &[u8]) -> bool {
+    match keep(rt, path, bytes) {
+        Ok(true) => true,
+        Ok(false) => {
+            let text = "the file has another owner or group than before";
+            let _ = eprintln!(rt; "zkit: {}: {}", Shown(path), text);
+            true
+        }
+        Err(error) => {
+            let _ = eprintln!(rt; "zkit: {}: {}", Shown(path), error);
+            false
+        }
+    }
 }
 
 /// The bytes of a file, unless it is longer than a saved game may be.

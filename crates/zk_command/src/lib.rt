@@ -11,7 +11,7 @@ pub mod choice;
 pub mod clean;
 pub mod exit;
 pub mod heading;
-mod keeping;
+pub mod keeping;
 pub mod listing;
 mod no_game;
 pub mod opening;

@@ -44,12 +44,7 @@ impl Listed {
 }
 
 /// Lists the story in a file.
-pub fn list_in_memory(
-    rt: &HostRuntime,
-    about: &About,
-    path: &str,
-    listing: Listing<'_>,
-) -> Listed {
+pub fn list_in_memory(rt: &HostRuntime, about: &About, path: &str, listing: Listing<'_>) -> Listed {
     let mut screen = IoDevice::new(Vec::new(rt.alloc()));
     let exit = match File::open(rt, path) {
         Err(error) => Exit::Unread(error),
@@ -68,7 +63,11 @@ pub fn entries_of(rt: &HostRuntime, path: &str) -> Option<Entries> {
 }
 
 /// What came of a look at the story in a file.
-fn outcome_of<'a>(listed: &'a Listed, listing: Listing<'_>, entries: Option<Entries>) -> Outcome<'a> {
+fn outcome_of<'a>(
+    listed: &'a Listed,
+    listing: Listing<'_>,
+    entries: Option<Entries>,
+) -> Outcome<'a> {
     match &listed.exit {
         Exit::Refused(OpenError::OutOfMemory) | Exit::Stopped(Stop::Memory | Stop::Write) => {
             Outcome::Unread("out of memory")

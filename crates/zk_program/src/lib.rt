@@ -9,6 +9,7 @@ mod held_prompt;
 pub mod list;
 pub mod play;
 mod readable;
+mod roots;
 mod session;
 pub mod suite;
 pub mod told;

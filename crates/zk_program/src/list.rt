@@ -2,11 +2,11 @@
 
 ghost use Rattle.std.specs.Prelude.{◌≡◌, false};
 
-use crate::cover::{CodeRoots, code_roots};
 use crate::facts::list_facts;
 use crate::files::files_of;
 use crate::play::screen_of;
 use crate::readable::{Request, list_counts, list_readable};
+use crate::roots::{CodeRoots, code_roots};
 use crate::told::out_of_memory;
 use std::fs::File;
 use zk_command::about::About;
@@ -20,12 +20,7 @@ use zk_notes::counts::Counts;
 use zk_term::io_device::IoDevice;
 
 /// Lists the story in a file, below its heading where it is one of several, and answers the program's status.
-fn list<'a>(
-    rt: &HostRuntime,
-    path: &'a str,
-    heading: Option<&'a str>,
-    listing: Listing<'_>,
-) -> u8 {
+fn list<'a>(rt: &HostRuntime, path: &'a str, heading: Option<&'a str>, listing: Listing<'_>) -> u8 {
     let mut errors = IoDevice::new(rt.stderr());
     let about = About::listed(path, heading);
     let mut screen = screen_of(rt, &about);

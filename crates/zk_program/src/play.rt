@@ -5,6 +5,7 @@ ghost use Rattle.zk_vm.specs.Bounds.{AreInRange};
 ghost use Rattle.zk_command.specs.Playing.{Work};
 
 use crate::boxes::play_with_boxes_and_report;
+use crate::cover::{CoverFile, cover_at};
 use crate::held_prompt::HeldPrompt;
 use crate::told::{out_of_memory, tell_exit, tell_last_line, tell_reason};
 use std::alloc::Global;
@@ -312,6 +313,34 @@ fn record_of(
     }
 }
 
+/// Plays the story in an open file as options say, notes where its instructions stand where there is a file for that, and
+/// answers the program's status.
+fn play_covered<'a>(
+    rt: &'a HostRuntime,
+    file: File,
+    about: &'a About<'a>,
+    options: &PlayOptions<'a>,
+    settings: Settings,
+    width: Option<u8>,
+    record: Option<&'a File>,
+    offered: String,
+    covered: Option<CoverFile<'a>>,
+) -> u8
+    requires in_range { AreInRange settings.limits }
+{
+    let Some(mut covered) = covered else {
+        let places = &mut Unnoted;
+        return play_on(
+            rt, file, about, options, settings, width, record, offered, places,
+        );
+    };
+    let places = &mut covered.cover;
+    let status = play_on(
+        rt, file, about, options, settings, width, record, offered, places,
+    );
+    covered.write(rt, status)
+}
+
 /// Plays the story in a file as options say, and answers the program's status.
 pub fn play<'a>(rt: &HostRuntime, story: &'a str, options: &PlayOptions<'a>) -> u8
     requires { AreInRange options.now.limits }
@@ -333,11 +362,15 @@ pub fn play<'a>(rt: &HostRuntime, story: &'a str, options: &PlayOptions<'a>) -> 
         Ok(file) => file,
         Err(error) => return tell_exit(rt, &Exit::Unread(error), &about),
     };
+    let covered = match cover_at(rt, options.cover) {
+        Ok(covered) => covered,
+        Err(status) => return status,
+    };
     let width = width_by(rt, options.width);
     let Ok(record) = record_of(rt, story, &options, &settings, width) else {
         return tell_last_line(rt, &Exit::Stopped(Stop::Write));
     };
-    let status = play_on(
+    let status = play_covered(
         rt,
         file,
         &about,
@@ -346,7 +379,7 @@ pub fn play<'a>(rt: &HostRuntime, story: &'a str, options: &PlayOptions<'a>) -> 
         width,
         record.as_ref(),
         offered,
-        &mut Unnoted,
+        covered,
     );
     if let (Some(error), Some(path)) = (about.record.failure(), options.recorded) {
         tell_reason(rt, path, &error);

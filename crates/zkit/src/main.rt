@@ -118,14 +118,7 @@ fn answer_texts(rt: &HostRuntime, arguments: &[&str], counted: bool) -> u8 {
                 options,
                 listing,
             },
-        ) => list_all(
-            rt,
-            stories.as_slice(),
-            &roots,
-            options,
-            listing,
-            counted,
-        ),
+        ) => list_all(rt, stories.as_slice(), &roots, options, listing, counted),
         _ if !are_text => tell_no_text(rt),
         Ok(Choice::Play { story, options }) => play_with(rt, story, &options),
         Ok(

@@ -1,0 +1,57 @@
+// Where code is looked for, by the command line.
+
+use crate::cover::covered_in;
+use crate::told::out_of_memory;
+use zk_command::settings::Roots;
+use zk_command::shown::Shown;
+
+/// Where code is looked for beside the first instruction.
+#[derive(Drop)]
+pub struct CodeRoots {
+    /// The byte addresses of instructions: those that are named, and those that ran.
+    pub addresses: Vec<u32>,
+    /// The byte addresses of routines.
+    pub routines: Vec<u32>,
+    /// The byte addresses that ran, ascending, where a file of them is named.
+    pub covered: Option<Vec<u32>>,
+}
+
+/// Adds the addresses that texts say in hexadecimal digits, or answers the program's status, where it is told which text
+/// says none.
+fn add_said(rt: &HostRuntime, addresses: &mut Vec<u32>, texts: &[&str]) -> Result<(), u8> {
+    for text in texts {
+        let Ok(address) = u32::from_str_radix(text, 16) else {
+            let _ = eprintln!(rt;
+                "zkit: '{}' is no address: hexadecimal digits are one",
+                Shown(text)
+            );
+            return Err(1);
+        };
+        if addresses.push(address).is_err() {
+            return Err(out_of_memory(rt));
+        }
+    }
+    Ok(())
+}
+
+/// Where code is looked for by the options of `disasm`, or the program's status, where it is told what is wrong.
+pub fn code_roots(rt: &HostRuntime, roots: &Roots<'_>) -> Result<CodeRoots, u8> {
+    let mut addresses = Vec::new(rt.alloc());
+    let mut routines = Vec::new(rt.alloc());
+    add_said(rt, &mut addresses, roots.at.as_slice())?;
+    add_said(rt, &mut routines, roots.routines.as_slice())?;
+    let covered = match roots.cover {
+        Some(path) => Some(covered_in(rt, path)?),
+        None => None,
+    };
+    if let Some(covered) = &covered {
+        if addresses.extend_from_slice(covered.as_slice()).is_err() {
+            return Err(out_of_memory(rt));
+        }
+    }
+    Ok(CodeRoots {
+        addresses,
+        routines,
+        covered,
+    })
+}
