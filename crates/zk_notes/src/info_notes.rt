@@ -1,7 +1,7 @@
 // Listings of `info`, with notes.
 
 ghost use Rattle.std.specs.Prelude.{◌≡◌, option_map};
-ghost use Rattle.zk_notes.specs.Compilers.{compiler_in, is_version};
+ghost use Rattle.zk_notes.specs.Compilers.{compiler_of, is_version};
 
 use itoa::Buffer;
 use std::alloc::{AllocError, Global};
@@ -25,7 +25,7 @@ fn is_version(bytes: &[u8]) -> bool
 /// $3C to $3F; none where something else stands there.
 #[tactic(auto, using(crate::proofs::Versions::short_is_none, crate::proofs::Versions::other_is_none))]
 pub fn compiler_in(header: &[u8]) -> Option<&str>
-    ensures { option_map (λ v. v.now) result ≡ compiler_in header.now }
+    ensures { option_map (λ v. v.now) result ≡ compiler_of header.now }
 {
     if header.len() < 64 {
         return None;

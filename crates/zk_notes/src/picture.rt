@@ -54,13 +54,13 @@ struct Map<'a> {
 
 impl<'a> Map<'a> {
     /// Takes a line of a section.
-    fn take(&mut self, section: Section, line: &'a str) -> Result<(), AllocError> {
-        if section == Section::Map
+    fn take(&mut self, section: Option<Section>, line: &'a str) -> Result<(), AllocError> {
+        if section == Some(Section::Map)
             && let Some(part) = part_on(line)
         {
             self.parts.push(part)?;
         }
-        if section == Section::Header
+        if section == Some(Section::Header)
             && let ("file" | "length", count) = cut_word(line)
         {
             self.size = self.size.max(count.parse::<u32>().unwrap_or(0) as u64);
@@ -84,10 +84,10 @@ fn map_in(alloc: Global, info: &str) -> Result<Map<'_>, AllocError> {
         parts: Vec::new(alloc),
         size: 0,
     };
-    let mut section = Section::Ifid;
+    let mut section = None;
     for line in info.lines() {
         match Section::begun_by(line) {
-            Some(begun) => section = begun,
+            Some(begun) => section = Some(begun),
             None => map.take(section, line)?,
         }
     }
