@@ -11,3 +11,4 @@ pub mod info_notes;
 mod kinds;
 mod lists;
 pub mod picture;
+mod pieces;
