@@ -7,8 +7,7 @@ ghost use Rattle.std.specs.Str.Lines.{lines};
 ghost use Rattle.zk_notes.specs.Marks.{first_above, has_run, is_below, instruction_on, instructions_in, line_ran, marked_line, marked_of, ran_line, routine_on, routines_in, share_of, summary_of, was_entered};
 ghost use Rattle.zk_notes.specs.Union.{IsUnion, address_on, is_no_address};
 
-use crate::addresses::address_of;
-use crate::lists::push_found;
+use crate::addresses::{address_of, push_found};
 use itoa::Buffer;
 use std::alloc::{AllocError, Global};
 use zk_facts::words::cut_word;

@@ -9,6 +9,5 @@ pub mod findings;
 pub mod graph;
 pub mod info_notes;
 mod kinds;
-mod lists;
 pub mod picture;
 mod pieces;

@@ -88,13 +88,14 @@ fn map_in(alloc: Global, info: &str) -> Result<Map<'_>, AllocError> {
     Ok(map)
 }
 
-/// Adds a text of the picture. Control characters are left out.
+/// Adds a text of the picture. Control characters are left out, and the two others that XML has not.
 fn add_text(out: &mut String, text: &str) -> Result<(), AllocError> {
     for shown in text.chars() {
         match shown {
             '&' => out.push_str("&amp;")?,
             '<' => out.push_str("&lt;")?,
             '>' => out.push_str("&gt;")?,
+            '\u{fffe}' | '\u{ffff}' => {}
             shown if shown.is_control() => {}
             shown => out.push(shown)?,
         }
