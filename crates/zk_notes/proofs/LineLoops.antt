@@ -1,7 +1,7 @@
 -- What a loop over lines has made, with one line more.
 use Rattle.std.specs.Prelude.{option_to_list}
 use Rattle.std.specs.List.{filter_map, flat_map, list_any}
-use Rattle.std.proofs.Common.{◌≡◌, List, [], ◌∷◌, ◌++◌, map, Option, Some, None, refl, append-nil, append_assoc, Bool, false}
+use Rattle.std.proofs.Common.{◌≡◌, List, [], ◌∷◌, ◌++◌, map, Option, Some, None, refl, ap, ◌∙◌, append-nil, append_assoc, Bool, false}
 use Rattle.std.proofs.lemmas.List.{map-append}
 use Rattle.std.proofs.lemmas.List.Elements.{filter_map-append}
 use Rattle.std.proofs.lemmas.List.Folds.{list_any-append}
@@ -22,3 +22,6 @@ none_on {A} {X} v p xs x h e = rw (map-append v xs (x ∷ []), list_any-append p
 
 pub appended_on : {A X Y : Type 0} (v : A → X) (f : X → List Y) (xs : List A) (x : A) (before out new : List Y) → out ≡ before ++ flat_map f (map v xs) → new ≡ out ++ f (v x) → new ≡ before ++ flat_map f (map v (xs ++ x ∷ []))
 appended_on {A} {X} {Y} v f xs x before out new h e = rw (written_on v f xs x, e, h) (append_assoc before (flat_map f (map v xs)) (f (v x)))
+
+pub ended_at : {A X Y : Type 0} (v : A → X) (f : X → List Y) (xs : List A) (before out : List Y) (ls : List X) → out ≡ before ++ flat_map f (map v xs) → map v xs ≡ ls → out ≡ before ++ flat_map f ls
+ended_at {A} {X} {Y} v f xs before out ls h e = h ∙ ap (λ zs. before ++ flat_map f zs) e

@@ -7,7 +7,7 @@ use Rattle.std.proofs.Common.{◌≡◌, ℕ, ◌<◌, ◌&&◌, ◌==◌, true,
 use Rattle.std.proofs.lemmas.Bool.Decides.{nat_tests}
 use Rattle.std.proofs.lemmas.Str.{IsUtf8-from_ascii}
 use Rattle.zk_notes.proofs.AddressWords.{both}
-use Rattle.zk_notes.specs.Compilers.{compiler_in, is_version}
+use Rattle.zk_notes.specs.Compilers.{compiler_of, is_version}
 
 few : (bs : List ℕ) → length bs < 4 → is_version bs ≡ false
 few [] h = refl
@@ -19,12 +19,12 @@ few (a ∷ b ∷ c ∷ d ∷ ds) h = absurd (omega arith)
 short : (header : List ℕ) → length header < 64 → length (take 4 (drop 60 header)) < 4
 short header h = omega (arith, length-drop 60 header, length-take 4 (drop 60 header))
 
-pub short_is_none : (header : List ℕ) → length header < 64 → compiler_in header ≡ None
-unfolding compiler_in
+pub short_is_none : (header : List ℕ) → length header < 64 → compiler_of header ≡ None
+unfolding compiler_of
 short_is_none header h = rw (few (take 4 (drop 60 header)) (short header h)) refl
 
-pub other_is_none : (header : List ℕ) → is_version (take 4 (drop 60 header)) ≡ false → compiler_in header ≡ None
-unfolding compiler_in
+pub other_is_none : (header : List ℕ) → is_version (take 4 (drop 60 header)) ≡ false → compiler_of header ≡ None
+unfolding compiler_of
 other_is_none header h = rw h refl
 
 low : (c : ℕ) → is_ascii_digit c ≡ true → c < 128
@@ -54,7 +54,7 @@ ascii (a ∷ b ∷ c ∷ d ∷ e ∷ es) h = absurd cc
 
 pub read_is_version : {E : Type 0} (Q : E → Type 0) (header : List ℕ) (r : Result (Bor (List ℕ)) E) → is_version (take 4 (drop 60 header)) ≡ true
     → MatchResult r (λ s. (s.now ≡ take 4 (drop 60 header)) × IsUtf8 (take 4 (drop 60 header))) (λ e. ¬ (IsUtf8 (take 4 (drop 60 header))) × Q e)
-    → option_map (λ (v : Bor (List ℕ)). v.now) (result_ok r) ≡ compiler_in header
-unfolding compiler_in
+    → option_map (λ (v : Bor (List ℕ)). v.now) (result_ok r) ≡ compiler_of header
+unfolding compiler_of
 read_is_version {E} Q header (Ok s) v h = rw (v, h.0) refl
 read_is_version {E} Q header (Err e) v h = absurd (h.0 (ascii (take 4 (drop 60 header)) v))

@@ -8,7 +8,7 @@ is_version (a ∷ b ∷ c ∷ d ∷ []) = is_ascii_digit a && (b == 46) && is_as
 is_version _ = false
 
 -- the version of Inform at the bytes 60 to 63 of a story's header
-unfoldable pub compiler_in : List ℕ → Option (List ℕ)
-compiler_in header =
+unfoldable pub compiler_of : List ℕ → Option (List ℕ)
+compiler_of header =
     let version = take 4 (drop 60 header) in
     if is_version version then Some version else None

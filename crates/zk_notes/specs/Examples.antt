@@ -3,7 +3,7 @@ use Rattle.std.specs.Prelude.{◌≡◌, ◌-◌, ◌^◌, true, false, ℕ, Lis
 use Rattle.std.specs.List.{filter_map, flat_map, list_any}
 use Rattle.std.specs.Str.Lines.{lines}
 use Rattle.zk_notes.specs.Addresses.{address_of}
-use Rattle.zk_notes.specs.Compilers.{compiler_in}
+use Rattle.zk_notes.specs.Compilers.{compiler_of}
 use Rattle.zk_notes.specs.Counts.{capped, is_finding, is_of}
 use Rattle.zk_notes.specs.Findings.{explained, object_words}
 use Rattle.zk_notes.specs.Kinds.{number_of}
@@ -61,7 +61,7 @@ LinesAreMarked =
 -- the bytes at 60 to 63 are a digit, a full stop and two digits
 abbrev pub CompilersAreKnown : Type 0
 CompilersAreKnown =
-    (compiler_in (codes "000000000000000000000000000000000000000000000000000000000000" ++ codes "6.36") ≡ Some (codes "6.36"))
-    × (compiler_in (codes "000000000000000000000000000000000000000000000000000000000000" ++ codes "6.3x") ≡ None)
-    × (compiler_in (codes "000000000000000000000000000000000000000000000000000000000000" ++ codes "6336") ≡ None)
-    × (compiler_in (codes "00000000000000000000000000000000000000000000000000000000000" ++ codes "6.36") ≡ None)
+    (compiler_of (codes "000000000000000000000000000000000000000000000000000000000000" ++ codes "6.36") ≡ Some (codes "6.36"))
+    × (compiler_of (codes "000000000000000000000000000000000000000000000000000000000000" ++ codes "6.3x") ≡ None)
+    × (compiler_of (codes "000000000000000000000000000000000000000000000000000000000000" ++ codes "6336") ≡ None)
+    × (compiler_of (codes "00000000000000000000000000000000000000000000000000000000000" ++ codes "6.36") ≡ None)

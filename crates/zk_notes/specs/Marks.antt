@@ -1,5 +1,5 @@
 -- Disassemblies with marks at what ran.
-use Rattle.std.specs.Prelude.{ℕ, ◌==◌, ◌&&◌, Bool, true, false, List, ◌++◌, codes, nat_lt, if◌then◌else◌, Option, Some, None}
+use Rattle.std.specs.Prelude.{ℕ, ◌==◌, ◌&&◌, Bool, true, false, List, ◌++◌, codes, nat_lt, length, count_by, decimal, if◌then◌else◌, Option, Some, None}
 use Rattle.std.specs.List.{filter_map, find, flat_map, list_any}
 use Rattle.std.specs.Str.{bytes_eq}
 use Rattle.zk_facts.specs.Words.{first_word, after_word}
@@ -57,3 +57,21 @@ marked_line ran line = (if ran then codes "+ " else codes "  ") ++ line ++ codes
 -- the lines of a disassembly with their marks, where the addresses that ran are known
 unfoldable pub marked_lines : List ℕ → List (List ℕ) → List ℕ
 marked_lines covered ls = flat_map (λ line. marked_line (line_ran covered (instructions_in ls) (routines_in ls) line) line) ls
+
+-- how many of what is listed ran, and words
+abbrev pub share_of : ℕ → ℕ → List ℕ → List ℕ
+share_of ran listed words = decimal ran ++ codes " of " ++ decimal listed ++ words
+
+-- the line that says how many instructions and routines ran
+unfoldable pub ran_line : ℕ → ℕ → ℕ → ℕ → List ℕ
+ran_line ran listed entered routines =
+    codes "ran: " ++ share_of ran listed (codes " instructions, ") ++ share_of entered routines (codes " routines\n")
+
+-- and by what is listed
+abbrev pub summary_of : List ℕ → List ℕ → List ℕ → List ℕ
+summary_of covered instructions routines =
+    ran_line (count_by (has_run covered) instructions) (length instructions) (count_by (was_entered covered instructions routines) routines) (length routines)
+
+-- a disassembly with its marks, and how much of it ran
+abbrev pub marked_of : List ℕ → List (List ℕ) → List ℕ
+marked_of covered ls = marked_lines covered ls ++ summary_of covered (instructions_in ls) (routines_in ls)

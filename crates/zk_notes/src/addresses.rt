@@ -1,8 +1,10 @@
 // Addresses in lines.
 
-ghost use Rattle.std.specs.Prelude.{◌≡◌};
+ghost use Rattle.std.specs.Prelude.{◌≡◌, ◌++◌, OnOk, option_to_list};
 ghost use Rattle.std.specs.List.{list_all};
 ghost use Rattle.zk_notes.specs.Addresses.{address_of, is_hex_digit};
+
+use std::alloc::AllocError;
 
 /// Whether a word has hexadecimal digits alone.
 fn is_hexadecimal(word: &str) -> bool
@@ -25,4 +27,14 @@ pub(crate) fn address_of(word: &str) -> Option<u32>
         return None;
     }
     u32::from_str_radix(word, 16).ok()
+}
+
+/// Puts an address behind others, where there is one.
+pub(crate) fn push_found(addresses: &mut Vec<u32>, found: Option<u32>) -> Result<(), AllocError>
+    ensures { OnOk result (addresses.new.items ≡ addresses.old.items ++ option_to_list found) }
+{
+    if let Some(address) = found {
+        addresses.push(address)?;
+    }
+    Ok(())
 }

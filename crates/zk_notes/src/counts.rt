@@ -6,8 +6,8 @@ ghost use Rattle.std.specs.Str.Lines.{lines};
 ghost use Rattle.zk_notes.specs.Counts.{capped, is_finding, is_of};
 
 use crate::kinds::{name, number_of};
+use crate::pieces::{Piece, add_pieces};
 use std::alloc::{AllocError, Global};
-use std::fmt::Write;
 use zk_facts::words::cut_word;
 
 /// Whether a line has a finding of the kind of a number.
@@ -124,11 +124,44 @@ impl Counts {
         for (at, count) in self.kinds.iter().enumerate() {
             let number = at as u8 + 1;
             if *count > 0 {
-                let words = name(number);
-                writeln!(out, "total C{number} {count} {words}")?;
+                let line = [
+                    Piece::Text("total C"),
+                    Piece::Number(number as u64),
+                    Piece::Text(" "),
+                    Piece::Number(*count),
+                    Piece::Text(" "),
+                    Piece::Text(name(number)),
+                    Piece::Text("\n"),
+                ];
+                add_pieces(out, &line)?;
             }
         }
         Ok(())
+    }
+
+    /// Adds the line of all.
+    fn add_total(&self, out: &mut String) -> Result<(), AllocError> {
+        let findings = self.findings();
+        let noun = if findings == 1 {
+            " finding in "
+        } else {
+            " findings in "
+        };
+        let last = if self.stories == 1 {
+            " story\n"
+        } else {
+            " stories\n"
+        };
+        let line = [
+            Piece::Text("total "),
+            Piece::Number(findings),
+            Piece::Text(noun),
+            Piece::Number(self.wrong),
+            Piece::Text(" of "),
+            Piece::Number(self.stories),
+            Piece::Text(last),
+        ];
+        add_pieces(out, &line)
     }
 
     /// The counts as lines: `total C5 3 object links` for each kind that occurs, by its number, and then `total 4 findings in 2
@@ -136,15 +169,7 @@ impl Counts {
     pub fn text(&self, alloc: Global) -> Result<Vec<u8>, AllocError> {
         let mut out = String::new(alloc);
         self.add_kinds(&mut out)?;
-        let findings = self.findings();
-        let noun = if findings == 1 { "finding" } else { "findings" };
-        let wrong = self.wrong;
-        let stories = self.stories;
-        let last = if stories == 1 { "story" } else { "stories" };
-        writeln!(
-            out,
-            "total {findings} {noun} in {wrong} of {stories} {last}"
-        )?;
+        self.add_total(&mut out)?;
         Ok(out.into_bytes())
     }
 }

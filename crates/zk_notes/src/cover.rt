@@ -1,14 +1,14 @@
 // Disassemblies with marks at what ran.
 
-ghost use Rattle.std.specs.Prelude.{◌≡◌, ℕ, ◌++◌, List, is_none, IfOk, IfSome, OnOk};
+ghost use Rattle.std.specs.Prelude.{◌≡◌, ℕ, ◌++◌, is_none, count_by, decimal, IfOk, IfSome, OnOk};
 ghost use Rattle.std.specs.List.{flat_map, list_any};
 ghost use Rattle.std.specs.List.Sorted.{IsNonDecreasing};
 ghost use Rattle.std.specs.Str.Lines.{lines};
-ghost use Rattle.zk_notes.specs.Marks.{first_above, has_run, is_below, instruction_on, instructions_in, line_ran, marked_line, marked_lines, routine_on, routines_in, was_entered};
+ghost use Rattle.zk_notes.specs.Marks.{first_above, has_run, is_below, instruction_on, instructions_in, line_ran, marked_line, marked_of, ran_line, routine_on, routines_in, share_of, summary_of, was_entered};
 ghost use Rattle.zk_notes.specs.Union.{IsUnion, address_on, is_no_address};
 
-use crate::addresses::address_of;
-use crate::lists::push_found;
+use crate::addresses::{address_of, push_found};
+use itoa::Buffer;
 use std::alloc::{AllocError, Global};
 use zk_facts::words::cut_word;
 
@@ -70,6 +70,43 @@ fn is_below(address: u32, other: Option<u32>) -> bool
     }
 }
 
+/// How many of what is listed ran.
+#[derive(Clone, Copy, Drop)]
+struct Share {
+    ran: usize,
+    listed: usize,
+}
+
+/// Adds a number.
+fn add_number(out: &mut Vec<u8>, number: usize) -> Result<(), AllocError>
+    ensures { OnOk result (out.new.items ≡ out.old.items ++ decimal number) }
+{
+    let mut buffer = Buffer::new();
+    out.extend_from_slice(buffer.format(number).as_bytes())
+}
+
+/// Adds how many of what is listed ran, and words.
+fn add_share(out: &mut Vec<u8>, share: Share, words: &[u8]) -> Result<(), AllocError>
+    ensures { OnOk result (out.new.items
+        ≡ out.old.items ++ share_of share.ran share.listed words.now) }
+{
+    add_number(out, share.ran)?;
+    out.extend_from_slice(b" of ")?;
+    add_number(out, share.listed)?;
+    out.extend_from_slice(words)
+}
+
+/// Adds the line that says how many instructions and routines ran.
+#[tactic(auto, unfolding(crate::specs::Marks::ran_line))]
+fn add_ran(out: &mut Vec<u8>, instructions: Share, routines: Share) -> Result<(), AllocError>
+    ensures { OnOk result (out.new.items ≡ out.old.items
+        ++ ran_line instructions.ran instructions.listed routines.ran routines.listed) }
+{
+    out.extend_from_slice(b"ran: ")?;
+    add_share(out, instructions, b" instructions, ")?;
+    add_share(out, routines, b" routines\n")
+}
+
 /// The addresses that ran, and those of the instructions and the routines that are listed.
 #[derive(Clone, Copy, Drop)]
 struct Coverage<'a> {
@@ -127,21 +164,44 @@ impl Coverage<'_> {
         Ok(())
     }
 
-    /// The line that says how much ran.
-    fn summary(&self, alloc: Global) -> Result<String, AllocError> {
-        let ran = self
-            .instructions
-            .iter()
-            .filter(|a| self.has_run(**a))
-            .count();
-        let listed = self.instructions.len();
-        let entered = self
-            .routines
-            .iter()
-            .filter(|r| self.was_entered(**r))
-            .count();
-        let routines = self.routines.len();
-        format!(in alloc; "ran: {ran} of {listed} instructions, {entered} of {routines} routines\n")
+    /// How many of the instructions ran.
+    fn instructions_run(&self) -> usize
+        ensures { IsNonDecreasing self.now.covered.now → result
+            ≡ count_by (has_run self.now.covered.now) self.now.instructions.now }
+    {
+        let mut count = 0;
+        for address in self.instructions {
+            count += usize::from(self.has_run(*address));
+        }
+        count
+    }
+
+    /// How many of the routines ran.
+    fn routines_entered(&self) -> usize
+        ensures { IsNonDecreasing self.now.covered.now → result
+            ≡ count_by (was_entered self.now.covered.now self.now.instructions.now self.now.routines.now) self.now.routines.now }
+    {
+        let mut count = 0;
+        for address in self.routines {
+            count += usize::from(self.was_entered(*address));
+        }
+        count
+    }
+
+    /// Adds the line that says how much ran.
+    fn add_summary(&self, out: &mut Vec<u8>) -> Result<(), AllocError>
+        ensures { OnOk result (IsNonDecreasing self.now.covered.now → out.new.items ≡ out.old.items
+            ++ summary_of self.now.covered.now self.now.instructions.now self.now.routines.now) }
+    {
+        let instructions = Share {
+            ran: self.instructions_run(),
+            listed: self.instructions.len(),
+        };
+        let routines = Share {
+            ran: self.routines_entered(),
+            listed: self.routines.len(),
+        };
+        add_ran(out, instructions, routines)
     }
 }
 
@@ -159,8 +219,8 @@ fn add_marked(out: &mut Vec<u8>, ran: bool, line: &str) -> Result<(), AllocError
 /// of 3984 instructions, 3 of 20 routines`. An instruction ran if its address is among the covered ones, which ascend. A routine
 /// ran if the first instruction above its address did, and stands before the next routine.
 pub fn marked(alloc: Global, disassembly: &str, covered: &[u32]) -> Result<Vec<u8>, AllocError>
-    ensures { IfOk result (λ v. IsNonDecreasing covered.now → (summary : List ℕ)
-        × (v.items ≡ marked_lines covered.now (lines disassembly.now) ++ summary)) }
+    ensures { IfOk result (λ v. IsNonDecreasing covered.now
+        → v.items ≡ marked_of covered.now (lines disassembly.now)) }
 {
     let instructions = instructions_in(alloc, disassembly)?;
     let routines = routines_in(alloc, disassembly)?;
@@ -171,7 +231,7 @@ pub fn marked(alloc: Global, disassembly: &str, covered: &[u32]) -> Result<Vec<u
     };
     let mut out = Vec::new(alloc);
     coverage.add_lines(&mut out, disassembly)?;
-    out.extend_from_slice(coverage.summary(alloc)?.as_bytes())?;
+    coverage.add_summary(&mut out)?;
     Ok(out)
 }
 

@@ -3,7 +3,7 @@
 ghost use Rattle.zk_notes.specs.Examples.{AddressesAreRead, CompilersAreKnown, FindingsAreCounted, FindingsAreExplained, LinesAreMarked, ListsAreRead};
 
 /// Small listings, line by line.
-#[tactic(auto, unfolding(crate::specs::Addresses::address_of, crate::specs::Compilers::compiler_in, crate::specs::Marks::was_entered, crate::specs::Marks::marked_lines))]
+#[tactic(auto, unfolding(crate::specs::Addresses::address_of, crate::specs::Compilers::compiler_of, crate::specs::Marks::was_entered, crate::specs::Marks::marked_lines))]
 pub fn notes_by_example()
     ensures addresses_are_read { AddressesAreRead }
     ensures lists_are_read { ListsAreRead }

@@ -1,8 +1,8 @@
 // Graphs of the objects and of the calls of a story, for Graphviz.
 
 use crate::addresses::address_of;
+use crate::pieces::{Piece, add_pieces};
 use std::alloc::{AllocError, Global};
-use std::fmt::Write;
 use zk_facts::fact::{Fact, Section, Text, fact_on};
 use zk_facts::words::cut_word;
 
@@ -28,14 +28,19 @@ fn add_label(out: &mut String, text: &str) -> Result<(), AllocError> {
 
 /// Adds the node of an object.
 fn add_object(out: &mut String, number: u64, name: Text<'_>) -> Result<(), AllocError> {
-    write!(out, "  o{number} [label=\"{number} ")?;
-    match name {
-        Text::Quoted(text) => add_label(out, text)?,
-        Text::Fault(fault) => {
-            out.push_str("! ")?;
-            add_label(out, fault)?;
-        }
-    }
+    let (mark, text) = match name {
+        Text::Quoted(text) => (" ", text),
+        Text::Fault(fault) => (" ! ", fault),
+    };
+    let front = [
+        Piece::Text("  o"),
+        Piece::Number(number),
+        Piece::Text(" [label=\""),
+        Piece::Number(number),
+        Piece::Text(mark),
+    ];
+    add_pieces(out, &front)?;
+    add_label(out, text)?;
     out.push_str("\"];\n")
 }
 
@@ -50,10 +55,17 @@ impl Tree {
     /// Adds the edge to an object so many levels below the top, from the one above it.
     fn add_edge(&mut self, depth: usize, number: u64) -> Result<(), AllocError> {
         self.path.truncate(depth);
-        if let Some(parent) = self.path.last() {
-            writeln!(self.out, "  o{parent} -> o{number};")?;
-        }
-        Ok(())
+        let Some(parent) = self.path.last() else {
+            return Ok(());
+        };
+        let line = [
+            Piece::Text("  o"),
+            Piece::Number(*parent),
+            Piece::Text(" -> o"),
+            Piece::Number(number),
+            Piece::Text(";\n"),
+        ];
+        add_pieces(&mut self.out, &line)
     }
 
     /// Takes a line of the tree.
@@ -155,13 +167,9 @@ fn is_call(opcode: &str) -> bool {
     )
 }
 
-/// A call by a constant.
-#[derive(Clone, Copy, PartialEq, Eq, PartialOrd, Ord, Drop)]
-struct Call {
-    /// The routine that calls; none where it is the code that a story begins with.
-    caller: Option<u32>,
-    routine: u32,
-}
+/// A call by a constant: the routine that calls, or none where it is the code that a story begins with; and the routine that
+/// is called.
+type Call = (Option<u32>, u32);
 
 /// The routine that a line calls by a constant, by its first note.
 fn called_on(line: &str) -> Option<u32> {
@@ -177,10 +185,7 @@ fn called_on(line: &str) -> Option<u32> {
 /// The call on a line of a disassembly with these routines.
 fn call_on(line: &str, routines: &[Routine]) -> Option<Call> {
     let address = address_of(cut_word(line).0)?;
-    Some(Call {
-        caller: routine_below(routines, address),
-        routine: called_on(line)?,
-    })
+    Some((routine_below(routines, address), called_on(line)?))
 }
 
 /// The calls of a disassembly, each once.
@@ -215,25 +220,46 @@ fn has_start(disassembly: &str, routines: &[Routine]) -> bool {
 /// Adds the node of each routine.
 fn add_routines(out: &mut String, routines: &[Routine]) -> Result<(), AllocError> {
     for routine in routines {
-        let address = routine.address;
-        let style = if routine.beside {
-            " [style=dashed]"
-        } else {
-            ""
-        };
-        writeln!(out, "  \"{address:05x}\"{style};")?;
+        let line = [
+            Piece::Text("  \""),
+            Piece::Address(routine.address as u64),
+            Piece::Text(if routine.beside {
+                "\" [style=dashed];\n"
+            } else {
+                "\";\n"
+            }),
+        ];
+        add_pieces(out, &line)?;
     }
     Ok(())
+}
+
+/// Adds the edge of a call.
+fn add_call(out: &mut String, call: Call) -> Result<(), AllocError> {
+    let (caller, routine) = call;
+    match caller {
+        Some(address) => add_pieces(
+            out,
+            &[
+                Piece::Text("  \""),
+                Piece::Address(address as u64),
+                Piece::Text("\""),
+            ],
+        )?,
+        None => out.push_str("  start")?,
+    }
+    let back = [
+        Piece::Text(" -> \""),
+        Piece::Address(routine as u64),
+        Piece::Text("\";\n"),
+    ];
+    add_pieces(out, &back)
 }
 
 /// Adds the edge of each call.
 fn add_calls(out: &mut String, calls: &[Call]) -> Result<(), AllocError> {
     for call in calls {
-        let routine = call.routine;
-        match call.caller {
-            Some(caller) => writeln!(out, "  \"{caller:05x}\" -> \"{routine:05x}\";")?,
-            None => writeln!(out, "  start -> \"{routine:05x}\";")?,
-        }
+        add_call(out, *call)?;
     }
     Ok(())
 }

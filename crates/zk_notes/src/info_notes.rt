@@ -1,7 +1,7 @@
 // Listings of `info`, with notes.
 
 ghost use Rattle.std.specs.Prelude.{◌≡◌, option_map};
-ghost use Rattle.zk_notes.specs.Compilers.{compiler_in, is_version};
+ghost use Rattle.zk_notes.specs.Compilers.{compiler_of, is_version};
 
 use itoa::Buffer;
 use std::alloc::{AllocError, Global};
@@ -25,7 +25,7 @@ fn is_version(bytes: &[u8]) -> bool
 /// $3C to $3F; none where something else stands there.
 #[tactic(auto, using(crate::proofs::Versions::short_is_none, crate::proofs::Versions::other_is_none))]
 pub fn compiler_in(header: &[u8]) -> Option<&str>
-    ensures { option_map (λ v. v.now) result ≡ compiler_in header.now }
+    ensures { option_map (λ v. v.now) result ≡ compiler_of header.now }
 {
     if header.len() < 64 {
         return None;
@@ -38,102 +38,38 @@ pub fn compiler_in(header: &[u8]) -> Option<&str>
 }
 
 /// A bit of a word of flags, and what it means where it is set.
-#[derive(Clone, Copy, Drop)]
-struct Flag {
-    bit: u16,
-    words: &'static str,
-}
+type Flag = (u16, &'static str);
 
 /// The first flags of version 3 (Standard, section 11.1), but for the kind of its status line.
 const FLAGS_1_OF_3: [Flag; 5] = [
-    Flag {
-        bit: 4,
-        words: "story file split over two discs",
-    },
-    Flag {
-        bit: 8,
-        words: "Tandy",
-    },
-    Flag {
-        bit: 16,
-        words: "status line not available",
-    },
-    Flag {
-        bit: 32,
-        words: "screen-splitting available",
-    },
-    Flag {
-        bit: 64,
-        words: "variable-pitch font by default",
-    },
+    (4, "story file split over two discs"),
+    (8, "Tandy"),
+    (16, "status line not available"),
+    (32, "screen-splitting available"),
+    (64, "variable-pitch font by default"),
 ];
 
 /// The first flags from version 4 on.
 const FLAGS_1: [Flag; 7] = [
-    Flag {
-        bit: 1,
-        words: "colours available",
-    },
-    Flag {
-        bit: 2,
-        words: "pictures available",
-    },
-    Flag {
-        bit: 4,
-        words: "boldface available",
-    },
-    Flag {
-        bit: 8,
-        words: "italic available",
-    },
-    Flag {
-        bit: 16,
-        words: "fixed-space style available",
-    },
-    Flag {
-        bit: 32,
-        words: "sound effects available",
-    },
-    Flag {
-        bit: 128,
-        words: "timed input available",
-    },
+    (1, "colours available"),
+    (2, "pictures available"),
+    (4, "boldface available"),
+    (8, "italic available"),
+    (16, "fixed-space style available"),
+    (32, "sound effects available"),
+    (128, "timed input available"),
 ];
 
 /// The second flags.
 const FLAGS_2: [Flag; 8] = [
-    Flag {
-        bit: 1,
-        words: "transcripting is on",
-    },
-    Flag {
-        bit: 2,
-        words: "fixed-pitch printing forced",
-    },
-    Flag {
-        bit: 8,
-        words: "wants pictures",
-    },
-    Flag {
-        bit: 16,
-        words: "wants UNDO",
-    },
-    Flag {
-        bit: 32,
-        words: "wants a mouse",
-    },
-    Flag {
-        bit: 64,
-        words: "wants colours",
-    },
-    Flag {
-        bit: 128,
-        words: "wants sound effects",
-    },
-    Flag {
-        bit: 256,
-        words: "wants menus",
-    },
+    (1, "transcripting is on"),
+    (2, "fixed-pitch printing forced"),
+    (8, "wants pictures"),
+    (16, "wants UNDO"),
+    (32, "wants a mouse"),
+    (64, "wants colours"),
+    (128, "wants sound effects"),
+    (256, "wants menus"),
 ];
 
 /// The bit of the first flags of version 3 that says which status line the story wants.
@@ -155,10 +91,10 @@ fn add_flags(out: &mut Vec<u8>, flags: &[Flag], set: u16, first: &str) -> Result
     add(out, "  ; ")?;
     add(out, first)?;
     let mut none = first.is_empty();
-    for flag in flags {
-        if set & flag.bit != 0 {
+    for (bit, words) in flags {
+        if set & *bit != 0 {
             add(out, if none { "" } else { ", " })?;
-            add(out, flag.words)?;
+            add(out, words)?;
             none = false;
         }
     }

@@ -9,6 +9,6 @@ pub mod findings;
 pub mod graph;
 pub mod info_notes;
 mod kinds;
-mod lists;
 pub mod missing;
 pub mod picture;
+mod pieces;

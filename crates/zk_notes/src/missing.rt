@@ -1,7 +1,7 @@
 // Addresses that were named, and at which nothing is listed.
 
+use crate::addresses::push_found;
 use crate::cover::{instruction_on, routine_on};
-use crate::lists::push_found;
 use std::alloc::{AllocError, Global};
 use zk_facts::words::cut_word;
 

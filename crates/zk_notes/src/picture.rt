@@ -1,21 +1,15 @@
 // A picture of a story's map.
 
 use crate::addresses::address_of;
+use crate::pieces::{Piece, add_pieces};
 use std::alloc::{AllocError, Global};
-use std::fmt::Write;
 use zk_facts::fact::Section;
 use zk_facts::words::cut_word;
 
-/// The width of a picture, in pixels.
-const WIDTH: u64 = 900;
+/// How many pixels wide the bar is, and how many there are to its left and to its right.
+const BAR: u64 = 860;
 
-/// The pixels to the left and to the right of the bar.
 const MARGIN: u64 = 20;
-
-/// Where the bar begins, from above, and how high it is.
-const BAR_TOP: u64 = 40;
-
-const BAR_HEIGHT: u64 = 60;
 
 /// Where the list below the bar begins, and how high each of its rows is.
 const LIST_TOP: u64 = 130;
@@ -54,13 +48,13 @@ struct Map<'a> {
 
 impl<'a> Map<'a> {
     /// Takes a line of a section.
-    fn take(&mut self, section: Section, line: &'a str) -> Result<(), AllocError> {
-        if section == Section::Map
+    fn take(&mut self, section: Option<Section>, line: &'a str) -> Result<(), AllocError> {
+        if section == Some(Section::Map)
             && let Some(part) = part_on(line)
         {
             self.parts.push(part)?;
         }
-        if section == Section::Header
+        if section == Some(Section::Header)
             && let ("file" | "length", count) = cut_word(line)
         {
             self.size = self.size.max(count.parse::<u32>().unwrap_or(0) as u64);
@@ -84,23 +78,24 @@ fn map_in(alloc: Global, info: &str) -> Result<Map<'_>, AllocError> {
         parts: Vec::new(alloc),
         size: 0,
     };
-    let mut section = Section::Ifid;
+    let mut section = None;
     for line in info.lines() {
         match Section::begun_by(line) {
-            Some(begun) => section = begun,
+            Some(begun) => section = Some(begun),
             None => map.take(section, line)?,
         }
     }
     Ok(map)
 }
 
-/// Adds a text of the picture. Control characters are left out.
+/// Adds a text of the picture. Control characters are left out, and the two others that XML has not.
 fn add_text(out: &mut String, text: &str) -> Result<(), AllocError> {
     for shown in text.chars() {
         match shown {
             '&' => out.push_str("&amp;")?,
             '<' => out.push_str("&lt;")?,
             '>' => out.push_str("&gt;")?,
+            '\u{fffe}' | '\u{ffff}' => {}
             shown if shown.is_control() => {}
             shown => out.push(shown)?,
         }
@@ -110,15 +105,7 @@ fn add_text(out: &mut String, text: &str) -> Result<(), AllocError> {
 
 /// Hundredths of a pixel along the bar, for bytes of so many.
 fn along(bytes: u64, end: u64) -> u64 {
-    let width = (WIDTH - 2 * MARGIN) * 100;
-    bytes.saturating_mul(width) / end.max(1)
-}
-
-/// Adds a number of hundredths.
-fn add_hundredths(out: &mut String, hundredths: u64) -> Result<(), AllocError> {
-    let whole = hundredths / 100;
-    let rest = hundredths % 100;
-    write!(out, "{whole}.{rest:02}")
+    bytes.saturating_mul(BAR * 100) / end.max(1)
 }
 
 /// A part with its place in the picture.
@@ -136,29 +123,44 @@ struct Placed<'a> {
 fn add_rectangle(out: &mut String, placed: &Placed<'_>, end: u64) -> Result<(), AllocError> {
     let left = along(placed.part.address, end);
     let right = along(placed.part.address.saturating_add(placed.size), end);
-    let fill = placed.fill;
-    out.push_str("<rect x=\"")?;
-    add_hundredths(out, left.saturating_add(MARGIN * 100))?;
-    write!(out, "\" y=\"{BAR_TOP}\" width=\"")?;
-    add_hundredths(out, right.saturating_sub(left))?;
-    writeln!(out, "\" height=\"{BAR_HEIGHT}\" fill=\"{fill}\"/>")
+    let line = [
+        Piece::Text("<rect x=\""),
+        Piece::Hundredths(left.saturating_add(MARGIN * 100)),
+        Piece::Text("\" y=\"40\" width=\""),
+        Piece::Hundredths(right.saturating_sub(left)),
+        Piece::Text("\" height=\"60\" fill=\""),
+        Piece::Text(placed.fill),
+        Piece::Text("\"/>\n"),
+    ];
+    add_pieces(out, &line)
 }
 
 /// Adds the row of a part in the list.
 fn add_row(out: &mut String, placed: &Placed<'_>) -> Result<(), AllocError> {
-    let top = placed.row;
-    let base = top.saturating_add(12);
-    let fill = placed.fill;
-    let address = placed.part.address;
-    let size = placed.size;
-    writeln!(
-        out,
-        "<rect x=\"{MARGIN}\" y=\"{top}\" width=\"14\" height=\"14\" fill=\"{fill}\"/>"
-    )?;
-    write!(out, "<text x=\"44\" y=\"{base}\">{address:05x} ")?;
+    let front = [
+        Piece::Text("<rect x=\"20\" y=\""),
+        Piece::Number(placed.row),
+        Piece::Text("\" width=\"14\" height=\"14\" fill=\""),
+        Piece::Text(placed.fill),
+        Piece::Text("\"/>\n<text x=\"44\" y=\""),
+        Piece::Number(placed.row.saturating_add(12)),
+        Piece::Text("\">"),
+        Piece::Address(placed.part.address),
+        Piece::Text(" "),
+    ];
+    let unit = if placed.size == 1 {
+        " byte</text>\n"
+    } else {
+        " bytes</text>\n"
+    };
+    let back = [
+        Piece::Text(", "),
+        Piece::Number(placed.size),
+        Piece::Text(unit),
+    ];
+    add_pieces(out, &front)?;
     add_text(out, placed.part.name)?;
-    let unit = if size == 1 { "byte" } else { "bytes" };
-    writeln!(out, ", {size} {unit}</text>")
+    add_pieces(out, &back)
 }
 
 /// Adds the head of a picture of so many parts, with the addresses at both ends of the bar.
@@ -166,20 +168,20 @@ fn add_head(out: &mut String, count: usize, end: u64) -> Result<(), AllocError> 
     let height = (count as u64)
         .saturating_mul(ROW_HEIGHT)
         .saturating_add(LIST_TOP);
-    let right = WIDTH - MARGIN;
-    writeln!(
-        out,
-        "<svg xmlns=\"http://www.w3.org/2000/svg\" version=\"1.1\" width=\"{WIDTH}\" height=\"{height}\" font-family=\"sans-serif\" font-size=\"14\">"
-    )?;
-    writeln!(
-        out,
-        "<rect width=\"100%\" height=\"100%\" fill=\"#ffffff\"/>"
-    )?;
-    writeln!(out, "<text x=\"{MARGIN}\" y=\"30\">00000</text>")?;
-    writeln!(
-        out,
-        "<text x=\"{right}\" y=\"30\" text-anchor=\"end\">{end:05x}</text>"
-    )
+    let head = [
+        Piece::Text("<?xml version=\"1.0\" encoding=\"UTF-8\"?>\n"),
+        Piece::Text(
+            "<svg xmlns=\"http://www.w3.org/2000/svg\" version=\"1.1\" width=\"900\" height=\"",
+        ),
+        Piece::Number(height),
+        Piece::Text("\" font-family=\"sans-serif\" font-size=\"14\">\n"),
+        Piece::Text("<rect width=\"100%\" height=\"100%\" fill=\"#ffffff\"/>\n"),
+        Piece::Text("<text x=\"20\" y=\"30\">00000</text>\n"),
+        Piece::Text("<text x=\"880\" y=\"30\" text-anchor=\"end\">"),
+        Piece::Address(end),
+        Piece::Text("</text>\n"),
+    ];
+    add_pieces(out, &head)
 }
 
 /// The fill of a part, by its place among the parts.
@@ -214,7 +216,7 @@ fn add_parts(out: &mut String, map: &Map<'_>, end: u64) -> Result<(), AllocError
 pub fn map_picture(alloc: Global, info: &str) -> Result<Vec<u8>, AllocError> {
     let map = map_in(alloc, info)?;
     let end = map.end();
-    let mut out = String::from_str(alloc, "<?xml version=\"1.0\" encoding=\"UTF-8\"?>\n")?;
+    let mut out = String::new(alloc);
     add_head(&mut out, map.parts.len(), end)?;
     add_parts(&mut out, &map, end)?;
     out.push_str("</svg>\n")?;

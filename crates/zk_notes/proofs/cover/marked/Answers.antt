@@ -5,4 +5,4 @@ use Rattle.zk_notes.proofs.cover.marked.Goals as goal
 pub returns : goal.returns
 unfolding marked_lines
 returns c = λ up.
-    (c.as_bytes.result.now, rw (c.in_ok-extend_from_slice.ensures.items, c.in_ok-add_lines.ensures up, c.new-out.ensures.items, c.as_slice.ensures.value, c.as_slice-2.ensures.value, c.in_ok-instructions.ensures, c.in_ok-routines.ensures) refl)
+    rw (c.in_ok-add_summary.ensures up, c.in_ok-add_lines.ensures up, c.new-out.ensures.items, c.as_slice.ensures.value, c.as_slice-2.ensures.value, c.in_ok-instructions.ensures, c.in_ok-routines.ensures) refl
