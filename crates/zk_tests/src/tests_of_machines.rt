@@ -54,7 +54,14 @@ fn quiet_turn(alloc: Global, machine: &mut Machine) -> Result<Event, Stop>
     requires { machine.old.waiting ≡ None }
     ensures { OnErr result (machine.new.waiting ≡ None) }
 {
-    turn(alloc, &mut Nothing, &mut Nothing, &mut NoSlot, machine, &mut Unnoted)
+    turn(
+        alloc,
+        &mut Nothing,
+        &mut Nothing,
+        &mut NoSlot,
+        machine,
+        &mut Unnoted,
+    )
 }
 
 #[test]
