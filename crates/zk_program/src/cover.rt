@@ -12,8 +12,16 @@ use zk_notes::cover::addresses_in;
 use zk_term::writing::{hex_digits_of, zeros_before};
 use zk_vm::stop::Stop;
 
-/// No story has an address from here on: the longest has 512 KB.
-const BOUND: u32 = 0x8_0000;
+/// The bytes of the longest story.
+const LONGEST: u64 = 0x8_0000;
+
+/// Whether a story may have some addresses, which ascend.
+fn are_of_stories(addresses: &[u32]) -> bool {
+    match addresses.last() {
+        Some(last) => (*last as u64) < LONGEST,
+        None => true,
+    }
+}
 
 /// The addresses in a file, ascending, or the program's status, where it is told why there are none.
 pub fn covered_in(rt: &HostRuntime, path: &str) -> Result<Vec<u32>, u8> {
@@ -29,8 +37,8 @@ pub fn covered_in(rt: &HostRuntime, path: &str) -> Result<Vec<u32>, u8> {
         Err(_) => Ok(None),
     };
     match found {
-        Ok(Some(addresses)) => Ok(addresses),
-        Ok(None) => {
+        Ok(Some(addresses)) if are_of_stories(addresses.as_slice()) => Ok(addresses),
+        Ok(_) => {
             let _ = eprintln!(rt; "zkit: {}: no list of addresses", Shown(path));
             Err(4)
         }
@@ -38,21 +46,31 @@ pub fn covered_in(rt: &HostRuntime, path: &str) -> Result<Vec<u32>, u8> {
     }
 }
 
-/// Notes the addresses that a file has, where there is one.
-fn note_covered(rt: &HostRuntime, path: &str, cover: &mut Cover) -> Result<(), u8> {
-    if !fs::exists(rt, path).unwrap_or(true) {
-        return Ok(());
+/// The addresses that a file has, ascending: none where there is no file.
+fn covered_before(rt: &HostRuntime, path: &str) -> Result<Vec<u32>, u8> {
+    if fs::exists(rt, path).unwrap_or(true) {
+        covered_in(rt, path)
+    } else {
+        Ok(Vec::new(rt.alloc()))
     }
-    for address in &covered_in(rt, path)? {
-        cover.note(*address);
+}
+
+/// An address after all that the instructions of a story have, by its file, and after others, which ascend.
+fn bound_of(rt: &HostRuntime, story: &str, others: &[u32]) -> u32 {
+    let length = match fs::metadata(rt, story) {
+        Ok(found) => found.len().min(LONGEST) as u32,
+        Err(_) => 0,
+    };
+    match others.last() {
+        Some(last) => length.max(last.saturating_add(1)),
+        None => length,
     }
-    Ok(())
 }
 
 /// The lines of a list: each address by five hexadecimal digits at least, ascending.
 fn list_of(alloc: Global, cover: &Cover) -> Result<Vec<u8>, AllocError> {
     let mut list = Vec::new(alloc);
-    for address in 0..BOUND {
+    for address in 0..cover.bound() as u32 {
         if cover.has(address) {
             let digits = hex_digits_of(address);
             list.extend_from_slice(&digits[zeros_before(address)..])?;
@@ -71,11 +89,15 @@ pub struct CoverFile<'a> {
 
 impl<'a> CoverFile<'a> {
     /// The file at a path, with what it has; or the program's status, where it is told why that is not had.
-    fn read(rt: &HostRuntime, path: &'a str) -> Result<CoverFile<'a>, u8> {
-        let Ok(mut cover) = Cover::new(rt.alloc(), BOUND as usize) else {
+    fn read(rt: &HostRuntime, path: &'a str, story: &str) -> Result<CoverFile<'a>, u8> {
+        let before = covered_before(rt, path)?;
+        let bound = bound_of(rt, story, before.as_slice());
+        let Ok(mut cover) = Cover::new(rt.alloc(), bound as usize) else {
             return Err(out_of_memory(rt));
         };
-        note_covered(rt, path, &mut cover)?;
+        for address in &before {
+            cover.note(*address);
+        }
         Ok(CoverFile { path, cover })
     }
 
@@ -92,10 +114,14 @@ impl<'a> CoverFile<'a> {
     }
 }
 
-/// The file at a path, where there is one; or the program's status.
-pub fn cover_at<'a>(rt: &HostRuntime, path: Option<&'a str>) -> Result<Option<CoverFile<'a>>, u8> {
+/// The file at a path for a play of a story, where there is one; or the program's status.
+pub fn cover_at<'a>(
+    rt: &HostRuntime,
+    path: Option<&'a str>,
+    story: &str,
+) -> Result<Option<CoverFile<'a>>, u8> {
     match path {
-        Some(path) => Ok(Some(CoverFile::read(rt, path)?)),
+        Some(path) => Ok(Some(CoverFile::read(rt, path, story)?)),
         None => Ok(None),
     }
 }

@@ -362,7 +362,7 @@ pub fn play<'a>(rt: &HostRuntime, story: &'a str, options: &PlayOptions<'a>) -> 
         Ok(file) => file,
         Err(error) => return tell_exit(rt, &Exit::Unread(error), &about),
     };
-    let covered = match cover_at(rt, options.cover) {
+    let covered = match cover_at(rt, options.cover, story) {
         Ok(covered) => covered,
         Err(status) => return status,
     };
