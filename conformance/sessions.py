@@ -673,7 +673,7 @@ def files_without_a_story(case: Case) -> Optional[str]:
 
 def covers_are_kept(case: Case) -> Optional[str]:
     """The addresses of what was carried out, beside those that the file has, however the play ends."""
-    case.write(had__txt="00047\n00040\n", wrong__txt="00040\nhere\n")
+    case.write(had__txt="00047\n00040\n", wrong__txt="00040\nhere\n", far__txt="80000\n")
     plain = case.run("play --cover ran.txt hello.z3")
     again = case.run("play --cover had.txt hello.z3")
     limited = case.run("play --steps 5 --cover loop.txt loop.z3")
@@ -685,6 +685,7 @@ def covers_are_kept(case: Case) -> Optional[str]:
         differs(b"00040\n00043\n00044\n00047\n", case.read("had.txt")),
         differs((3, b"00040\n"), (limited[0], case.read("loop.txt"))),
         differs((4, "", b"00040\nhere\n"), (*wrong[:2], case.read("wrong.txt"))),
+        differs((4, ""), case.run("play --cover far.txt hello.z3")[:2]),
         differs((1, ""), case.run("play --cover hello.z3 hello.z3")[:2]),
         differs(FILES["hello.z3"], case.read("hello.z3")),
     ))
