@@ -68,9 +68,9 @@ fn bound_of(rt: &HostRuntime, story: &str, others: &[u32]) -> u32 {
 }
 
 /// The lines of a list: each address by five hexadecimal digits at least, ascending.
-fn list_of(alloc: Global, cover: &Cover) -> Result<Vec<u8>, AllocError> {
+fn list_of(alloc: Global, cover: &Cover, bound: u32) -> Result<Vec<u8>, AllocError> {
     let mut list = Vec::new(alloc);
-    for address in 0..cover.bound() as u32 {
+    for address in 0..bound {
         if cover.has(address) {
             let digits = hex_digits_of(address);
             list.extend_from_slice(&digits[zeros_before(address)..])?;
@@ -84,6 +84,8 @@ fn list_of(alloc: Global, cover: &Cover) -> Result<Vec<u8>, AllocError> {
 #[derive(Drop)]
 pub struct CoverFile<'a> {
     path: &'a str,
+    /// No address from here on is kept.
+    bound: u32,
     pub cover: Cover,
 }
 
@@ -98,13 +100,13 @@ impl<'a> CoverFile<'a> {
         for address in &before {
             cover.note(*address);
         }
-        Ok(CoverFile { path, cover })
+        Ok(CoverFile { path, bound, cover })
     }
 
     /// Writes all that was noted in place of what the file had, and answers the program's status after a play that ended with
     /// one.
     pub fn write(&self, rt: &HostRuntime, status: u8) -> u8 {
-        let Ok(list) = list_of(rt.alloc(), &self.cover) else {
+        let Ok(list) = list_of(rt.alloc(), &self.cover, self.bound) else {
             return out_of_memory(rt);
         };
         if keep_list(rt, self.path, list.as_slice()) {

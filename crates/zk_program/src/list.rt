@@ -150,6 +150,33 @@ fn list_paths(
     list_each(rt, several, request, counts)
 }
 
+/// A listing, with the roots that code is looked for from as well.
+fn with_roots<'a>(listing: Listing<'_>, roots: &'a CodeRoots) -> Listing<'a> {
+    match listing {
+        Listing::Info(sections) => Listing::Info(sections),
+        Listing::Code(code) => Listing::Code(CodeListing {
+            all: code.all,
+            notes: code.notes,
+            addresses: roots.addresses.as_slice(),
+            routines: roots.routines.as_slice(),
+        }),
+        Listing::Findings => Listing::Findings,
+    }
+}
+
+/// What is asked of each story, by options and by the roots of code.
+fn request_of<'a>(roots: &'a CodeRoots, options: ShowOptions, listing: Listing<'_>) -> Request<'a> {
+    Request {
+        listing: with_roots(listing, roots),
+        form: options.form,
+        notes: options.notes,
+        covered: match &roots.covered {
+            Some(covered) => Some(covered.as_slice()),
+            None => None,
+        },
+    }
+}
+
 /// Lists the stories that paths name, as options say, and answers the greatest status.
 pub fn list_all(
     rt: &HostRuntime,
@@ -163,31 +190,11 @@ pub fn list_all(
         Ok(roots) => roots,
         Err(status) => return status,
     };
-    let request = Request {
-        listing: with_roots(listing, &roots),
-        form: options.form,
-        notes: options.notes,
-        covered: match &roots.covered {
-            Some(covered) => Some(covered.as_slice()),
-            None => None,
-        },
-    };
+    let request = request_of(&roots, options, listing);
     let mut counts = Counts::new();
     let status = list_paths(rt, paths, options, &request, listed, &mut counts);
     match options.form {
         Form::Lines if options.summary => list_counts(rt, &counts, status),
         _ => status,
-    }
-}
-
-/// A listing of code that is looked for from roots as well.
-fn with_roots<'a>(listing: Listing<'a>, roots: &'a CodeRoots) -> Listing<'a> {
-    match listing {
-        Listing::Code(code) => Listing::Code(CodeListing {
-            addresses: roots.addresses.as_slice(),
-            routines: roots.routines.as_slice(),
-            ..code
-        }),
-        listing => listing,
     }
 }
