@@ -329,6 +329,7 @@ WITH_A_RETURN = (
     "00040 call #0025 -> sp\n00045 quit\n00047 rtrue\n0004d jz l1 ?00052\n00050 ret #07\n00052 print_paddr #002c\n"
     "00055 rfalse\n"
 )
+WITH_NO_MARKS = '  00040 print "hi"\n  00043 new_line\n  00044 quit\nran: 0 of 3 instructions, 0 of 0 routines\n'
 USAGE: Wanted = (1, "", ANY)
 NO_TEXT: Wanted = (1, "", "zkit: the words after the program's name are no text")
 HI: Wanted = (0, "hi\n", "")
@@ -651,11 +652,14 @@ CASES: list[tuple[Words, Wanted]] = [
         (
             0,
             WITH_A_RETURN + "routine 00046 locals 0\nroutine 0004a locals 1\n",
-            "zkit: no instruction at 99999\nzkit: no routine at 00045",
+            "zkit: no routine at 00045",
         ),
     ),
     ("disasm --at xyz hello.z3", (1, "", "zkit: 'xyz' is no address: hexadecimal digits are one")),
-    ("disasm --cover missing hello.z3", (4, "", "zkit: missing: No such file or directory (os error 2)")),
+    ("disasm --cover missing hello.z3", UNREAD),
+    ("disasm --cover empty hello.z3", (0, WITH_NO_MARKS, "")),
+    ("disasm --cover hello.z3 hello.z3", UNREAD),
+    ("play --cover hello.z3 loop.z3", UNREAD),
     (
         "disasm --graph whole.z3",
         (

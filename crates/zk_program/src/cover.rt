@@ -29,7 +29,7 @@ pub fn covered_in(rt: &HostRuntime, path: &str) -> Result<Vec<u32>, u8> {
         Ok(bytes) => bytes,
         Err(error) => {
             tell_reason(rt, path, &error);
-            return Err(4);
+            return Err(tell_last_line(rt, &Exit::Unread(error)));
         }
     };
     let found = match str::from_utf8(bytes.as_slice()) {
@@ -40,7 +40,7 @@ pub fn covered_in(rt: &HostRuntime, path: &str) -> Result<Vec<u32>, u8> {
         Ok(Some(addresses)) if are_of_stories(addresses.as_slice()) => Ok(addresses),
         Ok(_) => {
             let _ = eprintln!(rt; "zkit: {}: no list of addresses", Shown(path));
-            Err(4)
+            Err(tell_last_line(rt, &Exit::Stopped(Stop::Read)))
         }
         Err(_) => Err(out_of_memory(rt)),
     }
