@@ -678,12 +678,14 @@ def covers_are_kept(case: Case) -> Optional[str]:
     again = case.run("play --cover had.txt hello.z3")
     limited = case.run("play --steps 5 --cover loop.txt loop.z3")
     wrong = case.run("play --cover wrong.txt hello.z3")
+    piped = case.run("play --cover piped.txt /dev/stdin", FILES["hello.z3"])
     return first_of((
         differs((0, "hi\n", ""), plain),
         differs(b"00040\n00043\n00044\n", case.read("ran.txt")),
         differs((0, "hi\n", ""), again),
         differs(b"00040\n00043\n00044\n00047\n", case.read("had.txt")),
         differs((3, b"00040\n"), (limited[0], case.read("loop.txt"))),
+        differs((0, "hi\n", b"00040\n00043\n00044\n"), (*piped[:2], case.read("piped.txt"))),
         differs((4, "", b"00040\nhere\n"), (*wrong[:2], case.read("wrong.txt"))),
         differs((4, ""), case.run("play --cover far.txt hello.z3")[:2]),
         differs((1, ""), case.run("play --cover hello.z3 hello.z3")[:2]),

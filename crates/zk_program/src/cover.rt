@@ -58,8 +58,9 @@ fn covered_before(rt: &HostRuntime, path: &str) -> Result<Vec<u32>, u8> {
 /// An address after all that the instructions of a story have, by its file, and after others, which ascend.
 fn bound_of(rt: &HostRuntime, story: &str, others: &[u32]) -> u32 {
     let length = match fs::metadata(rt, story) {
-        Ok(found) => found.len().min(LONGEST) as u32,
-        Err(_) => 0,
+        // a pipe tells no length
+        Ok(found) if found.len() > 0 => found.len().min(LONGEST) as u32,
+        _ => LONGEST as u32,
     };
     match others.last() {
         Some(last) => length.max(last.saturating_add(1)),
@@ -67,15 +68,23 @@ fn bound_of(rt: &HostRuntime, story: &str, others: &[u32]) -> u32 {
     }
 }
 
-/// The lines of a list: each address by five hexadecimal digits at least, ascending.
-fn list_of(alloc: Global, cover: &Cover, bound: u32) -> Result<Vec<u8>, AllocError> {
+/// Adds the line of an address: five hexadecimal digits at least.
+fn add_address(list: &mut Vec<u8>, address: u32) -> Result<(), AllocError> {
+    let digits = hex_digits_of(address);
+    list.extend_from_slice(&digits[zeros_before(address)..])?;
+    list.push(b'\n')?;
+    Ok(())
+}
+
+/// The lines of a list: the addresses that were noted, ascending.
+fn list_of(alloc: Global, cover: &Cover) -> Result<Vec<u8>, AllocError> {
     let mut list = Vec::new(alloc);
-    for address in 0..bound {
-        if cover.has(address) {
-            let digits = hex_digits_of(address);
-            list.extend_from_slice(&digits[zeros_before(address)..])?;
-            list.push(b'\n')?;
+    let mut address: u32 = 0;
+    for noted in cover.marks() {
+        if *noted {
+            add_address(&mut list, address)?;
         }
+        address = address.saturating_add(1);
     }
     Ok(list)
 }
@@ -84,8 +93,6 @@ fn list_of(alloc: Global, cover: &Cover, bound: u32) -> Result<Vec<u8>, AllocErr
 #[derive(Drop)]
 pub struct CoverFile<'a> {
     path: &'a str,
-    /// No address from here on is kept.
-    bound: u32,
     pub cover: Cover,
 }
 
@@ -100,13 +107,13 @@ impl<'a> CoverFile<'a> {
         for address in &before {
             cover.note(*address);
         }
-        Ok(CoverFile { path, bound, cover })
+        Ok(CoverFile { path, cover })
     }
 
     /// Writes all that was noted in place of what the file had, and answers the program's status after a play that ended with
     /// one.
     pub fn write(&self, rt: &HostRuntime, status: u8) -> u8 {
-        let Ok(list) = list_of(rt.alloc(), &self.cover, self.bound) else {
+        let Ok(list) = list_of(rt.alloc(), &self.cover) else {
             return out_of_memory(rt);
         };
         if keep_list(rt, self.path, list.as_slice()) {
