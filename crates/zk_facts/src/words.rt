@@ -42,23 +42,6 @@ pub(crate) fn cut_text(line: &str) -> (Text<'_>, &str) {
     }
 }
 
-/// What stands in a place for a word of the story: its value, or the number of the fault that it has.
-#[derive(Clone, Copy, Drop)]
-pub enum Value<'a> {
-    /// The value, as four hexadecimal digits.
-    Digits(&'a str),
-    /// The fault, as `F6`.
-    Fault(&'a str),
-}
-
-/// The value that a line is, as `#0012`, or the fault in its place, as `! F6`.
-pub(crate) fn value_on(line: &str) -> Value<'_> {
-    match line.strip_prefix("! ") {
-        Some(fault) => Value::Fault(fault),
-        None => Value::Digits(line.trim_start_matches('#')),
-    }
-}
-
 /// What a byte of a text between quotes shows: `^` is a new line and `~` a quote.
 pub(crate) fn meant(shown: u8) -> u8
     ensures { result ≡ meant shown }

@@ -6,7 +6,7 @@ ghost use Rattle.std.specs.Str.Lines.{lines};
 ghost use Rattle.zk_notes.specs.Counts.{capped, is_finding, is_of};
 
 use crate::kinds::{name, number_of};
-use crate::pieces::{Piece, add_pieces};
+use crate::pieces::{Piece, TextBuilder};
 use std::alloc::{AllocError, Global};
 use zk_facts::words::cut_word;
 
@@ -120,7 +120,7 @@ impl Counts {
     }
 
     /// Adds the line of each kind that occurs.
-    fn add_kinds(&self, out: &mut String) -> Result<(), AllocError> {
+    fn add_kinds(&self, out: &mut TextBuilder) {
         for (at, count) in self.kinds.iter().enumerate() {
             let number = at as u8 + 1;
             if *count > 0 {
@@ -133,14 +133,13 @@ impl Counts {
                     Piece::Text(name(number)),
                     Piece::Text("\n"),
                 ];
-                add_pieces(out, &line)?;
+                out.pieces(&line);
             }
         }
-        Ok(())
     }
 
     /// Adds the line of all.
-    fn add_total(&self, out: &mut String) -> Result<(), AllocError> {
+    fn add_total(&self, out: &mut TextBuilder) {
         let findings = self.findings();
         let noun = if findings == 1 {
             " finding in "
@@ -161,15 +160,15 @@ impl Counts {
             Piece::Number(self.stories),
             Piece::Text(last),
         ];
-        add_pieces(out, &line)
+        out.pieces(&line);
     }
 
     /// The counts as lines: `total C5 3 object links` for each kind that occurs, by its number, and then `total 4 findings in 2
     /// of 7 stories`, or `total 1 finding in 1 of 1 story`.
     pub fn text(&self, alloc: Global) -> Result<Vec<u8>, AllocError> {
-        let mut out = String::new(alloc);
-        self.add_kinds(&mut out)?;
-        self.add_total(&mut out)?;
-        Ok(out.into_bytes())
+        let mut out = TextBuilder::new(alloc);
+        self.add_kinds(&mut out);
+        self.add_total(&mut out);
+        out.finish()
     }
 }

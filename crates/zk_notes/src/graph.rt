@@ -1,94 +1,85 @@
 // Graphs of the objects and of the calls of a story, for Graphviz.
 
 use crate::addresses::address_of;
-use crate::pieces::{Piece, add_pieces};
+use crate::pieces::{Piece, TextBuilder};
 use std::alloc::{AllocError, Global};
-use zk_facts::fact::{Fact, Section, Text, fact_on};
-use zk_facts::words::cut_word;
+use zk_facts::fact::{Node, Section, node_on};
+use zk_facts::words::{Text, cut_word};
 
 /// Adds a character of a label between quotes, where `^` stands for a new line and `~` for a quote. Control characters are left
 /// out.
-fn add_character(out: &mut String, shown: char) -> Result<(), AllocError> {
+fn add_character(out: &mut TextBuilder, shown: char) {
     match shown {
-        '^' => out.push_str("\\n"),
-        '~' | '"' => out.push_str("\\\""),
-        '\\' => out.push_str("\\\\"),
-        shown if shown.is_control() => Ok(()),
-        shown => out.push(shown),
+        '^' => out.text("\\n"),
+        '~' | '"' => out.text("\\\""),
+        '\\' => out.text("\\\\"),
+        shown if shown.is_control() => {}
+        shown => out.character(shown),
     }
-}
-
-/// Adds a text of a label.
-fn add_label(out: &mut String, text: &str) -> Result<(), AllocError> {
-    for shown in text.chars() {
-        add_character(out, shown)?;
-    }
-    Ok(())
 }
 
 /// Adds the node of an object.
-fn add_object(out: &mut String, number: u64, name: Text<'_>) -> Result<(), AllocError> {
+fn add_object(out: &mut TextBuilder, number: u64, name: Text<'_>) {
     let (mark, text) = match name {
         Text::Quoted(text) => (" ", text),
         Text::Fault(fault) => (" ! ", fault),
     };
-    let front = [
+    out.pieces(&[
         Piece::Text("  o"),
         Piece::Number(number),
         Piece::Text(" [label=\""),
         Piece::Number(number),
         Piece::Text(mark),
-    ];
-    add_pieces(out, &front)?;
-    add_label(out, text)?;
-    out.push_str("\"];\n")
+    ]);
+    for shown in text.chars() {
+        add_character(out, shown);
+    }
+    out.text("\"];\n");
 }
 
-/// Objects of a tree, one below the other: those that the next line may lie below.
+/// A graph of objects that gets the lines of a listing.
 #[derive(Drop)]
 struct Tree {
-    out: String,
+    out: TextBuilder,
+    section: Option<Section>,
+    /// Objects, one below the other: those that the next line may lie below.
     path: Vec<u64>,
 }
 
 impl Tree {
     /// Adds the edge to an object so many levels below the top, from the one above it.
-    fn add_edge(&mut self, depth: usize, number: u64) -> Result<(), AllocError> {
+    fn add_edge(&mut self, depth: usize, number: u64) {
         self.path.truncate(depth);
-        let Some(parent) = self.path.last() else {
-            return Ok(());
-        };
-        let line = [
-            Piece::Text("  o"),
-            Piece::Number(*parent),
-            Piece::Text(" -> o"),
-            Piece::Number(number),
-            Piece::Text(";\n"),
-        ];
-        add_pieces(&mut self.out, &line)
+        if let Some(parent) = self.path.last() {
+            self.out.pieces(&[
+                Piece::Text("  o"),
+                Piece::Number(*parent),
+                Piece::Text(" -> o"),
+                Piece::Number(number),
+                Piece::Text(";\n"),
+            ]);
+        }
     }
 
-    /// Takes a line of the tree.
-    fn take(&mut self, line: &str) -> Result<(), AllocError> {
-        match fact_on(Section::Tree, line) {
-            Fact::Node {
-                depth,
-                number,
-                name,
-            } => {
-                let Ok(number) = number.parse::<u64>() else {
-                    return Ok(());
-                };
-                add_object(&mut self.out, number, name)?;
-                self.add_edge(depth, number)?;
-                self.path.push(number)?;
-                Ok(())
-            }
-            Fact::NodeAgain { depth, number } => match number.parse::<u64>() {
-                Ok(number) => self.add_edge(depth, number),
-                Err(_) => Ok(()),
-            },
-            _ => Ok(()),
+    /// Adds an object: a node where it was not listed before.
+    fn add(&mut self, node: Node<'_>) {
+        let Ok(number) = node.number.parse::<u64>() else {
+            return;
+        };
+        if let Some(name) = node.name {
+            add_object(&mut self.out, number, name);
+        }
+        self.add_edge(node.depth, number);
+        let done = self.path.push(number);
+        self.out.note(done.is_err());
+    }
+
+    /// Takes a line.
+    fn take(&mut self, line: &str) {
+        match (Section::begun_by(line), self.section) {
+            (Some(begun), _) => self.section = Some(begun),
+            (None, Some(Section::Tree)) => self.add(node_on(line)),
+            _ => {}
         }
     }
 }
@@ -96,21 +87,17 @@ impl Tree {
 /// The section `[tree]` of a listing of `info` as a graph for Graphviz: a node for each object, with its number and its name,
 /// and an edge to each from the object above it. A line whose first word is no number is left out.
 pub fn tree_graph(alloc: Global, info: &str) -> Result<Vec<u8>, AllocError> {
-    let head = "digraph tree {\n  rankdir=LR; node [shape=box, fontname=\"sans-serif\"];\n";
     let mut tree = Tree {
-        out: String::from_str(alloc, head)?,
+        out: TextBuilder::new(alloc),
+        section: None,
         path: Vec::new(alloc),
     };
-    let mut section = None;
+    tree.out.text("digraph tree {\n  rankdir=LR; node [shape=box, fontname=\"sans-serif\"];\n");
     for line in info.lines() {
-        match Section::begun_by(line) {
-            Some(begun) => section = Some(begun),
-            None if section == Some(Section::Tree) => tree.take(line)?,
-            None => {}
-        }
+        tree.take(line);
     }
-    tree.out.push_str("}\n")?;
-    Ok(tree.out.into_bytes())
+    tree.out.text("}\n");
+    tree.out.finish()
 }
 
 /// A routine that is listed.
@@ -217,51 +204,46 @@ fn has_start(disassembly: &str, routines: &[Routine]) -> bool {
     false
 }
 
-/// Adds the node of each routine.
-fn add_routines(out: &mut String, routines: &[Routine]) -> Result<(), AllocError> {
-    for routine in routines {
-        let line = [
-            Piece::Text("  \""),
-            Piece::Address(routine.address as u64),
-            Piece::Text(if routine.beside {
-                "\" [style=dashed];\n"
-            } else {
-                "\";\n"
-            }),
-        ];
-        add_pieces(out, &line)?;
-    }
-    Ok(())
+/// Adds the node of a routine.
+fn add_routine(out: &mut TextBuilder, routine: Routine) {
+    let style = if routine.beside {
+        "\" [style=dashed];\n"
+    } else {
+        "\";\n"
+    };
+    out.pieces(&[
+        Piece::Text("  \""),
+        Piece::Address(routine.address as u64),
+        Piece::Text(style),
+    ]);
 }
 
 /// Adds the edge of a call.
-fn add_call(out: &mut String, call: Call) -> Result<(), AllocError> {
+fn add_call(out: &mut TextBuilder, call: Call) {
     let (caller, routine) = call;
     match caller {
-        Some(address) => add_pieces(
-            out,
-            &[
-                Piece::Text("  \""),
-                Piece::Address(address as u64),
-                Piece::Text("\""),
-            ],
-        )?,
-        None => out.push_str("  start")?,
+        Some(address) => out.pieces(&[
+            Piece::Text("  \""),
+            Piece::Address(address as u64),
+            Piece::Text("\""),
+        ]),
+        None => out.text("  start"),
     }
-    let back = [
+    out.pieces(&[
         Piece::Text(" -> \""),
         Piece::Address(routine as u64),
         Piece::Text("\";\n"),
-    ];
-    add_pieces(out, &back)
+    ]);
 }
 
-/// Adds the edge of each call.
-fn add_calls(out: &mut String, calls: &[Call]) -> Result<(), AllocError> {
-    for call in calls {
-        add_call(out, *call)?;
+/// Adds the nodes of routines, and the edges of calls.
+fn add_code(out: &mut TextBuilder, routines: &[Routine], calls: &[Call]) {
+    for routine in routines {
+        add_routine(out, *routine);
     }
-    Ok(())
+    for call in calls {
+        add_call(out, *call);
+    }
 }
 
 /// The calls by constants in a disassembly with notes as a graph for Graphviz: a node for each routine that is listed, dashed
@@ -269,13 +251,12 @@ fn add_calls(out: &mut String, calls: &[Call]) -> Result<(), AllocError> {
 pub fn code_graph(alloc: Global, disassembly: &str) -> Result<Vec<u8>, AllocError> {
     let routines = routines_in(alloc, disassembly)?;
     let calls = calls_in(alloc, disassembly, routines.as_slice())?;
-    let head = "digraph calls {\n  rankdir=LR; node [shape=box, fontname=\"sans-serif\"];\n";
-    let mut out = String::from_str(alloc, head)?;
+    let mut out = TextBuilder::new(alloc);
+    out.text("digraph calls {\n  rankdir=LR; node [shape=box, fontname=\"sans-serif\"];\n");
     if has_start(disassembly, routines.as_slice()) {
-        out.push_str("  start;\n")?;
+        out.text("  start;\n");
     }
-    add_routines(&mut out, routines.as_slice())?;
-    add_calls(&mut out, calls.as_slice())?;
-    out.push_str("}\n")?;
-    Ok(out.into_bytes())
+    add_code(&mut out, routines.as_slice(), calls.as_slice());
+    out.text("}\n");
+    out.finish()
 }

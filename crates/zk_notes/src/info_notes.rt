@@ -3,7 +3,7 @@
 ghost use Rattle.std.specs.Prelude.{◌≡◌, option_map};
 ghost use Rattle.zk_notes.specs.Compilers.{compiler_of, is_version};
 
-use itoa::Buffer;
+use crate::pieces::{Piece, TextBuilder};
 use std::alloc::{AllocError, Global};
 use std::str;
 use zk_facts::fact::Section;
@@ -75,34 +75,25 @@ const FLAGS_2: [Flag; 8] = [
 /// The bit of the first flags of version 3 that says which status line the story wants.
 const HOURS: u16 = 2;
 
-/// Adds a text.
-fn add(out: &mut Vec<u8>, text: &str) -> Result<(), AllocError> {
-    out.extend_from_slice(text.as_bytes())
-}
-
-/// Adds a line.
-fn add_line(out: &mut Vec<u8>, line: &str) -> Result<(), AllocError> {
-    add(out, line)?;
-    add(out, "\n")
-}
-
 /// Adds the words of flags that are set, with commas between them, after some that stand there or not; `none` where there are none.
-fn add_flags(out: &mut Vec<u8>, flags: &[Flag], set: u16, first: &str) -> Result<(), AllocError> {
-    add(out, "  ; ")?;
-    add(out, first)?;
+fn add_flags(out: &mut TextBuilder, flags: &[Flag], set: u16, first: &str) {
+    out.text("  ; ");
+    out.text(first);
     let mut none = first.is_empty();
     for (bit, words) in flags {
         if set & *bit != 0 {
-            add(out, if none { "" } else { ", " })?;
-            add(out, words)?;
+            out.text(if none { "" } else { ", " });
+            out.text(words);
             none = false;
         }
     }
-    add(out, if none { "none\n" } else { "\n" })
+    if none {
+        out.text("none");
+    }
 }
 
-/// Adds a line of the header with its first flags, by the version of the story.
-fn add_first_flags(out: &mut Vec<u8>, version: u8, set: u16) -> Result<(), AllocError> {
+/// Adds the first flags, by the version of the story.
+fn add_first_flags(out: &mut TextBuilder, version: u8, set: u16) {
     if version != 3 {
         return add_flags(out, &FLAGS_1, set, "");
     }
@@ -111,7 +102,7 @@ fn add_first_flags(out: &mut Vec<u8>, version: u8, set: u16) -> Result<(), Alloc
     } else {
         "status line shows score and turns"
     };
-    add_flags(out, &FLAGS_1_OF_3, set, status_line)
+    add_flags(out, &FLAGS_1_OF_3, set, status_line);
 }
 
 /// Abbreviations one after another that have one text.
@@ -126,31 +117,27 @@ struct Alike<'a> {
 }
 
 /// Adds abbreviations that have one text as a line.
-fn add_alike(out: &mut Vec<u8>, alike: Alike<'_>) -> Result<(), AllocError> {
+fn add_alike(out: &mut TextBuilder, alike: &Alike<'_>) {
     if alike.count == 1 {
-        return add_line(out, alike.line);
+        out.line(alike.line);
+    } else {
+        out.pieces(&[
+            Piece::Text(alike.first),
+            Piece::Text(" to "),
+            Piece::Text(alike.last),
+            Piece::Text(" "),
+            Piece::Text(alike.text),
+            Piece::Text("  ; "),
+            Piece::Number(alike.count),
+            Piece::Text(" alike\n"),
+        ]);
     }
-    let mut buffer = Buffer::new();
-    let parts = [
-        alike.first,
-        " to ",
-        alike.last,
-        " ",
-        alike.text,
-        "  ; ",
-        buffer.format(alike.count),
-        " alike\n",
-    ];
-    for part in &parts {
-        add(out, part)?;
-    }
-    Ok(())
 }
 
 /// A listing that gets its notes line by line.
 #[derive(Drop)]
 struct Notes<'a> {
-    out: Vec<u8>,
+    out: TextBuilder,
     section: Option<Section>,
     version: u8,
     compiler: Option<&'a str>,
@@ -159,58 +146,57 @@ struct Notes<'a> {
 }
 
 impl<'a> Notes<'a> {
-    /// Adds what is still to come of a section.
-    fn end_section(&mut self) -> Result<(), AllocError> {
-        if let Some(alike) = self.alike {
-            add_alike(&mut self.out, alike)?;
-            self.alike = None;
+    /// Adds the abbreviations that have waited for the next one.
+    fn end_alike(&mut self) {
+        if let Some(alike) = &self.alike {
+            add_alike(&mut self.out, alike);
         }
-        match (self.section, self.compiler) {
-            (Some(Section::Header), Some(compiler)) => {
-                add(&mut self.out, "compiler Inform ")?;
-                add_line(&mut self.out, compiler)
-            }
-            _ => Ok(()),
+        self.alike = None;
+    }
+
+    /// Adds what is still to come of a section.
+    fn end_section(&mut self) {
+        self.end_alike();
+        if let (Some(Section::Header), Some(compiler)) = (self.section, self.compiler) {
+            self.out.pieces(&[
+                Piece::Text("compiler Inform "),
+                Piece::Text(compiler),
+                Piece::Text("\n"),
+            ]);
         }
     }
 
     /// Adds a line of the header.
-    fn header_line(&mut self, line: &'a str) -> Result<(), AllocError> {
+    fn header_line(&mut self, line: &str) {
         let (name, value) = cut_word(line);
         if name == "version" {
             self.version = value.parse().unwrap_or(0);
         }
-        let Ok(set) = u16::from_str_radix(value, 16) else {
-            return add_line(&mut self.out, line);
-        };
-        match name {
-            "flags1" => {
-                add(&mut self.out, line)?;
-                add_first_flags(&mut self.out, self.version, set)
+        self.out.text(line);
+        if let Ok(set) = u16::from_str_radix(value, 16) {
+            match name {
+                "flags1" => add_first_flags(&mut self.out, self.version, set),
+                "flags2" => add_flags(&mut self.out, &FLAGS_2, set, ""),
+                _ => {}
             }
-            "flags2" => {
-                add(&mut self.out, line)?;
-                add_flags(&mut self.out, &FLAGS_2, set, "")
-            }
-            _ => add_line(&mut self.out, line),
         }
+        self.out.text("\n");
     }
 
     /// Takes the line of an abbreviation, which waits for the next.
-    fn abbreviation(&mut self, line: &'a str) -> Result<(), AllocError> {
+    fn abbreviation(&mut self, line: &'a str) {
         let (number, text) = cut_word(line);
-        if let Some(alike) = self.alike {
-            if alike.text == text {
-                let count = alike.count.saturating_add(1);
-                self.alike = Some(Alike {
-                    last: number,
-                    count,
-                    ..alike
-                });
-                return Ok(());
-            }
-            add_alike(&mut self.out, alike)?;
+        if let Some(alike) = self.alike
+            && alike.text == text
+        {
+            self.alike = Some(Alike {
+                last: number,
+                count: alike.count.saturating_add(1),
+                ..alike
+            });
+            return;
         }
+        self.end_alike();
         self.alike = Some(Alike {
             line,
             first: number,
@@ -218,20 +204,19 @@ impl<'a> Notes<'a> {
             text,
             count: 1,
         });
-        Ok(())
     }
 
     /// Takes a line.
-    fn take(&mut self, line: &'a str) -> Result<(), AllocError> {
+    fn take(&mut self, line: &'a str) {
         if let Some(begun) = Section::begun_by(line) {
-            self.end_section()?;
+            self.end_section();
             self.section = Some(begun);
-            return add_line(&mut self.out, line);
+            return self.out.line(line);
         }
         match self.section {
             Some(Section::Header) => self.header_line(line),
             Some(Section::Abbreviations) => self.abbreviation(line),
-            _ => add_line(&mut self.out, line),
+            _ => self.out.line(line),
         }
     }
 }
@@ -245,15 +230,15 @@ pub fn explain(
     compiler: Option<&str>,
 ) -> Result<Vec<u8>, AllocError> {
     let mut notes = Notes {
-        out: Vec::new(alloc),
+        out: TextBuilder::new(alloc),
         section: None,
         version: 0,
         compiler,
         alike: None,
     };
     for line in listing.lines() {
-        notes.take(line)?;
+        notes.take(line);
     }
-    notes.end_section()?;
-    Ok(notes.out)
+    notes.end_section();
+    notes.out.finish()
 }

@@ -1,7 +1,7 @@
 // A picture of a story's map.
 
 use crate::addresses::address_of;
-use crate::pieces::{Piece, add_pieces};
+use crate::pieces::{Piece, TextBuilder};
 use std::alloc::{AllocError, Global};
 use zk_facts::fact::Section;
 use zk_facts::words::cut_word;
@@ -46,22 +46,15 @@ struct Map<'a> {
     size: u64,
 }
 
-impl<'a> Map<'a> {
-    /// Takes a line of a section.
-    fn take(&mut self, section: Option<Section>, line: &'a str) -> Result<(), AllocError> {
-        if section == Some(Section::Map)
-            && let Some(part) = part_on(line)
-        {
-            self.parts.push(part)?;
-        }
-        if section == Some(Section::Header)
-            && let ("file" | "length", count) = cut_word(line)
-        {
-            self.size = self.size.max(count.parse::<u32>().unwrap_or(0) as u64);
-        }
-        Ok(())
+/// The bytes that a line of the header counts, where it counts some.
+fn size_on(line: &str) -> u64 {
+    match cut_word(line) {
+        ("file" | "length", count) => count.parse::<u32>().unwrap_or(0) as u64,
+        _ => 0,
     }
+}
 
+impl<'a> Map<'a> {
     /// The byte address after the last part: where the file ends, or where the last part begins if that lies beyond.
     fn end(&self) -> u64 {
         let mut end = self.size.max(1);
@@ -80,27 +73,30 @@ fn map_in(alloc: Global, info: &str) -> Result<Map<'_>, AllocError> {
     };
     let mut section = None;
     for line in info.lines() {
-        match Section::begun_by(line) {
-            Some(begun) => section = Some(begun),
-            None => map.take(section, line)?,
+        section = Section::begun_by(line).or(section);
+        match section {
+            Some(Section::Map) => {
+                if let Some(part) = part_on(line) {
+                    map.parts.push(part)?;
+                }
+            }
+            Some(Section::Header) => map.size = map.size.max(size_on(line)),
+            _ => {}
         }
     }
     Ok(map)
 }
 
-/// Adds a text of the picture. Control characters are left out, and the two others that XML has not.
-fn add_text(out: &mut String, text: &str) -> Result<(), AllocError> {
-    for shown in text.chars() {
-        match shown {
-            '&' => out.push_str("&amp;")?,
-            '<' => out.push_str("&lt;")?,
-            '>' => out.push_str("&gt;")?,
-            '\u{fffe}' | '\u{ffff}' => {}
-            shown if shown.is_control() => {}
-            shown => out.push(shown)?,
-        }
+/// Adds a character of the picture. Control characters are left out, and the two others that XML has not.
+fn add_character(out: &mut TextBuilder, shown: char) {
+    match shown {
+        '&' => out.text("&amp;"),
+        '<' => out.text("&lt;"),
+        '>' => out.text("&gt;"),
+        '\u{fffe}' | '\u{ffff}' => {}
+        shown if shown.is_control() => {}
+        shown => out.character(shown),
     }
-    Ok(())
 }
 
 /// Hundredths of a pixel along the bar, for bytes of so many.
@@ -120,10 +116,10 @@ struct Placed<'a> {
 }
 
 /// Adds the rectangle of a part in the bar, for a story that ends at an address.
-fn add_rectangle(out: &mut String, placed: &Placed<'_>, end: u64) -> Result<(), AllocError> {
+fn add_rectangle(out: &mut TextBuilder, placed: &Placed<'_>, end: u64) {
     let left = along(placed.part.address, end);
     let right = along(placed.part.address.saturating_add(placed.size), end);
-    let line = [
+    out.pieces(&[
         Piece::Text("<rect x=\""),
         Piece::Hundredths(left.saturating_add(MARGIN * 100)),
         Piece::Text("\" y=\"40\" width=\""),
@@ -131,13 +127,17 @@ fn add_rectangle(out: &mut String, placed: &Placed<'_>, end: u64) -> Result<(), 
         Piece::Text("\" height=\"60\" fill=\""),
         Piece::Text(placed.fill),
         Piece::Text("\"/>\n"),
-    ];
-    add_pieces(out, &line)
+    ]);
 }
 
 /// Adds the row of a part in the list.
-fn add_row(out: &mut String, placed: &Placed<'_>) -> Result<(), AllocError> {
-    let front = [
+fn add_row(out: &mut TextBuilder, placed: &Placed<'_>) {
+    let unit = if placed.size == 1 {
+        " byte</text>\n"
+    } else {
+        " bytes</text>\n"
+    };
+    out.pieces(&[
         Piece::Text("<rect x=\"20\" y=\""),
         Piece::Number(placed.row),
         Piece::Text("\" width=\"14\" height=\"14\" fill=\""),
@@ -147,28 +147,23 @@ fn add_row(out: &mut String, placed: &Placed<'_>) -> Result<(), AllocError> {
         Piece::Text("\">"),
         Piece::Address(placed.part.address),
         Piece::Text(" "),
-    ];
-    let unit = if placed.size == 1 {
-        " byte</text>\n"
-    } else {
-        " bytes</text>\n"
-    };
-    let back = [
+    ]);
+    for shown in placed.part.name.chars() {
+        add_character(out, shown);
+    }
+    out.pieces(&[
         Piece::Text(", "),
         Piece::Number(placed.size),
         Piece::Text(unit),
-    ];
-    add_pieces(out, &front)?;
-    add_text(out, placed.part.name)?;
-    add_pieces(out, &back)
+    ]);
 }
 
 /// Adds the head of a picture of so many parts, with the addresses at both ends of the bar.
-fn add_head(out: &mut String, count: usize, end: u64) -> Result<(), AllocError> {
+fn add_head(out: &mut TextBuilder, count: usize, end: u64) {
     let height = (count as u64)
         .saturating_mul(ROW_HEIGHT)
         .saturating_add(LIST_TOP);
-    let head = [
+    out.pieces(&[
         Piece::Text("<?xml version=\"1.0\" encoding=\"UTF-8\"?>\n"),
         Piece::Text(
             "<svg xmlns=\"http://www.w3.org/2000/svg\" version=\"1.1\" width=\"900\" height=\"",
@@ -180,8 +175,7 @@ fn add_head(out: &mut String, count: usize, end: u64) -> Result<(), AllocError> 
         Piece::Text("<text x=\"880\" y=\"30\" text-anchor=\"end\">"),
         Piece::Address(end),
         Piece::Text("</text>\n"),
-    ];
-    add_pieces(out, &head)
+    ]);
 }
 
 /// The fill of a part, by its place among the parts.
@@ -190,7 +184,7 @@ fn fill_of(at: usize) -> &'static str {
 }
 
 /// Adds the rectangle and the row of each part.
-fn add_parts(out: &mut String, map: &Map<'_>, end: u64) -> Result<(), AllocError> {
+fn add_parts(out: &mut TextBuilder, map: &Map<'_>, end: u64) {
     for (at, part) in map.parts.iter().enumerate() {
         let next = match map.parts.get(at + 1) {
             Some(next) => next.address,
@@ -204,10 +198,9 @@ fn add_parts(out: &mut String, map: &Map<'_>, end: u64) -> Result<(), AllocError
                 .saturating_mul(ROW_HEIGHT)
                 .saturating_add(LIST_TOP),
         };
-        add_rectangle(out, &placed, end)?;
-        add_row(out, &placed)?;
+        add_rectangle(out, &placed, end);
+        add_row(out, &placed);
     }
-    Ok(())
 }
 
 /// The sections `[header]` and `[map]` of a listing of `info` as a picture, an SVG 1.1 of 900 pixels: a bar with a rectangle for
@@ -216,9 +209,9 @@ fn add_parts(out: &mut String, map: &Map<'_>, end: u64) -> Result<(), AllocError
 pub fn map_picture(alloc: Global, info: &str) -> Result<Vec<u8>, AllocError> {
     let map = map_in(alloc, info)?;
     let end = map.end();
-    let mut out = String::new(alloc);
-    add_head(&mut out, map.parts.len(), end)?;
-    add_parts(&mut out, &map, end)?;
-    out.push_str("</svg>\n")?;
-    Ok(out.into_bytes())
+    let mut out = TextBuilder::new(alloc);
+    add_head(&mut out, map.parts.len(), end);
+    add_parts(&mut out, &map, end);
+    out.text("</svg>\n");
+    out.finish()
 }

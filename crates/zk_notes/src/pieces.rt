@@ -1,9 +1,9 @@
-// Lines that are put together of pieces.
+// Texts that are put together of pieces.
 
-use std::alloc::AllocError;
+use std::alloc::{AllocError, Global};
 use std::fmt::Write;
 
-/// A piece of a line.
+/// A piece of a text.
 #[derive(Clone, Copy, Drop)]
 pub(crate) enum Piece<'a> {
     Text(&'a str),
@@ -28,10 +28,59 @@ fn add_piece(out: &mut String, piece: Piece<'_>) -> Result<(), AllocError> {
     }
 }
 
-/// Adds pieces, one after the other.
-pub(crate) fn add_pieces(out: &mut String, pieces: &[Piece<'_>]) -> Result<(), AllocError> {
-    for piece in pieces {
-        add_piece(out, *piece)?;
+/// A text that is put together. It remembers whether memory was short, and `finish` tells that: so what adds to it need not.
+#[derive(Drop)]
+pub(crate) struct TextBuilder {
+    text: String,
+    is_short: bool,
+}
+
+impl TextBuilder {
+    /// No text.
+    pub(crate) fn new(alloc: Global) -> TextBuilder {
+        TextBuilder {
+            text: String::new(alloc),
+            is_short: false,
+        }
     }
-    Ok(())
+
+    /// Remembers whether memory was short for something.
+    pub(crate) fn note(&mut self, is_short: bool) {
+        self.is_short |= is_short;
+    }
+
+    /// Adds a text.
+    pub(crate) fn text(&mut self, text: &str) {
+        let done = self.text.push_str(text);
+        self.note(done.is_err());
+    }
+
+    /// Adds a line.
+    pub(crate) fn line(&mut self, line: &str) {
+        self.text(line);
+        self.text("\n");
+    }
+
+    /// Adds a character.
+    pub(crate) fn character(&mut self, shown: char) {
+        let done = self.text.push(shown);
+        self.note(done.is_err());
+    }
+
+    /// Adds pieces, one after the other.
+    pub(crate) fn pieces(&mut self, pieces: &[Piece<'_>]) {
+        for piece in pieces {
+            let done = add_piece(&mut self.text, *piece);
+            self.note(done.is_err());
+        }
+    }
+
+    /// The text, if memory was never short.
+    pub(crate) fn finish(self) -> Result<Vec<u8>, AllocError> {
+        if self.is_short {
+            Err(AllocError)
+        } else {
+            Ok(self.text.into_bytes())
+        }
+    }
 }
