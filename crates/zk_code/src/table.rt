@@ -9,7 +9,7 @@ use crate::opcode::{
 };
 
 /// What follows the operands of an instruction.
-#[derive(Clone, Copy, PartialEq, Eq, Drop)]
+#[derive(Clone, Copy, Drop)]
 pub enum Follows {
     Nothing,
     Stores,
@@ -39,7 +39,7 @@ impl Follows {
 }
 
 /// What the opcode tables say of an opcode.
-#[derive(Clone, Copy, PartialEq, Eq, Drop)]
+#[derive(Clone, Copy, Drop)]
 pub struct OpcodeRow {
     pub opcode: Opcode,
     /// The least number of operands.

@@ -5,7 +5,7 @@ use crate::watched::Notes;
 use std::cell::Cell;
 
 /// What the first bytes of a file look like.
-#[derive(Clone, Copy, PartialEq, Eq, Drop)]
+#[derive(Clone, Copy, Drop)]
 pub enum Looks {
     /// Nothing that is known by them.
     Unknown,

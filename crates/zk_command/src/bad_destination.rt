@@ -9,7 +9,7 @@ use zk_code::ways::is_jump;
 use zk_mem::memory::Memory;
 
 /// Where an instruction leads that has a bad target, by byte addresses.
-#[derive(Clone, Copy, PartialEq, Eq, Drop)]
+#[derive(Clone, Copy, Drop)]
 pub enum BadDestination {
     /// It calls an address inside the story, where no routine begins.
     Routine(u32),

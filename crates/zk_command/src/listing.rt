@@ -41,7 +41,7 @@ use zk_vm::stop::Stop;
 const UNDO_STATES: u8 = 16;
 
 /// A section of `info`.
-#[derive(Clone, Copy, PartialEq, Eq, Drop)]
+#[derive(Clone, Copy, Drop)]
 pub enum Section {
     Header,
     Map,

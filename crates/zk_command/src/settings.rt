@@ -4,7 +4,7 @@ use zk_step::state::game_state::View;
 use zk_vm::limits::Limits;
 
 /// What a run depends on, beside its story and the answers.
-#[derive(Clone, Copy, PartialEq, Eq, Drop)]
+#[derive(Clone, Copy, Drop)]
 pub struct Settings {
     /// What a run holds and runs at most.
     pub limits: Limits,

@@ -15,7 +15,7 @@ use zk_inspect::reach::reach;
 use zk_mem::memory::Memory;
 
 /// What is listed of a story.
-#[derive(Clone, Copy, PartialEq, Eq, Drop)]
+#[derive(Clone, Copy, Drop)]
 pub enum Listing {
     Header,
     Map,

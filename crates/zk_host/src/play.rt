@@ -36,7 +36,7 @@ use zk_vm::machine::Machine;
 use zk_vm::stop::Stop;
 
 /// Why an answer is refused.
-#[derive(Clone, Copy, PartialEq, Eq, Drop)]
+#[derive(Clone, Copy, Drop)]
 pub enum Refusal {
     /// Something else is waited for, or nothing.
     NotAwaited,
@@ -49,7 +49,7 @@ pub enum Refusal {
 }
 
 /// Why no play goes on from a snapshot.
-#[derive(Clone, Copy, PartialEq, Eq, Drop)]
+#[derive(Clone, Copy, Drop)]
 pub enum SnapshotRefusal {
     /// The story's bytes are no story, or there is no memory for it.
     Story(OpenError),
@@ -58,7 +58,7 @@ pub enum SnapshotRefusal {
 }
 
 /// What a turn has come to.
-#[derive(Clone, Copy, PartialEq, Eq, Drop)]
+#[derive(Clone, Copy, Drop)]
 pub enum Asked {
     /// The story waits for an answer.
     Answer(Event),

@@ -5,7 +5,7 @@ ghost use Rattle.zk_mem.specs.Header.{word_in, word_from_5, header_of, unit_leng
 
 /// What the header of a story file says (Z-Machine Standards Document 1.1, section 11.1). Addresses
 /// are byte addresses. The last three fields are 0 before version 5, where they have no meaning.
-#[derive(Clone, Copy, PartialEq, Eq, Drop)]
+#[derive(Clone, Copy, Drop)]
 pub struct Header {
     pub version: u8,
     pub flags_1: u8,

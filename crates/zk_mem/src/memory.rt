@@ -16,7 +16,7 @@ use std::alloc::{AllocError, Global};
 use std::marker::Model;
 
 /// What an interpreter tells a story of itself.
-#[derive(Clone, Copy, PartialEq, Eq, Drop)]
+#[derive(Clone, Copy, Drop)]
 pub struct Setup {
     /// How many undo states are kept. Where it is 0, the header says that there is no undo.
     pub undo_states: u8,

@@ -9,7 +9,7 @@ use std::marker::Model;
 /// A frame: its local variables are the words from `base` to `base of the stack`, and its evaluation stack is all that
 /// lies between them and the next frame. Its routine's first instruction stands at the byte address `start`, which is 0
 /// where that is not known.
-#[derive(Clone, Copy, PartialEq, Eq, Drop)]
+#[derive(Clone, Copy, Drop)]
 pub(crate) struct FrameRecord {
     pub(crate) base: u32,
     pub(crate) stack_base: u32,

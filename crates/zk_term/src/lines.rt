@@ -25,7 +25,7 @@ const KEPT: usize = 1024;
 const TOO_LONG: u32 = 65_536;
 
 /// How an input is over.
-#[derive(Clone, Copy, PartialEq, Eq, Drop)]
+#[derive(Clone, Copy, Drop)]
 pub(crate) enum InputEnd {
     /// It has no more bytes.
     End,

@@ -4,7 +4,7 @@ use crate::source::Source;
 use crate::target::{Failed, Target};
 
 /// A source without bytes, and a target that takes all bytes and drops them.
-#[derive(Clone, Copy, PartialEq, Eq, Drop)]
+#[derive(Clone, Copy, Drop)]
 pub struct Nothing;
 
 impl Source for Nothing {

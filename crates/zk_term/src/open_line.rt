@@ -12,7 +12,7 @@ use crate::target::{Failed, Target, write_all};
 use arrayvec::ArrayVec;
 
 /// What has come of an open line: nothing, the front of a row of the upper window, or words.
-#[derive(Clone, Copy, PartialEq, Eq, Drop)]
+#[derive(Clone, Copy, Drop)]
 pub enum LineKind {
     Empty,
     Row,

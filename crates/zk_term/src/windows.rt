@@ -14,7 +14,7 @@ pub const ROWS: usize = 255;
 pub const COLUMNS: usize = 80;
 
 /// A window of the screen (Z-Machine Standards Document 1.1, section 8.6).
-#[derive(Clone, Copy, PartialEq, Eq, Drop)]
+#[derive(Clone, Copy, Drop)]
 pub enum Window {
     Lower,
     Upper,

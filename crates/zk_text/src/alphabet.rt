@@ -11,7 +11,7 @@ pub const DEFAULT_LETTERS: [u8; 78] =
     *b"abcdefghijklmnopqrstuvwxyzABCDEFGHIJKLMNOPQRSTUVWXYZ \r0123456789.,!?_#'\"/\\-:()";
 
 /// One of the three alphabets (Z-Machine Standards Document 1.1, section 3.2).
-#[derive(Clone, Copy, PartialEq, Eq, Drop)]
+#[derive(Clone, Copy, Drop)]
 pub enum Row {
     A0,
     A1,
@@ -19,7 +19,7 @@ pub enum Row {
 }
 
 /// The alphabets that are in force (Standard, section 3.5).
-#[derive(Clone, Copy, PartialEq, Eq, Drop)]
+#[derive(Clone, Copy, Drop)]
 pub struct Alphabet {
     /// The byte address of the story's own table, where it has one.
     pub table: Option<u16>,

@@ -26,7 +26,7 @@ pub const DEFAULT_LOWER: [u8; 69] = [
 ];
 
 /// A Unicode table in memory: its byte address, and how many words it states.
-#[derive(Clone, Copy, PartialEq, Eq, Drop)]
+#[derive(Clone, Copy, Drop)]
 pub(crate) struct Table {
     pub(crate) at: u16,
     pub(crate) count: u8,

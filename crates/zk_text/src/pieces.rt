@@ -9,7 +9,7 @@ use crate::alphabet::Row;
 
 /// A part of a text that stands for something (Z-Machine Standards Document 1.1, sections 3.2 to
 /// 3.5).
-#[derive(Clone, Copy, PartialEq, Eq, Drop)]
+#[derive(Clone, Copy, Drop)]
 pub enum Piece {
     /// A letter: its alphabet, and its Z-character from 6 to 31.
     Letter(Row, u8),
@@ -20,7 +20,7 @@ pub enum Piece {
 }
 
 /// What a reader holds back of a piece that is not yet whole.
-#[derive(Clone, Copy, PartialEq, Eq, Drop)]
+#[derive(Clone, Copy, Drop)]
 pub(crate) enum Pending {
     Nothing,
     /// A 1, 2 or 3.

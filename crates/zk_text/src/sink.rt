@@ -5,7 +5,7 @@ ghost use Rattle.std.specs.Prelude.{◌∷◌, [], List, OnOk, OnErr};
 use crate::unit::Unit;
 
 /// A sink refuses a unit, and takes no more of the text.
-#[derive(Clone, Copy, PartialEq, Eq, Drop)]
+#[derive(Clone, Copy, Drop)]
 pub struct SinkFault;
 
 /// Takes the units of a text, one by one, until it refuses one.

@@ -13,7 +13,7 @@ use zk_mem::fault::Fault;
 use zk_mem::memory::Memory;
 
 /// A sink that takes no notice.
-#[derive(Clone, Copy, PartialEq, Eq, Drop)]
+#[derive(Clone, Copy, Drop)]
 struct Silent;
 
 impl Sink for Silent {

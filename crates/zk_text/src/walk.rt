@@ -16,7 +16,7 @@ use zk_mem::fault::Fault;
 use zk_mem::memory::Memory;
 
 /// Why a walk ends early.
-#[derive(Clone, Copy, PartialEq, Eq, Drop)]
+#[derive(Clone, Copy, Drop)]
 pub(crate) enum Trouble {
     Text(Fault),
     Refused,

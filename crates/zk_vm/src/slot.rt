@@ -47,7 +47,7 @@ pub trait SaveSlot {
 }
 
 /// A slot that keeps nothing and has nothing.
-#[derive(Clone, Copy, PartialEq, Eq, Drop)]
+#[derive(Clone, Copy, Drop)]
 pub struct NoSlot;
 
 impl SaveSlot for NoSlot {

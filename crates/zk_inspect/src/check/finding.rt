@@ -75,7 +75,7 @@ impl Number {
 }
 
 /// Something that is wrong, and where: a byte address.
-#[derive(Clone, Copy, PartialEq, Eq, Drop)]
+#[derive(Clone, Copy, Drop)]
 pub struct Finding {
     pub number: Number,
     pub address: u32,

@@ -23,7 +23,7 @@ use zk_term::line_writer::LineWriter;
 use zk_term::writing::{write_address, write_decimal};
 
 /// What a constant operand stands for (Z-Machine Standards Document 1.1, section 15).
-#[derive(Clone, Copy, PartialEq, Eq, Drop)]
+#[derive(Clone, Copy, Drop)]
 pub(crate) enum Meaning {
     Number,
     /// The packed address of a routine.

@@ -11,7 +11,7 @@ use zk_tables::dictionary::Dictionary;
 
 /// What is known of a story's own dictionary from its start on: the dictionary, where it lies whole at or above the
 /// static base, so that nothing can write to it.
-#[derive(Clone, Copy, PartialEq, Eq, Drop)]
+#[derive(Clone, Copy, Drop)]
 pub struct StoryWords {
     pub(crate) dictionary: Option<Dictionary>,
 }

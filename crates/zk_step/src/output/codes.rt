@@ -15,7 +15,7 @@ pub struct Codes {
 }
 
 /// There is no room for a code.
-#[derive(Clone, Copy, PartialEq, Eq, Drop)]
+#[derive(Clone, Copy, Drop)]
 pub(crate) struct Full;
 
 impl Model for Codes {

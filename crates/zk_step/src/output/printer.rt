@@ -15,7 +15,7 @@ use zk_text::sink::{Sink, SinkFault};
 use zk_text::unit::Unit;
 
 /// Which of streams 1 and 2 are on.
-#[derive(Clone, Copy, PartialEq, Eq, Drop)]
+#[derive(Clone, Copy, Drop)]
 pub struct Selected {
     pub screen: bool,
     pub script: bool,

@@ -10,7 +10,7 @@ use zk_tables::properties::name;
 use zk_text::text::check_text;
 
 /// What the status line of version 3 is made of.
-#[derive(Clone, Copy, PartialEq, Eq, Drop)]
+#[derive(Clone, Copy, Drop)]
 pub struct StatusLine {
     /// The byte address of the text of an object's short name, if it has one.
     pub name: Option<u32>,

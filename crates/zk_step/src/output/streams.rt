@@ -8,7 +8,7 @@ use std::marker::Model;
 use zk_mem::fault::Fault;
 
 /// A table of output stream 3 that is open: its byte address, and how many codes were stored in it.
-#[derive(Clone, Copy, Default, PartialEq, Eq, Drop)]
+#[derive(Clone, Copy, Default, Drop)]
 pub struct OpenTable {
     pub address: u16,
     pub count: u16,

@@ -3,7 +3,7 @@
 use zk_tables::arrays::rectangle::Rectangle;
 
 /// How an effect ends, before the next address is known.
-#[derive(Clone, Copy, PartialEq, Eq, Drop)]
+#[derive(Clone, Copy, Drop)]
 pub enum Ending {
     /// Goes on, with a result, a truth, both or neither.
     GoOn(Option<u16>, Option<bool>),
@@ -22,14 +22,14 @@ pub enum Ending {
 }
 
 /// What an instruction yields: a result to store, a truth to branch on, both or neither.
-#[derive(Clone, Copy, PartialEq, Eq, Drop)]
+#[derive(Clone, Copy, Drop)]
 pub struct Yield {
     pub result: Option<u16>,
     pub truth: Option<bool>,
 }
 
 /// What an instruction asks of the machine, which goes on nowhere by itself then.
-#[derive(Clone, Copy, PartialEq, Eq, Drop)]
+#[derive(Clone, Copy, Drop)]
 pub enum Request {
     /// To wait for an answer.
     Answer(Event),
@@ -55,7 +55,7 @@ pub enum Event {
 }
 
 /// What an instruction prints.
-#[derive(Clone, Copy, PartialEq, Eq, Drop)]
+#[derive(Clone, Copy, Drop)]
 pub enum Output {
     Nothing,
     /// A ZSCII code.
@@ -75,14 +75,14 @@ pub enum Output {
 }
 
 /// What an effect does beside its changes of the game state.
-#[derive(Clone, Copy, PartialEq, Eq, Drop)]
+#[derive(Clone, Copy, Drop)]
 pub struct Effect {
     pub output: Output,
     pub ending: Ending,
 }
 
 /// Where a machine goes on.
-#[derive(Clone, Copy, PartialEq, Eq, Drop)]
+#[derive(Clone, Copy, Drop)]
 pub enum Next {
     /// At the instruction at a byte address.
     At(u32),

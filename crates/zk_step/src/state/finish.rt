@@ -23,7 +23,7 @@ use zk_mem::fault::Fault;
 use zk_state::refusal::Refusal;
 
 /// The way on from an instruction.
-#[derive(Clone, Copy, PartialEq, Eq, Drop)]
+#[derive(Clone, Copy, Drop)]
 pub enum Continuation {
     /// To a byte address in the story.
     To(u32),

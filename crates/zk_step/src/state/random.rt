@@ -6,7 +6,7 @@ ghost use Rattle.zk_step.specs.Random.{next_state, number_in, randomised};
 /// The states of the two sequences of random numbers (Z-Machine Standards Document 1.1, sections 2.4 and 15,
 /// `random`): the free one, which begins with the seed of the machine, and the predictable one, which a story
 /// opens and closes.
-#[derive(Clone, Copy, PartialEq, Eq, Drop)]
+#[derive(Clone, Copy, Drop)]
 pub struct Generators {
     pub free: u64,
     pub predictable: Option<u64>,

@@ -21,7 +21,7 @@ use zk_step::state::game_state::GameState;
 
 /// Where a run stands: the byte address of the instruction that waits, how many steps were made since the last
 /// read was answered, and how many reads were answered.
-#[derive(Clone, Copy, PartialEq, Eq, Drop)]
+#[derive(Clone, Copy, Drop)]
 pub struct Place {
     pub pc: u32,
     pub steps: u32,
@@ -30,7 +30,7 @@ pub struct Place {
 
 /// What is waited for, and what its answer reads of the instruction that waits: the byte address after it, and
 /// the number of the variable that takes its result.
-#[derive(Clone, Copy, PartialEq, Eq, Drop)]
+#[derive(Clone, Copy, Drop)]
 pub struct Asking {
     pub event: Event,
     pub next: u32,
