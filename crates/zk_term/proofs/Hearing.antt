@@ -26,7 +26,7 @@ parts_by : (b : ℕ) (bytes : List ℕ) (x : Bool) → is_new_line b ≡ x → P
 parts_by b bytes true e p = record { first = []; more = slice_split is_new_line bytes; are = rw e refl }
 parts_by b bytes false e p = record { first = b ∷ p.first; more = p.more; are = rw (e, p.are) refl }
 
-parts : (bytes : List ℕ) → Parts bytes
+pub parts : (bytes : List ℕ) → Parts bytes
 parts [] = record { first = []; more = []; are = refl }
 parts (b ∷ bytes) = parts_by b bytes _ refl (parts bytes)
 
@@ -62,7 +62,7 @@ too_long line rest plain long =
     let test : is_short (line ++ p.first) ≡ false = grind (arith, nat_tests, length-append line p.first) in
     ap heard_in (split_long line rest plain p) ∙ rw test refl
 
-complete : (line rest : List ℕ) → IsPlain line → ended_lines (line ++ 10 ∷ rest) ≡ strip_carriage_return line ∷ ended_lines rest
+pub complete : (line rest : List ℕ) → IsPlain line → ended_lines (line ++ 10 ∷ rest) ≡ strip_carriage_return line ∷ ended_lines rest
 unfolding ended_lines ended_in
 complete line rest plain = let p = parts rest in rw (split_ended line rest plain, p.are) refl
 

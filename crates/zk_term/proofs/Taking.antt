@@ -1,6 +1,7 @@
 -- Bytes that a reader of lines takes from a source, one after another.
 use Rattle.std.proofs.Common.{◌≡◌, ◌≢◌, ◌≤◌, ◌<◌, ℕ, suc, ◌+◌, ◌-◌, Bool, true, false, List, [], ◌∷◌, ◌++◌, length, take, drop, get_or, Option, Some, None, append_assoc, drop-cons, add-one, refl, sym, ◌∙◌, ap, subst, arith, length-drop, length-append, Ok, Err, inl, inr, ⊎_elim, lit≤, cond, nat_lt}
 use Rattle.std.proofs.lemmas.List.{length-take, length-take-le, take-take, take_all, take_at, take-append-le, append-nil}
+use Rattle.std.proofs.lemmas.List.Folds.{concat-append}
 use Rattle.std.proofs.lemmas.Bool.{ne_eqb, cases_lt}
 use Rattle.std.proofs.lemmas.Bool.Decides.{nat_tests}
 use Rattle.std.specs.List.{concat}
@@ -9,7 +10,7 @@ use Rattle.arrayvec.specs.ArrayVec.{ArrayVec}
 use Rattle.zk_term.specs.declared.lines.InputEnd.TheVariants as over
 use Rattle.zk_text.specs.Extra.{ExtraTable}
 use Rattle.zk_term.specs.Characters.{line_codes}
-use Rattle.zk_term.specs.Lines.{Reading, Gives, GivesEach, GivesLine, IsPlain, is_new_line, AreGiven, Takes, TakesByte, TakesPlain}
+use Rattle.zk_term.specs.Lines.{Reading, Gives, GivesEach, GivesLine, IsPlain, is_new_line, AreGiven, Takes, TakesByte, TakesPlain, TakesLine}
 use Rattle.zk_term.proofs.Cutting.{cut_codes}
 
 -- ---- one byte
@@ -51,6 +52,12 @@ strip_codes t line = ⊎_elim
     (λ (short : length line ≤ 1024). ap (λ l. line_codes t (strip_carriage_return l)) (take_all 1024 line short))
     (cases_lt 1024 (length line))
 
+kept_codes : (front kept line : List ℕ) → kept ≡ take 1024 front → line ≡ strip_carriage_return kept → (t : ExtraTable) → line_codes t line ≡ line_codes t (strip_carriage_return front)
+kept_codes front kept line keeps e t = ap (line_codes t) (e ∙ ap strip_carriage_return keeps) ∙ strip_codes t front
+
+keeps_on : (front kept kept' : List ℕ) (b : ℕ) → kept ≡ take 1024 front → kept' ≡ take 1024 (kept ++ b ∷ []) → kept' ≡ take 1024 (front ++ b ∷ [])
+keeps_on front kept kept' b keeps e = e ∙ ap (λ ks. take 1024 (ks ++ b ∷ [])) keeps ∙ take_again 1024 front (b ∷ [])
+
 -- ---- a line
 
 -- the bytes taken so far are no new lines, and the first 1,024 of them are kept
@@ -80,7 +87,7 @@ taken_on r m r' left leftm left' n b kept kept' t g h e = record {
   gives = gives_on r m r' left leftm left' t.front (b ∷ []) t.gives g;
   plain = plain_on t.front b t.plain (ne_eqb b 10 h);
   long = omega (arith, length-append t.front (b ∷ []), t.long);
-  keeps = e ∙ ap (λ ks. take 1024 (ks ++ b ∷ [])) t.keeps ∙ take_again 1024 t.front (b ∷ []);
+  keeps = keeps_on t.front kept kept' b t.keeps e;
 }
 
 pub taken_line : (r m r' : Reading) (left leftm left' : Option (List ℕ)) (n : ℕ) (kept : List ℕ) (result : ArrayVec ℕ) → Taken r left m leftm n kept → n < 65536 → Gives m leftm r' left' (10 ∷ []) → result.items ≡ strip_carriage_return kept → r'.over ≡ None → GivesLine r left r' left' (Unit {0}) (Unit {0}) (Ok result)
@@ -88,7 +95,7 @@ taken_line r m r' left leftm left' n kept result t h g e goes = λ bytes k.
     let all = gives_on r m r' left leftm left' t.front (10 ∷ []) t.gives g bytes k in
     let short : nat_lt (length t.front) 65536 ≡ true = grind (arith, nat_tests, t.long) in
     let whole : r.ahead ++ bytes ≡ t.front ++ 10 ∷ (r'.ahead ++ all.0) = all.2 ∙ append_assoc t.front (10 ∷ []) (r'.ahead ++ all.0) in
-    (all.0, all.1, (strip_carriage_return t.front, inl (record { part = t.front; whole = whole; plain = t.plain; short = short; is = refl }, goes), λ x. ap (line_codes x) (e ∙ ap strip_carriage_return t.keeps) ∙ strip_codes x t.front))
+    (all.0, all.1, (strip_carriage_return t.front, inl (record { part = t.front; whole = whole; plain = t.plain; short = short; is = refl }, goes), kept_codes t.front kept result.items t.keeps e))
 
 ends : (m r' : Reading) (leftm left' : Option (List ℕ)) → GivesEach {X = ℕ} (λ b. b ∷ []) m leftm r' left' (Err over.End) → (bytes : List ℕ) → leftm ≡ Some bytes → (later : List ℕ) × (left' ≡ Some later) × (m.ahead ++ bytes ≡ []) × (r'.ahead ++ later ≡ [])
 ends m r' leftm left' g bytes e =
@@ -128,13 +135,12 @@ taken_long r r' left left' failed sound n kept t h e = λ bytes k.
 
 -- ---- what reads give
 
-given_on : {S : Type 0} (gives : S → S → List ℕ → Type 0) (parts : List (List ℕ)) (a b c : S) (part : List ℕ) → AreGiven gives a b parts → gives b c part → AreGiven gives a c (parts ++ part ∷ [])
-given_on {S} gives [] a b c part h k = (c, (subst (λ (s : S). gives s c part) h k, refl))
-given_on {S} gives (first ∷ parts) a b c part h k = (h.0, (h.1.0, given_on gives parts h.0 b c part h.1.1 k))
+pub given_on : {S : Type 0} (gives : S → S → List ℕ → Type 0) (parts more : List (List ℕ)) (a b c : S) → AreGiven gives a b parts → AreGiven gives b c more → AreGiven gives a c (parts ++ more)
+given_on {S} gives [] more a b c h k = subst (λ (s : S). AreGiven gives s c more) h k
+given_on {S} gives (part ∷ parts) more a b c h k = (h.0, (h.1.0, given_on gives parts more h.0 b c h.1.1 k))
 
-concat_on : (parts : List (List ℕ)) (part : List ℕ) → concat (parts ++ part ∷ []) ≡ concat parts ++ part
-concat_on [] part = append-nil part
-concat_on (first ∷ parts) part = ap (λ l. first ++ l) (concat_on parts part) ∙ sym (append_assoc first (concat parts) part)
+pub concat_on : (parts : List (List ℕ)) (part : List ℕ) → concat (parts ++ part ∷ []) ≡ concat parts ++ part
+concat_on parts part = concat-append parts (part ∷ []) ∙ ap (λ l. concat parts ++ l) (append-nil part)
 
 one_on : (bytes ahead : List ℕ) (b : ℕ) → bytes ++ b ∷ ahead ≡ (bytes ++ b ∷ []) ++ ahead
 one_on bytes ahead b = sym (append_assoc bytes (b ∷ []) ahead)
@@ -148,20 +154,41 @@ takes_on {S} gives s m t ahead mid new bytes b (inr (r, (whole, few))) (inl (f, 
 takes_on {S} gives s m t ahead mid new bytes b (inr (r, (whole, few))) (inr (none, gave)) =
     let before : ahead ++ (concat r.parts ++ r.last) ≡ bytes = whole ∙ ap (λ l. bytes ++ l) none ∙ append-nil bytes in
     inr (
-      record { parts = r.parts ++ r.last ∷ []; mid = m; given = given_on gives r.parts s r.mid m r.last r.given r.gave; last = b ∷ new; gave = gave },
+      record { parts = r.parts ++ r.last ∷ []; mid = m; given = given_on gives r.parts (r.last ∷ []) s r.mid m r.given (m, (r.gave, refl)); last = b ∷ new; gave = gave },
       (ap (λ l. ahead ++ (l ++ b ∷ new)) (concat_on r.parts r.last) ∙ sym (append_assoc ahead (concat r.parts ++ r.last) (b ∷ new)) ∙ ap (λ l. l ++ b ∷ new) before ∙ one_on bytes new b, omega arith),
     )
 
-pub plain_none : {S : Type 0} (gives : S → S → List ℕ → Type 0) (s : S) (ahead : List ℕ) → TakesPlain gives s s ahead ahead 0
-plain_none {S} gives s ahead = record { bytes = []; taken = inl (refl, refl); plain = tt; many = refl }
+-- bytes were taken and none is a new line, and the first 1,024 of them are kept
+pub record TakesKept {S : Type 0} (gives : S → S → List ℕ → Type 0) (before after : S) (ahead ahead' : List ℕ) (count : ℕ) (kept : List ℕ) : Type 0 where
+  pub all : TakesPlain gives before after ahead ahead' count
+  pub keeps : kept ≡ take 1024 all.bytes
 
-pub plain_more : {S : Type 0} (gives : S → S → List ℕ → Type 0) (s m t : S) (ahead mid new : List ℕ) (n b : ℕ) → TakesPlain gives s m ahead mid n → TakesByte gives m t mid new b → b ≢ 10 → TakesPlain gives s t ahead new (n + 1)
-plain_more {S} gives s m t ahead mid new n b h k e = record {
-  bytes = h.bytes ++ b ∷ [];
-  taken = takes_on gives s m t ahead mid new h.bytes b h.taken k;
-  plain = plain_on h.bytes b h.plain (ne_eqb b 10 e);
-  many = omega (arith, length-append h.bytes (b ∷ []), h.many);
-}
+pub kept_none : {S : Type 0} (gives : S → S → List ℕ → Type 0) (s : S) (ahead : List ℕ) → TakesKept gives s s ahead ahead 0 []
+kept_none {S} gives s ahead = record { all = record { bytes = []; taken = inl (refl, refl); plain = tt; many = refl }; keeps = refl }
+
+pub kept_more : {S : Type 0} (gives : S → S → List ℕ → Type 0) (s m t : S) (ahead mid new : List ℕ) (n b : ℕ) (kept kept' : List ℕ) → TakesKept gives s m ahead mid n kept → TakesByte gives m t mid new b → b ≢ 10 → kept' ≡ take 1024 (kept ++ b ∷ []) → TakesKept gives s t ahead new (n + 1) kept'
+kept_more {S} gives s m t ahead mid new n b kept kept' h k e f =
+    let before = h.all in
+    record {
+      all = record {
+        bytes = before.bytes ++ b ∷ [];
+        taken = takes_on gives s m t ahead mid new before.bytes b before.taken k;
+        plain = plain_on before.bytes b before.plain (ne_eqb b 10 e);
+        many = omega (arith, length-append before.bytes (b ∷ []), before.many);
+      };
+      keeps = keeps_on before.bytes kept kept' b h.keeps f;
+    }
+
+pub kept_line : {S : Type 0} (gives : S → S → List ℕ → Type 0) (s m t : S) (ahead mid new : List ℕ) (n : ℕ) (kept line : List ℕ) → TakesKept gives s m ahead mid n kept → n < 65536 → TakesByte gives m t mid new 10 → line ≡ strip_carriage_return kept → (x : ExtraTable) → TakesLine gives s t ahead new x (line_codes x line)
+kept_line {S} gives s m t ahead mid new n kept line h few k e x =
+    let before = h.all in
+    record {
+      part = before.bytes;
+      taken = takes_on gives s m t ahead mid new before.bytes 10 before.taken k;
+      plain = before.plain;
+      short = grind (arith, nat_tests, before.many);
+      is = kept_codes before.bytes kept line h.keeps e x;
+    }
 
 pub byte_ahead : {S : Type 0} (gives : S → S → List ℕ → Type 0) (s : S) (ahead new : List ℕ) (b : ℕ) → ahead ≡ b ∷ new → TakesByte gives s s ahead new b
 byte_ahead {S} gives s ahead new b h = inl (refl, h)

@@ -135,6 +135,19 @@ pub record TakesPlain {S : Type 0} (gives : S → S → List ℕ → Type 0) (be
   pub plain : IsPlain bytes
   pub many : length bytes ≡ count
 
+-- a line was taken, up to its new line, of what was read ahead and of what more reads gave, and these are its codes
+pub record TakesLine {S : Type 0} (gives : S → S → List ℕ → Type 0) (before after : S) (ahead ahead' : List ℕ) (t : ExtraTable) (codes : List ℕ) : Type 0 where
+  pub part : List ℕ
+  pub taken : Takes gives before after ahead ahead' (part ++ 10 ∷ [])
+  pub plain : IsPlain part
+  pub short : is_short part ≡ true
+  pub is : codes ≡ line_codes t (strip_carriage_return part)
+
+-- so it is with an answer after which the input goes on
+abbrev pub TakesAnswer : {S : Type 0} → (S → S → List ℕ → Type 0) → S → S → List ℕ → List ℕ → ExtraTable → Input → Type 0
+TakesAnswer {S} gives before after ahead ahead' t (input.Line codes) = TakesLine gives before after ahead ahead' t codes.items
+TakesAnswer {S} gives before after ahead ahead' t _ = Unit {0}
+
 -- a line is too long, whether its source tells its bytes or not
 abbrev pub MeetsBound : {S : Type 0} → (S → S → List ℕ → Type 0) → S → S → Reading → Reading → Type 0
 MeetsBound {S} gives before after r r' = TakesPlain gives before after r.ahead r'.ahead 65536
@@ -216,3 +229,17 @@ pub record AreLines : Type 0 where
   pub complete : (line rest : List ℕ) → IsPlain line → ended_lines (line ++ 10 ∷ rest) ≡ strip_carriage_return line ∷ ended_lines rest
   pub cut_off : (line : List ℕ) → IsPlain line → ended_lines line ≡ []
   pub too_long : (line rest : List ℕ) → IsPlain line → length line ≡ 65536 → heard (line ++ rest) ≡ nothing_more over.Failed
+
+-- bytes are none, or end with a new line
+abbrev pub EndsWhole : List ℕ → Type 0
+EndsWhole taken = (taken ≡ []) ⊎ ((front : List ℕ) × (taken ≡ front ++ 10 ∷ []))
+
+-- a source has given these complete lines, one read after another, and more is read ahead
+abbrev pub GaveLines : {S : Type 0} → (S → S → List ℕ → Type 0) → S → S → List (List ℕ) → List ℕ → Type 0
+GaveLines {S} gives before after lines ahead =
+    (parts : List (List ℕ)) × (AreGiven gives before after parts × ((taken : List ℕ) × ((concat parts ≡ taken ++ ahead) × (ended_lines taken ≡ lines) × EndsWhole taken)))
+
+-- A source has given no lines at first, and one more after each line that is taken.
+pub record LinesAreGiven {S : Type 0} (gives : S → S → List ℕ → Type 0) : Type 0 where
+  pub none : (a : S) → GaveLines gives a a [] []
+  pub more : (a b c : S) (lines : List (List ℕ)) (ahead ahead' part : List ℕ) → GaveLines gives a b lines ahead → Takes gives b c ahead ahead' (part ++ 10 ∷ []) → IsPlain part → GaveLines gives a c (lines ++ strip_carriage_return part ∷ []) ahead'

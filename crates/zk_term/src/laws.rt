@@ -1,9 +1,11 @@
 // Laws of the lines of an input, of the upper window and of text that is wrapped.
 
 ghost use Rattle.zk_term.specs.Characters.{CharactersAreSpelled, CharactersAreDetermined};
-ghost use Rattle.zk_term.specs.Lines.{AreLines};
+ghost use Rattle.zk_term.specs.Lines.{AreLines, LinesAreGiven};
 ghost use Rattle.zk_term.specs.WindowLaws.{CharactersStandInARow, PrintsKeepTheSplit, PrintsKeepTheRowsBelow, PrintsFollowOneAnother, SplitsEmptyThePast, KeepsTheTallest, KeepsTheCursor, SpacesAtTheEndGo, ClearedRowsHaveNoText};
 ghost use Rattle.zk_term.specs.WrappingLaws.{CharactersTakeColumns, LinesAreFull, LinesAreWithin, LinesAreWrappedOneByOne, OnlySpacesBecomeNewLines, RowsStay};
+
+use crate::source::Source;
 
 /// The characters of bytes are those that the bytes spell.
 pub fn characters_are_spelled()
@@ -19,6 +21,11 @@ pub fn characters_are_determined()
 /// too many bytes for one, or with nothing.
 pub fn lines_come_one_by_one()
     ensures { AreLines }
+{}
+
+/// A source has given no lines at first, and one more after each line that is taken of it.
+pub fn lines_are_given<S: Source>()
+    ensures { LinesAreGiven S.gives }
 {}
 
 /// Characters that are printed in a row of the upper window stand in consecutive cells, and nothing else is

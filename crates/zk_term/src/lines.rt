@@ -3,11 +3,11 @@
 ghost use Rattle.std.specs.Prelude.{◌≡◌, ◌<◌, ◌≤◌, ◌⊎◌, ◌∷◌, ◌++◌, take, List, ℕ, Bool, Option, None, Some, [], length, true, IfOk, OnErr, OnOk};
 ghost use Rattle.std.specs.List.{AllByRecursion};
 ghost use Rattle.std.specs.Str.Lines.{strip_carriage_return};
-ghost use Rattle.zk_text.specs.Extra.{is_input_code};
+ghost use Rattle.zk_text.specs.Extra.{ExtraTable, is_input_code};
 ghost use Rattle.zk_term.specs.Characters.{character_length, character_of, character_step, typed_code, line_codes};
 ghost use Rattle.zk_term.specs.declared.lines.InputEnd.{InputEnd};
 ghost use Rattle.zk_term.specs.Devices.{HasJust};
-ghost use Rattle.zk_term.specs.Lines.{Reading, ReadFailed, GivesEach, GivesLine, GoesBy, FailsAlone, Hears, HasInputCodes, IsOverAfter, MeetsBound, over_input, TakesByte};
+ghost use Rattle.zk_term.specs.Lines.{Reading, ReadFailed, GivesEach, GivesLine, GoesBy, FailsAlone, Hears, HasInputCodes, IsOverAfter, MeetsBound, over_input, TakesByte, TakesLine, TakesAnswer};
 
 use crate::source::Source;
 use crate::target::Failed;
@@ -226,6 +226,9 @@ impl Lines {
             (S.failed source.new ≡ S.failed source.old) result }
         ensures over { OnOk result ((self.new.over ≡ None) ⊎ (self.new.over ≡ Some InputEnd.End)) }
         ensures none { OnErr result (self.new.over ≡ None) }
+        ensures taken { self.new.over ≡ None → IfOk result (λ kept. (t : ExtraTable)
+            → TakesLine S.gives source.old source.new self.old.ahead self.new.ahead t
+            (line_codes t kept.items)) }
         ensures ends { self.new.over ≡ Some InputEnd.End → HasJust S.ends source.new }
         ensures goes { GoesBy (ReadFailed S.fails S.failed source.new self.new
             ⊎ ((S.failed source.new ≡ S.failed source.old)
@@ -274,6 +277,8 @@ impl Lines {
             × Hears extra.now (self.old.ahead ++ bytes) (self.new.ahead ++ later) self.new.over
             (ReadFailed S.fails S.failed source.new self.new)
             (S.failed source.new ≡ S.failed source.old) result }
+        ensures taken { self.old.over ≡ None → self.new.over ≡ None
+            → TakesAnswer S.gives source.old source.new self.old.ahead self.new.ahead extra.now result }
         ensures next { self.old.over ≡ None → IsOverAfter result self.new.over }
         ensures codes { HasInputCodes result }
         ensures failed { self.old.over ≡ None → FailsAlone
