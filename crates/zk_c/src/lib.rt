@@ -4,7 +4,7 @@
 ghost use Rattle.std.specs.Prelude.{◌≡◌, ◌∷◌, ◌==◌, [], List, ℕ, None, Some, not};
 ghost use Rattle.zk_mem.specs.Header.{header_of};
 ghost use Rattle.zk_term.specs.Windows.{row_text, tallest_row_text};
-ghost use Rattle.zk_vm.specs.Outcome.{with_grid_forgotten};
+ghost use Rattle.zk_vm.specs.Sessions.{with_grid_forgotten};
 ghost use Rattle.zk_vm.specs.Answers.Answer.{Typed, GameKept, File};
 ghost use Rattle.zk_vm.specs.Plays.{codes_read};
 ghost use Rattle.zk_host.specs.Texts.{IsPutInFront, IsTaken};

@@ -1,8 +1,8 @@
 -- A play for which no file of a saved game is named keeps and finds nothing.
 use Rattle.std.proofs.Common.{◌≡◌, ◌∙◌, true, false, [], ◌∷◌, Option, Some, None, ap, refl}
-use Rattle.zk_vm.specs.Answers.Answer.{Typed, GameKept, File}
-use Rattle.zk_vm.specs.Outcome.{given, ran}
-use Rattle.zk_vm.specs.Plays.{AreAnswers}
+use Rattle.zk_vm.specs.Log.Entry.{At, Shown, Scripted, Read, Offered, Asked, Stopped}
+use Rattle.zk_vm.specs.Logged.{SlotDid}
+use Rattle.zk_command.specs.declared.save_file.SaveFile.{SaveFile}
 use Rattle.zk_command.specs.NoFile.{NothingIsKept}
 use Rattle.zk_command.specs.SaveFiles.{held_in}
 
@@ -15,9 +15,13 @@ still_none : {P : Type 0} (old new : Option P) → old ≡ None → held_in new 
 still_none old new none same = no_path new (same ∙ ap held_in none)
 
 pub nothing_is_kept : NothingIsKept
-unfolding AreAnswers
-nothing_is_kept before after unwritten s [] none h = tt
-nothing_is_kept before after unwritten s (Typed codes ∷ answers) none h = (tt, nothing_is_kept before after unwritten (given (ran s) (Typed codes)) answers none h.1.2)
-nothing_is_kept before after unwritten s (GameKept true ∷ answers) none h = let never = rw none at h.1.0.1 in absurd cc
-nothing_is_kept before after unwritten s (GameKept false ∷ answers) none h = (refl, nothing_is_kept h.0 after unwritten (given (ran s) (GameKept false)) answers (still_none before.place h.0.place none h.1.0.2) h.1.1)
-nothing_is_kept before after unwritten s (File file ∷ answers) none h = (rw none at h.1.0.1, nothing_is_kept h.0 after unwritten (given (ran s) (File file)) answers (still_none before.place h.0.place none h.1.0.2) h.1.1)
+unfolding SlotDid
+nothing_is_kept before after [] none h = tt
+nothing_is_kept before after (Offered file true ∷ l) none h = let never = rw none at h.1.0.0 in absurd cc
+nothing_is_kept before after (Offered file false ∷ l) none h = (refl, nothing_is_kept h.0 after l (still_none before.place h.0.place none (h.1.0.2 refl)) h.1.1)
+nothing_is_kept before after (Asked file refusal ∷ l) none h = (rw none at h.1.0.0, nothing_is_kept h.0 after l (still_none before.place h.0.place none h.1.0.1) h.1.1)
+nothing_is_kept before after (At address ∷ l) none h = (tt, nothing_is_kept h.0 after l (ap (λ (s : SaveFile). s.place) h.1.0 ∙ none) h.1.1)
+nothing_is_kept before after (Shown c ∷ l) none h = (tt, nothing_is_kept h.0 after l (ap (λ (s : SaveFile). s.place) h.1.0 ∙ none) h.1.1)
+nothing_is_kept before after (Scripted c ∷ l) none h = (tt, nothing_is_kept h.0 after l (ap (λ (s : SaveFile). s.place) h.1.0 ∙ none) h.1.1)
+nothing_is_kept before after (Read extra codes ∷ l) none h = (tt, nothing_is_kept h.0 after l (ap (λ (s : SaveFile). s.place) h.1.0 ∙ none) h.1.1)
+nothing_is_kept before after (Stopped stop ∷ l) none h = (tt, nothing_is_kept h.0 after l (ap (λ (s : SaveFile). s.place) h.1.0 ∙ none) h.1.1)

@@ -7,12 +7,13 @@ use Rattle.zk_term.specs.Devices.{Shows}
 use Rattle.zk_term.proofs.Shown.{shows_twice}
 use Rattle.zk_vm.specs.declared.stop.Stop.{Stop}
 use Rattle.zk_vm.specs.declared.stop.Stop.TheVariants.{Write}
-use Rattle.zk_term.specs.declared.lines.InputEnd.TheVariants.{End}
 use Rattle.zk_term.specs.Lines.{heard}
-use Rattle.zk_vm.specs.Halts.{event_waited}
-use Rattle.zk_step.specs.Routing.{Texts, no_text}
-use Rattle.zk_vm.specs.Outcome.{Outcome, Session, given_all, outcome, ran, shown_up_to}
-use Rattle.zk_vm.specs.Plays.{AreAnswers, IsAnswered, IsPlay, IsPlayed, SlotTells, SourceTells, Taken, stop_waiting, taken_by}
+use Rattle.zk_vm.specs.Log.{scripted}
+use Rattle.zk_vm.specs.Logged.{Plays, SlotDid}
+use Rattle.zk_vm.specs.Logged.EndsBy.{Unwritten}
+use Rattle.zk_vm.specs.Sessions.{Session}
+use Rattle.zk_vm.specs.Plays.{SlotTells, SourceTells, Taken, taken_by}
+use Rattle.zk_vm.proofs.Logs.{no_log}
 use Rattle.zk_vm.proofs.Playing.{heard_whole}
 
 -- what a write took of no bytes
@@ -49,56 +50,61 @@ shows_failed old new text h = record {
   none = λ f. refl;
 }
 
--- a play after a write of no bytes to the script
-pub after_none : (Is : Outcome → Texts → Type 0) (stop : Stop) (unwritten : Bool) (screen script0 between : Option (List ℕ)) (new : Taken) → Appends script0 between []
-    → IsPlay Is stop unwritten (taken_by screen between) new → IsPlay Is stop unwritten (taken_by screen script0) new
-after_none Is stop unwritten screen script0 between new h p = record {
-  outcome = p.outcome;
-  first = p.first;
-  second = p.second;
-  is = p.is;
-  whole = p.whole;
-  stops = p.stops;
-  took = record {
-    between = p.took.between;
-    takes_first = record { screen = p.took.takes_first.screen; script = shows_twice _ _ _ [] p.first.script (shows_none script0 between h) p.took.takes_first.script };
-    takes_second = p.took.takes_second;
-  };
-}
+module _ {K R : Type 0} (t : SlotTells K) (r : SourceTells R) (tells : R → Option (List ℕ)) (Noted : List ℕ → Type 0) where
+  -- a play after a write of no bytes to the script
+  pub after_none : (slot0 slot1 : K) (reader0 reader1 : R) (m : Session) (stop : Stop) (unwritten : Bool) (screen script0 between : Option (List ℕ)) (new : Taken) → Appends script0 between []
+      → Plays t r tells Noted slot0 slot1 reader0 reader1 m stop unwritten (taken_by screen between) new → Plays t r tells Noted slot0 slot1 reader0 reader1 m stop unwritten (taken_by screen script0) new
+  after_none slot0 slot1 reader0 reader1 m stop unwritten screen script0 between new h p = record {
+    log = p.log;
+    to = p.to;
+    is = p.is;
+    ends = p.ends;
+    wrote = record {
+      first = p.wrote.first;
+      last = p.wrote.last;
+      whole = p.wrote.whole;
+      alone = p.wrote.alone;
+      between = p.wrote.between;
+      all = record { screen = p.wrote.all.screen; script = shows_twice _ _ _ [] (scripted p.wrote.first) (shows_none script0 between h) p.wrote.all.script };
+      part = p.wrote.part;
+    };
+    noted = p.noted;
+    slot = p.slot;
+    did = p.did;
+    left = p.left;
+    typed = p.typed;
+    heard = p.heard;
+  }
+
+  -- a play whose script failed at that write
+  pub none_played : (slot : K) (reader : R) (m : Session) (unwritten : Bool) (screen script0 script1 : Option (List ℕ)) → unwritten ≡ true → r.failed reader ≡ false → Appends script0 script1 [] → Noted [] → Plays t r tells Noted slot slot reader reader m Write unwritten (taken_by screen script0) (taken_by screen script1)
+  unfolding SlotDid
+  none_played slot reader m unwritten screen script0 script1 e works h none = record {
+    log = [];
+    to = m;
+    is = no_log m;
+    ends = Unwritten e refl (λ f. refl);
+    wrote = record {
+      first = [];
+      last = [];
+      whole = refl;
+      alone = refl;
+      between = taken_by screen script0;
+      all = record { screen = shows_none screen screen (Appends-nil screen); script = shows_none script0 script0 (Appends-nil script0) };
+      part = rw e (record { screen = shows_failed screen screen [] (Appends-nil screen); script = shows_failed script0 script1 [] h });
+    };
+    noted = inl none;
+    slot = slot;
+    did = refl;
+    left = inl refl;
+    typed = tt;
+    heard = λ bytes told. (bytes, (told, (heard bytes, ((heard bytes).lines, (heard_whole bytes bytes (r.failed reader) (heard bytes).lines works, refl, tt)))));
+  }
 
 -- one of two writes has failed
 pub failed_or : (a b : Bool) → b ≡ true → (a || b) ≡ true
 failed_or true b e = refl
 failed_or false b e = e
-
--- a play whose script failed at that write
-pub unwritten : (Is : Outcome → Texts → Type 0) (o : Outcome) (a b : Bool) (screen script0 script1 : Option (List ℕ)) → Is o no_text → b ≡ true → Appends script0 script1 []
-    → IsPlay Is Write (a || b) (taken_by screen script0) (taken_by screen script1)
-unwritten Is o a b screen script0 script1 is e h = rw (failed_or a b e) (record {
-  outcome = o;
-  first = no_text;
-  second = o.text;
-  is = is;
-  whole = refl;
-  stops = refl;
-  took = record {
-    between = taken_by screen script0;
-    takes_first = record { screen = shows_none screen screen (Appends-nil screen); script = shows_none script0 script0 (Appends-nil script0) };
-    takes_second = record { screen = shows_failed screen screen o.text.screen (Appends-nil screen); script = shows_failed script0 script1 o.text.script h };
-  };
-})
-
--- a play without an answer, where a write has failed
-pub none_played : {K : Type 0} (tells : SlotTells K) (slot : K) (bytes later : List ℕ) (failed unwritten : Bool) (m : Session) → failed ≡ false → unwritten ≡ true
-    → IsPlayed tells slot slot bytes later failed unwritten m (outcome [] (stop_waiting (event_waited (ran (given_all [] m)).waiting) (heard bytes).over) m) no_text
-unfolding AreAnswers shown_up_to
-none_played {K} tells slot bytes later failed unwritten m sound e =
-    (heard bytes, ((heard bytes).lines, (heard_whole bytes later failed (heard bytes).lines sound, ([], ((inl refl, refl), refl, inl (refl, λ f. absurd cc))))))
-
-pub none_answered : {K R : Type 0} (tells : SlotTells K) (reads : SourceTells R) (slot : K) (reader : R) (unwritten : Bool) (m : Session) → unwritten ≡ true
-    → IsAnswered tells reads slot slot reader reader unwritten m (outcome [] (stop_waiting (event_waited (ran (given_all [] m)).waiting) End) m) no_text
-unfolding AreAnswers shown_up_to
-none_answered tells reads slot reader unwritten m e = (End, ([], ((inl refl, refl), refl, inl (refl, (λ f. absurd cc, λ never none. refl)))))
 
 pub not_true : (x : Bool) (A : Type 0) → x ≡ false → x ≡ true → A
 not_true x A h k = absurd cc

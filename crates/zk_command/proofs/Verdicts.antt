@@ -17,8 +17,7 @@ use Rattle.zk_inspect.specs.declared.check.finding.Number.TheVariants.{Undecodab
 use Rattle.zk_inspect.specs.Findings.{AreFindings, Finds}
 use Rattle.zk_inspect.proofs.FindingLaw.{findings_are_all}
 use Rattle.zk_vm.specs.Inside.{StopsRead}
-use Rattle.zk_vm.proofs.CleanRuns.{stays_clean}
-use Rattle.zk_vm.proofs.EachSaid.{stops_read}
+use Rattle.zk_vm.proofs.CleanRuns.{stays_clean, stops_read}
 use Rattle.zk_command.specs.Verdict.{CleanWhereNone, HasCleanRuns, IsStart}
 
 module _ (m : MemoryMap) (bytes : HasBytes m) (none : (n : Number) (a : ℕ) → Finds m n a → ⊥) where
@@ -40,7 +39,7 @@ pub has_clean_runs : (m : MemoryMap) (fs : List Finding) → HasBytes m → IsSt
 has_clean_runs m fs bytes start h e =
     let code = clean m bytes ((findings_are_all m fs h).none.0 e) in
     let runs = stays_clean m.file m.undo_states (IsReached m) start.story (subst (λ (n : MemoryMap). IsClean n (IsReached m)) start.fresh_is code) in
-    record { code = code; runs = runs; stops = stops_read (IsReached m) m.file runs }
+    record { code = code; runs = runs; stops = stops_read m.file (IsReached m) runs }
 
 pub stops_where_none : (m : MemoryMap) (fs : List Finding) → HasBytes m → IsStart m → AreFindings m fs → fs ≡ [] → StopsRead m.file (IsReached m)
 stops_where_none m fs bytes start h e = (has_clean_runs m fs bytes start h e).stops

@@ -1,10 +1,10 @@
 -- A play for which no file of a saved game is named.
-use Rattle.std.specs.Prelude.{◌≡◌, Bool, false, List, None}
+use Rattle.std.specs.Prelude.{◌≡◌, false, List, None}
 use Rattle.std.specs.List.{AllByRecursion}
-use Rattle.zk_vm.specs.Answers.{Answer}
-use Rattle.zk_vm.specs.Answers.Answer.{Typed, GameKept, File}
-use Rattle.zk_vm.specs.Outcome.{Session}
-use Rattle.zk_vm.specs.Plays.{AreAnswers, ReadsCodes, SlotTells, slot_tells}
+use Rattle.zk_vm.specs.Log.{Entry}
+use Rattle.zk_vm.specs.Log.Entry.{Offered, Asked}
+use Rattle.zk_vm.specs.Logged.{SlotDid}
+use Rattle.zk_vm.specs.Plays.{SlotTells, slot_tells}
 use Rattle.zk_command.specs.declared.save_file.SaveFile.{SaveFile}
 use Rattle.zk_command.specs.SaveFiles.{held_in, keeps_in}
 
@@ -12,12 +12,12 @@ use Rattle.zk_command.specs.SaveFiles.{held_in, keeps_in}
 abbrev pub file_tells : SlotTells SaveFile
 file_tells = slot_tells (λ s. held_in s.place) (λ s file. keeps_in s.place) (λ before after file kept. Unit {0}) (λ before after file. Unit {0}) (λ before after error. Unit {0})
 
--- an answer by which no game is kept, and none is found
-abbrev pub KeepsNothing : Answer → Type 0
-KeepsNothing (Typed codes) = Unit {0}
-KeepsNothing (GameKept kept) = kept ≡ false
-KeepsNothing (File file) = file ≡ None
+-- by what passes between a machine and its world no game is kept, and none is found
+abbrev pub KeepsNothing : Entry → Type 0
+KeepsNothing (Offered file kept) = kept ≡ false
+KeepsNothing (Asked file refusal) = file ≡ None
+KeepsNothing _ = Unit {0}
 
--- where no file is named, all answers that a play gets of its slot are such
+-- where no file is named, all that passes between a play and its slot is such
 abbrev pub NothingIsKept : Type 0
-NothingIsKept = (before after : SaveFile) (unwritten : Bool) (s : Session) (answers : List Answer) → before.place ≡ None → AreAnswers file_tells ReadsCodes unwritten before after tt tt s answers → AllByRecursion KeepsNothing answers
+NothingIsKept = (before after : SaveFile) (entries : List Entry) → before.place ≡ None → SlotDid file_tells entries before after → AllByRecursion KeepsNothing entries

@@ -1,12 +1,12 @@
 -- How a file is played.
-use Rattle.std.specs.Prelude.{◌≡◌, ◌⊎◌, ◌||◌, ℕ, Bool, true, false, List, take, Option, Some, None, IfSome, Result, Ok, Err}
+use Rattle.std.specs.Prelude.{◌≡◌, ◌⊎◌, ◌||◌, ℕ, Bool, true, false, List, [], take, Option, Some, None, IfSome, Result, Ok, Err}
 use Rattle.zk_mem.specs.Story.{refusal}
 use Rattle.zk_term.specs.Devices.{Device, device}
 use Rattle.zk_vm.specs.declared.stop.Stop.{Stop}
 use Rattle.zk_vm.specs.declared.stop.Stop.TheVariants.{Memory, Read}
-use Rattle.zk_vm.specs.Outcome.{Outcome, Session, begun}
-use Rattle.zk_step.specs.Routing.{Texts}
-use Rattle.zk_vm.specs.Plays.{IsPlay, IsPlayed, IsAnswered, SlotTells, SourceTells, Taken}
+use Rattle.zk_vm.specs.Logged.{Plays}
+use Rattle.zk_vm.specs.Sessions.{Session, begun}
+use Rattle.zk_vm.specs.Plays.{SlotTells, SourceTells, Taken}
 use Rattle.zk_command.specs.LastLine.{TookExplained, last_line}
 use Rattle.zk_command.specs.Status.{exit_status}
 use Rattle.zk_command.specs.declared.exit.Exit.{Exit}
@@ -18,37 +18,34 @@ use Rattle.zk_command.specs.declared.settings.Settings.{Settings}
 abbrev pub bytes_read : List ℕ → List ℕ
 bytes_read file = take 524289 file
 
--- the devices of a play, by what they tell of themselves: what was typed and not read yet, and whether a read has failed;
--- the screen, and what the transcript goes to
+-- the devices of a play, by what they tell of themselves: whether a read has failed; the screen, and what the transcript goes to
 pub record DeviceStates : Type 0 where
-  pub typed : Option (List ℕ)
   pub unread : Bool
   pub screen : Device
   pub script : Device
 
--- What became of the devices of a play: what it may have been played on where a write has failed or not, by answers, and by
--- the bytes of an input of which some are left; and what the devices told before it and after it.
+-- What became of the devices of a play: what it is that a machine was played on them up to a stop, where a write has failed or
+-- not; the addresses that were noted; and what the devices told before it and after it.
 pub record Play : Type 1 where
-  pub answered : Bool → Session → Outcome → Texts → Type 0
-  pub played : List ℕ → List ℕ → Bool → Bool → Session → Outcome → Texts → Type 0
+  pub logged : Session → Stop → Bool → Taken → Taken → Type 0
+  pub noted : List ℕ → Type 0
   pub old : DeviceStates
   pub new : DeviceStates
 
-abbrev pub states_of : {I S T K : Type 0} → (I → Option (List ℕ)) → (I → Bool) → (S → Option (List ℕ)) → (S → Bool) → (T → Option (List ℕ)) → (T → Bool) → Devices I S T K → DeviceStates
-states_of {I} {S} {T} {K} left unread seen screen_failed written script_failed d = record {
-  typed = left d.input;
+abbrev pub states_of : {I S T K : Type 0} → (I → Bool) → (S → Option (List ℕ)) → (S → Bool) → (T → Option (List ℕ)) → (T → Bool) → Devices I S T K → DeviceStates
+states_of {I} {S} {T} {K} unread seen screen_failed written script_failed d = record {
   unread = unread d.input;
   screen = device seen screen_failed d.screen;
   script = device written script_failed d.script;
 }
 
--- a play on devices, by what an input, a screen, a script and a slot for saved games tell
-abbrev pub play_on : {I S T K : Type 0} → (I → Option (List ℕ)) → SourceTells I → (S → Option (List ℕ)) → (S → Bool) → (T → Option (List ℕ)) → (T → Bool) → SlotTells K → Devices I S T K → Devices I S T K → Play
-play_on {I} {S} {T} {K} left input seen screen_failed written script_failed slot old new = record {
-  answered = IsAnswered slot input old.slot new.slot old.input new.input;
-  played = IsPlayed slot old.slot new.slot;
-  old = states_of left input.failed seen screen_failed written script_failed old;
-  new = states_of left input.failed seen screen_failed written script_failed new;
+-- a play on devices, by what an input, a screen, a script and a slot for saved games tell, and by what was noted
+abbrev pub play_on : {I S T K : Type 0} → (I → Option (List ℕ)) → SourceTells I → (S → Option (List ℕ)) → (S → Bool) → (T → Option (List ℕ)) → (T → Bool) → SlotTells K → (List ℕ → Type 0) → Devices I S T K → Devices I S T K → Play
+play_on {I} {S} {T} {K} left input seen screen_failed written script_failed slot Noted old new = record {
+  logged = Plays slot input left Noted old.slot new.slot old.input new.input;
+  noted = Noted;
+  old = states_of input.failed seen screen_failed written script_failed old;
+  new = states_of input.failed seen screen_failed written script_failed new;
 }
 
 -- what the screen and the transcript's target took
@@ -65,19 +62,17 @@ pub record Work {I S T K : Type 0} (unread : I → Bool) (screen_failed : S → 
   pub screen : screen_failed d.screen ≡ false
   pub script : script_failed d.script ≡ false
 
--- A machine was played up to its stop: on some answers, and where it is told what was typed, on its lines and on saved
--- games. The screen and the script got their texts of the outcome, or first parts of them where a write to one of them
--- failed.
+-- A machine was played up to its stop: there is a log of it, of which each device has its part, or a first part of it where a
+-- write has failed.
 pub record IsPlayedBy (p : Play) (machine : Session) (stop : Stop) : Type 0 where
-  pub answered : IsPlay (p.answered (write_failed p.new) machine) stop (write_failed p.new) (taken_of p.old) (taken_of p.new)
-  pub played : (bytes : List ℕ) → p.old.typed ≡ Some bytes → (later : List ℕ) × (p.new.typed ≡ Some later)
-      × IsPlay (p.played bytes later p.new.unread (write_failed p.new) machine) stop (write_failed p.new) (taken_of p.old) (taken_of p.new)
+  pub logged : p.logged machine stop (write_failed p.new) (taken_of p.old) (taken_of p.new)
   pub unread : p.new.unread ≡ true → stop ≡ Read
 
--- the screen and the script got nothing
+-- the screen and the script got nothing, and nothing was noted
 pub record GotNothing (p : Play) : Type 0 where
   pub screen : p.new.screen ≡ p.old.screen
   pub script : p.new.script ≡ p.old.script
+  pub noted : p.noted []
 
 -- a story was played with its seed, limits and view, or there was no memory to start it
 abbrev pub IsRun : Play → List ℕ → Settings → Stop → Type 0

@@ -74,8 +74,8 @@ pub fn play_file<R: Read + Drop, I: Source, S: Target, T: Target, K: SaveSlot, P
     requires in_range { AreInRange settings.limits }
     requires works { Work I.failed S.failed T.failed devices.old }
     ensures { EndsPlay (play_on I.left (source_tells I.ends I.fails I.gives I.failed) S.taken
-        S.failed T.taken T.failed (slot_tells K.held K.keeps K.puts K.gets K.hears) devices.old
-        devices.new) (R.remaining reader) settings result }
+        S.failed T.taken T.failed (slot_tells K.held K.keeps K.puts K.gets K.hears)
+        (P.noted places.old places.new) devices.old devices.new) (R.remaining reader) settings result }
 {
     let story = match open_story(alloc, reader, about) {
         Ok(story) => story,
@@ -131,7 +131,7 @@ pub fn play_and_report<
     requires errors_work { E.failed errors.old ≡ false }
     ensures { IsReported (EndsPlay (play_on I.left (source_tells I.ends I.fails I.gives I.failed)
         S.taken S.failed T.taken T.failed (slot_tells K.held K.keeps K.puts K.gets K.hears)
-        devices.old devices.new) (R.remaining reader) settings)
+        (P.noted places.old places.new) devices.old devices.new) (R.remaining reader) settings)
         (device E.taken E.failed errors.old) (device E.taken E.failed errors.new) result }
 {
     let exit = play_file(alloc, reader, about, settings, devices, places);

@@ -1,17 +1,18 @@
 -- What the calls of a play answer, and how they leave it.
-use Rattle.std.specs.Prelude.{◌≡◌, ◌⊎◌, ℕ, Bool, true, false, List, Option, Some, None, Result, Ok, Err, if◌then◌else◌}
+use Rattle.std.specs.Prelude.{◌≡◌, ◌⊎◌, ◌+◌, ℕ, Bool, true, false, List, Option, Some, None, Result, Ok, Err, if◌then◌else◌}
 use Rattle.std.specs.Global.{Vec, Box}
 use Rattle.zk_text.specs.Extra.{own_characters}
-use Rattle.zk_step.specs.Routing.{Texts}
 use Rattle.zk_step.specs.declared.state.game_state.View.{View}
 use Rattle.zk_vm.specs.declared.limits.Limits.{Limits}
 use Rattle.zk_step.specs.declared.state.ending.Event.{Event}
 use Rattle.zk_step.specs.declared.state.ending.Event.TheVariants.{Line, Char, Save, Restore}
 use Rattle.zk_vm.specs.declared.stop.Stop.{Stop}
 use Rattle.zk_vm.specs.Answers.{Answer, undone}
-use Rattle.zk_vm.specs.Halts.{HasPaused, IsLeftAs, IsUndone, event_waited}
-use Rattle.zk_vm.specs.Outcome.{Session, begun, given}
-use Rattle.zk_vm.specs.Plays.{IsRunOn, image_of}
+use Rattle.zk_vm.specs.Halts.{IsLeftAs, IsUndone, event_waited}
+use Rattle.zk_vm.specs.Log.{Entry, scripted, shown}
+use Rattle.zk_vm.specs.Logged.{Ran, RunsOn}
+use Rattle.zk_vm.specs.Sessions.{Session, begun, given}
+use Rattle.zk_vm.specs.Plays.{image_of}
 use Rattle.zk_host.specs.declared.collected.Collected.{Collected}
 use Rattle.zk_host.specs.declared.play.Asked.{Asked}
 use Rattle.zk_host.specs.declared.play.Asked.TheVariants as asked
@@ -52,9 +53,13 @@ abbrev pub stop_of : Result Event Stop → Option Stop
 stop_of (Ok event) = None
 stop_of (Err stop) = Some stop
 
--- what the screen or the transcript shows of a run is collected; where text is lost, perhaps a first part of it alone
-abbrev pub Shown : Collected → Collected → Texts → Type 0
-Shown old new t = Collects old new t.screen t.script
+-- what the screen and the transcript get of a log is collected; where text is lost, perhaps a first part of it alone
+abbrev pub Shown : Collected → Collected → List Entry → Type 0
+Shown old new l = Collects old new (shown l) (scripted l)
+
+-- of the instructions nothing is noted
+abbrev pub Unnoted : List ℕ → Type 0
+Unnoted places = Unit {0}
 
 -- why a run has paused
 abbrev pub pause_of : Play → Asked
@@ -63,14 +68,14 @@ pause_of p = if has_no_room p.text then asked.Room else asked.Time
 -- a play has run to an event or its stop, and collected what it shows; where text is lost, that is its stop
 abbrev pub HasEnded : Play → Play → Result Event Stop → Type 0
 HasEnded old new answer =
-    IsRunOn old.machine new.machine answer (is_lost new.text) (Shown old.text new.text)
+    RunsOn (Shown old.text new.text) Unnoted old.machine new.machine answer (is_lost new.text)
     × (new ≡ record old { machine = new.machine; text = new.text; stopped = stop_of answer })
 
 -- a play has paused after so many steps, or once there is no room for more text
 abbrev pub HasPausedBy : Play → Play → ℕ → Asked → Type 0
 HasPausedBy old new steps why =
-    HasPaused Collects has_no_room old.text new.text steps old.machine new.machine
-    × (why ≡ pause_of new) × (is_lost new.text ≡ false)
+    Ran Collects has_no_room is_lost Unnoted old.text new.text (old.machine.state.steps + steps) old.machine new.machine (Ok tt)
+    × (why ≡ pause_of new)
     × (new ≡ record old { machine = new.machine; text = new.text })
 
 -- a play has run for so many steps at most, by what the turn tells

@@ -15,7 +15,7 @@ use Rattle.std.specs.Global.{Box, Vec}
 use Rattle.zk_host.specs.declared.play.SnapshotRefusal.{SnapshotRefusal}
 use Rattle.zk_host.specs.declared.play.Refusal.{Refusal}
 use Rattle.zk_mem.specs.declared.header.Header.{Header}
-use Rattle.zk_vm.specs.Outcome.{Session}
+use Rattle.zk_vm.specs.Sessions.{Session}
 use Rattle.zk_host.specs.declared.facts.Facts.{Facts}
 use Rattle.zk_host.specs.declared.listing.Listing.{Listing}
 use Rattle.zk_host.specs.Calls.{awaited, begun_play, read_refused, IsGiven, IsGoneBack, IsListedBy, IsOpenedFrom, IsSnapshot, IsTurned}

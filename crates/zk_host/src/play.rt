@@ -8,7 +8,7 @@ ghost use Rattle.zk_mem.specs.Fresh.{fresh};
 ghost use Rattle.zk_mem.specs.Header.{header_of};
 ghost use Rattle.zk_mem.specs.Story.{refusal};
 ghost use Rattle.zk_term.specs.Windows.{row_text, tallest_row_text};
-ghost use Rattle.zk_vm.specs.Outcome.{with_grid_forgotten};
+ghost use Rattle.zk_vm.specs.Sessions.{with_grid_forgotten};
 ghost use Rattle.zk_host.specs.Drawing.{longest_line, row_bytes, row_number, window_of};
 ghost use Rattle.zk_host.specs.Listings.{IsListing};
 ghost use Rattle.zk_snapshot.specs.Opening.{IsRefused};

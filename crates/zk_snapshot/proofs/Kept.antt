@@ -7,7 +7,7 @@ use Rattle.zk_state.specs.Frames.{bounds_of}
 use Rattle.zk_step.specs.declared.state.ending.Event.{Event}
 use Rattle.zk_vm.specs.declared.waiting.Waiting.{Waiting}
 use Rattle.zk_vm.specs.Halts.{event_waited}
-use Rattle.zk_vm.specs.Outcome.{Session}
+use Rattle.zk_vm.specs.Sessions.{Session}
 use Rattle.zk_vm.specs.Parts.{asking_of}
 use Rattle.zk_snapshot.specs.Laws.{IsKept}
 use Rattle.zk_snapshot.specs.Snapshots.{HasSnapshot}

@@ -27,7 +27,7 @@ use Rattle.zk_vm.specs.declared.machine.parts.Asking.{Asking}
 use Rattle.zk_vm.specs.declared.machine.parts.Place.{Place}
 use Rattle.zk_vm.specs.declared.waiting.Waiting.{Waiting}
 use Rattle.zk_vm.specs.Halts.{event_waited}
-use Rattle.zk_vm.specs.Outcome.{Session}
+use Rattle.zk_vm.specs.Sessions.{Session}
 use Rattle.zk_vm.specs.Parts.{asking_of, place_of}
 use Rattle.zk_snapshot.specs.Laws.{without_gone, with_nothing_kept, IsKept}
 use Rattle.zk_snapshot.specs.Sums.{sum_of}

@@ -5,7 +5,7 @@ use Rattle.zk_step.specs.declared.output.streams.OpenTable.{OpenTable}
 use Rattle.zk_step.specs.declared.state.ending.Event.{Event}
 use Rattle.zk_step.specs.Streams.{newest_of}
 use Rattle.zk_vm.specs.Halts.{event_waited}
-use Rattle.zk_vm.specs.Outcome.{Session}
+use Rattle.zk_vm.specs.Sessions.{Session}
 use Rattle.zk_vm.specs.Step.{is_read}
 use Rattle.zk_snapshot.specs.Snapshots.{HasSnapshot}
 

@@ -5,7 +5,7 @@ use Rattle.zk_code.specs.Reading.{instr_at}
 use Rattle.zk_state.specs.Frames.{bounds_of}
 use Rattle.zk_term.specs.Windows.{forgotten}
 use Rattle.zk_step.specs.declared.state.game_state.GameState.{GameState}
-use Rattle.zk_vm.specs.Outcome.{Session}
+use Rattle.zk_vm.specs.Sessions.{Session}
 use Rattle.zk_snapshot.specs.Snapshots.{HasSnapshot}
 
 -- a game state whose screen has forgotten the grid that is gone

@@ -4,7 +4,7 @@ use Rattle.std.specs.Str.{bytes_eq}
 use Rattle.zk_snapshot.specs.declared.opening.SnapshotError.{SnapshotError}
 use Rattle.zk_snapshot.specs.declared.opening.SnapshotError.TheVariants.{NotASnapshot, OtherVersion, OtherStory, Damaged, OutOfMemory}
 use Rattle.zk_snapshot.specs.Snapshots.{name_bytes, version_byte, story_bytes, snapshot_of, HasSnapshot}
-use Rattle.zk_vm.specs.Outcome.{Session}
+use Rattle.zk_vm.specs.Sessions.{Session}
 
 -- what the first 23 bytes are refused for, in this order: the name, the version, the story
 unfoldable pub head_refusal : List ℕ → List ℕ → Option SnapshotError

@@ -17,7 +17,7 @@ use Rattle.zk_step.specs.declared.state.random.Generators.{Generators}
 use Rattle.zk_vm.specs.declared.limits.Limits.{Limits}
 use Rattle.zk_vm.specs.declared.machine.parts.Asking.{Asking}
 use Rattle.zk_vm.specs.declared.machine.parts.Place.{Place}
-use Rattle.zk_vm.specs.Outcome.{Session}
+use Rattle.zk_vm.specs.Sessions.{Session}
 use Rattle.zk_vm.specs.Parts.{asking_of, place_of}
 use Rattle.zk_vm.specs.Plays.{AsksForLine}
 use Rattle.zk_snapshot.specs.Sums.{sum_of}

@@ -28,7 +28,7 @@ pub(crate) const AMPLE: Limits = Limits {
 };
 
 /// A machine of a story of version 5, with this code at address 64.
-#[tactic(auto, unfolding(zk_vm::specs::Outcome::begun))]
+#[tactic(auto, unfolding(zk_vm::specs::Sessions::begun))]
 pub(crate) fn started(
     rt: &(impl Abort + AllocGlobal),
     limits: Limits,

@@ -33,7 +33,7 @@ use Rattle.zk_vm.specs.declared.stop.Stop.TheVariants as stop
 use Rattle.zk_vm.specs.declared.waiting.Waiting.{Waiting}
 use Rattle.zk_vm.specs.Going.{stop_by, IsPut, Settles, LacksMemory}
 use Rattle.zk_vm.specs.Halts.{Halt, IsKeeping, IsLeftAt, IsStep, StepsTo, halt_by}
-use Rattle.zk_vm.specs.Outcome.{Session}
+use Rattle.zk_vm.specs.Sessions.{Session}
 use Rattle.zk_vm.specs.Sound.{state_seen, IsOfStory, IsSound}
 use Rattle.zk_vm.specs.Step.{State, Step, Verdict, asked, back_to, fetched, settled, goes_by, goes_to, is_past_reads, is_read, kept_answer, led_to, most_reads, state_after, step, text_of, text_within, verdict_of, waits_by, with_kept}
 use Rattle.zk_vm.specs.Step.Step.{Goes, Waits as Awaits, Quits, Faults, Exceeds}
@@ -127,13 +127,6 @@ silent_by s undo r = step_all (λ x. text_of s x ≡ no_text) _ r (λ x e. go (w
 
 pub keeps_silent : (s : State) (i : Instr) (w : GameState) → text_of s (asked s i w SaveUndo) ≡ no_text
 keeps_silent s i w = silent_by s (with_kept s i w) (result_answered w i (kept_answer w.memory.undo_states) true)
-
-pub resumes_silent : (s : State) (i : Instr) (w : GameState) → text_of s (asked s i w RestoreUndo) ≡ no_text
-resumes_silent s i w = go (gone_back s.undo w.memory w.frames)
-  where
-    go : (q : Option (MemoryMap × FrameList × ℕ × List WholeState)) → text_of s (back_to s i w q) ≡ no_text
-    go None = silent_by s s.undo (result_answered w i 0 false)
-    go (Some (m, f, p, others)) = silent_by s others (resumed (record w { memory = m; frames = f }) p)
 
 -- ---- the ways of a step
 

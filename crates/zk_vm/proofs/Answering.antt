@@ -30,8 +30,8 @@ use Rattle.zk_vm.specs.Answers.{Answer, answered, answer_settled, limit_of, none
 use Rattle.zk_vm.specs.Answers.Answer.{Typed, GameKept, File}
 use Rattle.zk_vm.specs.Going.{IsPut, verdict_by, pc_by, steps_by, stopped_by, restored_by, restored_on, unrestored_by}
 use Rattle.zk_vm.specs.Halts.{CanAnswer, Halt, IsAnswerable, IsLeftAs, IsUndone, WhileRunning, event_waited, halt_by}
-use Rattle.zk_vm.specs.Outcome.{Session, given}
-use Rattle.zk_vm.specs.Outcome.{resumed as resumed_as}
+use Rattle.zk_vm.specs.Sessions.{Session, given}
+use Rattle.zk_vm.specs.Sessions.{resumed as resumed_as}
 use Rattle.zk_vm.specs.Plays.{AsksForLine}
 use Rattle.zk_vm.specs.Sound.{state_seen, IsOfStory, IsSound}
 use Rattle.zk_mem.specs.declared.fault.Fault.{Fault}
@@ -222,9 +222,6 @@ line_typed m w text parse codes due led v pc stopped is waits line transcript to
 -- a file that is refused, but for a limit, is none
 pub refused_on : (w : GameState) (i : Instr) (file : List ℕ) (e : RestoreError) → restored file w.memory w.frames ≡ Err e → limit_of e ≡ None → restored_on w i file ≡ limited_pc (result_answered w i 0 false)
 refused_on w i file e h none = ap (restored_by w i) h ∙ ap (unrestored_by w i) none
-
-pub limit_on : (w : GameState) (i : Instr) (file : List ℕ) (e : RestoreError) (l : Limit) → restored file w.memory w.frames ≡ Err e → limit_of e ≡ Some l → restored_on w i file ≡ Err (refusal.Limit l)
-limit_on w i file e l h some = ap (restored_by w i) h ∙ ap (unrestored_by w i) some
 
 pub refused_told : (w : GameState) (i : Instr) (file : List ℕ) (e : RestoreError) (n : MemoryMap) (g : FrameList) (led : Result ℕ Refusal) (v : GameState) → restored file w.memory w.frames ≡ Err e → n ≡ w.memory → g ≡ w.frames → limit_of e ≡ None
     → Told led (limited_pc (result_answered (record w { memory = n; frames = g }) i 0 false)) v → Told led (restored_on w i file) v

@@ -1,83 +1,60 @@
--- Runs that stop by a limit, after answers.
-use Rattle.std.proofs.Common.{◌≡◌, ◌∙◌, ◌+◌, ◌-◌, ℕ, suc, List, [], ◌∷◌, ◌++◌, Option, Some, None, Result, Ok, Err, refl, ap, arith}
+-- Machines that stop by a limit, after some moves.
+use Rattle.std.proofs.Common.{◌≡◌, ◌∙◌, ◌-◌, ℕ, suc, [], ◌∷◌, Some, None, refl, ap, arith}
+use Rattle.zk_state.specs.declared.refusal.Limit.{Limit}
 use Rattle.zk_state.specs.declared.refusal.Limit.TheVariants.{Steps}
-use Rattle.zk_step.specs.Routing.{Texts, on_script, text_joined}
+use Rattle.zk_step.specs.Routing.{no_text}
 use Rattle.zk_vm.specs.declared.stop.Stop.{Stop}
 use Rattle.zk_vm.specs.declared.stop.Stop.TheVariants.{Limit as LimitAt}
 use Rattle.zk_vm.specs.declared.waiting.Waiting.{Waiting}
 use Rattle.zk_vm.specs.Answers.{Answer, answered}
-use Rattle.zk_vm.specs.Laws.{LimitsCutRuns}
-use Rattle.zk_vm.specs.Outcome.{Outcome, Segment, Session, ended, given, given_all, outcome, ran, segment, segment_of, shown_up_to}
-use Rattle.zk_vm.specs.Step.{verdict_of}
+use Rattle.zk_vm.specs.Laws.{LimitsCutRuns, Passes}
+use Rattle.zk_vm.specs.Sessions.{Session, resumed, with_stop}
+use Rattle.zk_vm.specs.Step.{State, Step, Verdict, state_after, step, text_of, verdict_of}
+use Rattle.zk_vm.specs.Step.Step.{Goes as GoesTo, Waits, Quits, Faults, Exceeds}
 use Rattle.zk_vm.specs.Step.Verdict.{StopsBy}
-use Rattle.zk_vm.specs.Going.{steps_left}
-use Rattle.zk_vm.proofs.FrameLimits.{limits_cut_there, passes_stops}
-use Rattle.zk_vm.proofs.Halting.{segment_is, told_due}
-use Rattle.zk_vm.proofs.Turns.{stopped_all}
-use Rattle.zk_vm.proofs.Playing.{outcome_on, outcome_stopped, outcome_stops, same_shown, shown_before}
-use Rattle.zk_vm.proofs.Runs.{no_text_behind, step_limit_cuts_there}
-use Rattle.zk_vm.proofs.Within.{given_stopped}
+use Rattle.zk_vm.specs.Log.{Entry, Passed, after, heard_by, moved_by, stepped, stepped_to, stop_told}
+use Rattle.zk_vm.specs.Log.Entry.{At, Stopped}
+use Rattle.zk_vm.specs.Log.Move.{Gets, Goes}
+use Rattle.zk_vm.proofs.Moves.{moved_gets, moved_steps, passed_last, passed_on}
 
-not_both : (x : Option Stop) (stop : Stop) → x ≡ None → x ≡ Some stop → ⊥
-not_both x stop h e = absurd cc
+-- what passes a limit stops a machine there, and shows nothing
+passes_stops : (l : Limit) (s : State) (x : Step) → Passes l s x → (verdict_of s x ≡ StopsBy (LimitAt s.pc l)) × (text_of s x ≡ no_text)
+passes_stops l s (GoesTo t text) h = rw h (refl, refl)
+passes_stops l s (Waits t waiting text) h = rw (h.1, h.0) (refl, refl)
+passes_stops l s Quits h = absurd h
+passes_stops l s (Faults f) h = absurd h
+passes_stops l s (Exceeds m) h = rw h (refl, refl)
 
--- a machine that runs after its answers waited for each
-outcome_at : (answers more : List Answer) (stop : Stop) (s : Session) → (given_all answers s).stopped ≡ None → outcome (answers ++ more) stop s ≡ shown_before (shown_up_to answers s) (outcome more stop (given_all answers s))
-unfolding given_all shown_up_to
-outcome_at [] more stop s runs = refl
-outcome_at (a ∷ answers) more stop s runs = go (outcome_at answers more stop (given (ran s) a) runs) (segment_of s).end refl
-  where
-    go : outcome (answers ++ more) stop (given (ran s) a) ≡ shown_before (shown_up_to answers (given (ran s) a)) (outcome more stop (given_all answers (given (ran s) a)))
-        → (r : Result Waiting Stop) → (segment_of s).end ≡ r → outcome (a ∷ (answers ++ more)) stop s ≡ shown_before (text_joined (segment_of s).text (shown_up_to answers (given (ran s) a))) (outcome more stop (given_all answers (given (ran s) a)))
-    go rest (Err x) e = absurd (not_both _ x runs (stopped_all answers (given (ran s) a) x (given_stopped s a x e)))
-    go rest (Ok w) e =
-        outcome_on a (answers ++ more) stop s w e
-        ∙ ap (shown_before (segment_of s).text) rest
-        ∙ same_shown (segment_of s).text (shown_up_to answers (given (ran s) a)) (outcome more stop (given_all answers (given (ran s) a)))
+-- a step that does
+step_stops : (s : Session) (n : ℕ) (l : Limit) → Passes l s.state (step s.state) → stepped (suc n) s ≡ stepped_to s (StopsBy (LimitAt s.state.pc l)) (state_after s.state (step s.state)) no_text
+step_stops s n l h =
+    let stops = passes_stops l s.state (step s.state) h in
+    ap (λ (v : Verdict). stepped_to s v (state_after s.state (step s.state)) (text_of s.state (step s.state))) stops.0 ∙ ap (stepped_to s (StopsBy (LimitAt s.state.pc l)) (state_after s.state (step s.state))) stops.1
 
--- a segment that stops ends the run
-outcome_cut : (answers more : List Answer) (stop cut : Stop) (s : Session) (text : Texts) → (given_all answers s).stopped ≡ None → (steps_left (told_due (given_all answers s))).end ≡ Err cut → (steps_left (told_due (given_all answers s))).text ≡ text
-    → outcome (answers ++ more) stop s ≡ record { stop = cut; text = text_joined (shown_up_to answers s) (text_joined (on_script (given_all answers s).state.due) text) }
-outcome_cut answers more stop cut s text runs end shown =
-    let m = given_all answers s in
-    let here = segment_is m runs in
-    let stops : (segment_of m).end ≡ Err cut = ap (λ (g : Segment). g.end) here ∙ end in
-    let all : (segment_of m).text ≡ text_joined (on_script m.state.due) text = ap (λ (g : Segment). g.text) here ∙ ap (text_joined (on_script m.state.due)) shown in
-    outcome_at answers more stop s runs
-    ∙ ap (shown_before (shown_up_to answers s)) (outcome_stops more stop cut m stops)
-    ∙ ap (λ (t : Texts). let o : Outcome = record { stop = cut; text = text_joined (shown_up_to answers s) t } in o) all
+-- an answer that does
+abbrev stopped_at : Session → Entry → Stop → Passed
+stopped_at s e stop = record { entries = e ∷ Stopped stop ∷ []; to = with_stop s stop }
 
-waits_for : (s : Session) (g : Segment) (r : Result Waiting Stop) (w : Waiting) → (ended s g r).waiting ≡ Some w → r ≡ Ok w
-waits_for s g (Ok v) w h = let same : v ≡ w = cc in ap Ok same
-waits_for s g (Err stop) w h = absurd cc
-
-ran_waits_for : (s : Session) (w : Waiting) → (ran s).waiting ≡ Some w → (segment_of s).end ≡ Ok w
-unfolding ran
-ran_waits_for s w h = waits_for s (segment_of s) (segment_of s).end w h
-
-stops_given : (s : Session) (a : Answer) (w : Waiting) (stop : Stop) → s.waiting ≡ Some w → verdict_of s.state (answered s.state w a) ≡ StopsBy stop → (given s a).stopped ≡ Some stop
-unfolding given
-stops_given s a w stop waits verdict = rw (waits, verdict) refl
+answer_stops : (s : Session) (w : Waiting) (a : Answer) (l : Limit) → Passes l s.state (answered s.state w a) → moved_by None (Some w) s (Gets a) ≡ stopped_at s (heard_by s w.wait a) (LimitAt s.state.pc l)
+answer_stops s w a l h =
+    ap (λ (v : Verdict). let p : Passed = record { entries = heard_by s w.wait a ∷ stop_told (resumed s v (state_after s.state (answered s.state w a))).stopped; to = resumed s v (state_after s.state (answered s.state w a)) } in p)
+    (passes_stops l s.state (answered s.state w a) h).0
 
 pub limits_cut_runs : LimitsCutRuns
-limits_cut_runs answers s runs = record {
-  steps = λ more stop end text lead.
-      let m = given_all answers s in
-      let g = step_limit_cuts_there (m.limits.steps - m.state.steps) (record m.state { due = [] }) end text lead in
-      outcome_cut answers more stop (LimitAt end.pc Steps) s text runs (ap (λ (x : Segment). x.end) g) (ap (λ (x : Segment). x.text) g);
-  step = λ more stop n end text l few lead passes.
-      let m = given_all answers s in
-      let k : ℕ = m.limits.steps - m.state.steps - (n + 1) in
-      let all : m.limits.steps - m.state.steps ≡ n + suc k = omega (arith, few) in
-      let g = limits_cut_there n k (record m.state { due = [] }) end text l lead passes in
-      let here : steps_left (told_due m) ≡ segment (n + suc k) (record m.state { due = [] }) = ap (λ (x : ℕ). segment x (record m.state { due = [] })) all in
-      outcome_cut answers more stop (LimitAt end.pc l) s text runs (ap (λ (x : Segment). x.end) here ∙ g.0) (ap (λ (x : Segment). x.text) here ∙ g.1);
-  answer = λ a more stop w l waits passes.
-      let m = given_all answers s in
-      let cut = LimitAt (ran m).state.pc l in
-      let stops = passes_stops l (ran m).state (answered (ran m).state w a) passes in
-      let given_is = stops_given (ran m) a w cut waits stops.0 in
-      outcome_at answers (a ∷ more) stop s runs
-      ∙ ap (shown_before (shown_up_to answers s)) (outcome_on a more stop m w (ran_waits_for m w waits) ∙ ap (shown_before (segment_of m).text) (outcome_stopped more stop (given (ran m) a) cut given_is)
-      ∙ ap (λ (t : Texts). let o : Outcome = record { stop = cut; text = t } in o) (no_text_behind (segment_of m).text));
+limits_cut_runs ms s runs = record {
+  steps = λ more free silent past.
+      let t = after ms s in
+      let stop = LimitAt t.state.pc Steps in
+      passed_on ms (Goes ∷ more) s (Stopped stop ∷ []) (passed_last Goes more t (stepped 0 t) stop (moved_steps t 0 runs free silent (omega (arith, past))) refl);
+  step = λ more l free silent few passes.
+      let t = after ms s in
+      let stop = LimitAt t.state.pc l in
+      let n : ℕ = t.limits.steps - t.state.steps - 1 in
+      let there = moved_steps t (suc n) runs free silent (omega (arith, few)) ∙ step_stops t n l passes in
+      passed_on ms (Goes ∷ more) s (At t.state.pc ∷ Stopped stop ∷ []) (passed_last Goes more t (stepped_to t (StopsBy stop) (state_after t.state (step t.state)) no_text) stop there refl);
+  answer = λ a more w l waits passes.
+      let t = after ms s in
+      let stop = LimitAt t.state.pc l in
+      let there = moved_gets t w a runs waits ∙ answer_stops t w a l passes in
+      passed_on ms (Gets a ∷ more) s (heard_by t w.wait a ∷ Stopped stop ∷ []) (passed_last (Gets a) more t (stopped_at t (heard_by t w.wait a) stop) stop there refl);
 }

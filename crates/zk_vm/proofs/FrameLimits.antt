@@ -1,5 +1,5 @@
 -- Limits on frames and words, step by step.
-use Rattle.std.proofs.Common.{◌≡◌, ◌∙◌, ℕ, zero, suc, ◌+◌, ◌≤◌, ◌⊎◌, inl, inr, Bool, true, false, List, [], ◌∷◌, ◌++◌, length, Result, Ok, Err, refl, ap, sym, arith, nat_lt}
+use Rattle.std.proofs.Common.{◌≡◌, ◌∙◌, ℕ, ◌+◌, ◌≤◌, ◌⊎◌, inl, inr, Bool, true, false, List, [], ◌∷◌, ◌++◌, length, Result, Ok, Err, refl, ap, sym, arith, nat_lt}
 use Rattle.std.specs.Prelude.{if◌then◌else◌}
 use Rattle.std.proofs.lemmas.Bool.Decides.{nat_tests}
 use Rattle.std.proofs.lemmas.List.{length-take}
@@ -36,11 +36,10 @@ use Rattle.zk_vm.specs.declared.stop.Stop.TheVariants.{Limit as LimitAt}
 use Rattle.zk_vm.specs.Step.{State, Step, Verdict, asked, is_read, step, step_by, fetched, settled, led_to, waits_by, verdict_of, text_of, state_after, back_to, goes_by, goes_to, is_past_reads, kept_answer, text_within, most_reads, view_before, with_kept}
 use Rattle.zk_vm.specs.Step.Step.{Goes, Waits, Quits, Faults, Exceeds}
 use Rattle.zk_vm.specs.Step.Verdict.{GoesOn, WaitsFor, StopsBy}
-use Rattle.zk_vm.specs.Outcome.{Segment, segment, continued}
 use Rattle.zk_step.specs.View.{viewed, viewed_by, lines_shown, rows_shown, status_shown}
 use Rattle.zk_vm.proofs.OneStep.{goes_same, step_all}
 use Rattle.zk_vm.proofs.Sounds.{back_fixed}
-use Rattle.zk_vm.specs.Laws.{IsWithin, state_in, segment_in, IsNoFrameLimit, FrameLimitsOnlyCut, LimitsCutThere, Passes}
+use Rattle.zk_vm.specs.Laws.{IsNoFrameStop, IsWithin, state_in}
 
 -- a step from a state with other bounds
 unfoldable pub step_in : ℕ → ℕ → Step → Step
@@ -163,19 +162,6 @@ keeps s t text h =
     let again : Goes t text ≡ Goes (state_in s.game.frames.most_frames s.game.frames.most_words t) text = sym h ∙ same ∙ ap (step_in s.game.frames.most_frames s.game.frames.most_words) h in
     ap (λ (u : State). bounds_of u.game.frames) (goes_same t (state_in s.game.frames.most_frames s.game.frames.most_words t) text text again)
 
-frames_kept : (s t : State) (text : Texts) → step s ≡ Goes t text → (t.game.frames.most_frames ≡ s.game.frames.most_frames) × (t.game.frames.most_words ≡ s.game.frames.most_words)
-unfolding bounds_of
-frames_kept s t text h =
-    let e = keeps s t text h in
-    (ap (λ (p : ℕ × ℕ). p.0) e, ap (λ (p : ℕ × ℕ). p.1) e)
-
--- how a run goes on after a step, with other bounds
-continued_same : (f m : ℕ) (v : Verdict) (s : State) (text : Texts) (few more : Segment) → (IsNoFrameLimit few.end → more ≡ segment_in f m few) → IsNoFrameLimit (continued v s text few).end
-    → continued v (state_in f m s) text more ≡ segment_in f m (continued v s text few)
-continued_same f m GoesOn s text few more same own = rw (same own) refl
-continued_same f m (WaitsFor w) s text few more same own = refl
-continued_same f m (StopsBy stop) s text few more same own = refl
-
 -- a step within the bounds is within greater ones
 pub no_fault : (s : FrameList) (g : Fault) → within_bounds s ≡ Err (refusal.Fault g) → ⊥
 no_fault s g e = go (over_is s (refusal.Fault g) e)
@@ -184,7 +170,7 @@ no_fault s g e = go (over_is s (refusal.Fault g) e)
     go (inl d) = absurd cc
     go (inr d) = absurd cc
 
-pub by_limit : (pc : ℕ) (j : Limit) → ((refusal.Limit j ≡ refusal.Limit Frames) ⊎ (refusal.Limit j ≡ refusal.Limit Words)) → IsNoFrameLimit (Err (LimitAt pc j)) → ⊥
+pub by_limit : (pc : ℕ) (j : Limit) → ((refusal.Limit j ≡ refusal.Limit Frames) ⊎ (refusal.Limit j ≡ refusal.Limit Words)) → IsNoFrameStop (LimitAt pc j) → ⊥
 by_limit pc Frames d own = own
 by_limit pc Words d own = own
 by_limit pc Steps (inl d) own = absurd cc
@@ -192,15 +178,20 @@ by_limit pc Steps (inr d) own = absurd cc
 by_limit pc Reads (inl d) own = absurd cc
 by_limit pc Reads (inr d) own = absurd cc
 
+-- a run does not stop by a limit on frames or words
+abbrev pub IsNoFrameVerdict : Verdict → Type 0
+IsNoFrameVerdict (StopsBy stop) = IsNoFrameStop stop
+IsNoFrameVerdict _ = Unit {0}
+
 -- what becomes of a step, with other bounds: the same, and the same text
 pub verdict_same : (f m : ℕ) (s : State) (x : Step)
     → ((t : State) (text : Texts) → x ≡ Goes t text → (t.game.frames.most_frames ≤ f) × (t.game.frames.most_words ≤ m))
-    → (rest : Segment) → IsNoFrameLimit (continued (verdict_of s x) (state_after s x) (text_of s x) rest).end
+    → IsNoFrameVerdict (verdict_of s x)
     → (verdict_of (state_in f m s) (step_in f m x) ≡ verdict_of s x) × (text_of (state_in f m s) (step_in f m x) ≡ text_of s x) × (state_after (state_in f m s) (step_in f m x) ≡ state_in f m (state_after s x))
 unfolding step_in
-verdict_same f m s (Goes t text) bounds rest own = go (within_bounds t.game.frames) refl own
+verdict_same f m s (Goes t text) bounds own = go (within_bounds t.game.frames) refl own
   where
-    go : (r : Result FrameList Refusal) → within_bounds t.game.frames ≡ r → IsNoFrameLimit (continued (goes_by s.pc r) t (text_within r text) rest).end
+    go : (r : Result FrameList Refusal) → within_bounds t.game.frames ≡ r → IsNoFrameVerdict (goes_by s.pc r)
         → (goes_by s.pc (within_bounds (with_bounds f m t.game.frames)) ≡ goes_by s.pc r) × (text_within (within_bounds (with_bounds f m t.game.frames)) text ≡ text_within r text) × (state_in f m t ≡ state_in f m t)
     go (Ok u) e k =
         let least = bounds t text refl in
@@ -208,17 +199,10 @@ verdict_same f m s (Goes t text) bounds rest own = go (within_bounds t.game.fram
         (rw more refl, rw more refl, refl)
     go (Err (refusal.Fault g)) e k = absurd (no_fault t.game.frames g e)
     go (Err (refusal.Limit l)) e k = absurd (by_limit s.pc l (over_is t.game.frames (refusal.Limit l) e) k)
-verdict_same f m s (Waits t waiting text) bounds rest own = (refl, refl, refl)
-verdict_same f m s Quits bounds rest own = (refl, refl, refl)
-verdict_same f m s (Faults e) bounds rest own = (refl, refl, refl)
-verdict_same f m s (Exceeds l) bounds rest own = (refl, refl, refl)
-
--- the rest of a run that goes on ends as the run does
-same_here : (f m : ℕ) (s : State) (v : Verdict) (t : State) (text : Texts) (few more : Segment) → (v ≡ GoesOn → IsNoFrameLimit few.end → more ≡ segment_in f m few) → IsNoFrameLimit (continued v t text few).end
-    → continued v (state_in f m t) text more ≡ segment_in f m (continued v t text few)
-same_here f m s GoesOn t text few more same own = continued_same f m GoesOn t text few more (same refl) own
-same_here f m s (WaitsFor w) t text few more same own = refl
-same_here f m s (StopsBy stop) t text few more same own = refl
+verdict_same f m s (Waits t waiting text) bounds own = (refl, refl, refl)
+verdict_same f m s Quits bounds own = (refl, refl, refl)
+verdict_same f m s (Faults e) bounds own = (refl, refl, refl)
+verdict_same f m s (Exceeds l) bounds own = (refl, refl, refl)
 
 -- a step that goes on leads to a state
 past_or_waits : (b : Bool) (pc : ℕ) (waiting : Waiting) → (if b then StopsBy (LimitAt pc Reads) else WaitsFor waiting) ≡ GoesOn → ⊥
@@ -232,46 +216,11 @@ goes_on_to s Quits h = absurd cc
 goes_on_to s (Faults e) h = absurd cc
 goes_on_to s (Exceeds l) h = absurd cc
 
-pub frame_limits_only_cut : FrameLimitsOnlyCut
-unfolding segment
-frame_limits_only_cut zero f m s few short own = refl
-frame_limits_only_cut (suc n) f m s few short own =
-    let bounds : (t : State) (text : Texts) → step s ≡ Goes t text → (t.game.frames.most_frames ≤ f) × (t.game.frames.most_words ≤ m)
-    = (λ t text e. let same = frames_kept s t text e in (omega (arith, same.0), omega (arith, same.1))) in
-    let parts = verdict_same f m s (step s) bounds (segment n (state_after s (step s))) own in
-    let more : verdict_of s (step s) ≡ GoesOn → IsNoFrameLimit (segment n (state_after s (step s))).end → segment n (state_in f m (state_after s (step s))) ≡ segment_in f m (segment n (state_after s (step s)))
-    = (λ on free. let to = goes_on_to s (step s) on in
-    let least = bounds to.0 to.1.0 to.1.1 in
-    let there : state_after s (step s) ≡ to.0 = ap (state_after s) to.1.1 in
-    let here : (state_after s (step s)).game.frames.most_frames ≤ f = rw there least.0 in
-    let below : (state_after s (step s)).game.frames.most_words ≤ m = rw there least.1 in
-    frame_limits_only_cut n f m (state_after s (step s)) here below free) in
-    rw (step_same f m s, parts.0, parts.1, parts.2)
-    (same_here f m s (verdict_of s (step s)) (state_after s (step s)) (text_of s (step s)) (segment n (state_after s (step s))) (segment n (state_in f m (state_after s (step s)))) more own)
-
--- what passes a limit stops a run there, and shows nothing
-pub passes_stops : (l : Limit) (s : State) (x : Step) → Passes l s x → (verdict_of s x ≡ StopsBy (LimitAt s.pc l)) × (text_of s x ≡ no_text)
-passes_stops l s (Goes t text) h = rw h (refl, refl)
-passes_stops l s (Waits t waiting text) h = rw (h.1, h.0) (refl, refl)
-passes_stops l s Quits h = absurd h
-passes_stops l s (Faults f) h = absurd h
-passes_stops l s (Exceeds m) h = rw h (refl, refl)
-
-pub limits_cut_there : LimitsCutThere
-unfolding segment
-limits_cut_there zero k s end text l lead h =
-    let e : zero + suc k ≡ suc k = omega arith in
-    let stops = passes_stops l end (step end) h in
-    rw (e, lead.0, stops.0, stops.1, lead.1) (refl, refl)
-limits_cut_there (suc n) k s end text l lead h =
-    let e : suc n + suc k ≡ suc (n + suc k) = omega arith in
-    let rest = limits_cut_there n k (state_after s (step s)) end lead.0 l lead.2 h in
-    rw (e, lead.1, rest.0, rest.1, lead.3) (refl, refl)
-
 -- a step counts, and keeps no more states than memory says
 pub record Counts (s t : State) : Type 0 where
   pub steps : t.steps ≡ s.steps + 1
   pub reads : t.reads ≡ s.reads
+  pub due : t.due ≡ s.due
   pub most : t.game.memory.undo_states ≡ s.game.memory.undo_states
   pub undo : length s.undo ≤ s.game.memory.undo_states → length t.undo ≤ s.game.memory.undo_states
 
@@ -291,6 +240,7 @@ goes_counts s undo r most few = step_all (CountsOn s) _ r (λ x e t more h. coun
     counted x e t more same = record {
       steps = ap (λ (u : State). u.steps) same;
       reads = ap (λ (u : State). u.reads) same;
+      due = ap (λ (u : State). u.due) same;
       most = ap (λ (u : State). u.game.memory.undo_states) same ∙ most x e;
       undo = λ k. let here = few k in let length_is = ap (λ (u : State). length u.undo) same in omega (arith, here, length_is);
     }
@@ -316,6 +266,7 @@ led_counts s i w text (At pc) most = λ t more h.
     record {
       steps = ap (λ (u : State). u.steps) same;
       reads = ap (λ (u : State). u.reads) same;
+      due = ap (λ (u : State). u.due) same;
       most = ap (λ (u : State). u.game.memory.undo_states) same ∙ most;
       undo = λ k. let length_is = ap (λ (u : State). length u.undo) same in omega (arith, k, length_is);
     }
@@ -328,22 +279,16 @@ pub counts : (s t : State) (text : Texts) → step s ≡ Goes t text → Counts 
 unfolding step
 counts s t text = step_all (CountsOn s) _ (instr_at s.game.memory s.pc) (λ i e. settled_counts s i) (λ f e t more h. absurd cc) t text
 
--- a step that goes on leads to a state within the bounds
-goes_within : (pc : ℕ) (r : Result FrameList Refusal) → goes_by pc r ≡ GoesOn → (u : FrameList) × (r ≡ Ok u)
-goes_within pc (Ok u) h = (u, refl)
-goes_within pc (Err (refusal.Limit l)) h = absurd cc
-goes_within pc (Err (refusal.Fault e)) h = absurd cc
-
-pub after_goes : (l : Limits) (s t : State) (text : Texts) → step s ≡ Goes t text → bounds_of s.game.frames ≡ (l.frames, l.words) → s.game.memory.undo_states ≡ l.undo → s.steps + 1 ≤ l.steps → s.reads ≤ most_reads → length s.undo ≤ l.undo
-    → goes_by s.pc (within_bounds t.game.frames) ≡ GoesOn → IsWithin l t × (bounds_of t.game.frames ≡ (l.frames, l.words)) × (t.game.memory.undo_states ≡ l.undo) × (t.steps ≡ s.steps + 1)
+-- a step that goes on leads to a state within the limits
+pub after_goes : (l : Limits) (s t : State) (text : Texts) (u : FrameList) → step s ≡ Goes t text → bounds_of s.game.frames ≡ (l.frames, l.words) → s.game.memory.undo_states ≡ l.undo → s.steps + 1 ≤ l.steps → s.reads ≤ most_reads → length s.undo ≤ l.undo
+    → within_bounds t.game.frames ≡ Ok u → IsWithin l t × (bounds_of t.game.frames ≡ (l.frames, l.words)) × (t.game.memory.undo_states ≡ l.undo)
 unfolding bounds_of
-after_goes l s t text e b most few read kept h =
-    let within = goes_within s.pc (within_bounds t.game.frames) h in
-    let most_of = within_is t.game.frames within.0 within.1 in
+after_goes l s t text u e b most few read kept h =
+    let most_of = within_is t.game.frames u h in
     let same = keeps s t text e ∙ b in
     let more = counts s t text e in
     let f : t.game.frames.most_frames ≡ l.frames = ap (λ (p : ℕ × ℕ). p.0) same in
     let w : t.game.frames.most_words ≡ l.words = ap (λ (p : ℕ × ℕ). p.1) same in
     let before : length s.undo ≤ s.game.memory.undo_states = omega (arith, kept, most) in
     let after = more.undo before in
-    (record { frames = omega (arith, most_of.0, f); words = omega (arith, most_of.1, w); steps = omega (arith, more.steps); reads = omega (arith, more.reads); undo = omega (arith, after, most) }, same, more.most ∙ most, more.steps)
+    (record { frames = omega (arith, most_of.0, f); words = omega (arith, most_of.1, w); steps = omega (arith, more.steps); reads = omega (arith, more.reads); undo = omega (arith, after, most) }, same, more.most ∙ most)

@@ -16,7 +16,7 @@ use Rattle.zk_vm.specs.declared.waiting.Waiting.{Waiting}
 use Rattle.zk_vm.specs.Answers.{Answer, answered, answer_settled}
 use Rattle.zk_vm.specs.Going.{stop_by, verdict_by, pc_by, steps_by, stopped_by, IsPut, Settles}
 use Rattle.zk_vm.specs.Halts.{Halt, IsLeftAs, halt_by}
-use Rattle.zk_vm.specs.Outcome.{Session, given, given_to, resumed}
+use Rattle.zk_vm.specs.Sessions.{Session, given, given_to, resumed}
 use Rattle.zk_vm.specs.Step.{State, Step, Verdict, goes_by, goes_to, step_by, verdict_of, state_after}
 use Rattle.zk_vm.specs.Step.Step.{Goes, Exceeds}
 use Rattle.zk_vm.specs.Step.Verdict.{GoesOn, WaitsFor, StopsBy}

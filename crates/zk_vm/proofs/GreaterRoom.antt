@@ -1,39 +1,44 @@
--- Whole runs under greater limits on frames and words.
+-- Machines under greater limits on frames and words.
 use Rattle.std.specs.Prelude.{if◌then◌else◌}
-use Rattle.std.proofs.Common.{Bool, true, false, length, nat_lt, ◌≡◌, ◌∙◌, ◌≤◌, ℕ, zero, suc, ◌-◌, List, [], ◌∷◌, Option, Some, None, Result, Ok, Err, refl, ap, sym, subst, arith}
+use Rattle.std.proofs.Common.{Bool, true, false, length, nat_lt, ◌≡◌, ◌∙◌, ◌≤◌, ◌-◌, ℕ, zero, suc, List, [], ◌∷◌, ◌++◌, Option, Some, None, Result, Ok, Err, refl, ap, sym, arith}
 use Rattle.zk_mem.specs.declared.fault.Fault.{Fault}
-use Rattle.zk_step.specs.declared.state.ending.Event.{Event}
-use Rattle.zk_step.specs.declared.state.ending.Event.TheVariants.{Line, Char, Save, Restore}
-use Rattle.zk_step.specs.declared.state.game_state.GameState.{GameState}
-use Rattle.zk_step.specs.Laws.{moved_in, rebounded}
-use Rattle.zk_step.specs.Routing.{Texts, no_text}
-use Rattle.zk_step.proofs.Sweep.{answers_see_no_bounds}
-use Rattle.zk_code.specs.declared.instr.Instr.{Instr}
-use Rattle.zk_vm.specs.declared.stop.Stop.{Stop}
-use Rattle.zk_vm.specs.declared.waiting.Waiting.{Waiting}
 use Rattle.zk_mem.specs.Map.{MemoryMap}
 use Rattle.zk_state.specs.declared.refusal.Limit.{Limit}
 use Rattle.zk_state.specs.declared.refusal.Limit.TheVariants.{Frames, Words, Steps, Reads}
 use Rattle.zk_state.specs.declared.refusal.Refusal.{Refusal}
 use Rattle.zk_state.specs.declared.refusal.Refusal.TheVariants as refusal
 use Rattle.zk_state.specs.Frames.{Frame, FrameList, frames_of, total_of, with_bounds, with_frames, within_bounds}
+use Rattle.zk_code.specs.declared.instr.Instr.{Instr}
 use Rattle.zk_save.specs.declared.restore.RestoreError.{RestoreError}
 use Rattle.zk_save.specs.declared.restore.RestoreError.TheVariants as restore_error
 use Rattle.zk_save.specs.Loading.{frames_fit, loaded, loaded_by, put_in_place, restored}
+use Rattle.zk_save.specs.Quetzal.{saved}
 use Rattle.zk_save.specs.States.{WholeState, memory_back}
+use Rattle.zk_step.specs.declared.state.ending.Event.{Event}
+use Rattle.zk_step.specs.declared.state.ending.Event.TheVariants.{Line, Char, Save, Restore}
+use Rattle.zk_step.specs.declared.state.game_state.GameState.{GameState}
 use Rattle.zk_step.specs.Inputs.{character_answered, line_answered, result_answered}
+use Rattle.zk_step.specs.Laws.{moved_in, rebounded}
 use Rattle.zk_step.specs.Restarts.{windows_closed}
 use Rattle.zk_step.specs.Resuming.{resumed as back}
+use Rattle.zk_step.specs.Routing.{Texts}
+use Rattle.zk_step.proofs.Sweep.{answers_see_no_bounds}
+use Rattle.zk_vm.specs.declared.stop.Stop.{Stop}
 use Rattle.zk_vm.specs.declared.stop.Stop.TheVariants.{Limit as LimitAt}
+use Rattle.zk_vm.specs.declared.waiting.Waiting.{Waiting}
 use Rattle.zk_vm.specs.Answers.{Answer, answered, answered_by, answer_settled, codes_of, file_of, first_code, is_kept, limit_of, none_restored, restored_from, restored_to, transcribed, truth_word}
-use Rattle.zk_vm.specs.Laws.{IsNoFrameLimit, IsNoFrameStop, state_in, segment_in, session_in, FrameLimitsOnlyCutRuns}
-use Rattle.zk_vm.specs.Outcome.{Outcome, Segment, Session, segment, segment_by, segment_of, behind_due, continued, followed, outcome, ended, ran, given, given_to, resumed}
+use Rattle.zk_vm.specs.Laws.{FrameLimitsOnlyCut, IsNoFrameStop, session_in, state_in}
+use Rattle.zk_vm.specs.Log.{Entry, Move, Passed, after, goes_by, heard_by, moved, moved_by, passed, stepped, stepped_to, stop_told}
+use Rattle.zk_vm.specs.Log.Entry.{Asked, Offered}
+use Rattle.zk_vm.specs.Log.Move.{Gets, Goes}
+use Rattle.zk_vm.specs.Sessions.{Session, given_to, resumed}
+use Rattle.zk_vm.specs.Plays.{image_by, refusal_of, refused_in}
 use Rattle.zk_vm.specs.Step.{State, Step, Verdict, goes_to, step, verdict_of, state_after, text_of}
-use Rattle.zk_vm.specs.Step.Step.{Goes, Waits, Quits, Faults, Exceeds}
+use Rattle.zk_vm.specs.Step.Step.{Goes as GoesTo, Waits, Quits, Faults, Exceeds}
 use Rattle.zk_vm.specs.Step.Verdict.{GoesOn, WaitsFor, StopsBy}
-use Rattle.zk_vm.proofs.FrameLimits.{by_limit, frame_limits_only_cut, frames_same, goes_to_same, no_fault, over_is, step_by_same, step_in, step_same, verdict_same, within_more}
+use Rattle.zk_vm.proofs.FrameLimits.{IsNoFrameVerdict, by_limit, frames_same, goes_to_same, no_fault, over_is, step_by_same, step_in, step_same, verdict_same, within_more}
+use Rattle.zk_vm.proofs.Logs.{passed_stopped}
 use Rattle.zk_vm.proofs.OneStep.{goes_same, waits_same}
-use Rattle.zk_vm.proofs.Outcomes.{outcome_stopped, ran_waiting}
 
 -- ---- bounds stay
 
@@ -46,7 +51,7 @@ most_w s = s.game.frames.most_words
 -- a step that is the same in its own bounds keeps them
 after_bounds : (s : State) (x : Step) → x ≡ step_in (most_f s) (most_w s) x → (most_f (state_after s x) ≡ most_f s) × (most_w (state_after s x) ≡ most_w s)
 unfolding step_in
-after_bounds s (Goes t text) h =
+after_bounds s (GoesTo t text) h =
     let same = goes_same t (state_in (most_f s) (most_w s) t) text text h in
     (ap most_f same, ap most_w same)
 after_bounds s (Waits t waiting text) h =
@@ -58,34 +63,6 @@ after_bounds s (Exceeds l) h = (refl, refl)
 
 step_bounds : (s : State) → (most_f (state_after s (step s)) ≡ most_f s) × (most_w (state_after s (step s)) ≡ most_w s)
 step_bounds s = after_bounds s (step s) (step_same (most_f s) (most_w s) s)
-
-continued_bounds : (v : Verdict) (s : State) (t : Texts) (rest : Segment) (f m : ℕ) → (most_f s ≡ f) × (most_w s ≡ m) → (most_f rest.state ≡ f) × (most_w rest.state ≡ m) → (most_f (continued v s t rest).state ≡ f) × (most_w (continued v s t rest).state ≡ m)
-continued_bounds GoesOn s t rest f m h k = k
-continued_bounds (WaitsFor w) s t rest f m h k = h
-continued_bounds (StopsBy stop) s t rest f m h k = h
-
-segment_bounds : (n : ℕ) (s : State) → (most_f (segment n s).state ≡ most_f s) × (most_w (segment n s).state ≡ most_w s)
-unfolding segment
-segment_bounds zero s = (refl, refl)
-segment_bounds (suc n) s =
-    let here = step_bounds s in
-    let rest = segment_bounds n (state_after s (step s)) in
-    continued_bounds (verdict_of s (step s)) (state_after s (step s)) (text_of s (step s)) (segment n (state_after s (step s))) (most_f s) (most_w s) here (rest.0 ∙ here.0, rest.1 ∙ here.1)
-
-by_bounds : (x : Option Stop) (s : Session) → (most_f (segment_by x s.limits s.state).state ≡ most_f s.state) × (most_w (segment_by x s.limits s.state).state ≡ most_w s.state)
-by_bounds None s = segment_bounds (s.limits.steps - s.state.steps) (record s.state { due = [] })
-by_bounds (Some stop) s = (refl, refl)
-
-ended_state : (s : Session) (g : Segment) (r : Result Waiting Stop) → (ended s g r).state ≡ g.state
-ended_state s g (Ok w) = refl
-ended_state s g (Err stop) = refl
-
-ran_bounds : (s : Session) → (most_f (ran s).state ≡ most_f s.state) × (most_w (ran s).state ≡ most_w s.state)
-unfolding ran segment_of
-ran_bounds s =
-    let same = ended_state s (segment_of s) (segment_of s).end in
-    let bounds = by_bounds s.stopped s in
-    (ap most_f same ∙ bounds.0, ap most_w same ∙ bounds.1)
 
 -- ---- an answer, with other bounds
 
@@ -182,7 +159,7 @@ own_bounds s w a x e other =
 
 bounds_by : (s : State) (w : Waiting) (a : Answer) (x : Step) → answered s w a ≡ x → (most_f (state_after s x) ≡ most_f s) × (most_w (state_after s x) ≡ most_w s)
 bounds_by s w a (Exceeds l) e = (refl, refl)
-bounds_by s w a (Goes t text) e = own_bounds s w a (Goes t text) e (λ l h. absurd cc)
+bounds_by s w a (GoesTo t text) e = own_bounds s w a (GoesTo t text) e (λ l h. absurd cc)
 bounds_by s w a (Waits t v text) e = own_bounds s w a (Waits t v text) e (λ l h. absurd cc)
 bounds_by s w a Quits e = own_bounds s w a Quits e (λ l h. absurd cc)
 bounds_by s w a (Faults f) e = own_bounds s w a (Faults f) e (λ l h. absurd cc)
@@ -191,44 +168,77 @@ pub answered_bounds : (s : State) (w : Waiting) (a : Answer) → (most_f (state_
 answered_bounds s w a = bounds_by s w a (answered s w a) refl
 
 goes_bounds : (s : State) (x : Step) (f m : ℕ) → (most_f (state_after s x) ≡ most_f s) × (most_w (state_after s x) ≡ most_w s) → most_f s ≤ f → most_w s ≤ m
-    → (t : State) (text : Texts) → x ≡ Goes t text → (t.game.frames.most_frames ≤ f) × (t.game.frames.most_words ≤ m)
+    → (t : State) (text : Texts) → x ≡ GoesTo t text → (t.game.frames.most_frames ≤ f) × (t.game.frames.most_words ≤ m)
 goes_bounds s x f m same few short t text e =
     let there : state_after s x ≡ t = ap (state_after s) e in
     let one : most_f t ≡ most_f s = sym (ap most_f there) ∙ same.0 in
     let two : most_w t ≡ most_w s = sym (ap most_w there) ∙ same.1 in
     (omega (arith, one), omega (arith, two))
 
--- ---- a machine, with other limits
+-- ---- moves, with other bounds
 
-segment_frames_by : (x : Option Stop) (f m : ℕ) (s : Session) → most_f s.state ≤ f → most_w s.state ≤ m → IsNoFrameLimit (segment_by x s.limits s.state).end
-    → segment_by x (record s.limits { frames = f; words = m }) (state_in f m s.state) ≡ segment_in f m (segment_by x s.limits s.state)
-segment_frames_by (Some stop) f m s few short own = refl
-segment_frames_by None f m s few short own = ap (behind_due s.state.due) (frame_limits_only_cut (s.limits.steps - s.state.steps) f m (record s.state { due = [] }) few short own)
+-- why a machine stops is no limit on frames or words
+abbrev OwnStop : Session → Type 0
+OwnStop s = (stop : Stop) → s.stopped ≡ Some stop → IsNoFrameStop stop
 
-segment_frames : (f m : ℕ) (s : Session) → most_f s.state ≤ f → most_w s.state ≤ m → IsNoFrameLimit (segment_of s).end → segment_of (session_in f m s) ≡ segment_in f m (segment_of s)
-unfolding segment_of
-segment_frames f m s few short own = segment_frames_by s.stopped f m s few short own
+abbrev passed_in : ℕ → ℕ → Passed → Passed
+passed_in f m p = record { entries = p.entries; to = session_in f m p.to }
 
-ended_frames : (f m : ℕ) (s : Session) (g : Segment) (r : Result Waiting Stop) → ended (session_in f m s) (segment_in f m g) r ≡ session_in f m (ended s g r)
-ended_frames f m s g (Ok w) = refl
-ended_frames f m s g (Err stop) = refl
+to_same : (f m : ℕ) (s : Session) (v : Verdict) (t : State) (text : Texts) → stepped_to (session_in f m s) v (state_in f m t) text ≡ passed_in f m (stepped_to s v t text)
+to_same f m s GoesOn t text = refl
+to_same f m s (WaitsFor w) t text = refl
+to_same f m s (StopsBy stop) t text = refl
 
-ran_frames : (f m : ℕ) (s : Session) → segment_of (session_in f m s) ≡ segment_in f m (segment_of s) → ran (session_in f m s) ≡ session_in f m (ran s)
-unfolding ran
-ran_frames f m s e = rw e (ended_frames f m s (segment_of s) (segment_of s).end)
+step_free : (s : Session) (v : Verdict) (t : State) (text : Texts) → OwnStop (stepped_to s v t text).to → IsNoFrameVerdict v
+step_free s GoesOn t text own = tt
+step_free s (WaitsFor w) t text own = tt
+step_free s (StopsBy stop) t text own = own stop refl
+
+steps_same : (f m n : ℕ) (s : Session) → most_f s.state ≤ f → most_w s.state ≤ m → OwnStop (stepped n s).to → stepped n (session_in f m s) ≡ passed_in f m (stepped n s)
+steps_same f m zero s few short own = refl
+steps_same f m (suc n) s few short own =
+    let x = step s.state in
+    let free = step_free s (verdict_of s.state x) (state_after s.state x) (text_of s.state x) own in
+    let parts = verdict_same f m s.state x (goes_bounds s.state x f m (step_bounds s.state) few short) free in
+    rw (step_same f m s.state, parts.0, parts.1, parts.2) (to_same f m s (verdict_of s.state x) (state_after s.state x) (text_of s.state x))
+
+due_same : (f m : ℕ) (due : List ℕ) (s : Session) → most_f s.state ≤ f → most_w s.state ≤ m → OwnStop (goes_by due s).to → goes_by due (session_in f m s) ≡ passed_in f m (goes_by due s)
+due_same f m [] s few short own = steps_same f m (s.limits.steps - s.state.steps) s few short own
+due_same f m (c ∷ cs) s few short own = refl
+
+-- the entry of an answer does not tell the bounds
+image_same : (f m : ℕ) (s : Session) (x : Option Waiting) → image_by (session_in f m s) x ≡ image_by s x
+unfolding saved
+image_same f m s None = refl
+image_same f m s (Some w) = refl
+
+refused_same : (f m : ℕ) (q : Result (MemoryMap × FrameList × ℕ) RestoreError) → refused_in (restored_in f m q) ≡ refused_in q
+refused_same f m (Ok x) = refl
+refused_same f m (Err e) = refl
+
+refusal_same : (f m : ℕ) (s : Session) (i : Instr) (file : Option (List ℕ)) → most_f s.state ≤ f → most_w s.state ≤ m → ((l : Limit) → restored_from s.state i file ≡ Exceeds l → IsNoFrameStop (LimitAt 0 l)) → refusal_of (session_in f m s) file ≡ refusal_of s file
+refusal_same f m s i None few short own = refl
+refusal_same f m s i (Some file) few short own =
+    let q = restored file s.state.game.memory s.state.game.frames in
+    ap refused_in (restored_same f m file s.state.game.memory s.state.game.frames few short (λ l e. own l (exceeds_by s.state i q l e))) ∙ refused_same f m q
+
+heard_same : (f m : ℕ) (s : Session) (i : Instr) (x : Event) (a : Answer) → most_f s.state ≤ f → most_w s.state ≤ m → ((l : Limit) → answered_by s.state i x a ≡ Exceeds l → IsNoFrameStop (LimitAt 0 l)) → heard_by (session_in f m s) x a ≡ heard_by s x a
+heard_same f m s i (Line text parse) a few short own = refl
+heard_same f m s i Char a few short own = refl
+heard_same f m s i Save a few short own = ap (λ (file : List ℕ). Offered file (is_kept a)) (image_same f m s s.waiting)
+heard_same f m s i Restore a few short own = ap (Asked (file_of a)) (refusal_same f m s i (file_of a) few short own)
 
 resumed_frames : (f m : ℕ) (s : Session) (v : Verdict) (t : State) → resumed (session_in f m s) v (state_in f m t) ≡ session_in f m (resumed s v t)
 resumed_frames f m s GoesOn t = refl
 resumed_frames f m s (WaitsFor w) t = refl
 resumed_frames f m s (StopsBy stop) t = refl
 
--- why an answer stops a run
-stop_free : (v : Verdict) (s : Session) (t : State) (w : Waiting) (text : Texts) → ((stop : Stop) → (resumed s v t).stopped ≡ Some stop → IsNoFrameStop stop) → IsNoFrameLimit (continued v t text (record { end = Ok w; state = t; text = no_text })).end
-stop_free GoesOn s t w text h = tt
-stop_free (WaitsFor x) s t w text h = tt
-stop_free (StopsBy stop) s t w text h = h stop refl
+given_free : (s : Session) (v : Verdict) (t : State) → OwnStop (resumed s v t) → IsNoFrameVerdict v
+given_free s GoesOn t own = tt
+given_free s (WaitsFor w) t own = tt
+given_free s (StopsBy stop) t own = own stop refl
 
-exceeds_free : (s : Session) (w : Waiting) (a : Answer) → ((stop : Stop) → (given_to (Some w) s a).stopped ≡ Some stop → IsNoFrameStop stop) → (l : Limit) → answered s.state w a ≡ Exceeds l → IsNoFrameStop (LimitAt 0 l)
+exceeds_free : (s : Session) (w : Waiting) (a : Answer) → OwnStop (given_to (Some w) s a) → (l : Limit) → answered s.state w a ≡ Exceeds l → IsNoFrameStop (LimitAt 0 l)
 exceeds_free s w a free l e =
     let stopped : (given_to (Some w) s a).stopped ≡ Some (LimitAt s.state.pc l) = ap (λ (x : Step). (resumed s (verdict_of s.state x) (state_after s.state x)).stopped) e in
     anywhere l s.state.pc (free (LimitAt s.state.pc l) stopped)
@@ -239,57 +249,66 @@ exceeds_free s w a free l e =
     anywhere Steps p h = tt
     anywhere Reads p h = tt
 
-given_frames_by : (f m : ℕ) (s : Session) (w : Waiting) (a : Answer) → most_f s.state ≤ f → most_w s.state ≤ m → ((stop : Stop) → (given_to (Some w) s a).stopped ≡ Some stop → IsNoFrameStop stop)
-    → given_to (Some w) (session_in f m s) a ≡ session_in f m (given_to (Some w) s a)
-given_frames_by f m s w a few short free =
+given_same : (f m : ℕ) (s : Session) (w : Waiting) (a : Answer) → most_f s.state ≤ f → most_w s.state ≤ m → OwnStop (given_to (Some w) s a) → given_to (Some w) (session_in f m s) a ≡ session_in f m (given_to (Some w) s a)
+given_same f m s w a few short own =
     let x = answered s.state w a in
     let bounds = goes_bounds s.state x f m (answered_bounds s.state w a) few short in
-    let own = stop_free (verdict_of s.state x) s (state_after s.state x) w (text_of s.state x) free in
-    let parts = verdict_same f m s.state x bounds (record { end = Ok w; state = state_after s.state x; text = no_text }) own in
-    rw (answered_same f m s.state w a few short (exceeds_free s w a free), parts.0, parts.2) (resumed_frames f m s (verdict_of s.state x) (state_after s.state x))
+    let parts = verdict_same f m s.state x bounds (given_free s (verdict_of s.state x) (state_after s.state x) own) in
+    rw (answered_same f m s.state w a few short (exceeds_free s w a own), parts.0, parts.2) (resumed_frames f m s (verdict_of s.state x) (state_after s.state x))
 
-resumed_bounds : (s : Session) (v : Verdict) (t : State) → (most_f t ≡ most_f s.state) × (most_w t ≡ most_w s.state) → (most_f (resumed s v t).state ≡ most_f s.state) × (most_w (resumed s v t).state ≡ most_w s.state)
+gets_same : (f m : ℕ) (s : Session) (w : Waiting) (a : Answer) → most_f s.state ≤ f → most_w s.state ≤ m → OwnStop (given_to (Some w) s a) → moved_by None (Some w) (session_in f m s) (Gets a) ≡ passed_in f m (moved_by None (Some w) s (Gets a))
+unfolding answered
+gets_same f m s w a few short own =
+    ap (λ (e : Entry). let p : Passed = record { entries = e ∷ stop_told (given_to (Some w) (session_in f m s) a).stopped; to = given_to (Some w) (session_in f m s) a } in p)
+    (heard_same f m s w.instruction w.wait a few short (exceeds_free s w a own))
+    ∙ ap (λ (t : Session). let p : Passed = record { entries = heard_by s w.wait a ∷ stop_told t.stopped; to = t } in p) (given_same f m s w a few short own)
+
+by_same : (f m : ℕ) (x : Option Stop) (y : Option Waiting) (s : Session) (n : Move) → most_f s.state ≤ f → most_w s.state ≤ m → OwnStop (moved_by x y s n).to → moved_by x y (session_in f m s) n ≡ passed_in f m (moved_by x y s n)
+by_same f m None None s Goes few short own = due_same f m s.state.due s few short own
+by_same f m None None s (Gets a) few short own = refl
+by_same f m None (Some w) s Goes few short own = refl
+by_same f m None (Some w) s (Gets a) few short own = gets_same f m s w a few short own
+by_same f m (Some stop) y s n few short own = refl
+
+-- ---- moves keep the bounds
+
+abbrev SameBounds : State → State → Type 0
+SameBounds s t = (most_f t ≡ most_f s) × (most_w t ≡ most_w s)
+
+to_bounds : (s : Session) (v : Verdict) (t : State) (text : Texts) → SameBounds s.state t → SameBounds s.state (stepped_to s v t text).to.state
+to_bounds s GoesOn t text h = h
+to_bounds s (WaitsFor w) t text h = h
+to_bounds s (StopsBy stop) t text h = h
+
+steps_bounds : (n : ℕ) (s : Session) → SameBounds s.state (stepped n s).to.state
+steps_bounds zero s = (refl, refl)
+steps_bounds (suc n) s = to_bounds s (verdict_of s.state (step s.state)) (state_after s.state (step s.state)) (text_of s.state (step s.state)) (step_bounds s.state)
+
+due_bounds : (due : List ℕ) (s : Session) → SameBounds s.state (goes_by due s).to.state
+due_bounds [] s = steps_bounds (s.limits.steps - s.state.steps) s
+due_bounds (c ∷ cs) s = (refl, refl)
+
+resumed_bounds : (s : Session) (v : Verdict) (t : State) → SameBounds s.state t → SameBounds s.state (resumed s v t).state
 resumed_bounds s GoesOn t h = h
 resumed_bounds s (WaitsFor w) t h = (refl, refl)
 resumed_bounds s (StopsBy stop) t h = (refl, refl)
 
-given_bounds : (s : Session) (w : Waiting) (a : Answer) → (most_f (given_to (Some w) s a).state ≡ most_f s.state) × (most_w (given_to (Some w) s a).state ≡ most_w s.state)
+given_bounds : (s : Session) (w : Waiting) (a : Answer) → SameBounds s.state (given_to (Some w) s a).state
 given_bounds s w a = resumed_bounds s (verdict_of s.state (answered s.state w a)) (state_after s.state (answered s.state w a)) (answered_bounds s.state w a)
 
--- the same of what a machine waits for
+by_bounds : (x : Option Stop) (y : Option Waiting) (s : Session) (n : Move) → SameBounds s.state (moved_by x y s n).to.state
+by_bounds None None s Goes = due_bounds s.state.due s
+by_bounds None None s (Gets a) = (refl, refl)
+by_bounds None (Some w) s Goes = (refl, refl)
+by_bounds None (Some w) s (Gets a) = given_bounds s w a
+by_bounds (Some stop) y s n = (refl, refl)
 
-waiting_frames : (f m : ℕ) (s : Session) (x : Option Waiting) (w : Waiting) (a : Answer) → x ≡ Some w → most_f s.state ≤ f → most_w s.state ≤ m → ((stop : Stop) → (given_to x s a).stopped ≡ Some stop → IsNoFrameStop stop)
-    → (given_to x (session_in f m s) a ≡ session_in f m (given_to x s a)) × (most_f (given_to x s a).state ≡ most_f s.state) × (most_w (given_to x s a).state ≡ most_w s.state)
-waiting_frames f m s None w a e few short free = absurd cc
-waiting_frames f m s (Some v) w a e few short free = let bounds = given_bounds s v a in (given_frames_by f m s v a few short free, bounds.0, bounds.1)
-
-given_frames : (f m : ℕ) (s : Session) (w : Waiting) (a : Answer) → s.waiting ≡ Some w → most_f s.state ≤ f → most_w s.state ≤ m → ((stop : Stop) → (given s a).stopped ≡ Some stop → IsNoFrameStop stop)
-    → (given (session_in f m s) a ≡ session_in f m (given s a)) × (most_f (given s a).state ≡ most_f s.state) × (most_w (given s a).state ≡ most_w s.state)
-unfolding given
-given_frames f m s w a e few short free = waiting_frames f m s s.waiting w a e few short free
-
-ends_otherwise : (r : Result Waiting Stop) (t : Texts) (o : Outcome) → IsNoFrameStop (followed r t o).stop → IsNoFrameLimit r
-ends_otherwise (Ok w) t o h = tt
-ends_otherwise (Err stop) t o h = h
-
-stops_otherwise : (answers : List Answer) (end : Stop) (s : Session) → IsNoFrameStop (outcome answers end s).stop → (stop : Stop) → s.stopped ≡ Some stop → IsNoFrameStop stop
-stops_otherwise answers end s own stop e = subst IsNoFrameStop (ap (λ (o : Outcome). o.stop) (outcome_stopped answers end s stop e)) own
-
-pub frame_limits_only_cut_runs : FrameLimitsOnlyCutRuns
-unfolding outcome
-frame_limits_only_cut_runs [] end f m s few short own =
-    rw (segment_frames f m s few short (ends_otherwise (segment_of s).end (segment_of s).text (record { stop = end; text = no_text }) own)) refl
-frame_limits_only_cut_runs (a ∷ answers) end f m s few short own =
-    let e = segment_frames f m s few short (ends_otherwise (segment_of s).end (segment_of s).text (outcome answers end (given (ran s) a)) own) in
-    rw (e, ran_frames f m s e) (go (segment_of s).end refl own (λ less below free. frame_limits_only_cut_runs answers end f m (given (ran s) a) less below free))
-  where
-    go : (r : Result Waiting Stop) → (segment_of s).end ≡ r → IsNoFrameStop (followed r (segment_of s).text (outcome answers end (given (ran s) a))).stop
-        → (most_f (given (ran s) a).state ≤ f → most_w (given (ran s) a).state ≤ m → IsNoFrameStop (outcome answers end (given (ran s) a)).stop → outcome answers end (session_in f m (given (ran s) a)) ≡ outcome answers end (given (ran s) a))
-        → followed r (segment_of s).text (outcome answers end (given (session_in f m (ran s)) a)) ≡ followed r (segment_of s).text (outcome answers end (given (ran s) a))
-    go (Err stop) h free same = refl
-    go (Ok w) h free same =
-        let here = ran_bounds s in
-        let parts = given_frames f m (ran s) w a (ran_waiting s w h) (omega (arith, here.0)) (omega (arith, here.1)) (stops_otherwise answers end (given (ran s) a) free) in
-        let less : most_f (given (ran s) a).state ≤ f = omega (arith, parts.1, here.0) in
-        let below : most_w (given (ran s) a).state ≤ m = omega (arith, parts.2, here.1) in
-        rw (parts.0, same less below free) refl
+pub frame_limits_only_cut : FrameLimitsOnlyCut
+unfolding passed after
+frame_limits_only_cut f m [] s few short own = (refl, refl)
+frame_limits_only_cut f m (n ∷ ns) s few short own =
+    let t = (moved s n).to in
+    let one = by_same f m s.stopped s.waiting s n few short (λ stop e. own stop (ap (λ (u : Session). u.stopped) (passed_stopped ns t stop e).1 ∙ e)) in
+    let bounds = by_bounds s.stopped s.waiting s n in
+    let rest = frame_limits_only_cut f m ns t (omega (arith, bounds.0, few)) (omega (arith, bounds.1, short)) own in
+    (ap (λ (p : Passed). p.entries ++ passed ns p.to) one ∙ ap (λ (l : List Entry). (moved s n).entries ++ l) rest.0, ap (λ (p : Passed). after ns p.to) one ∙ rest.1)

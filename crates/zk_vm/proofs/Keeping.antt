@@ -18,7 +18,7 @@ use Rattle.zk_vm.specs.declared.machine.Machine.TheInside.{Inside}
 use Rattle.zk_vm.specs.declared.stop.Stop.{Stop}
 use Rattle.zk_vm.specs.Going.{verdict_by, pc_by, steps_by, stopped_by, Settles}
 use Rattle.zk_vm.specs.Halts.{Halt, halt_by}
-use Rattle.zk_vm.specs.Outcome.{Session}
+use Rattle.zk_vm.specs.Sessions.{Session}
 use Rattle.zk_vm.specs.Sound.{state_seen, IsOfStory, IsSound}
 use Rattle.zk_vm.specs.Step.{Step, asked, back_to, goes_to, kept_answer, saved_pc, with_kept}
 use Rattle.zk_vm.proofs.Going.{Told, told_on, gone_on}

@@ -1,14 +1,12 @@
--- Runs stay inside a set of addresses: what is known of each instruction makes each step stay, and so each answer and each run.
-use Rattle.std.proofs.Common.{◌≡◌, ◌∙◌, ◌≤◌, ◌+◌, ◌-◌, ℕ, zero, suc, Bool, true, false, List, [], ◌∷◌, ◌++◌, length, drop, Option, Some, None, Result, Ok, Err, refl, ap, sym, subst, arith}
+-- Runs stay inside a set of addresses: what is known of each instruction makes each step stay, and so each answer and each move.
+use Rattle.std.proofs.Common.{◌≡◌, ◌∙◌, ◌≤◌, ◌+◌, ℕ, Bool, true, false, List, [], ◌∷◌, ◌++◌, length, drop, Option, Some, None, Result, Ok, Err, refl, ap, sym, subst, arith}
 use Rattle.std.specs.Prelude.{All, if◌then◌else◌}
 use Rattle.std.proofs.lemmas.List.{length-append, length-drop, length-take-le}
 use Rattle.std.proofs.lemmas.List.Elements.{All-cons, All-head, All-tail, All-take}
 use Rattle.zk_mem.specs.declared.fault.Fault.{Fault}
 use Rattle.zk_mem.specs.Again.{again, settled}
 use Rattle.zk_mem.specs.Map.{MemoryMap}
-use Rattle.zk_state.specs.declared.refusal.Refusal.{Refusal}
-use Rattle.zk_state.specs.declared.refusal.Refusal.TheVariants as refusal
-use Rattle.zk_state.specs.Frames.{Frame, FrameList, with_frames, within_bounds}
+use Rattle.zk_state.specs.Frames.{Frame, FrameList, with_frames}
 use Rattle.zk_code.specs.declared.instr.Instr.{Instr}
 use Rattle.zk_code.specs.declared.opcode.Opcode.{Opcode}
 use Rattle.zk_code.specs.declared.opcode.Opcode.TheVariants as opcode
@@ -40,14 +38,16 @@ use Rattle.zk_step.proofs.FixedParts.{Leaves, gives, leaves_after, back_keeps, v
 use Rattle.zk_step.proofs.SameStory.{same_base, same_file, same_version}
 use Rattle.zk_step.proofs.Sweep.{EndsInto, GoesOnInto, ResumesInto, StaysInside, back_inside, carried_inside, character_inside, line_inside, result_inside}
 use Rattle.zk_step.proofs.Sweep as sweep
-use Rattle.zk_vm.specs.declared.limits.Limits.{Limits}
 use Rattle.zk_vm.specs.declared.waiting.Waiting.{Waiting}
 use Rattle.zk_vm.specs.Answers.{Answer, answer_settled, answered, answered_by, codes_of, file_of, first_code, is_kept, limit_of, none_restored, restored_from, restored_to, transcribed, truth_word}
-use Rattle.zk_vm.specs.Inside.{EachOfRun, EachStep, FramesReturn, Onward, is_restore}
-use Rattle.zk_vm.specs.Step.{State, Step, asked, back_to, goes_by, goes_to, is_past_reads, is_read, kept_answer, led_to, saved_pc, settled as step_settled, state_after, step, verdict_of, view_before, waits_by, with_kept}
-use Rattle.zk_vm.specs.Step.Step.{Goes, Waits, Quits, Faults, Exceeds}
-use Rattle.zk_vm.specs.Step.Verdict.{WaitsFor, StopsBy}
+use Rattle.zk_vm.specs.Inside.{FramesReturn, is_restore}
+use Rattle.zk_vm.specs.Log.{Move}
+use Rattle.zk_vm.specs.Log.Move.{Gets, Goes}
+use Rattle.zk_vm.specs.Sessions.{Session}
+use Rattle.zk_vm.specs.Step.{State, Step, asked, back_to, goes_to, is_read, kept_answer, led_to, saved_pc, settled as step_settled, step, view_before, waits_by, with_kept}
+use Rattle.zk_vm.specs.Step.Step.{Goes as GoesTo, Waits}
 use Rattle.zk_step.specs.View.{lines_shown, rows_shown, status_shown, viewed, viewed_by}
+use Rattle.zk_vm.proofs.Moves.{IsKeptBy}
 use Rattle.zk_vm.proofs.OneStep.{step_all}
 use Rattle.zk_vm.proofs.Asking.{asks}
 
@@ -113,7 +113,7 @@ module _ (m : MemoryMap) (P : ℕ → Type 0) where
 
   -- where a step leads is inside, and an instruction that waits goes on inside
   abbrev StepsInto : Step → Type 0
-  StepsInto (Goes t text) = Inside t
+  StepsInto (GoesTo t text) = Inside t
   StepsInto (Waits t w text) = Inside t × GoesOnInto P w.instruction
   StepsInto _ = Unit {0}
 
@@ -269,38 +269,26 @@ module _ (m : MemoryMap) (P : ℕ → Type 0) where
   unfolding answered
   answered_inside s w a h on files = by_inside s w.instruction w.wait a h on files
 
-  -- ---- each step of a run
+  -- ---- each move
 
-  goes_onward : (pc : ℕ) (r : Result FrameList Refusal) (A : Type 0) (B : Waiting → Type 0) → A → Onward (goes_by pc r) A B
-  goes_onward pc (Ok f) A B h = h
-  goes_onward pc (Err (refusal.Limit l)) A B h = tt
-  goes_onward pc (Err (refusal.Fault f)) A B h = tt
+  -- an instruction that waits goes on inside
+  abbrev WaitsInto : Option Waiting → Type 0
+  WaitsInto None = Unit {0}
+  WaitsInto (Some w) = GoesOnInto P w.instruction
 
-  waits_onward : (b : Bool) (stop : _) (w : Waiting) (A : Type 0) (B : Waiting → Type 0) → B w → Onward (if b then StopsBy stop else WaitsFor w) A B
-  waits_onward true stop w A B h = tt
-  waits_onward false stop w A B h = h
+  -- so is a machine
+  pub record RunsInside (s : Session) : Type 0 where
+    pub state : Inside s.state
+    pub waits : WaitsInto s.waiting
 
-  onward : (s : State) (x : Step) (A : State → Type 0) (B : State → Waiting → Type 0) → StepsInto x → ((t : State) → Inside t → A t) → ((t : State) (w : Waiting) → Inside t → GoesOnInto P w.instruction → B t w) → Onward (verdict_of s x) (A (state_after s x)) (B (state_after s x))
-  onward s (Goes t text) A B h a b = goes_onward s.pc (within_bounds t.game.frames) (A t) (B t) (a t h)
-  onward s (Waits t w text) A B h a b = waits_onward (is_past_reads s.reads w.wait) _ w (A t) (B t) (b t w h.0 h.1)
-  onward s Quits A B h a b = tt
-  onward s (Faults f) A B h a b = tt
-  onward s (Exceeds l) A B h a b = tt
-
-  module _ (At : State → Type 0) (is_last : State → Bool) (ends : State → Waiting → Answer → Bool) (at : (s : State) → Inside s → At s)
-      (known : (s : State) → Inside s → is_last s ≡ false → (i : Instr) → instr_at s.game.memory s.pc ≡ Ok i → Knows s i)
-      (files : (s : State) (w : Waiting) (a : Answer) → Inside s → ends s w a ≡ false → FilesInto s w a) where
-    each_step : (Rest : State → Waiting → Type 0) (left : ℕ) (s : State) → Inside s → ((t : State) (w : Waiting) → Inside t → GoesOnInto P w.instruction → Rest t w) → EachStep At is_last Rest left s
-    each_step Rest zero s h rest = tt
-    each_step Rest (suc left) s h rest =
-        (at s h, λ more. onward s (step s) (EachStep At is_last Rest left) Rest (step_inside s h (known s h more)) (λ t k. each_step Rest left t k rest) rest)
-
-    shown_all : (s : State) → Inside s → Inside (record s { due = [] })
-    shown_all s h = record { memory = h.memory; story = h.story; pc = h.pc; returns = h.returns; undo = h.undo }
-
-    pub each_of_run : (l : Limits) (answers : List Answer) (s : State) → Inside s → EachOfRun At is_last ends l answers s
-    each_of_run l [] s h = each_step (λ t w. Unit {0}) (l.steps - s.steps) (record s { due = [] }) (shown_all s h) (λ t w k on. tt)
-    each_of_run l (a ∷ answers) s h =
-        each_step (λ t w. ends t w a ≡ false → Onward (verdict_of t (answered t w a)) (EachOfRun At is_last ends l answers (state_after t (answered t w a))) (λ v. Unit {0}))
-        (l.steps - s.steps) (record s { due = [] }) (shown_all s h)
-        (λ t w k on more. onward t (answered t w a) (EachOfRun At is_last ends l answers) (λ u v. Unit {0}) (answered_inside t w a k on (files t w a k more)) (λ u j. each_of_run l answers u j) (λ u v j on. tt))
+  -- where it is known of each instruction that a move carries out, and of each saved game that one restores, a move stays inside
+  pub each_inside : (s : Session) (n : Move) → ((i : Instr) → s.stopped ≡ None → s.waiting ≡ None → s.state.due ≡ [] → n ≡ Goes → instr_at s.state.game.memory s.state.pc ≡ Ok i → Knows s.state i)
+      → ((w : Waiting) (a : Answer) → s.stopped ≡ None → s.waiting ≡ Some w → n ≡ Gets a → FilesInto s.state w a) → RunsInside s → IsKeptBy RunsInside s n
+  each_inside s n knows files h = record {
+    silent = λ free. record { state = record { memory = h.state.memory; story = h.state.story; pc = h.state.pc; returns = h.state.returns; undo = h.state.undo }; waits = h.waits };
+    goes = λ t text u runs free silent is few e inside. record { state = subst StepsInto e (step_inside s.state h.state (λ i d. knows i runs free silent is d)); waits = h.waits };
+    waits = λ t w text runs free silent is few e fits.
+        let there = subst StepsInto e (step_inside s.state h.state (λ i d. knows i runs free silent is d)) in
+        record { state = there.0; waits = there.1 };
+    gets = λ w a t text u runs there is e inside. record { state = subst StepsInto e (answered_inside s.state w a h.state (subst WaitsInto there h.waits) (files w a runs there is)); waits = tt };
+  }

@@ -1,5 +1,5 @@
 -- The transcript, character by character.
-use Rattle.std.proofs.Common.{◌≡◌, ◌∙◌, ℕ, ◌+◌, ◌-◌, ◌*◌, ◌<◌, ◌≤◌, List, [], ◌∷◌, ◌++◌, length, take, get_or, Bool, true, false, None, Result, Ok, Err, nat_lt, sym, ap, subst, arith, append-nil, append_assoc, length-append}
+use Rattle.std.proofs.Common.{◌≡◌, ◌∙◌, ℕ, ◌+◌, ◌-◌, ◌*◌, ◌<◌, ◌≤◌, List, [], ◌∷◌, ◌++◌, length, take, get_or, Bool, true, false, Result, Ok, Err, nat_lt, sym, ap, subst, arith, append-nil, append_assoc, length-append}
 use Rattle.std.specs.Prelude.{if◌then◌else◌}
 use Rattle.std.proofs.lemmas.List.{take_more, map-append, length-take}
 use Rattle.zk_mem.specs.declared.fault.Fault.{Fault}
@@ -13,21 +13,12 @@ use Rattle.zk_text.specs.Shown.{shown, shown_all, characters_shown}
 use Rattle.zk_text.proofs.ShownLemmas.{shown_all-append, shown_all-one}
 use Rattle.zk_step.specs.Status.{code_units}
 use Rattle.zk_step.specs.TextBuffers.{early_kept, later_kept, is_filled, kept_of}
-use Rattle.zk_vm.specs.Outcome.{Session, segment, segment_of}
 
 -- one more character
 pub next_shown : {S : Type 0} (shows : S → S → List ℕ → List ℕ → Type 0) (twice : (a b c : S) (s t u v : List ℕ) → shows a b s u → shows b c t v → shows a c (s ++ t) (u ++ v))
     (old now new : S) (cs : List ℕ) (i c : ℕ) → i < length cs → c ≡ get_or cs i c → shows old now [] (take i cs) → shows now new [] (c ∷ []) → shows old new [] (take (i + 1) cs)
 next_shown {S} shows twice old now new cs i c lt is h one =
     subst (λ (t : List ℕ). shows old new [] t) (ap (λ (x : ℕ). take i cs ++ x ∷ []) is ∙ sym (take_more cs i c lt)) (twice old now new [] [] (take i cs) (c ∷ []) h one)
-
--- what is due goes before the segment
-pub due_shown : {S : Type 0} (shows : S → S → List ℕ → List ℕ → Type 0) (twice : (a b c : S) (s t u v : List ℕ) → shows a b s u → shows b c t v → shows a c (s ++ t) (u ++ v))
-    (old mid new : S) (s : Session) → s.stopped ≡ None → shows old mid [] s.state.due
-    → shows mid new (segment (s.limits.steps - s.state.steps) (record s.state { due = [] })).text.screen (segment (s.limits.steps - s.state.steps) (record s.state { due = [] })).text.script
-    → shows old new (segment_of s).text.screen (segment_of s).text.script
-unfolding segment_of
-due_shown {S} shows twice old mid new s e first rest = rw e (twice old mid new [] _ s.state.due _ first rest)
 
 -- ---- the characters of a line
 

@@ -1,20 +1,22 @@
 -- Worked examples of this crate's definitions: small stories, and what the Standard's machine does with them, worked
 -- out by hand.
-use Rattle.std.specs.Prelude.{◌≡◌, ℕ, List, [], ◌∷◌, ◌++◌, Some, None, replicate, codes}
+use Rattle.std.specs.Prelude.{◌≡◌, ℕ, List, [], ◌∷◌, ◌++◌, Some, None, map, replicate, codes, true, false}
 use Rattle.zk_mem.specs.declared.fault.Fault.TheVariants.{BadAddress, DivisionByZero, BadOpcode, CodePastEnd, ReadOnly}
 use Rattle.zk_state.specs.declared.refusal.Limit.TheVariants.{Frames, Words, Steps, Reads}
 use Rattle.zk_state.specs.Frames.{Frame, FrameList, first_frame, first_frames}
 use Rattle.zk_step.specs.declared.state.game_state.View.TheVariants.{Plain, Upper}
 use Rattle.zk_vm.specs.declared.limits.Limits.{Limits}
 use Rattle.zk_step.specs.declared.state.ending.Event.TheVariants as event
-use Rattle.zk_vm.specs.declared.stop.Stop.{Stop}
-use Rattle.zk_vm.specs.declared.stop.Stop.TheVariants.{Quit, Fault, Limit, EndOfInput, Read}
+use Rattle.zk_vm.specs.declared.stop.Stop.TheVariants.{Quit, Fault, Limit}
 use Rattle.zk_vm.specs.Answers.Answer.{Typed}
 use Rattle.zk_vm.specs.Bounds.{AreInRange}
 use Rattle.zk_vm.specs.Calls.{locals_and_return}
 use Rattle.zk_vm.specs.Halts.{event_waited}
-use Rattle.zk_vm.specs.Outcome.{Outcome, Session, begun, given, outcome, ran, with_stop}
-use Rattle.zk_vm.specs.Places.{places}
+use Rattle.zk_vm.specs.Inside.{NoneLeaves, leaves}
+use Rattle.zk_vm.specs.Log.{Entry, Move, addresses, after, answers_in, moved, passed, reads_in, scripted, shown}
+use Rattle.zk_vm.specs.Log.Entry.{Asked, At, Offered, Read, Scripted, Shown, Stopped}
+use Rattle.zk_vm.specs.Log.Move.{Gets, Goes}
+use Rattle.zk_vm.specs.Sessions.{Session, begun, with_stop}
 use Rattle.zk_vm.specs.Plays.{codes_read}
 
 -- a story of version 5 with its static base and its first instruction at 64, where this code stands
@@ -29,59 +31,60 @@ starts story limits = begun story 1 limits Plain
 abbrev pub limits_of : ℕ → ℕ → ℕ → Limits
 limits_of frames words steps = record { frames = frames; words = words; undo = 0; steps = steps }
 
--- the outcome of a story that nobody answers
-abbrev pub outcome_of : Session → Outcome
-outcome_of s = outcome [] EndOfInput s
+-- what passes at so many moves of a machine that nobody answers
+abbrev pub log_of : ℕ → Session → List Entry
+log_of n s = passed (replicate n Goes) s
 
--- a stop, and the text on the screen
-abbrev pub stops : Stop → List ℕ → Outcome
-stops stop screen = record { stop = stop; text = record { screen = screen; script = [] } }
+-- a text on the screen
+abbrev pub shows : List ℕ → List Entry
+shows text = map Shown text
 
 -- at 64 `print` of "abc", and at 67 `quit`
 abbrev pub prints_and_quits : List ℕ
 prints_and_quits = story_of (0xb2 ∷ 0x98 ∷ 0xe8 ∷ 0xba ∷ [])
 
--- it shows "abc" and ends by itself (sections 5.5 and 15, `quit`)
+-- it shows "abc" and ends by itself, and then nothing more passes (sections 5.5 and 15, `quit`)
 abbrev pub StoriesEnd : Type 0
-StoriesEnd = outcome_of (starts prints_and_quits (limits_of 1 0 10)) ≡ stops Quit (codes "abc")
+StoriesEnd = log_of 3 (starts prints_and_quits (limits_of 1 0 10)) ≡ At 64 ∷ shows (codes "abc") ++ At 67 ∷ Stopped Quit ∷ []
 
 -- of two instructions, two may be made where the limit is 2, and where it is 1 the second is past it
 abbrev pub StepsAreLimited : Type 0
 StepsAreLimited =
-    (outcome_of (starts prints_and_quits (limits_of 1 0 2)) ≡ stops Quit (codes "abc"))
-    × (outcome_of (starts prints_and_quits (limits_of 1 0 1)) ≡ stops (Limit 67 Steps) (codes "abc"))
+    (log_of 3 (starts prints_and_quits (limits_of 1 0 2)) ≡ At 64 ∷ shows (codes "abc") ++ At 67 ∷ Stopped Quit ∷ [])
+    × (log_of 3 (starts prints_and_quits (limits_of 1 0 1)) ≡ At 64 ∷ shows (codes "abc") ++ Stopped (Limit 67 Steps) ∷ [])
 
 -- after "abc", at 67, `div` of 5 by 0: a fault there, and what was shown stays (section 2.3.1)
 abbrev pub FaultsStop : Type 0
 FaultsStop =
-    (outcome_of (starts (story_of (0xb2 ∷ 0x98 ∷ 0xe8 ∷ 0x17 ∷ 5 ∷ 0 ∷ 0 ∷ [])) (limits_of 1 9 10)) ≡ stops (Fault 67 DivisionByZero) (codes "abc"))
-    × (outcome_of (starts (story_of (0xb2 ∷ 0x98 ∷ 0xe8 ∷ [])) (limits_of 1 9 10)) ≡ stops (Fault 67 CodePastEnd) (codes "abc"))
+    (log_of 3 (starts (story_of (0xb2 ∷ 0x98 ∷ 0xe8 ∷ 0x17 ∷ 5 ∷ 0 ∷ 0 ∷ [])) (limits_of 1 9 10)) ≡ At 64 ∷ shows (codes "abc") ++ At 67 ∷ Stopped (Fault 67 DivisionByZero) ∷ [])
+    × (log_of 3 (starts (story_of (0xb2 ∷ 0x98 ∷ 0xe8 ∷ [])) (limits_of 1 9 10)) ≡ At 64 ∷ shows (codes "abc") ++ At 67 ∷ Stopped (Fault 67 CodePastEnd) ∷ [])
 
 -- `push` at 64 and at 67, where one word may be (section 6.3)
 abbrev pub WordsAreLimited : Type 0
 WordsAreLimited =
-    (outcome_of (starts (story_of (0xe8 ∷ 0x7f ∷ 9 ∷ 0xe8 ∷ 0x7f ∷ 9 ∷ 0xba ∷ [])) (limits_of 1 1 10)) ≡ stops (Limit 67 Words) [])
-    × (outcome_of (starts (story_of (0xe8 ∷ 0x7f ∷ 9 ∷ 0xe8 ∷ 0x7f ∷ 9 ∷ 0xba ∷ [])) (limits_of 1 2 10)) ≡ stops Quit [])
+    (log_of 4 (starts (story_of (0xe8 ∷ 0x7f ∷ 9 ∷ 0xe8 ∷ 0x7f ∷ 9 ∷ 0xba ∷ [])) (limits_of 1 1 10)) ≡ At 64 ∷ At 67 ∷ Stopped (Limit 67 Words) ∷ [])
+    × (log_of 4 (starts (story_of (0xe8 ∷ 0x7f ∷ 9 ∷ 0xe8 ∷ 0x7f ∷ 9 ∷ 0xba ∷ [])) (limits_of 1 2 10)) ≡ At 64 ∷ At 67 ∷ At 70 ∷ Stopped Quit ∷ [])
 
 -- `call_1n` at 64 of the routine at 68, packed address 17, which calls itself at 69: with two frames the first call
 -- is made, and the second is past the limit (section 6.4)
 abbrev pub FramesAreLimited : Type 0
 FramesAreLimited =
-    (outcome_of (starts (story_of (0x8f ∷ 0 ∷ 17 ∷ 0xba ∷ 0 ∷ 0x8f ∷ 0 ∷ 17 ∷ [])) (limits_of 2 9 10)) ≡ stops (Limit 69 Frames) [])
-    × (outcome_of (starts (story_of (0x8f ∷ 0 ∷ 17 ∷ 0xba ∷ 0 ∷ 0xb0 ∷ [])) (limits_of 2 9 10)) ≡ stops Quit [])
+    (log_of 4 (starts (story_of (0x8f ∷ 0 ∷ 17 ∷ 0xba ∷ 0 ∷ 0x8f ∷ 0 ∷ 17 ∷ [])) (limits_of 2 9 10)) ≡ At 64 ∷ At 69 ∷ Stopped (Limit 69 Frames) ∷ [])
+    × (log_of 4 (starts (story_of (0x8f ∷ 0 ∷ 17 ∷ 0xba ∷ 0 ∷ 0xb0 ∷ [])) (limits_of 2 9 10)) ≡ At 64 ∷ At 69 ∷ At 67 ∷ Stopped Quit ∷ [])
 
 -- `call_1s` at 64 of the routine at 72, packed address 18, whose `print_ret` at 73 gives 1 to the stack: where no word
 -- may be, it shows nothing, and where one may be, it shows "abc" and a new line (section 15, `print_ret`)
 abbrev pub RefusedStepsShowNothing : Type 0
 RefusedStepsShowNothing =
-    (outcome_of (starts (story_of (0x88 ∷ 0 ∷ 18 ∷ 0 ∷ 0xba ∷ 0 ∷ 0 ∷ 0 ∷ 0 ∷ 0xb3 ∷ 0x98 ∷ 0xe8 ∷ [])) (limits_of 2 0 10)) ≡ stops (Limit 73 Words) [])
-    × (outcome_of (starts (story_of (0x88 ∷ 0 ∷ 18 ∷ 0 ∷ 0xba ∷ 0 ∷ 0 ∷ 0 ∷ 0 ∷ 0xb3 ∷ 0x98 ∷ 0xe8 ∷ [])) (limits_of 2 1 10)) ≡ stops Quit (codes "abc" ++ 10 ∷ []))
+    (log_of 4 (starts (story_of (0x88 ∷ 0 ∷ 18 ∷ 0 ∷ 0xba ∷ 0 ∷ 0 ∷ 0 ∷ 0 ∷ 0xb3 ∷ 0x98 ∷ 0xe8 ∷ [])) (limits_of 2 0 10)) ≡ At 64 ∷ At 73 ∷ Stopped (Limit 73 Words) ∷ [])
+    × (log_of 4 (starts (story_of (0x88 ∷ 0 ∷ 18 ∷ 0 ∷ 0xba ∷ 0 ∷ 0 ∷ 0 ∷ 0 ∷ 0xb3 ∷ 0x98 ∷ 0xe8 ∷ [])) (limits_of 2 1 10))
+    ≡ At 64 ∷ At 73 ∷ shows (codes "abc" ++ 10 ∷ []) ++ At 68 ∷ Stopped Quit ∷ [])
 
 -- `jl` of 1 and 2 at 64 branches on true over the `quit` at 68 to the text at 69, and not on false (section 4.7)
 abbrev pub BranchesLead : Type 0
 BranchesLead =
-    (outcome_of (starts (story_of (0x02 ∷ 1 ∷ 2 ∷ 0xc3 ∷ 0xba ∷ 0xb2 ∷ 0x98 ∷ 0xe8 ∷ 0xba ∷ [])) (limits_of 1 0 10)) ≡ stops Quit (codes "abc"))
-    × (outcome_of (starts (story_of (0x02 ∷ 1 ∷ 2 ∷ 0x43 ∷ 0xba ∷ 0xb2 ∷ 0x98 ∷ 0xe8 ∷ 0xba ∷ [])) (limits_of 1 0 10)) ≡ stops Quit [])
+    (log_of 4 (starts (story_of (0x02 ∷ 1 ∷ 2 ∷ 0xc3 ∷ 0xba ∷ 0xb2 ∷ 0x98 ∷ 0xe8 ∷ 0xba ∷ [])) (limits_of 1 0 10)) ≡ At 64 ∷ At 69 ∷ shows (codes "abc") ++ At 72 ∷ Stopped Quit ∷ [])
+    × (log_of 4 (starts (story_of (0x02 ∷ 1 ∷ 2 ∷ 0x43 ∷ 0xba ∷ 0xb2 ∷ 0x98 ∷ 0xe8 ∷ 0xba ∷ [])) (limits_of 1 0 10)) ≡ At 64 ∷ At 68 ∷ Stopped Quit ∷ [])
 
 -- a story begins at its first instruction, with no step made, in one frame (section 5.5)
 abbrev pub BeginsAtTheFirstInstruction : Type 0
@@ -91,10 +94,16 @@ BeginsAtTheFirstInstruction =
     × ((starts prints_and_quits (limits_of 3 4 10)).state.game.frames ≡ first_frames 3 4)
     × ((starts prints_and_quits (limits_of 3 4 10)).stopped ≡ None)
 
--- a machine that has stopped shows nothing more, and has its stop
+-- at a move nothing passes, and the machine stays as it is
+abbrev pub StaysAt : Session → Move → Type 0
+StaysAt s m = moved s m ≡ record { entries = []; to = s }
+
+-- so it is with one that has stopped, and it has its stop
 abbrev pub StopsForGood : Type 0
 StopsForGood =
-    outcome_of (with_stop (starts prints_and_quits (limits_of 1 0 10)) (Fault 67 BadOpcode)) ≡ stops (Fault 67 BadOpcode) []
+    StaysAt (with_stop (starts prints_and_quits (limits_of 1 0 10)) (Fault 67 BadOpcode)) Goes
+    × StaysAt (with_stop (starts prints_and_quits (limits_of 1 0 10)) (Fault 67 BadOpcode)) (Gets (Typed []))
+    × ((after (replicate 2 Goes) (starts prints_and_quits (limits_of 1 0 10))).stopped ≡ Some Quit)
 
 -- from 1 frame on, up to 64 undo states, and from 1 to 1,000,000,000 instructions
 abbrev pub LimitsHaveRanges : Type 0
@@ -107,11 +116,19 @@ LimitsHaveRanges =
 abbrev pub echoes : List ℕ
 echoes = story_of (0xf6 ∷ 0x7f ∷ 1 ∷ 0 ∷ 0xe5 ∷ 0xbf ∷ 0 ∷ 0x8c ∷ 0xff ∷ 0xf8 ∷ [])
 
--- each line answers one character: its first, and a new line where it has none; then the input has ended, or it fails
+-- a line is typed, and three steps lead on from there
+abbrev pub types : List ℕ → List Move
+types line = Gets (Typed line) ∷ Goes ∷ Goes ∷ Goes ∷ []
+
+-- such a line is read, by the extra characters of the Standard, a character is shown for it, and the next read waits
+abbrev pub echo : List ℕ → ℕ → List Entry
+echo line c = Read None line ∷ At 68 ∷ Shown c ∷ At 71 ∷ At 64 ∷ []
+
+-- each line answers one character: its first, and a new line where it has none
 abbrev pub LinesAnswerReads : Type 0
 LinesAnswerReads =
-    (outcome (Typed (codes "ab") ∷ Typed [] ∷ Typed (codes "z") ∷ []) EndOfInput (starts echoes (limits_of 1 1 10)) ≡ stops EndOfInput (97 ∷ 10 ∷ 122 ∷ []))
-    × (outcome (Typed (codes "ab") ∷ []) Read (starts echoes (limits_of 1 1 10)) ≡ stops Read (codes "a"))
+    passed (Goes ∷ types (codes "ab") ++ types [] ++ types (codes "z")) (starts echoes (limits_of 1 1 10))
+    ≡ At 64 ∷ echo (codes "ab") 97 ++ echo [] 10 ++ echo (codes "z") 122
 
 -- a typed line is the codes of its characters, by the extra characters of the story that reads it: "aé", in UTF-8
 abbrev pub LinesAreTyped : Type 0
@@ -120,8 +137,8 @@ LinesAreTyped = codes_read (starts echoes (limits_of 1 1 10)) (97 ∷ 195 ∷ 16
 -- steps are counted anew from an answer on, and the read itself is none of them: two lead from one to the next
 abbrev pub AnswersCountAnew : Type 0
 AnswersCountAnew =
-    (outcome (Typed (codes "a") ∷ Typed (codes "b") ∷ []) EndOfInput (starts echoes (limits_of 1 1 3)) ≡ stops EndOfInput (codes "ab"))
-    × (outcome (Typed (codes "a") ∷ Typed (codes "b") ∷ []) EndOfInput (starts echoes (limits_of 1 1 2)) ≡ stops (Limit 64 Steps) (codes "a"))
+    (passed (Goes ∷ types (codes "a") ++ types (codes "b")) (starts echoes (limits_of 1 1 3)) ≡ At 64 ∷ echo (codes "a") 97 ++ echo (codes "b") 98)
+    × (passed (Goes ∷ types (codes "a") ++ types (codes "b")) (starts echoes (limits_of 1 1 2)) ≡ At 64 ∷ Read None (codes "a") ∷ At 68 ∷ Shown 97 ∷ At 71 ∷ Stopped (Limit 64 Steps) ∷ [])
 
 -- a machine of a story that has answered so many reads
 abbrev pub after_reads : ℕ → Session → Session
@@ -130,35 +147,29 @@ after_reads n s = record s { state = record s.state { reads = n } }
 -- 16,777,216 reads are answered, and the next one is past the limit, also where there is no answer to it
 abbrev pub ReadsAreLimited : Type 0
 ReadsAreLimited =
-    (outcome (Typed (codes "a") ∷ Typed (codes "b") ∷ []) EndOfInput (after_reads 16777215 (starts echoes (limits_of 1 1 10))) ≡ stops (Limit 64 Reads) (codes "a"))
-    × (outcome (Typed (codes "a") ∷ Typed (codes "b") ∷ []) EndOfInput (after_reads 16777213 (starts echoes (limits_of 1 1 10))) ≡ stops EndOfInput (codes "ab"))
+    (passed (Goes ∷ types (codes "a") ++ types (codes "b")) (after_reads 16777215 (starts echoes (limits_of 1 1 10))) ≡ At 64 ∷ echo (codes "a") 97 ++ Stopped (Limit 64 Reads) ∷ [])
+    × (passed (Goes ∷ types (codes "a") ++ types (codes "b")) (after_reads 16777213 (starts echoes (limits_of 1 1 10))) ≡ At 64 ∷ echo (codes "a") 97 ++ echo (codes "b") 98)
 
 -- `aread` at 64 with its text buffer there: byte 65 says that it holds 127 letters already, of 228. A letter would stand
--- past the story; of an empty line the count is to be stored, above the static base. The faults have the read's address.
-abbrev pub AnswersFault : Type 0
-AnswersFault =
-    (outcome (Typed (codes "a") ∷ []) EndOfInput (starts (story_of (0xe4 ∷ 0x7f ∷ 64 ∷ 0 ∷ [])) (limits_of 1 1 10)) ≡ stops (Fault 64 BadAddress) [])
-    × (outcome (Typed [] ∷ []) EndOfInput (starts (story_of (0xe4 ∷ 0x7f ∷ 64 ∷ 0 ∷ [])) (limits_of 1 1 10)) ≡ stops (Fault 64 ReadOnly) [])
-    × (outcome (Typed (codes "a") ∷ []) EndOfInput (starts echoes (limits_of 1 0 10)) ≡ stops (Limit 64 Words) [])
+-- past the story; of an empty line the count is to be stored, above the static base. An answer that is stored where no word
+-- may be passes a limit. The stops have the read's address, and then nothing passes.
+abbrev pub AnswersStop : Type 0
+AnswersStop =
+    (passed (Goes ∷ types (codes "a")) (starts (story_of (0xe4 ∷ 0x7f ∷ 64 ∷ 0 ∷ [])) (limits_of 1 1 10)) ≡ At 64 ∷ Read None (codes "a") ∷ Stopped (Fault 64 BadAddress) ∷ [])
+    × (passed (Goes ∷ types []) (starts (story_of (0xe4 ∷ 0x7f ∷ 64 ∷ 0 ∷ [])) (limits_of 1 1 10)) ≡ At 64 ∷ Read None [] ∷ Stopped (Fault 64 ReadOnly) ∷ [])
+    × (passed (Goes ∷ types (codes "a")) (starts echoes (limits_of 1 0 10)) ≡ At 64 ∷ Read None (codes "a") ∷ Stopped (Limit 64 Words) ∷ [])
 
--- a machine waits for a line or a character, and goes on from there
+-- a machine waits for a line or a character, and goes on from there; while it waits it stays as it is, and one that does not
+-- wait takes no answer
 abbrev pub MachinesWait : Type 0
 MachinesWait =
-    (event_waited (ran (starts echoes (limits_of 1 1 10))).waiting ≡ Some event.Char)
-    × (event_waited (ran (starts (story_of (0xe4 ∷ 0x7f ∷ 64 ∷ 0 ∷ [])) (limits_of 1 1 10))).waiting ≡ Some (event.Line 64 0))
-    × ((given (ran (starts echoes (limits_of 1 1 10))) (Typed (codes "a"))).state.pc ≡ 68)
-    × ((given (ran (starts echoes (limits_of 1 1 10))) (Typed (codes "a"))).state.reads ≡ 1)
-    × ((given (ran (starts echoes (limits_of 1 1 10))) (Typed (codes "a"))).waiting ≡ None)
-
--- ---- places
-
--- a step has the address of its instruction, also one that ends the story, is a fault or waits; of as many steps as may be made
-abbrev pub StepsHavePlaces : Type 0
-StepsHavePlaces =
-    (places 10 (starts (story_of (0x02 ∷ 1 ∷ 2 ∷ 0xc3 ∷ 0xba ∷ 0xb2 ∷ 0x98 ∷ 0xe8 ∷ 0xba ∷ [])) (limits_of 1 0 10)).state ≡ 64 ∷ 69 ∷ 72 ∷ [])
-    × (places 10 (starts (story_of (0xb2 ∷ 0x98 ∷ 0xe8 ∷ 0x17 ∷ 5 ∷ 0 ∷ 0 ∷ [])) (limits_of 1 9 10)).state ≡ 64 ∷ 67 ∷ [])
-    × (places 10 (starts echoes (limits_of 1 1 10)).state ≡ 64 ∷ [])
-    × (places 1 (starts prints_and_quits (limits_of 1 0 10)).state ≡ 64 ∷ [])
+    (event_waited (after (Goes ∷ []) (starts echoes (limits_of 1 1 10))).waiting ≡ Some event.Char)
+    × (event_waited (after (Goes ∷ []) (starts (story_of (0xe4 ∷ 0x7f ∷ 64 ∷ 0 ∷ [])) (limits_of 1 1 10))).waiting ≡ Some (event.Line 64 0))
+    × ((after (Goes ∷ Gets (Typed (codes "a")) ∷ []) (starts echoes (limits_of 1 1 10))).state.pc ≡ 68)
+    × ((after (Goes ∷ Gets (Typed (codes "a")) ∷ []) (starts echoes (limits_of 1 1 10))).state.reads ≡ 1)
+    × ((after (Goes ∷ Gets (Typed (codes "a")) ∷ []) (starts echoes (limits_of 1 1 10))).waiting ≡ None)
+    × StaysAt (after (Goes ∷ []) (starts echoes (limits_of 1 1 10))) Goes
+    × StaysAt (starts echoes (limits_of 1 1 10)) (Gets (Typed (codes "a")))
 
 -- ---- the upper window and the transcript
 
@@ -170,18 +181,65 @@ shows_a_row = story_of (0xea ∷ 0x7f ∷ 1 ∷ 0xeb ∷ 0x7f ∷ 1 ∷ 0xb2 ∷
 -- where the view has the upper window its row stands on a line before the read, else nothing of it is shown
 abbrev pub ViewsShowRows : Type 0
 ViewsShowRows =
-    (outcome (Typed (codes "x") ∷ []) EndOfInput (begun shows_a_row 1 (limits_of 1 1 10) Upper) ≡ stops Quit (codes "| hi" ++ 10 ∷ []))
-    × (outcome (Typed (codes "x") ∷ []) EndOfInput (begun shows_a_row 1 (limits_of 1 1 10) Plain) ≡ stops Quit [])
+    (passed (replicate 5 Goes ++ types (codes "x")) (begun shows_a_row 1 (limits_of 1 1 10) Upper)
+    ≡ At 64 ∷ At 67 ∷ At 70 ∷ At 73 ∷ At 76 ∷ shows (codes "| hi" ++ 10 ∷ []) ++ Read None (codes "x") ∷ At 80 ∷ Stopped Quit ∷ [])
+    × (passed (replicate 5 Goes ++ types (codes "x")) (begun shows_a_row 1 (limits_of 1 1 10) Plain) ≡ At 64 ∷ At 67 ∷ At 70 ∷ At 73 ∷ At 76 ∷ Read None (codes "x") ∷ At 80 ∷ Stopped Quit ∷ [])
 
 -- past the most reads no row is shown either
 abbrev pub NoViewPastTheMostReads : Type 0
-NoViewPastTheMostReads = outcome (Typed (codes "x") ∷ []) EndOfInput (after_reads 16777216 (begun shows_a_row 1 (limits_of 1 1 10) Upper)) ≡ stops (Limit 76 Reads) []
+NoViewPastTheMostReads =
+    passed (replicate 5 Goes ++ types (codes "x")) (after_reads 16777216 (begun shows_a_row 1 (limits_of 1 1 10) Upper)) ≡ At 64 ∷ At 67 ∷ At 70 ∷ At 73 ∷ At 76 ∷ Stopped (Limit 76 Reads) ∷ []
 
 -- at 64 `output_stream` 2, at 67 `print` of "hi", at 70 `output_stream` -2, at 74 `print` of "hi", at 77 `quit`
 abbrev pub ScriptsGetText : Type 0
 ScriptsGetText =
-    outcome_of (starts (story_of (0xf3 ∷ 0x7f ∷ 2 ∷ 0xb2 ∷ 0xb5 ∷ 0xc5 ∷ 0xf3 ∷ 0x3f ∷ 0xff ∷ 0xfe ∷ 0xb2 ∷ 0xb5 ∷ 0xc5 ∷ 0xba ∷ [])) (limits_of 1 1 10))
-    ≡ record { stop = Quit; text = record { screen = codes "hihi"; script = codes "hi" } }
+    log_of 6 (starts (story_of (0xf3 ∷ 0x7f ∷ 2 ∷ 0xb2 ∷ 0xb5 ∷ 0xc5 ∷ 0xf3 ∷ 0x3f ∷ 0xff ∷ 0xfe ∷ 0xb2 ∷ 0xb5 ∷ 0xc5 ∷ 0xba ∷ [])) (limits_of 1 1 10))
+    ≡ At 64 ∷ At 67 ∷ shows (codes "hi") ++ map Scripted (codes "hi") ++ At 70 ∷ At 74 ∷ shows (codes "hi") ++ At 77 ∷ Stopped Quit ∷ []
+
+-- a machine whose transcript is still to get a line
+abbrev pub with_due : List ℕ → Session → Session
+with_due line s = record s { state = record s.state { due = line } }
+
+-- it gets it before the next step
+abbrev pub DueTextComesFirst : Type 0
+DueTextComesFirst =
+    (moved (with_due (codes "go") (starts prints_and_quits (limits_of 1 0 10))) Goes ≡ record { entries = map Scripted (codes "go"); to = starts prints_and_quits (limits_of 1 0 10) })
+    × (log_of 2 (with_due (codes "go") (starts prints_and_quits (limits_of 1 0 10))) ≡ map Scripted (codes "go") ++ At 64 ∷ shows (codes "abc"))
+
+-- ---- moves that leave a clean set
+
+-- at 64 `jump` by a global variable
+abbrev pub jumps_by_variable : List ℕ
+jumps_by_variable = story_of (0xac ∷ 16 ∷ [])
+
+-- such a step leaves, where it is made
+abbrev pub VariablesLeave : Type 0
+VariablesLeave =
+    (leaves (starts jumps_by_variable (limits_of 1 0 10)) Goes ≡ true)
+    × (leaves (with_due (codes "go") (starts jumps_by_variable (limits_of 1 0 10))) Goes ≡ false)
+    × (leaves (with_stop (starts jumps_by_variable (limits_of 1 0 10)) Quit) Goes ≡ false)
+    × (leaves (starts prints_and_quits (limits_of 1 0 10)) Goes ≡ false)
+    × (leaves (after (Goes ∷ []) (starts echoes (limits_of 1 1 10))) (Gets (Typed (codes "a"))) ≡ false)
+
+-- no move leaves that prints a text or ends a story
+abbrev pub OthersStay : Type 0
+OthersStay = NoneLeaves (replicate 3 Goes) (starts prints_and_quits (limits_of 1 0 10))
+
+-- ---- each device's part of a log
+
+-- a log of all that may pass
+abbrev pub whole_log : List Entry
+whole_log = At 64 ∷ Shown 97 ∷ Scripted 98 ∷ Read (Some (228 ∷ [])) (99 ∷ []) ∷ At 71 ∷ Offered (1 ∷ []) true ∷ Asked None None ∷ Shown 100 ∷ Stopped Quit ∷ []
+
+abbrev pub DevicesHaveParts : Type 0
+DevicesHaveParts =
+    (addresses whole_log ≡ 64 ∷ 71 ∷ [])
+    × (shown whole_log ≡ codes "ad")
+    × (scripted whole_log ≡ codes "b")
+    × (answers_in whole_log ≡ Read (Some (228 ∷ [])) (99 ∷ []) ∷ Offered (1 ∷ []) true ∷ Asked None None ∷ [])
+    × (reads_in whole_log ≡ (Some (228 ∷ []), 99 ∷ []) ∷ [])
+
+-- ---- routines
 
 -- a routine with these local variables, whose caller goes on at an address
 abbrev pub frame : List ℕ → ℕ → Frame

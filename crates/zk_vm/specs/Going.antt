@@ -1,5 +1,5 @@
 -- How a machine goes on where an instruction leads.
-use Rattle.std.specs.Prelude.{◌≡◌, ◌⊎◌, ◌<◌, ◌+◌, ◌-◌, Bool, false, ℕ, List, [], Option, Some, None, Result, Ok, Err}
+use Rattle.std.specs.Prelude.{◌≡◌, ◌<◌, ◌+◌, ◌-◌, ◌++◌, false, ℕ, List, [], ◌∷◌, length, Option, Some, None, Result, Ok, Err}
 use Rattle.zk_state.specs.declared.refusal.Limit.{Limit}
 use Rattle.zk_state.specs.declared.refusal.Refusal.{Refusal}
 use Rattle.zk_state.specs.declared.refusal.Refusal.TheVariants as refusal
@@ -13,13 +13,12 @@ use Rattle.zk_step.specs.Inputs.{result_answered}
 use Rattle.zk_step.specs.Limited.{limited_pc}
 use Rattle.zk_step.specs.Restarts.{windows_closed}
 use Rattle.zk_step.specs.Resuming.{resumed}
-use Rattle.zk_step.specs.Routing.{Texts}
-use Rattle.zk_fast.specs.QuietSteps.{IsRefusedAfter, QuietSteps}
+use Rattle.zk_fast.specs.QuietSteps.{GoesBy, IsRefused}
 use Rattle.zk_vm.specs.declared.stop.Stop.{Stop}
 use Rattle.zk_vm.specs.declared.stop.Stop.TheVariants as stop
 use Rattle.zk_vm.specs.Answers.{limit_of}
-use Rattle.zk_vm.specs.Halts.{ComesToKeepAt, FailsAt, Halt, IsLeftBy, LeadsOn, event_of, halt_by}
-use Rattle.zk_vm.specs.Outcome.{Leads, Segment, Session, segment}
+use Rattle.zk_vm.specs.Halts.{Halt, halt_by}
+use Rattle.zk_vm.specs.Sessions.{Session}
 use Rattle.zk_vm.specs.Step.{State, Step, Verdict, verdict_of, state_after}
 use Rattle.zk_vm.specs.Step.Verdict.{GoesOn, WaitsFor, StopsBy}
 
@@ -80,51 +79,32 @@ restored_by w i (Err e) = unrestored_by w i (limit_of e)
 abbrev pub restored_on : GameState → Instr → List ℕ → Result (GameState × ℕ) Refusal
 restored_on w i file = restored_by w i (restored file w.memory w.frames)
 
--- the segment of the steps that a machine has left
-abbrev pub steps_left : Session → Segment
-steps_left s = segment (s.limits.steps - s.state.steps) s.state
-
--- A machine has made its steps up to an event or a stop, as the Standard's machine makes them, and shown their text; or it
--- came to keep a state, for which there was no memory.
-abbrev pub IsHalted : Session → Session → Halt → (Texts → Type 0) → Type 0
-IsHalted old new answer Shown =
-    ((answer ≡ event_of (steps_left old).end) × IsLeftBy old new (steps_left old).end (steps_left old).state × Shown (steps_left old).text)
-    ⊎ ((answer ≡ Err stop.Memory) × (new.waiting ≡ None) × ((text : Texts) × ComesToKeepAt old text new.state × Shown text))
-
--- A machine has made some steps, each of which goes on, and shown their text. It pauses where they lead: at a bound, with
--- steps left, or since its screen is full, which it was not before the last of them.
-pub record Pauses {S : Type 0} (shows : S → S → List ℕ → List ℕ → Type 0) (full : S → Bool) (a b : S) (bound : ℕ) (old new : Session) : Type 0 where
-  pub steps : ℕ
-  pub text : Texts
-  pub leads : Leads steps old.state new.state text
-  pub count : new.state.steps ≡ old.state.steps + steps
-  pub there : new ≡ record old { state = new.state }
-  pub silent : new.state.due ≡ []
-  pub shown : shows a b text.screen text.script
-  pub why : ((new.state.steps ≡ bound) × (bound < old.limits.steps)) ⊎ ((before : Texts) × ((last : Texts) × (LeadsOn old before last new.state × FailsAt shows full a b before last)))
-
 -- ---- steps that are made in silence
 
 -- a state after so many of them
 abbrev pub after_steps : State → ℕ → GameState → ℕ → State
 after_steps s n w pc = record s { game = w; pc = pc; steps = s.steps + n }
 
--- a machine has made some steps by instructions that show nothing, and goes on
-pub record GoesAhead (old new : Session) : Type 0 where
-  pub steps : ℕ
-  pub quiet_steps : QuietSteps steps old.state.game old.state.pc new.state.game new.state.pc
-  pub there : new ≡ record old { state = after_steps old.state steps new.state.game new.state.pc }
+-- A machine has made some steps by instructions that show nothing, whose addresses were noted, and goes on.
+pub record GoesAhead (Noted : List ℕ → Type 0) (old new : Session) : Type 0 where
+  pub addresses : List ℕ
+  pub goes : GoesBy addresses old.state.game old.state.pc new.state.game new.state.pc
+  pub there : new ≡ record old { state = after_steps old.state (length addresses) new.state.game new.state.pc }
+  pub noted : Noted addresses
 
 -- the instruction after them is refused
-pub record StopsAhead (old new : Session) (answer : Halt) : Type 0 where
-  pub steps : ℕ
+pub record StopsAhead (Noted : List ℕ → Type 0) (old new : Session) (answer : Halt) : Type 0 where
+  pub addresses : List ℕ
+  pub end : GameState
   pub pc : ℕ
+  pub goes : GoesBy addresses old.state.game old.state.pc end pc
+  pub few : length addresses < old.limits.steps - old.state.steps
   pub refusal : Refusal
-  pub few : steps < old.limits.steps - old.state.steps
-  pub refused : IsRefusedAfter steps old.state.game old.state.pc pc refusal
+  pub refused : IsRefused end pc refusal
+  pub noted : Noted (addresses ++ pc ∷ [])
   pub tells : answer ≡ Err (stop_by pc refusal)
   pub free : new.waiting ≡ None
 
-abbrev pub IsAhead : Session → Session → Result (Unit {0}) Halt → Type 0
-IsAhead old new (Ok x) = GoesAhead old new
-IsAhead old new (Err h) = StopsAhead old new h
+abbrev pub IsAhead : (List ℕ → Type 0) → Session → Session → Result (Unit {0}) Halt → Type 0
+IsAhead Noted old new (Ok x) = GoesAhead Noted old new
+IsAhead Noted old new (Err h) = StopsAhead Noted old new h

@@ -4,10 +4,11 @@ pub mod Calls
 pub mod Going
 pub mod Halts
 pub mod Laws
-pub mod Outcome
+pub mod Log
+pub mod Logged
+pub mod Sessions
 pub mod Parts
 pub mod Sound
-pub mod Places
 pub mod Plays
 pub mod Step
 pub mod Examples

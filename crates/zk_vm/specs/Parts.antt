@@ -7,7 +7,7 @@ use Rattle.zk_vm.specs.declared.limits.Limits.{Limits}
 use Rattle.zk_vm.specs.declared.machine.parts.Asking.{Asking}
 use Rattle.zk_vm.specs.declared.machine.parts.Place.{Place}
 use Rattle.zk_vm.specs.declared.waiting.Waiting.{Waiting}
-use Rattle.zk_vm.specs.Outcome.{Session}
+use Rattle.zk_vm.specs.Sessions.{Session}
 
 -- where a run stands
 abbrev pub place_of : Session → Place

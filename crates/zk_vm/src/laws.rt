@@ -1,11 +1,8 @@
 // Laws of runs.
 
-ghost use Rattle.std.specs.Prelude.{Bool};
-ghost use Rattle.zk_vm.specs.declared.waiting.Waiting.{Waiting};
-ghost use Rattle.zk_vm.specs.Answers.{Answer};
-ghost use Rattle.zk_vm.specs.Inside.{CleanStays, CleanStopsRead, EachIsSaid};
-ghost use Rattle.zk_vm.specs.Laws.{RunsStayWithin, StepLimitOnlyCuts, StepLimitCutsThere, PausesOnlyDivide, FrameLimitsOnlyCut, LimitsCutThere, StepLimitOnlyCutsRuns, FrameLimitsOnlyCutRuns, LimitsCutRuns};
-ghost use Rattle.zk_vm.specs.Step.{State};
+ghost use Rattle.zk_vm.specs.Inside.{CleanStays, CleanStopsRead};
+ghost use Rattle.zk_vm.specs.Laws.{FrameLimitsOnlyCut, LimitsCutRuns, RunsStayWithin, StepLimitOnlyCuts};
+ghost use Rattle.zk_vm.specs.Log.{LogsJoin, OneLog};
 
 /// Every state that a run passes, whatever answers it gets, has no more frames, words, steps, reads and states to go back
 /// to than its limits say.
@@ -13,43 +10,18 @@ pub fn runs_stay_within()
     ensures { RunsStayWithin }
 {}
 
-/// A run that stops for another reason is the same under any greater limit on steps.
+/// A machine that does not stop by the limit on steps does the same under any greater one, whatever answers it gets.
 pub fn step_limit_only_cuts()
     ensures { StepLimitOnlyCuts }
 {}
 
-/// Where as many steps lead on as the limit says, the run stops there, by the limit on steps.
-pub fn step_limit_cuts_there()
-    ensures { StepLimitCutsThere }
-{}
-
-/// A machine that has paused goes on as if it had not, whatever answers it gets: it comes to the same event or stop, and its
-/// text before and after the pause is the text of the whole.
-pub fn pauses_only_divide()
-    ensures { PausesOnlyDivide }
-{}
-
-/// A run that stops for another reason is the same under any greater limits on frames and words.
+/// So does one that does not stop by a limit on frames or words, under any greater ones.
 pub fn frame_limits_only_cut()
     ensures { FrameLimitsOnlyCut }
 {}
 
-/// The first step that passes a limit on frames, words or reads is where the run stops, by that limit.
-pub fn limits_cut_there()
-    ensures { LimitsCutThere }
-{}
-
-/// A run that stops for another reason is the same under any greater limit on steps, whatever answers it gets.
-pub fn step_limit_only_cuts_runs()
-    ensures { StepLimitOnlyCutsRuns }
-{}
-
-/// So it is under any greater limits on frames and words.
-pub fn frame_limits_only_cut_runs()
-    ensures { FrameLimitsOnlyCutRuns }
-{}
-
-/// A run stops at the first step or answer that passes a limit, by that limit, also after other answers.
+/// The step that is one too many, the first step that passes a limit, and the first answer that does are where a machine
+/// stops, by that limit.
 pub fn limits_cut_runs()
     ensures { LimitsCutRuns }
 {}
@@ -66,17 +38,12 @@ pub fn clean_stops_read()
     ensures { CleanStopsRead }
 {}
 
-/// What may hold of a state of play, for a law about all that may.
-pub trait Holds {
-    ghost use Rattle.zk_vm.specs.Step.{State};
+/// Logs of a machine that follow one another are a log of it.
+pub fn logs_join()
+    ensures { LogsJoin }
+{}
 
-    // that it holds
-    ghost at: { State → Type 0 };
-}
-
-/// What is said of each step of a run holds of each state from which a step is made, whatever answers the run gets, up to a
-/// step or an answer that is the last of which it is said.
-pub fn each_is_said<H: Holds>()
-    ensures { (is_last : State → Bool) (ends : State → Waiting → Answer → Bool) →
-        EachIsSaid H.at is_last ends }
+/// What comes from the world determines a log: of two that got the same, one is a first part of the other.
+pub fn one_log()
+    ensures { OneLog }
 {}

@@ -6,7 +6,7 @@ ghost use Rattle.zk_vm.specs.Bounds.{AreInRange};
 ghost use Rattle.zk_vm.specs.Going.{stop_by, verdict_by, pc_by, steps_by, stopped_by};
 ghost use Rattle.zk_vm.specs.Halts.{event_waited, halt_by};
 ghost use Rattle.zk_vm.specs.Laws.{IsWithin};
-ghost use Rattle.zk_vm.specs.Outcome.{begun, first_game, with_grid_forgotten, with_stop};
+ghost use Rattle.zk_vm.specs.Sessions.{begun, first_game, with_grid_forgotten, with_stop};
 ghost use Rattle.zk_vm.specs.Step.{is_read};
 
 mod answers;
@@ -61,7 +61,7 @@ impl Model for Machine {
     ghost use Rattle.zk_state.specs.Frames.{bounds_of};
     ghost use Rattle.zk_save.specs.States.{states_in, AreOf};
     ghost use Rattle.zk_vm.specs.Halts.{CanAnswer, WhileRunning};
-    ghost use Rattle.zk_vm.specs.Outcome.{Session};
+    ghost use Rattle.zk_vm.specs.Sessions.{Session};
     ghost use Rattle.zk_vm.specs.Sound.{state_seen, IsSound};
     ghost use Rattle.std.specs.Coded as coded;
     ghost use Rattle.zk_step.specs.contracts.state.game_state.GameState as play;
@@ -111,7 +111,7 @@ fn fresh_game(
 impl Machine {
     /// A machine at the start of a story. `seed` begins its random numbers, and `view` says what it shows of
     /// the status line and the upper window.
-    #[tactic(auto, unfolding(crate::specs::Outcome::begun, zk_save::specs::States::states_in))]
+    #[tactic(auto, unfolding(crate::specs::Sessions::begun, zk_save::specs::States::states_in))]
     pub fn start(
         alloc: Global,
         story: Story,

@@ -5,14 +5,15 @@ ghost use Rattle.std.specs.List.{AllByRecursion};
 ghost use Rattle.zk_text.specs.Extra.{is_input_code, own_characters};
 ghost use Rattle.zk_term.specs.Devices.{HasJust, Shows};
 ghost use Rattle.zk_term.specs.declared.lines.InputEnd.{InputEnd};
-ghost use Rattle.zk_term.specs.Lines.{Hears, FailsAlone, HasInputCodes, IsOverAfter, MeetsBound, ReadFailed, over_input};
+ghost use Rattle.zk_term.specs.Lines.{Hears, FailsAlone, HasInputCodes, IsOverAfter, MeetsBound, ReadFailed, TakesAnswer, over_input};
 ghost use Rattle.zk_vm.specs.Answers.{first_code};
 ghost use Rattle.zk_vm.specs.Answers.Answer.{Typed};
 ghost use Rattle.zk_vm.specs.Halts.{IsLeftAs, event_waited};
+ghost use Rattle.zk_vm.specs.Logged.{Plays, RunsOn, Serves, Turns, Wrote};
 ghost use Rattle.zk_vm.specs.Step.{is_read};
 ghost use Rattle.zk_vm.specs.Laws.{IsWithin};
-ghost use Rattle.zk_vm.specs.Outcome.{given, with_stop};
-ghost use Rattle.zk_vm.specs.Plays.{AsksForFile, AreSlotAnswers, IsRunOn, IsServed, IsTold, IsTurn, TookTexts, IsPlay, IsPlayed, IsAnswered, refused_in, slot_tells, source_tells, taken_by};
+ghost use Rattle.zk_vm.specs.Sessions.{given, with_stop};
+ghost use Rattle.zk_vm.specs.Plays.{AsksForFile, IsTold, refused_in, slot_tells, source_tells, taken_by};
 ghost use Rattle.zk_save.specs.Loading.{restored};
 
 use crate::machine::{Machine, is_read};
@@ -39,7 +40,7 @@ pub fn serve<K: SaveSlot>(
     requires waits { event_waited machine.old.waiting ≡ Some event }
     requires file { is_read event ≡ false }
     ensures served { OnOk result
-        (IsServed (slot_tells K.held K.keeps K.puts K.gets K.hears) slot.old slot.new machine.old machine.new) }
+        (Serves (slot_tells K.held K.keeps K.puts K.gets K.hears) machine.old machine.new slot.old slot.new) }
     ensures free { machine.new.waiting ≡ None }
     ensures counted { OnOk result
         (machine.new.stopped ≡ None → machine.new.state.steps ≡ machine.old.state.steps + 1) }
@@ -68,7 +69,7 @@ pub fn serve<K: SaveSlot>(
 fn keep<K: SaveSlot>(alloc: Global, slot: &mut K, machine: &mut Machine) -> Result<(), AllocError>
     requires waits { event_waited machine.old.waiting ≡ Some Event.Save }
     ensures served { OnOk result
-        (IsServed (slot_tells K.held K.keeps K.puts K.gets K.hears) slot.old slot.new machine.old machine.new) }
+        (Serves (slot_tells K.held K.keeps K.puts K.gets K.hears) machine.old machine.new slot.old slot.new) }
     ensures free { OnOk result (machine.new.waiting ≡ None) }
     ensures counted { OnOk result
         (machine.new.stopped ≡ None → machine.new.state.steps ≡ machine.old.state.steps + 1) }
@@ -100,7 +101,7 @@ fn tell_refusal<K: SaveSlot>(slot: &mut K, machine: &Machine, file: &[u8])
 fn bring<K: SaveSlot>(alloc: Global, slot: &mut K, machine: &mut Machine) -> Result<(), AllocError>
     requires waits { event_waited machine.old.waiting ≡ Some Event.Restore }
     ensures served { OnOk result
-        (IsServed (slot_tells K.held K.keeps K.puts K.gets K.hears) slot.old slot.new machine.old machine.new) }
+        (Serves (slot_tells K.held K.keeps K.puts K.gets K.hears) machine.old machine.new slot.old slot.new) }
     ensures free { OnOk result (machine.new.waiting ≡ None) }
     ensures counted { OnOk result
         (machine.new.stopped ≡ None → machine.new.state.steps ≡ machine.old.state.steps + 1) }
@@ -133,18 +134,10 @@ pub fn run_on<S: Target, T: Target, P: Places>(
     requires free { machine.old.waiting ≡ None }
     requires screen_works { S.failed screen.old ≡ false }
     requires script_works { T.failed script.old ≡ false }
-    ensures run { IsRunOn machine.old machine.new result
-        (S.failed screen.new || T.failed script.new) (λ t. Shows
-        (record { taken = S.taken screen.old; failed = false })
-        (record {
-          taken = S.taken screen.new;
-          failed = S.failed screen.new || T.failed script.new;
-        }) t.screen
-        × Shows (record { taken = T.taken script.old; failed = false })
-        (record {
-          taken = T.taken script.new;
-          failed = S.failed screen.new || T.failed script.new;
-        }) t.script) }
+    ensures logged { RunsOn (Wrote (taken_by (S.taken screen.old) (T.taken script.old))
+        (taken_by (S.taken screen.new) (T.taken script.new)) (S.failed screen.new || T.failed script.new))
+        (P.noted places.old places.new) machine.old machine.new result
+        (S.failed screen.new || T.failed script.new) }
     ensures free_again { OnErr result (machine.new.waiting ≡ None) }
     ensures asks { IfOk result (λ event. event_waited machine.new.waiting ≡ Some event) }
     ensures reads { IfOk result
@@ -184,12 +177,11 @@ pub fn turn<S: Target, T: Target, K: SaveSlot, P: Places>(
     requires free { machine.old.waiting ≡ None }
     requires screen_works { S.failed screen.old ≡ false }
     requires script_works { T.failed script.old ≡ false }
-    ensures turn { IsTurn (AreSlotAnswers (slot_tells K.held K.keeps K.puts K.gets K.hears)
-        (S.failed screen.new || T.failed script.new) slot.old slot.new machine.old) machine.old
-        machine.new result (S.failed screen.new || T.failed script.new)
-        (TookTexts (taken_by (S.taken screen.old) (T.taken script.old))
-        (taken_by (S.taken screen.new) (T.taken script.new))
-        (S.failed screen.new || T.failed script.new)) }
+    ensures logged { Turns (slot_tells K.held K.keeps K.puts K.gets K.hears)
+        (P.noted places.old places.new) slot.old slot.new
+        machine.old machine.new result (S.failed screen.new || T.failed script.new)
+        (taken_by (S.taken screen.old) (T.taken script.old))
+        (taken_by (S.taken screen.new) (T.taken script.new)) }
     ensures free_again { OnErr result (machine.new.waiting ≡ None) }
     ensures asks { IfOk result
         (λ event. (event_waited machine.new.waiting ≡ Some event) × (is_read event ≡ true)) }
@@ -232,6 +224,9 @@ pub fn next_line<R: Source>(lines: &mut Lines, reader: &mut R, machine: &Machine
         (ReadFailed R.fails R.failed reader.new lines.new)
         (R.failed reader.new ≡ R.failed reader.old)
         (MeetsBound R.gives reader.old reader.new lines.old lines.new) result }
+    ensures taken { lines.old.over ≡ None → lines.new.over ≡ None
+        → TakesAnswer R.gives reader.old reader.new lines.old.ahead lines.new.ahead
+        (own_characters machine.now.state.game.memory) result }
     ensures ends { lines.old.over ≡ None → lines.new.over ≡ Some InputEnd.End
         → HasJust R.ends reader.new }
 {
@@ -298,17 +293,10 @@ pub fn play<R: Source, S: Target, T: Target, K: SaveSlot, P: Places>(
     requires reader_works { R.failed reader.old ≡ false }
     requires screen_works { S.failed screen.old ≡ false }
     requires script_works { T.failed script.old ≡ false }
-    ensures played { (bytes : List ℕ) → R.left reader.old ≡ Some bytes
-        → (later : List ℕ) × (R.left reader.new ≡ Some later)
-        × IsPlay (IsPlayed (slot_tells K.held K.keeps K.puts K.gets K.hears) slot.old slot.new bytes later (R.failed reader.new)
-        (S.failed screen.new || T.failed script.new) machine.old) result
-        (S.failed screen.new || T.failed script.new)
-        (taken_by (S.taken screen.old) (T.taken script.old))
-        (taken_by (S.taken screen.new) (T.taken script.new)) }
-    ensures answered { IsPlay (IsAnswered (slot_tells K.held K.keeps K.puts K.gets K.hears)
-        (source_tells R.ends R.fails R.gives R.failed) slot.old slot.new reader.old reader.new
-        (S.failed screen.new || T.failed script.new) machine.old) result
-        (S.failed screen.new || T.failed script.new)
+    ensures logged { Plays (slot_tells K.held K.keeps K.puts K.gets K.hears)
+        (source_tells R.ends R.fails R.gives R.failed) R.left (P.noted places.old places.new)
+        slot.old slot.new reader.old reader.new
+        machine.old result (S.failed screen.new || T.failed script.new)
         (taken_by (S.taken screen.old) (T.taken script.old))
         (taken_by (S.taken screen.new) (T.taken script.new)) }
     ensures read_failed { R.failed reader.new ≡ true → result ≡ Stop.Read }

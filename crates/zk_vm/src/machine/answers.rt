@@ -9,7 +9,7 @@ ghost use Rattle.zk_vm.specs.Answers.Answer.{Typed, GameKept, File};
 ghost use Rattle.zk_vm.specs.Going.{verdict_by, pc_by, stopped_by, restored_on};
 ghost use Rattle.zk_vm.specs.Halts.{IsLeftAs, IsLine, IsUndone, event_waited};
 ghost use Rattle.zk_vm.specs.Laws.{IsWithin};
-ghost use Rattle.zk_vm.specs.Outcome.{given};
+ghost use Rattle.zk_vm.specs.Sessions.{given};
 ghost use Rattle.zk_save.specs.Loading.{restored};
 ghost use Rattle.zk_vm.specs.Plays.{AsksForLine, image_of, refused_in};
 
@@ -102,6 +102,7 @@ impl Machine {
         requires waits { event_waited self.old.waiting ≡ Some Event.Save }
         ensures left { IsLeftAs self.new (given self.old (GameKept kept))
             (given self.old (GameKept kept)).stopped }
+        ensures ran { self.old.stopped ≡ None }
         ensures free { self.new.waiting ≡ None }
         ensures counted { self.new.stopped ≡ None
             → self.new.state.steps ≡ self.old.state.steps + 1 }
@@ -125,6 +126,7 @@ impl Machine {
         requires waits { event_waited self.old.waiting ≡ Some Event.Restore }
         ensures left { IsLeftAs self.new (given self.old (File (option_copied file.entry)))
             (given self.old (File (option_copied file.entry))).stopped }
+        ensures ran { self.old.stopped ≡ None }
         ensures free { self.new.waiting ≡ None }
         ensures counted { self.new.stopped ≡ None
             → self.new.state.steps ≡ self.old.state.steps + 1 }

@@ -1,12 +1,12 @@
 // A machine's run: step after step, up to what is waited for or the stop.
 
-ghost use Rattle.std.specs.Prelude.{◌≡◌, ◌≤◌, ◌<◌, ◌+◌, ◌-◌, ◌^◌, ◌⊎◌, true, false, [], if◌then◌else◌, Some, None, Ok, Err, IfOk, IfSome, OnOk, OnSome, OnErr, MatchResult};
+ghost use Rattle.std.specs.Prelude.{◌≡◌, ◌≤◌, ◌<◌, ◌+◌, ◌-◌, ◌^◌, ◌⊎◌, true, false, [], if◌then◌else◌, Some, None, Ok, Err, IfErr, IfOk, IfSome, OnOk, OnSome, OnErr, MatchResult};
 ghost use Rattle.zk_state.specs.Frames.{IsBounded};
 ghost use Rattle.zk_code.specs.Reading.{instr_at};
-ghost use Rattle.zk_vm.specs.Going.{IsAhead, Settles, LacksMemory, IsHalted, Pauses};
-ghost use Rattle.zk_vm.specs.Halts.{HasPaused, IfRan, IsRun, IsStep, IsCutOff, LeadsOn, ShowsLast, StopsAtOnce, event_waited};
+ghost use Rattle.zk_vm.specs.Going.{IsAhead, Settles, LacksMemory};
+ghost use Rattle.zk_vm.specs.Halts.{IsStep, event_waited};
 ghost use Rattle.zk_vm.specs.Laws.{IsWithin};
-ghost use Rattle.zk_vm.specs.Places.{HasNoted, HasNotedAhead, HasNotedSteps, HasNotedUpTo, made};
+ghost use Rattle.zk_vm.specs.Logged.{Ran, halted};
 ghost use Rattle.zk_vm.specs.Step.{asked, is_read, text_of};
 
 use crate::machine::{MOST_READS, Machine, go_on, halt, is_read, pc_of_save, stop_at};
@@ -34,11 +34,9 @@ impl Machine {
     pub fn run<S: Screen>(&mut self, screen: &mut S) -> Result<Event, Stop>
         requires free { self.old.waiting ≡ None }
         requires endless { (a : S) → S.full a ≡ false }
-        ensures run { IsRun self.old self.new result
-            (λ t. S.shows screen.old screen.new t.screen t.script)
-            ⊎ (IsCutOff ShowsLast S.shows S.failed screen.old screen.new self.old self.new result
-            × (self.new.stopped ≡ Some Stop.Write)) }
-        ensures at_once { StopsAtOnce S.shows S.failed screen.old screen.new self.old result }
+        ensures logged { Ran S.shows S.full S.failed (λ l. Unit {0}) screen.old screen.new
+            self.old.limits.steps self.old self.new (Err result) }
+        ensures stops { IfErr result (λ stop. self.new.stopped ≡ Some stop) }
         ensures free { OnErr result (self.new.waiting ≡ None) }
         ensures asks { IfOk result (λ event. event_waited self.new.waiting ≡ Some event) }
         ensures reads { IfOk result
@@ -63,14 +61,9 @@ impl Machine {
     pub fn run_for<S: Screen>(&mut self, screen: &mut S, most: u32) -> Result<Option<Event>, Stop>
         requires free { self.old.waiting ≡ None }
         requires room { S.full screen.old ≡ false }
-        ensures run { IfRan result (λ answer. IsRun self.old self.new answer
-            (λ t. S.shows screen.old screen.new t.screen t.script)
-            ⊎ (IsCutOff ShowsLast S.shows S.failed screen.old screen.new self.old self.new answer
-            × (self.new.stopped ≡ Some Stop.Write)))
-            (HasPaused S.shows S.full screen.old screen.new most self.old self.new) }
-        ensures at_once { IfRan result
-            (λ answer. StopsAtOnce S.shows S.failed screen.old screen.new self.old answer)
-            (S.failed screen.new ≡ false) }
+        ensures logged { Ran S.shows S.full S.failed (λ l. Unit {0}) screen.old screen.new
+            (self.old.state.steps + most) self.old self.new (halted result) }
+        ensures stops { IfErr result (λ stop. self.new.stopped ≡ Some stop) }
         ensures free { OnErr result (self.new.waiting ≡ None) }
         ensures asks { IfOk result (λ event. event_waited self.new.waiting ≡ event) }
         ensures reads { IfOk result (λ asked. IfSome asked
@@ -99,11 +92,9 @@ impl Machine {
     ) -> Result<Event, Stop>
         requires free { self.old.waiting ≡ None }
         requires endless { (a : S) → S.full a ≡ false }
-        ensures run { IsRun self.old self.new result
-            (λ t. S.shows screen.old screen.new t.screen t.script)
-            ⊎ (IsCutOff ShowsLast S.shows S.failed screen.old screen.new self.old self.new result
-            × (self.new.stopped ≡ Some Stop.Write)) }
-        ensures at_once { StopsAtOnce S.shows S.failed screen.old screen.new self.old result }
+        ensures logged { Ran S.shows S.full S.failed (P.noted places.old places.new) screen.old screen.new
+            self.old.limits.steps self.old self.new (Err result) }
+        ensures stops { IfErr result (λ stop. self.new.stopped ≡ Some stop) }
         ensures free { OnErr result (self.new.waiting ≡ None) }
         ensures asks { IfOk result (λ event. event_waited self.new.waiting ≡ Some event) }
         ensures reads { IfOk result
@@ -115,7 +106,6 @@ impl Machine {
         ensures limits { self.new.limits ≡ self.old.limits }
         ensures frames { IsBounded self.new.state.game.frames }
         ensures within { IsWithin self.new.limits self.new.state }
-        ensures places { HasNoted (P.noted places.old places.new) self.old self.new result }
     {
         match self.run_for_noting(screen, places, u32::MAX) {
             Ok(Some(event)) => Ok(event),
@@ -133,14 +123,9 @@ impl Machine {
     ) -> Result<Option<Event>, Stop>
         requires free { self.old.waiting ≡ None }
         requires room { S.full screen.old ≡ false }
-        ensures run { IfRan result (λ answer. IsRun self.old self.new answer
-            (λ t. S.shows screen.old screen.new t.screen t.script)
-            ⊎ (IsCutOff ShowsLast S.shows S.failed screen.old screen.new self.old self.new answer
-            × (self.new.stopped ≡ Some Stop.Write)))
-            (HasPaused S.shows S.full screen.old screen.new most self.old self.new) }
-        ensures at_once { IfRan result
-            (λ answer. StopsAtOnce S.shows S.failed screen.old screen.new self.old answer)
-            (S.failed screen.new ≡ false) }
+        ensures logged { Ran S.shows S.full S.failed (P.noted places.old places.new) screen.old screen.new
+            (self.old.state.steps + most) self.old self.new (halted result) }
+        ensures stops { IfErr result (λ stop. self.new.stopped ≡ Some stop) }
         ensures free { OnErr result (self.new.waiting ≡ None) }
         ensures asks { IfOk result (λ event. event_waited self.new.waiting ≡ event) }
         ensures reads { IfOk result (λ asked. IfSome asked
@@ -154,9 +139,6 @@ impl Machine {
         ensures limits { self.new.limits ≡ self.old.limits }
         ensures frames { IsBounded self.new.state.game.frames }
         ensures within { IsWithin self.new.limits self.new.state }
-        ensures places { IfRan result
-            (λ answer. HasNoted (P.noted places.old places.new) self.old self.new answer)
-            (HasNotedSteps (P.noted places.old places.new) self.old (made self.old self.new)) }
     {
         if let Some(stop) = self.stopped {
             self.is_within();
@@ -206,17 +188,11 @@ impl Machine {
         requires room { S.full screen.old ≡ false }
         requires from { self.old.state.steps ≤ bound }
         requires to { bound ≤ self.old.limits.steps }
-        ensures run { MatchResult result
-            (λ _. Pauses S.shows S.full screen.old screen.new bound self.old self.new)
-            (λ halt. IsHalted self.old self.new halt
-            (λ t. S.shows screen.old screen.new t.screen t.script)
-            ⊎ IsCutOff LeadsOn S.shows S.failed screen.old screen.new self.old self.new halt) }
-        ensures at_once { MatchResult result (λ _. S.failed screen.new ≡ false)
-            (λ halt. StopsAtOnce S.shows S.failed screen.old screen.new self.old halt) }
+        ensures logged { Ran S.shows S.full S.failed (P.noted places.old places.new) screen.old screen.new bound self.old
+            self.new result }
         ensures reads { self.new.state.reads ≡ self.old.state.reads }
         ensures more { self.old.state.steps ≤ self.new.state.steps }
         ensures limits { self.new.limits ≡ self.old.limits }
-        ensures places { HasNotedUpTo (P.noted places.old places.new) self.old self.new result }
     {
         for _i in self.steps..bound {
             match self.go_ahead(places, bound) {
@@ -261,12 +237,11 @@ impl Machine {
         requires runs { self.old.stopped ≡ None }
         requires from { self.old.state.steps ≤ bound }
         requires to { bound ≤ self.old.limits.steps }
-        ensures ahead { IsAhead self.old self.new result }
+        ensures ahead { IsAhead (P.noted places.old places.new) self.old self.new result }
         ensures reads { self.new.state.reads ≡ self.old.state.reads }
         ensures more { self.old.state.steps ≤ self.new.state.steps }
         ensures few { OnOk result (self.new.state.steps ≤ bound) }
         ensures limits { self.new.limits ≡ self.old.limits }
-        ensures places { HasNotedAhead (P.noted places.old places.new) self.old self.new result }
     {
         let most = bound - self.steps;
         let batch = run_ahead(&mut self.game, &mut self.cache, places, self.pc, most);

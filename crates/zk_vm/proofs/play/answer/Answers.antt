@@ -1,6 +1,6 @@
 use Rattle.std.proofs.Common.{subst}
 use Rattle.zk_vm.specs.Halts.{IsLeftAs}
-use Rattle.zk_vm.specs.Outcome.{Session}
+use Rattle.zk_vm.specs.Sessions.{Session}
 use Rattle.zk_vm.proofs.Turns.{char_given}
 use Rattle.zk_vm.proofs.play.answer.Goals as goal
 

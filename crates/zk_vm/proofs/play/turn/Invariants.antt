@@ -1,6 +1,7 @@
 use Rattle.std.proofs.Common.{◌≡◌, None, false}
 use Rattle.zk_vm.specs.Plays.{slot_tells, taken_by}
-use Rattle.zk_vm.proofs.Turns.{TurnSoFar, steps_left}
+use Rattle.zk_vm.proofs.LogPlays.{TurnLog}
+use Rattle.zk_vm.proofs.Turns.{steps_left}
 use Rattle.zk_vm.proofs.play.turn.Given as goal
 
 abbrev pub invariant-loop-event : goal.invariant-loop-event
@@ -10,7 +11,7 @@ invariant-loop-event g l = record {
   script_works : g.T.Target.failed l.script ≡ false;
   limits : l.machine.limits ≡ l.fn.machine.limits;
   reads : l.machine.stopped ≡ None → l.machine.state.reads ≡ l.fn.machine.state.reads;
-  so_far : TurnSoFar (slot_tells g.K.SaveSlot.held g.K.SaveSlot.keeps g.K.SaveSlot.puts g.K.SaveSlot.gets g.K.SaveSlot.hears) l.fn.machine l.machine l.fn.slot l.slot (taken_by (g.S.Target.taken l.fn.screen) (g.T.Target.taken l.fn.script)) (taken_by (g.S.Target.taken l.screen) (g.T.Target.taken l.script));
+  logged : TurnLog (slot_tells g.K.SaveSlot.held g.K.SaveSlot.keeps g.K.SaveSlot.puts g.K.SaveSlot.gets g.K.SaveSlot.hears) g.P.Places.noted g.met.P.Places.twice l.fn.machine l.machine l.fn.slot l.slot l.fn.places l.places (taken_by (g.S.Target.taken l.fn.screen) (g.T.Target.taken l.fn.script)) (taken_by (g.S.Target.taken l.screen) (g.T.Target.taken l.script));
 }
 
 abbrev pub decreases-loop-event : goal.decreases-loop-event

@@ -1,18 +1,23 @@
-use Rattle.std.proofs.Common.{◌≡◌, ◌∙◌, false, ap, sym, refl}
-use Rattle.zk_vm.specs.Halts.{HasPaused, StopsAtOnce}
-use Rattle.zk_vm.specs.Outcome.{Session}
-use Rattle.zk_host.specs.declared.collected.Collected.{Collected}
-use Rattle.zk_host.specs.Collecting.{Collects, has_no_room, is_lost}
-use Rattle.zk_host.proofs.Running.{lost_run, works_or}
+use Rattle.std.proofs.Common.{rules, ◌≡◌, ◌∙◌, Ok, Err, ap, sym, refl}
+use Rattle.zk_vm.specs.Logged.{halted}
+use Rattle.zk_vm.specs.Sessions.{Session}
+use Rattle.zk_host.proofs.Running.{lost_run, whole_run}
 use Rattle.zk_host.proofs.play.Play.run.Goals as goal
 
 pub returns-then-is_lost : goal.returns-then-is_lost
 returns-then-is_lost c =
     let lost = sym c.is_lost.ensures ∙ c.if-is_lost.true in
-    let m : Session = c.args.self.now.machine in
-    let n : Session = c.run_for-ran.new.self in
-    let a : Collected = c.args.self.now.text in
-    let b : Collected = c.run_for-ran.new.screen in
-    let works = works_or c.run_for-ran.result (λ answer. StopsAtOnce Collects is_lost a b m answer) (is_lost b ≡ false) c.run_for-ran.ensures.at_once in
-    let ends = lost_run c.run_for-ran.result m n c.close.new.self a b (HasPaused Collects has_no_room a b c.args.steps m n) c.run_for-ran.ensures.run works lost (ap (λ (s : Session). s.stopped) c.close.ensures) (ap (λ (s : Session). s.waiting) c.close.ensures) in
+    let ends = lost_run c.run_for-ran.result c.args.self.now.machine c.run_for-ran.new.self c.close.new.self c.args.self.now.text c.run_for-ran.new.screen _ c.run_for-ran.ensures.logged lost (ap (λ (s : Session). s.stopped) c.close.ensures) (ap (λ (s : Session). s.waiting) c.close.ensures) in
     (ends, refl)
+
+pub returns-in-Ok-Some : goal.returns-in-Ok-Some
+returns-in-Ok-Some c =
+    let works = sym c.is_lost.ensures ∙ c.if-is_lost.false in
+    let is : halted c.run_for-ran.result ≡ Err (Ok c.in-Ok-Some.event) = search rules in
+    (whole_run c.run_for-ran.result c.args.self.now.machine c.run_for-ran.new.self c.args.self.now.text c.run_for-ran.new.screen _ (Ok c.in-Ok-Some.event) c.run_for-ran.ensures.logged is tt works, search rules)
+
+pub returns-in-Err : goal.returns-in-Err
+returns-in-Err c =
+    let works = sym c.is_lost.ensures ∙ c.if-is_lost.false in
+    let is : halted c.run_for-ran.result ≡ Err (Err c.in-Err.stop) = search rules in
+    (whole_run c.run_for-ran.result c.args.self.now.machine c.run_for-ran.new.self c.args.self.now.text c.run_for-ran.new.screen _ (Err c.in-Err.stop) c.run_for-ran.ensures.logged is c.in-Err.ensures.stops works, search rules)

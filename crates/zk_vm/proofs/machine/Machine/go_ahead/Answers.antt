@@ -1,9 +1,6 @@
 use Rattle.std.proofs.Common.{◌≤◌, ◌<◌, ◌+◌, ◌-◌, refl, arith}
-use Rattle.zk_vm.specs.declared.machine.Machine.TheInside.{Inside}
-use Rattle.zk_vm.specs.Sound.{state_seen}
 use Rattle.zk_vm.proofs.Keeping.{seen}
 use Rattle.zk_vm.proofs.Ahead.{seen_ahead, seen_stop, sound_ahead}
-use Rattle.zk_vm.proofs.Placing.{ahead_noted, stop_noted, stop_told}
 use Rattle.zk_vm.proofs.machine.Machine.go_ahead.Goals as goal
 
 pub invariant_of-self : goal.invariant_of-self
@@ -19,34 +16,17 @@ invariant_of-self g c =
 pub returns-in-None-clause-ahead : goal.returns-in-None-clause-ahead
 returns-in-None-clause-ahead g c =
     let quiet_steps = rw c.in-None.is at c.run_ahead-batch.ensures.goes in
-    rw (← c.self.view_is) (seen_ahead c.self.inside c.run_ahead-batch.result.made c.run_ahead-batch.new.game c.run_ahead-batch.result.pc quiet_steps)
+    let noted = rw c.in-None.is at c.run_ahead-batch.ensures.places in
+    rw (← c.self.view_is) (seen_ahead (g.P.Places.noted c.args.places.now c.run_ahead-batch.new.places) c.self.inside c.run_ahead-batch.result.made c.run_ahead-batch.new.game c.run_ahead-batch.result.pc quiet_steps noted)
 
 pub returns-in-Some-clause-ahead : goal.returns-in-Some-clause-ahead
 returns-in-Some-clause-ahead g c =
     let free = rw (← c.self.view_is) at c.requires.free in
     let refused = rw c.in-Some.is at c.run_ahead-batch.ensures.goes in
-    let from = rw (← c.self.view_is) at c.requires.from in
-    let to = rw (← c.self.view_is) at c.requires.to in
-    let few = rw c.in-Some.is at c.run_ahead-batch.ensures.room in
-    let room : c.run_ahead-batch.result.made < c.self.inside.limits.steps - c.self.inside.steps = omega (arith, few, from, to) in
-    let tells = rw c.stop_at.ensures at c.halt.ensures.value in
-    rw (← c.self.view_is) (seen_stop _ _ _ c.run_ahead-batch.result.made c.run_ahead-batch.result.pc c.in-Some.refusal tells room refused free)
-
-pub returns-in-None-clause-places : goal.returns-in-None-clause-places
-returns-in-None-clause-places g c =
-    let noted = rw c.in-None.is at c.run_ahead-batch.ensures.places in
-    let new : Inside = record c.self.inside { game = c.run_ahead-batch.new.game; pc = c.run_ahead-batch.result.pc; steps = c.self.inside.steps + c.run_ahead-batch.result.made } in
-    rw (← c.self.view_is) (ahead_noted (g.P.Places.noted c.args.places.now c.run_ahead-batch.new.places) (seen c.self.inside) (seen new) c.run_ahead-batch.new.game c.run_ahead-batch.result.pc c.run_ahead-batch.result.made noted refl)
-
-pub returns-in-Some-clause-places : goal.returns-in-Some-clause-places
-returns-in-Some-clause-places g c =
     let noted = rw c.in-Some.is at c.run_ahead-batch.ensures.places in
-    let refused = rw c.in-Some.is at c.run_ahead-batch.ensures.goes in
     let from = rw (← c.self.view_is) at c.requires.from in
     let to = rw (← c.self.view_is) at c.requires.to in
     let few = rw c.in-Some.is at c.run_ahead-batch.ensures.room in
     let room : c.run_ahead-batch.result.made < c.self.inside.limits.steps - c.self.inside.steps = omega (arith, few, from, to) in
     let tells = rw c.stop_at.ensures at c.halt.ensures.value in
-    let all = stop_noted (g.P.Places.noted c.args.places.now c.run_ahead-batch.new.places) (state_seen c.self.inside) c.run_ahead-batch.new.game c.run_ahead-batch.result.pc c.run_ahead-batch.result.made (c.self.inside.limits.steps - c.self.inside.steps) c.in-Some.refusal noted refused room in
-    let new : Inside = record c.self.inside { game = c.run_ahead-batch.new.game; pc = c.run_ahead-batch.result.pc; steps = c.self.inside.steps + c.run_ahead-batch.result.made; stopped = c.halt.new.stopped } in
-    rw (← c.self.view_is) (stop_told (g.P.Places.noted c.args.places.now c.run_ahead-batch.new.places) (seen c.self.inside) (seen new) _ _ tells all)
+    rw (← c.self.view_is) (seen_stop (g.P.Places.noted c.args.places.now c.run_ahead-batch.new.places) (seen c.self.inside) _ _ c.run_ahead-batch.result.made c.run_ahead-batch.result.pc c.run_ahead-batch.new.game c.in-Some.refusal tells room refused noted free)

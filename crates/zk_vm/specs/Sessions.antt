@@ -1,0 +1,72 @@
+-- A machine, as contracts see it: at a story's start, with a stop, and after an answer.
+use Rattle.std.specs.Prelude.{true, ℕ, List, [], Option, Some, None}
+use Rattle.zk_mem.specs.Header.{header_of}
+use Rattle.zk_mem.specs.Fresh.{fresh}
+use Rattle.zk_state.specs.Frames.{first_frames}
+use Rattle.zk_term.specs.Windows.{first_windows, forgotten}
+use Rattle.zk_step.specs.declared.state.game_state.View.{View}
+use Rattle.zk_step.specs.declared.state.game_state.GameState.{GameState}
+use Rattle.zk_step.specs.Streams.{first_streams}
+use Rattle.zk_vm.specs.declared.limits.Limits.{Limits}
+use Rattle.zk_vm.specs.declared.stop.Stop.{Stop}
+use Rattle.zk_vm.specs.declared.waiting.Waiting.{Waiting}
+use Rattle.zk_vm.specs.Step.{State, Verdict, verdict_of, state_after}
+use Rattle.zk_vm.specs.Step.Verdict.{GoesOn, WaitsFor, StopsBy}
+use Rattle.zk_vm.specs.Answers.{Answer, answered}
+
+-- a machine: the state of play, its limits, what it waits for, if it does, and why it has stopped, if it has
+pub record Session : Type 0 where
+  pub state : State
+  pub limits : Limits
+  pub waiting : Option Waiting
+  pub stopped : Option Stop
+
+-- the game state that a story begins with, with a seed of its random numbers
+abbrev pub first_game : List ℕ → ℕ → Limits → View → GameState
+first_game story seed limits view = record {
+  memory = fresh story limits.undo;
+  frames = first_frames limits.frames limits.words;
+  streams = first_streams;
+  windows = first_windows;
+  generators = record { free = seed; predictable = None };
+  at_line_start = true;
+  view = view;
+}
+
+-- a story begins at its first instruction (Standard, section 5.5)
+unfoldable pub begun : List ℕ → ℕ → Limits → View → Session
+begun story seed limits view = record {
+  state = record {
+    game = first_game story seed limits view;
+    pc = (header_of story).first_instruction;
+    steps = 0;
+    reads = 0;
+    due = [];
+    undo = [];
+  };
+  limits = limits;
+  waiting = None;
+  stopped = None;
+}
+
+-- a machine with a stop waits for nothing
+abbrev pub with_stop : Session → Stop → Session
+with_stop s stop = record s { waiting = None; stopped = Some stop }
+
+-- a machine whose screen has forgotten the grid that is gone
+abbrev pub with_grid_forgotten : Session → Session
+with_grid_forgotten s = record s { state = record s.state { game = record s.state.game { windows = forgotten s.state.game.windows } } }
+
+-- a machine that was answered
+abbrev pub resumed : Session → Verdict → State → Session
+resumed s GoesOn next = record s { state = next; waiting = None }
+resumed s (WaitsFor waiting) next = s
+resumed s (StopsBy stop) next = with_stop s stop
+
+abbrev pub given_to : Option Waiting → Session → Answer → Session
+given_to None s a = s
+given_to (Some waiting) s a = resumed s (verdict_of s.state (answered s.state waiting a)) (state_after s.state (answered s.state waiting a))
+
+-- a machine that waits is given an answer
+unfoldable pub given : Session → Answer → Session
+given s a = given_to s.waiting s a
