@@ -1,6 +1,6 @@
 -- The faults of texts, from their ends on.
 use Rattle.std.proofs.Common.{◌≡◌, ◌∙◌, ◌⊎◌, inl, inr, ℕ, zero, suc, ◌+◌, ◌*◌, ◌≤◌, ◌<◌, List, [], ◌∷◌, ◌++◌, length, Option, Some, None, Ok, Err, true, false, nat_le, refl, sym, ap, subst, arith}
-use Rattle.std.specs.Prelude.{slice_get}
+use Rattle.std.specs.Prelude.{replicate, slice_get}
 use Rattle.zk_mem.specs.declared.fault.Fault.{Fault}
 use Rattle.zk_mem.specs.Map.{MemoryMap, code_word_at}
 use Rattle.zk_mem.specs.Words.{words_at, words_in}
@@ -17,7 +17,7 @@ use Rattle.zk_text.specs.Meaning.{Units, abbreviation, joined, text_units, value
 use Rattle.zk_text.specs.Pieces.{piece_before, pieces, pieces_past}
 use Rattle.zk_text.specs.Reading.{held_back}
 use Rattle.zk_text.specs.Words.{z_characters}
-use Rattle.zk_text.specs.Sweeps.{AreFaults, IsRestOf, IsTextRest, fault_behind, fault_of, first_of, piece_fault}
+use Rattle.zk_text.specs.Sweeps.{AreFaults, AreGood, IsRestOf, IsTextRest, fault_behind, fault_of, first_of, piece_fault}
 use Rattle.zk_text.proofs.Joins.{values_cons}
 use Rattle.zk_text.proofs.TextWords.{held_ends}
 
@@ -42,6 +42,16 @@ more_faults m fs f n h size is k g e = elim (push_cases fs f g k e) [
   | inl old ↦ h k g old
   | inr now ↦ sym now.1 ∙ is ∙ ap (λ (i : ℕ). fault_of (abbreviation m i)) (sym size ∙ sym now.0)
 ]
+
+-- ---- the abbreviations that are noted as good
+
+all_false : (k n : ℕ) → slice_get (replicate k false) n ≡ Some true → ⊥
+all_false zero n h = absurd cc
+all_false (suc k) zero h = absurd cc
+all_false (suc k) (suc n) h = all_false k n h
+
+pub none_good : (m : MemoryMap) (k : ℕ) → AreGood m (replicate k false)
+none_good m k n h = let none = all_false k n h in elim none [ ]
 
 -- ---- Z-characters
 
@@ -73,6 +83,9 @@ rest_of m zs r a b c d e f g u (held.UpperHalf high) = u high
 pub nothing_behind : (m : MemoryMap) (h : Pending) → None ≡ fault_behind m h []
 unfolding z_characters
 nothing_behind m h = sym (ap fault_of (held_ends m (abbreviation m) h))
+
+pub behind_same : (m : MemoryMap) (h : Pending) (vs us : List ℕ) → vs ≡ us → fault_behind m h (z_characters vs) ≡ fault_behind m h (z_characters us)
+behind_same m h vs us e = ap (λ (ws : List ℕ). fault_behind m h (z_characters ws)) e
 
 -- which upper half is held back shows in no fault
 pub half_fault : (m : MemoryMap) (a b c : ℕ) (zs : List ℕ) → fault_behind m (held.UpperHalf a) (c ∷ zs) ≡ fault_behind m (held.UpperHalf b) (c ∷ zs)

@@ -1,5 +1,5 @@
 -- The faults of texts, found from the story's end backwards.
-use Rattle.std.specs.Prelude.{◌≡◌, ℕ, ◌+◌, ◌<◌, true, List, ◌++◌, Option, Some, None, Ok, Err, slice_get}
+use Rattle.std.specs.Prelude.{◌≡◌, ℕ, ◌+◌, ◌<◌, Bool, true, List, ◌++◌, Option, Some, None, Ok, Err, slice_get}
 use Rattle.zk_mem.specs.declared.fault.Fault.{Fault}
 use Rattle.zk_mem.specs.Map.{MemoryMap}
 use Rattle.zk_mem.specs.Words.{words_at}
@@ -26,6 +26,10 @@ first_of (Some f) later = Some f
 -- the faults of abbreviations, by their numbers
 abbrev pub AreFaults : MemoryMap → List (Option Fault) → Type 0
 AreFaults m faults = (n : ℕ) (f : Option Fault) → slice_get faults n ≡ Some f → f ≡ fault_of (abbreviation m n)
+
+-- the abbreviations that are noted as good, by their numbers, have no fault
+abbrev pub AreGood : MemoryMap → List Bool → Type 0
+AreGood m good = (n : ℕ) → slice_get good n ≡ Some true → fault_of (abbreviation m n) ≡ None
 
 -- no abbreviation has a fault
 abbrev pub AreFaultless : MemoryMap → Type 0

@@ -3,6 +3,7 @@
 
 pub mod alphabet;
 pub mod buffer;
+mod checking;
 pub mod examples;
 pub mod extra;
 pub mod key;

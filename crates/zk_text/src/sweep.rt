@@ -7,25 +7,11 @@ ghost use Rattle.zk_text.specs.Meaning.{abbreviation, text_units};
 ghost use Rattle.zk_text.specs.Words.{z_characters};
 ghost use Rattle.zk_text.specs.Sweeps.{AreFaultless, AreFaults, IsRestOf, IsSweptTo, IsTextRest, fault_behind, fault_of, first_of, kept_for, piece_fault};
 
+use crate::checking::abbreviation_fault;
 use crate::pieces::{Pending, Piece, advance};
-use crate::text::check_abbreviation;
 use std::alloc::{AllocError, Global};
 use zk_mem::fault::Fault;
 use zk_mem::memory::Memory;
-
-/// The fault of the text of an abbreviation, if it has one.
-#[tactic(auto, unfolding(crate::specs::Meaning::abbreviation))]
-fn abbreviation_fault(memory: &Memory, number: u16) -> Option<Fault>
-    ensures { result ≡ fault_of (abbreviation memory.now number) }
-{
-    let Ok(word) = memory.word(memory.header().abbreviations as u32 + 2 * number as u32) else {
-        return Some(Fault::TextPastEnd);
-    };
-    match check_abbreviation(memory, 2 * word as u32) {
-        Ok(()) => None,
-        Err(fault) => Some(fault),
-    }
-}
 
 /// The faults of the texts of the 96 abbreviations.
 fn list_faults(alloc: Global, memory: &Memory) -> Result<Vec<Option<Fault>>, AllocError>

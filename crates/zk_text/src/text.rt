@@ -6,6 +6,7 @@ ghost use Rattle.zk_text.specs.Meaning.{text_units, checked_end, meaning_at, no_
 ghost use Rattle.zk_text.specs.declared.unit.Unit.{Unit};
 
 use crate::alphabet::Alphabet;
+use crate::checking::text_fault;
 use crate::sink::{Sink, SinkFault};
 use crate::unit::Unit;
 use crate::walk::{Inside, Outside, Trouble, walk_text};
@@ -48,11 +49,9 @@ pub fn check_text(memory: &Memory, address: u32) -> Result<u32, Fault>
     ensures short { OnOk result (HasShortTexts memory.now address) }
 {
     let end = memory.text_end(address).ok_or(Fault::TextPastEnd)?;
-    match walk_text::<Outside, Silent>(memory, Alphabet::of(memory), address, &mut Silent) {
-        Ok(()) => Ok(end),
-        Err(Trouble::Text(fault)) => Err(fault),
-        // This sink refuses nothing.
-        Err(Trouble::Refused) => Ok(end),
+    match text_fault(memory, address) {
+        None => Ok(end),
+        Some(fault) => Err(fault),
     }
 }
 

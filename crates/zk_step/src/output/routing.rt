@@ -98,14 +98,19 @@ fn show_text<S: Screen>(game: &mut GameState, output: Output, screen: &mut S)
         (streamed game.old.memory game.old (characters_of game.old.memory output)).1.screen
         (streamed game.old.memory game.old (characters_of game.old.memory output)).1.script }
 {
+    let selected = Selected {
+        screen: game.streams.screen(),
+        script: is_script_on(&game.memory),
+    };
+    // where neither gets it, the text is not walked
+    if !selected.screen && !selected.script {
+        return;
+    }
     let extra = Extra::of(&game.memory);
     let mut printer = Printer {
         screen,
         extra: &extra,
-        selected: Selected {
-            screen: game.streams.screen(),
-            script: is_script_on(&game.memory),
-        },
+        selected,
         at_line_start: game.at_line_start,
     };
     match give_output(&game.memory, output, &mut printer) {

@@ -1,7 +1,13 @@
-use Rattle.std.proofs.Common.{ap, Bool, rules}
+use Rattle.std.proofs.Common.{◌≡◌, ap, Bool, false, refl, rules}
 use Rattle.zk_step.specs.Printing.{characters_of}
-use Rattle.zk_step.specs.Routing.{with_line_start}
+use Rattle.zk_step.specs.Routing.{ends_line, shown_if, with_line_start}
 use Rattle.zk_step.proofs.output.routing.show_text.Goals as goal
+
+pub returns-then-not-selected-2-clause-state : goal.returns-then-not-selected-2-clause-state
+unfolding ends_line
+returns-then-not-selected-2-clause-state g c =
+    let off : c.args.game.now.streams.screen ≡ false = search (rules, c.if-not-selected.true) in
+    rw off refl
 
 pub returns-clause-state : goal.returns-clause-state
 unfolding characters_of
