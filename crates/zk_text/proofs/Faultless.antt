@@ -74,7 +74,7 @@ cut_faultless m z zs faultless few =
 pieces_faultless : (m : MemoryMap) (zs : List ℕ) (n : ℕ) → AreFaultless m → AreSmall zs → fault_of (values (letter_of m) (abbreviation m) (pieces_past zs n)) ≡ None
 unfolding pieces_past values AreSmall
 pieces_faultless m [] n faultless few = refl
-pieces_faultless m (z ∷ zs) zero faultless few = before_fault m (cut z zs).0 (pieces_past zs (cut z zs).1) ∙ rw (cut_faultless m z zs faultless few.1) (pieces_faultless m zs (cut z zs).1 faultless few.1)
+pieces_faultless m (z ∷ zs) zero faultless few = before_fault (abbreviation m) m (cut z zs).0 (pieces_past zs (cut z zs).1) ∙ rw (cut_faultless m z zs faultless few.1) (pieces_faultless m zs (cut z zs).1 faultless few.1)
 pieces_faultless m (z ∷ zs) (suc n) faultless few = pieces_faultless m zs n faultless few.1
 
 faultless_behind : (m : MemoryMap) (h : Pending) (zs : List ℕ) → AreFaultless m → AreSmall zs → fault_behind m h zs ≡ None

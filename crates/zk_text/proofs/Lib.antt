@@ -1,5 +1,6 @@
 pub mod Lists
-pub mod Joins
+pub mod Giving
+pub mod WordWalks
 pub mod TextWords
 pub mod Sweeping
 pub mod Faultless

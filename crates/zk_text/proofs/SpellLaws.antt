@@ -14,7 +14,7 @@ use Rattle.zk_text.specs.Pieces.{pieces, pieces_past}
 use Rattle.zk_text.specs.Meaning.{Units, joined, value, values, meaning}
 use Rattle.zk_text.specs.Keys.{place, a2_place, spelled, spelling, spellings, fives, key_characters}
 use Rattle.zk_text.specs.KeyLaws.{IsFirst, IsAbsent, Finds, SpellingByCases, SpaceIsZero, NewLineIsSeven, SpellingsMean, KeyMeans}
-use Rattle.zk_text.proofs.Joins.{values_cons}
+use Rattle.zk_text.proofs.Giving.{values_first}
 use Rattle.zk_text.proofs.Places.{place_is_first, a2_place_is_first}
 
 -- Z-characters that mean a code, and leave what follows them as it is
@@ -81,7 +81,7 @@ spelling_means m expand c = spelling_by m expand c (c == 32) refl
 
 -- one letter more
 one_more : (m : MemoryMap) (expand : ℕ → Units) (c : ℕ) (zs rest : List ℕ) → Means m expand c zs → meaning m expand (zs ++ rest) ≡ joined (Ok (Code c ∷ [])) (meaning m expand rest)
-one_more m expand c zs rest h = rw (h.first rest, values_cons (letter_of m) expand h.piece (pieces rest), h.value_is) refl
+one_more m expand c zs rest h = rw (h.first rest, values_first (letter_of m) expand h.piece (pieces rest), h.value_is) refl
 
 joined_ok : (c : ℕ) (us : List Unit) (r : Units) → r ≡ Ok us → joined (Ok (Code c ∷ [])) r ≡ Ok (Code c ∷ us)
 joined_ok c us r h = rw h refl

@@ -17,8 +17,8 @@ use Rattle.zk_text.specs.Meaning.{Units, abbreviation, joined, text_units, value
 use Rattle.zk_text.specs.Pieces.{piece_before, pieces, pieces_past}
 use Rattle.zk_text.specs.Reading.{held_back}
 use Rattle.zk_text.specs.Words.{z_characters}
-use Rattle.zk_text.specs.Sweeps.{AreFaults, AreGood, IsRestOf, IsTextRest, fault_behind, fault_of, first_of, piece_fault}
-use Rattle.zk_text.proofs.Joins.{values_cons}
+use Rattle.zk_text.specs.Sweeps.{AreFaults, AreGood, IsRestOf, IsTextRest, fault_behind, fault_by, fault_of, first_of, piece_fault, piece_fault_by}
+use Rattle.zk_text.proofs.Giving.{values_first}
 use Rattle.zk_text.proofs.TextWords.{held_ends}
 
 -- ---- the table of faults
@@ -60,13 +60,16 @@ joined_fault (Err f) b = refl
 joined_fault (Ok us) (Err f) = refl
 joined_fault (Ok us) (Ok vs) = refl
 
-pub before_fault : (m : MemoryMap) (o : Option Piece) (ps : List Piece) → fault_of (values (letter_of m) (abbreviation m) (piece_before o ps)) ≡ first_of (piece_fault m o) (fault_of (values (letter_of m) (abbreviation m) ps))
-before_fault m None ps = refl
-before_fault m (Some p) ps = rw (values_cons (letter_of m) (abbreviation m) p ps) (joined_fault (value (letter_of m) (abbreviation m) p) (values (letter_of m) (abbreviation m) ps))
+pub before_fault : (expand : ℕ → Units) (m : MemoryMap) (o : Option Piece) (ps : List Piece) → fault_of (values (letter_of m) expand (piece_before o ps)) ≡ first_of (piece_fault_by expand m o) (fault_of (values (letter_of m) expand ps))
+before_fault expand m None ps = refl
+before_fault expand m (Some p) ps = rw (values_first (letter_of m) expand p ps) (joined_fault (value (letter_of m) expand p) (values (letter_of m) expand ps))
 
 -- one Z-character
+pub pass_by : (expand : ℕ → Units) (m : MemoryMap) (h next : Pending) (c : ℕ) (o : Option Piece) (f : Option Fault) (zs : List ℕ) → pieces (held_back h ++ c ∷ zs) ≡ piece_before o (pieces (held_back next ++ zs)) → f ≡ piece_fault_by expand m o → fault_by expand m h (c ∷ zs) ≡ first_of f (fault_by expand m next zs)
+pass_by expand m h next c o f zs e k = rw (e, k) (before_fault expand m o (pieces (held_back next ++ zs)))
+
 pub pass_fault : (m : MemoryMap) (h next : Pending) (c : ℕ) (o : Option Piece) (f : Option Fault) (zs : List ℕ) → pieces (held_back h ++ c ∷ zs) ≡ piece_before o (pieces (held_back next ++ zs)) → f ≡ piece_fault m o → fault_behind m h (c ∷ zs) ≡ first_of f (fault_behind m next zs)
-pass_fault m h next c o f zs e k = rw (e, k) (before_fault m o (pieces (held_back next ++ zs)))
+pass_fault m = pass_by (abbreviation m) m
 
 -- what is kept for each that may be held back
 pub rest_of : (m : MemoryMap) (zs : List ℕ) (r : Rest) → r.nothing ≡ fault_behind m held.Nothing zs → r.first ≡ fault_behind m held.First zs → r.second ≡ fault_behind m held.Second zs → r.third ≡ fault_behind m held.Third zs → r.shift_to_a1 ≡ fault_behind m held.ShiftToA1 zs → r.shift_to_a2 ≡ fault_behind m held.ShiftToA2 zs → r.escape ≡ fault_behind m held.Escape zs → ((high : ℕ) → r.upper_half ≡ fault_behind m (held.UpperHalf high) zs) → IsRestOf m zs r
@@ -80,12 +83,15 @@ rest_of m zs r a b c d e f g u held.Escape = g
 rest_of m zs r a b c d e f g u (held.UpperHalf high) = u high
 
 -- after the last word
-pub nothing_behind : (m : MemoryMap) (h : Pending) → None ≡ fault_behind m h []
+pub nothing_by : (expand : ℕ → Units) (m : MemoryMap) (h : Pending) → None ≡ fault_by expand m h []
 unfolding z_characters
-nothing_behind m h = sym (ap fault_of (held_ends m (abbreviation m) h))
+nothing_by expand m h = sym (ap fault_of (held_ends m expand h))
 
-pub behind_same : (m : MemoryMap) (h : Pending) (vs us : List ℕ) → vs ≡ us → fault_behind m h (z_characters vs) ≡ fault_behind m h (z_characters us)
-behind_same m h vs us e = ap (λ (ws : List ℕ). fault_behind m h (z_characters ws)) e
+pub nothing_behind : (m : MemoryMap) (h : Pending) → None ≡ fault_behind m h []
+nothing_behind m = nothing_by (abbreviation m) m
+
+pub same_by : (expand : ℕ → Units) (m : MemoryMap) (h : Pending) (vs us : List ℕ) → vs ≡ us → fault_by expand m h (z_characters vs) ≡ fault_by expand m h (z_characters us)
+same_by expand m h vs us e = ap (λ (ws : List ℕ). fault_by expand m h (z_characters ws)) e
 
 -- which upper half is held back shows in no fault
 pub half_fault : (m : MemoryMap) (a b c : ℕ) (zs : List ℕ) → fault_behind m (held.UpperHalf a) (c ∷ zs) ≡ fault_behind m (held.UpperHalf b) (c ∷ zs)

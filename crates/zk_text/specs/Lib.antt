@@ -5,7 +5,7 @@ pub mod Pieces
 pub mod Reading
 pub mod Meaning
 pub mod Lengths
-pub mod Walks
+pub mod Places
 pub mod Sweeps
 pub mod Extra
 pub mod Shown

@@ -35,14 +35,20 @@ AreGood m good = (n : ℕ) → slice_get good n ≡ Some true → fault_of (abbr
 abbrev pub AreFaultless : MemoryMap → Type 0
 AreFaultless m = (n : ℕ) → n < 96 → fault_of (abbreviation m n) ≡ None
 
--- the fault of what a piece stands for, where there is a piece
+-- the fault of what a piece stands for, where there is a piece, by what abbreviations stand for
+abbrev pub piece_fault_by : (ℕ → Units) → MemoryMap → Option Piece → Option Fault
+piece_fault_by expand m None = None
+piece_fault_by expand m (Some p) = fault_of (value (letter_of m) expand p)
+
 abbrev pub piece_fault : MemoryMap → Option Piece → Option Fault
-piece_fault m None = None
-piece_fault m (Some p) = fault_of (value (letter_of m) (abbreviation m) p)
+piece_fault m o = piece_fault_by (abbreviation m) m o
 
 -- the fault of the Z-characters that are held back and those that follow
+abbrev pub fault_by : (ℕ → Units) → MemoryMap → Pending → List ℕ → Option Fault
+fault_by expand m h zs = fault_of (meaning m expand (held_back h ++ zs))
+
 abbrev pub fault_behind : MemoryMap → Pending → List ℕ → Option Fault
-fault_behind m h zs = fault_of (meaning m (abbreviation m) (held_back h ++ zs))
+fault_behind m h zs = fault_by (abbreviation m) m h zs
 
 -- what is kept of a rest, by what is held back before it
 abbrev pub kept_for : Rest → Pending → Option Fault

@@ -4,7 +4,7 @@ ghost use Rattle.std.specs.Prelude.{◌≡◌, ◌∷◌, List, ℕ, false, None
 ghost use Rattle.zk_mem.specs.Map.{MemoryMap};
 ghost use Rattle.zk_mem.specs.Words.{words_at};
 ghost use Rattle.zk_text.specs.Meaning.{abbreviation, meaning};
-ghost use Rattle.zk_text.specs.Sweeps.{AreGood, fault_behind, fault_of, piece_fault};
+ghost use Rattle.zk_text.specs.Sweeps.{AreGood, fault_by, fault_of, piece_fault_by};
 ghost use Rattle.zk_text.specs.Words.{z_characters};
 
 use crate::pieces::{Pending, Piece, advance};
@@ -14,6 +14,48 @@ use zk_mem::memory::Memory;
 
 /// So many abbreviations can be named (Z-Machine Standards Document 1.1, section 3.3).
 const ABBREVIATIONS: usize = 96;
+
+/// Whether abbreviations stand for something.
+pub(crate) trait Abbreviations {
+    ghost use Rattle.std.specs.Prelude.{◌≡◌, ℕ};
+    ghost use Rattle.zk_mem.specs.Map.{MemoryMap};
+    ghost use Rattle.zk_text.specs.Meaning.{Units};
+    ghost use Rattle.zk_text.specs.Sweeps.{fault_of};
+
+    ghost stands: { MemoryMap → ℕ → Units };
+
+    // what was noted is true of a memory
+    ghost holds: { MemoryMap → Self → Type 0 };
+
+    /// Why an abbreviation stands for nothing, if so.
+    fn fault(&mut self, memory: &Memory, number: u16) -> Option<Fault>
+        requires { holds memory.now self.old }
+        ensures value { result ≡ fault_of (stands memory.now number) }
+        ensures holds { holds memory.now self.new };
+}
+
+/// Inside an abbreviation, where none is allowed.
+#[derive(Drop)]
+pub(crate) struct Inside;
+
+impl Abbreviations for Inside {
+    ghost use Rattle.std.specs.Prelude.{⊤};
+    ghost use Rattle.zk_text.specs.Meaning.{no_abbreviation};
+
+    ghost stands = { λ m. no_abbreviation };
+
+    ghost holds = { λ m i. ⊤ };
+
+    fn fault(&mut self, _memory: &Memory, _number: u16) -> Option<Fault> {
+        Some(Fault::NestedAbbreviation)
+    }
+}
+
+/// Outside of all abbreviations. Those that were found to have a meaning are noted, and their texts not walked again.
+#[derive(Drop)]
+pub(crate) struct Outside {
+    good: [bool; ABBREVIATIONS],
+}
 
 /// The fault of the text of an abbreviation, if it has one.
 #[tactic(auto, unfolding(crate::specs::Meaning::abbreviation))]
@@ -29,23 +71,17 @@ pub(crate) fn abbreviation_fault(memory: &Memory, number: u16) -> Option<Fault>
     }
 }
 
-/// The abbreviations that have a meaning, as far as they were looked at.
-#[derive(Drop)]
-struct Known {
-    good: [bool; ABBREVIATIONS],
-}
-
-impl Known {
+impl Outside {
     /// None was looked at.
-    fn none() -> Known
+    pub(crate) fn new() -> Outside
         ensures { (m : MemoryMap) → AreGood m result.good }
     {
-        Known {
+        Outside {
             good: [false; ABBREVIATIONS],
         }
     }
 
-    /// Whether an abbreviation was looked at, and has a meaning.
+    /// Whether an abbreviation was found to have a meaning.
     fn has(&self, number: u16) -> bool
         ensures { result ≡ unwrap_or (slice_get self.now.good number) false }
     {
@@ -62,13 +98,17 @@ impl Known {
             self.good[number as usize] = true;
         }
     }
+}
 
-    /// The fault of the text of an abbreviation, if it has one.
-    fn fault(&mut self, memory: &Memory, number: u16) -> Option<Fault>
-        requires { AreGood memory.now self.old.good }
-        ensures value { result ≡ fault_of (abbreviation memory.now number) }
-        ensures good { AreGood memory.now self.new.good }
-    {
+impl Abbreviations for Outside {
+    ghost use Rattle.zk_text.specs.Meaning.{abbreviation};
+    ghost use Rattle.zk_text.specs.Sweeps.{AreGood};
+
+    ghost stands = { abbreviation };
+
+    ghost holds = { λ m o. AreGood m o.good };
+
+    fn fault(&mut self, memory: &Memory, number: u16) -> Option<Fault> {
         if self.has(number) {
             return None;
         }
@@ -80,38 +120,43 @@ impl Known {
             Some(fault) => Some(fault),
         }
     }
+}
 
-    /// The fault of what a piece stands for, if it has one.
-    #[inline(always)]
-    fn piece_fault(&mut self, memory: &Memory, piece: Option<Piece>) -> Option<Fault>
-        requires { AreGood memory.now self.old.good }
-        ensures value { result ≡ piece_fault memory.now piece }
-        ensures good { AreGood memory.now self.new.good }
-    {
-        match piece {
-            Some(Piece::Abbreviation(number)) => self.fault(memory, number),
-            _ => None,
-        }
+/// The fault of what a piece stands for, if it has one.
+#[inline(always)]
+fn piece_fault<A: Abbreviations>(
+    memory: &Memory,
+    abbreviations: &mut A,
+    piece: Option<Piece>,
+) -> Option<Fault>
+    requires { A.holds memory.now abbreviations.old }
+    ensures value { result ≡ piece_fault_by (A.stands memory.now) memory.now piece }
+    ensures holds { A.holds memory.now abbreviations.new }
+{
+    match piece {
+        Some(Piece::Abbreviation(number)) => abbreviations.fault(memory, number),
+        _ => None,
     }
 }
 
 /// One Z-character: what is held back then, or the fault of the piece that it ends.
 #[inline(always)]
-fn check_character(
+fn check_character<A: Abbreviations>(
     memory: &Memory,
-    known: &mut Known,
+    abbreviations: &mut A,
     held: Pending,
     character: u8,
 ) -> Result<Pending, Fault>
-    requires { AreGood memory.now known.old.good }
+    requires { A.holds memory.now abbreviations.old }
     ensures ok { IfOk result (λ next. (zs : List ℕ) →
-        fault_behind memory.now held (character ∷ zs) ≡ fault_behind memory.now next zs) }
+        fault_by (A.stands memory.now) memory.now held (character ∷ zs)
+        ≡ fault_by (A.stands memory.now) memory.now next zs) }
     ensures err { IfErr result (λ fault. (zs : List ℕ) →
-        fault_behind memory.now held (character ∷ zs) ≡ Some fault) }
-    ensures good { AreGood memory.now known.new.good }
+        fault_by (A.stands memory.now) memory.now held (character ∷ zs) ≡ Some fault) }
+    ensures holds { A.holds memory.now abbreviations.new }
 {
     let (next, piece) = advance(held, character);
-    match known.piece_fault(memory, piece) {
+    match piece_fault(memory, abbreviations, piece) {
         None => Ok(next),
         Some(fault) => Err(fault),
     }
@@ -120,38 +165,42 @@ fn check_character(
 /// The three Z-characters of a word.
 #[tactic(auto, unfolding(crate::specs::Words::z_characters))]
 #[inline(always)]
-fn check_word(
+fn check_word<A: Abbreviations>(
     memory: &Memory,
-    known: &mut Known,
+    abbreviations: &mut A,
     held: Pending,
     word: u16,
 ) -> Result<Pending, Fault>
-    requires { AreGood memory.now known.old.good }
+    requires { A.holds memory.now abbreviations.old }
     ensures ok { IfOk result (λ next. (ws : List ℕ) →
-        fault_behind memory.now held (z_characters (word ∷ ws))
-        ≡ fault_behind memory.now next (z_characters ws)) }
+        fault_by (A.stands memory.now) memory.now held (z_characters (word ∷ ws))
+        ≡ fault_by (A.stands memory.now) memory.now next (z_characters ws)) }
     ensures err { IfErr result (λ fault. (ws : List ℕ) →
-        fault_behind memory.now held (z_characters (word ∷ ws)) ≡ Some fault) }
-    ensures good { AreGood memory.now known.new.good }
+        fault_by (A.stands memory.now) memory.now held (z_characters (word ∷ ws)) ≡ Some fault) }
+    ensures holds { A.holds memory.now abbreviations.new }
 {
-    let held = check_character(memory, known, held, (word / 1024 % 32) as u8)?;
-    let held = check_character(memory, known, held, (word / 32 % 32) as u8)?;
-    check_character(memory, known, held, (word % 32) as u8)
+    let held = check_character(memory, abbreviations, held, (word / 1024 % 32) as u8)?;
+    let held = check_character(memory, abbreviations, held, (word / 32 % 32) as u8)?;
+    check_character(memory, abbreviations, held, (word % 32) as u8)
 }
 
 /// The fault of a text that ends inside the story, if it has one.
-pub(crate) fn text_fault(memory: &Memory, address: u32) -> Option<Fault>
+pub(crate) fn text_fault<A: Abbreviations>(
+    memory: &Memory,
+    address: u32,
+    abbreviations: &mut A,
+) -> Option<Fault>
+    requires { A.holds memory.now abbreviations.old }
     ensures { (ws : List ℕ) → words_at memory.now address ≡ Some ws →
-        result ≡ fault_of (meaning memory.now (abbreviation memory.now) (z_characters ws)) }
+        result ≡ fault_of (meaning memory.now (A.stands memory.now) (z_characters ws)) }
 {
-    let mut known = Known::none();
     let mut at = address;
     let mut held = Pending::Nothing;
     for _i in 0..memory.len() {
         let Some(word) = memory.code_word(at) else {
             return Some(Fault::TextPastEnd);
         };
-        match check_word(memory, &mut known, held, word) {
+        match check_word(memory, abbreviations, held, word) {
             Ok(next) => held = next,
             Err(fault) => return Some(fault),
         }

@@ -1,6 +1,6 @@
 // From Z-characters to the pieces of a text, one at a time.
 
-ghost use Rattle.std.specs.Prelude.{◌≡◌, ◌∷◌, ◌++◌, List, ℕ, IfSome};
+ghost use Rattle.std.specs.Prelude.{◌≡◌, ◌∷◌, ◌++◌, List, ℕ, IfSome, OnSome};
 ghost use Rattle.zk_text.specs.declared.pieces.Pending.TheVariants as Pending;
 ghost use Rattle.zk_text.specs.Pieces.{pieces, piece_before};
 ghost use Rattle.zk_text.specs.Reading.{held_back};
@@ -40,8 +40,9 @@ pub(crate) enum Pending {
 #[tactic(auto, unfolding(crate::specs::Pieces::pieces_past))]
 #[inline(always)]
 fn begin(character: u8) -> (Pending, Option<Piece>)
-    ensures { (zs : List ℕ) →
+    ensures pieces { (zs : List ℕ) →
         pieces (character ∷ zs) ≡ piece_before result.1 (pieces (held_back result.0 ++ zs)) }
+    ensures ends { OnSome result.1 (result.0 ≡ Pending.Nothing) }
 {
     match character {
         0 => (Pending::Nothing, Some(Piece::Code(32))),
@@ -78,8 +79,9 @@ pub(crate) fn alone(held: Pending, character: u8) -> Option<Piece>
 #[tactic(auto, unfolding(crate::specs::Pieces::pieces_past))]
 #[inline(always)]
 pub(crate) fn advance(held: Pending, character: u8) -> (Pending, Option<Piece>)
-    ensures { (zs : List ℕ) → pieces (held_back held ++ character ∷ zs)
+    ensures pieces { (zs : List ℕ) → pieces (held_back held ++ character ∷ zs)
         ≡ piece_before result.1 (pieces (held_back result.0 ++ zs)) }
+    ensures ends { OnSome result.1 (result.0 ≡ Pending.Nothing) }
 {
     match held {
         Pending::Nothing => begin(character),

@@ -5,35 +5,12 @@ ghost use Rattle.zk_text.specs.Lengths.{HasShortText, HasShortTexts};
 ghost use Rattle.zk_text.specs.Meaning.{text_units, checked_end, meaning_at, no_abbreviation};
 ghost use Rattle.zk_text.specs.declared.unit.Unit.{Unit};
 
-use crate::alphabet::Alphabet;
-use crate::checking::text_fault;
+use crate::checking::{Inside, Outside, text_fault};
+use crate::printing::{Place, print_rest};
 use crate::sink::{Sink, SinkFault};
 use crate::unit::Unit;
-use crate::walk::{Inside, Outside, Trouble, walk_text};
 use zk_mem::fault::Fault;
 use zk_mem::memory::Memory;
-
-/// A sink that takes no notice.
-#[derive(Clone, Copy, Drop)]
-struct Silent;
-
-impl Sink for Silent {
-    ghost use Rattle.std.specs.Prelude.{List, ⊤};
-
-    ghost gave = { λ a b us. ⊤ };
-
-    ghost refused = { λ a b us. ⊥ };
-
-    fn put(&mut self, _unit: Unit) -> Result<(), SinkFault> {
-        Ok(())
-    }
-
-    ghost nothing = { λ a. tt };
-
-    ghost twice = { λ a b c s t h k. tt };
-
-    ghost late = { λ a b c s t h k. k };
-}
 
 /// The byte address after the text at a byte address, where the text has a meaning (Z-Machine
 /// Standards Document 1.1, section 3). It is `TextPastEnd` where the text has no last word inside
@@ -49,7 +26,7 @@ pub fn check_text(memory: &Memory, address: u32) -> Result<u32, Fault>
     ensures short { OnOk result (HasShortTexts memory.now address) }
 {
     let end = memory.text_end(address).ok_or(Fault::TextPastEnd)?;
-    match text_fault(memory, address) {
+    match text_fault(memory, address, &mut Outside::new()) {
         None => Ok(end),
         Some(fault) => Err(fault),
     }
@@ -65,18 +42,16 @@ pub fn check_abbreviation(memory: &Memory, address: u32) -> Result<(), Fault>
     ensures short { OnOk result (HasShortText memory.now address) }
 {
     memory.text_end(address).ok_or(Fault::TextPastEnd)?;
-    match walk_text::<Inside, Silent>(memory, Alphabet::of(memory), address, &mut Silent) {
-        Ok(()) => Ok(()),
-        Err(Trouble::Text(reason)) => Err(reason),
-        // This sink refuses nothing.
-        Err(Trouble::Refused) => Ok(()),
+    match text_fault(memory, address, &mut Inside) {
+        None => Ok(()),
+        Some(fault) => Err(fault),
     }
 }
 
 /// Gives a sink the units of the text at a byte address, which has a meaning (see `check_text`), in
 /// one pass. Where the sink refuses, it was given a first part of them. The text, and that of each abbreviation that it
 /// uses, has at most half as many words as the story has bytes.
-#[tactic(auto, unfolding(crate::specs::Meaning::text_units), using(crate::proofs::Joins::refused_alone, crate::proofs::ShortTexts::short_texts))]
+#[tactic(auto, unfolding(crate::specs::Meaning::text_units), using(crate::proofs::ShortTexts::short_texts))]
 pub fn print_text<S: Sink>(memory: &Memory, address: u32, sink: &mut S) -> Result<(), SinkFault>
     requires { IsOk (text_units memory.now address) }
     ensures ok { OnOk result ((us : List Unit) → text_units memory.now address ≡ Ok us →
@@ -85,10 +60,8 @@ pub fn print_text<S: Sink>(memory: &Memory, address: u32, sink: &mut S) -> Resul
         S.refused sink.old sink.new us) }
     ensures short { HasShortTexts memory.now address }
 {
-    match walk_text::<Outside, S>(memory, Alphabet::of(memory), address, sink) {
+    match print_rest(memory, Place::at(address), sink) {
         Ok(()) => Ok(()),
-        // A text with a meaning has no fault.
-        Err(Trouble::Text(_)) => Ok(()),
-        Err(Trouble::Refused) => Err(SinkFault),
+        Err(fault) => Err(fault),
     }
 }
