@@ -7,7 +7,7 @@ ghost use Rattle.zk_text.specs.Meaning.{abbreviation, meaning};
 ghost use Rattle.zk_text.specs.Sweeps.{AreGood, fault_by, fault_of, piece_fault_by};
 ghost use Rattle.zk_text.specs.Words.{z_characters};
 
-use crate::pieces::{Pending, Piece, advance};
+use crate::pieces::{Pending, Piece, advance, is_letter};
 use crate::text::check_abbreviation;
 use zk_mem::fault::Fault;
 use zk_mem::memory::Memory;
@@ -155,6 +155,10 @@ fn check_character<A: Abbreviations>(
         fault_by (A.stands memory.now) memory.now held (character ∷ zs) ≡ Some fault) }
     ensures holds { A.holds memory.now abbreviations.new }
 {
+    // most are letters
+    if is_letter(held, character) {
+        return Ok(Pending::Nothing);
+    }
     let (next, piece) = advance(held, character);
     match piece_fault(memory, abbreviations, piece) {
         None => Ok(next),

@@ -1,6 +1,8 @@
 // From Z-characters to the pieces of a text, one at a time.
 
-ghost use Rattle.std.specs.Prelude.{◌≡◌, ◌∷◌, ◌++◌, List, ℕ, IfSome, OnSome};
+ghost use Rattle.std.specs.Prelude.{◌≡◌, ◌∷◌, ◌++◌, List, ℕ, IfSome, IsTrue, OnSome};
+ghost use Rattle.zk_text.specs.declared.alphabet.Row.TheVariants.{A0};
+ghost use Rattle.zk_text.specs.declared.pieces.Piece.TheVariants.{Letter};
 ghost use Rattle.zk_text.specs.declared.pieces.Pending.TheVariants as Pending;
 ghost use Rattle.zk_text.specs.Pieces.{pieces, piece_before};
 ghost use Rattle.zk_text.specs.Reading.{held_back};
@@ -73,6 +75,16 @@ pub(crate) fn alone(held: Pending, character: u8) -> Option<Piece>
         return Some(Piece::Code(32));
     }
     None
+}
+
+/// Whether a Z-character is a letter of A0 by itself.
+#[tactic(auto, unfolding(crate::specs::Pieces::pieces_past))]
+#[inline(always)]
+pub(crate) fn is_letter(held: Pending, character: u8) -> bool
+    ensures { IsTrue result → (zs : List ℕ) → pieces (held_back held ++ character ∷ zs)
+        ≡ Letter A0 character ∷ pieces (held_back Pending.Nothing ++ zs) }
+{
+    character > 5 && matches!(held, Pending::Nothing)
 }
 
 /// The next Z-character: what is held back then, and the piece that it ends.
