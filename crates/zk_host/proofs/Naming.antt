@@ -1,5 +1,5 @@
 -- An object without a short name.
-use Rattle.std.proofs.Common.{List, [], None, Ok, Err, Result, ap, subst}
+use Rattle.std.proofs.Common.{List, [], take, None, Ok, Err, Result, ap, subst}
 use Rattle.zk_mem.specs.declared.fault.Fault.{Fault}
 use Rattle.zk_mem.specs.Map.{MemoryMap}
 use Rattle.zk_text.specs.declared.unit.Unit.{Unit as TextUnit}
@@ -14,4 +14,4 @@ units_in (Err f) = []
 
 pub no_name : (m : MemoryMap) → IsNameOf m None nothing_collected
 unfolding shown_all
-no_name m units e = subst (λ (us : List TextUnit). Collects nothing_collected nothing_collected (shown_all (own_characters m) us) []) (ap units_in e) (collects_nothing nothing_collected)
+no_name m units e = subst (λ (us : List TextUnit). Collects nothing_collected nothing_collected (shown_all (own_characters m) (take 1000 us)) []) (ap units_in e) (collects_nothing nothing_collected)

@@ -3,6 +3,7 @@ pub mod Texts
 pub mod Collecting
 pub mod Drawing
 pub mod Listings
+pub mod NameSinks
 pub mod Names
 pub mod Typing
 pub mod Calls

@@ -1,5 +1,5 @@
 -- The name in the status line (Standard, section 8.2).
-use Rattle.std.specs.Prelude.{◌≡◌, ℕ, List, [], Option, Some, None, Ok, IsOk}
+use Rattle.std.specs.Prelude.{◌≡◌, ℕ, List, [], Option, Some, None, Ok, IsOk, take}
 use Rattle.zk_mem.specs.Map.{MemoryMap}
 use Rattle.zk_text.specs.declared.unit.Unit.{Unit as TextUnit}
 use Rattle.zk_text.specs.Extra.{own_characters}
@@ -9,9 +9,9 @@ use Rattle.zk_step.specs.Status.{named}
 use Rattle.zk_host.specs.declared.collected.Collected.{Collected}
 use Rattle.zk_host.specs.Collecting.{Collects, nothing_collected}
 
--- an object's short name was collected
+-- the first 1,000 units of an object's short name were collected
 abbrev pub IsNameOf : MemoryMap → Option ℕ → Collected → Type 0
-IsNameOf m name c = (units : List TextUnit) → named m name ≡ Ok units → Collects nothing_collected c (shown_all (own_characters m) units) []
+IsNameOf m name c = (units : List TextUnit) → named m name ≡ Ok units → Collects nothing_collected c (shown_all (own_characters m) (take 1000 units)) []
 
 -- the name in a status line can be read
 abbrev pub IsNamed : MemoryMap → Option StatusLine → Type 0

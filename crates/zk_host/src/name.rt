@@ -1,10 +1,10 @@
 // The name in the status line.
 
-ghost use Rattle.std.specs.Prelude.{◌≡◌, [], List, Ok, IsOk};
+ghost use Rattle.std.specs.Prelude.{◌≡◌, [], List, Ok, IsOk, take};
 ghost use Rattle.zk_text.specs.declared.unit.Unit.{Unit};
 ghost use Rattle.zk_text.specs.Extra.{own_characters};
 ghost use Rattle.zk_text.specs.Meaning.{text_units};
-ghost use Rattle.zk_text.specs.Shown.{shown_all};
+ghost use Rattle.zk_text.specs.Shown.{shown, shown_all};
 ghost use Rattle.zk_step.specs.Status.{named};
 ghost use Rattle.zk_host.specs.Collecting.{Collects, nothing_collected};
 ghost use Rattle.zk_host.specs.Names.{HasName, IsNamed, IsNameOf};
@@ -12,30 +12,101 @@ ghost use Rattle.zk_host.specs.Names.{HasName, IsNamed, IsNameOf};
 use crate::collected::Collected;
 use std::alloc::Global;
 use zk_mem::memory::Memory;
-use zk_step::output::printer::{Printer, Selected};
 use zk_step::output::status::StatusLine;
+use zk_term::screen::Screen;
 use zk_text::extra::Extra;
+use zk_text::shown::Shown;
+use zk_text::sink::{Sink, SinkFault};
 use zk_text::text::print_text;
+use zk_text::unit::Unit;
 
-/// Collects the text at a byte address.
+/// So many units of a name are collected at most. A status line shows fewer, and an abbreviation can stand for more than there
+/// is time for.
+const MOST_UNITS: usize = 1_000;
+
+/// Collects the first units of a text, as many as are left.
+#[derive(Drop)]
+pub struct NameSink<'a> {
+    pub name: &'a mut Collected,
+    pub extra: &'a Extra<'a>,
+    pub left: usize,
+}
+
+impl<'a> NameSink<'a> {
+    /// Collects a unit.
+    fn collect(&mut self, unit: Unit)
+        ensures kept { (self.new.name.ghost_name ≡ self.old.name.ghost_name)
+            × (self.new.extra.now ≡ self.old.extra.now) × (self.new.left ≡ self.old.left) }
+        ensures collected { Collects self.old.name.now self.new.name.now
+            (shown self.old.extra.now unit) [] }
+    {
+        match Shown::of(self.extra, unit) {
+            Shown::Nothing => {}
+            Shown::One(c) => self.name.text(c),
+            Shown::TwoSpaces => {
+                self.name.text(' ');
+                self.name.text(' ');
+            }
+        }
+    }
+}
+
+impl<'a> Sink for NameSink<'a> {
+    ghost use Rattle.std.specs.Prelude.{◌≡◌, ◌+◌, List, [], refl, length, take};
+    ghost use Rattle.std.proofs.Common.{◌∙◌};
+    ghost use Rattle.zk_text.specs.Shown.{shown, shown_all};
+    ghost use Rattle.zk_host.specs.Collecting.{Collects};
+    ghost use Rattle.zk_host.specs.NameSinks.{left_twice, name_nothing, name_twice, name_late};
+
+    ghost gave = { λ a b us. (b.name.ghost_name ≡ a.name.ghost_name) × (b.extra.now ≡ a.extra.now)
+        × (a.left ≡ length us + b.left)
+        × Collects a.name.now b.name.now (shown_all a.extra.now us) [] };
+
+    ghost refused = { λ a b us. (b.name.ghost_name ≡ a.name.ghost_name) × (b.extra.now ≡ a.extra.now)
+        × Collects a.name.now b.name.now (shown_all a.extra.now (take a.left us)) [] };
+
+    fn put(&mut self, unit: Unit) -> Result<(), SinkFault> {
+        if self.left == 0 {
+            return Err(SinkFault);
+        }
+        self.collect(unit);
+        self.left -= 1;
+        Ok(())
+    }
+
+    ghost nothing = { λ a. (refl, refl, refl, name_nothing a.extra.now a.name.now) };
+
+    ghost twice = { λ a b c s t h k. (
+      k.0 ∙ h.0,
+      k.1 ∙ h.1,
+      left_twice a.left b.left c.left s t h.2 k.2,
+      name_twice a.extra.now b.extra.now a.name.now b.name.now c.name.now s t h.1 h.3 k.3,
+    ) };
+
+    ghost late = { λ a b c s t h k. (
+      k.0 ∙ h.0,
+      k.1 ∙ h.1,
+      name_late a.extra.now b.extra.now a.name.now b.name.now c.name.now s t a.left b.left h.1
+          h.2 h.3 k.2,
+    ) };
+}
+
+/// Collects the first units of the text at a byte address.
 fn collect(memory: &Memory, address: u32, name: &mut Collected)
     requires { IsOk (text_units memory.now address) }
     ensures { (units : List Unit) → text_units memory.now address ≡ Ok units →
-        Collects name.old name.new (shown_all (own_characters memory.now) units) [] }
+        Collects name.old name.new (shown_all (own_characters memory.now) (take 1000 units)) [] }
 {
     let extra = Extra::of(memory);
-    let mut printer = Printer {
-        screen: name,
+    let mut sink = NameSink {
+        name,
         extra: &extra,
-        selected: Selected {
-            screen: true,
-            script: false,
-        },
-        at_line_start: true,
+        left: MOST_UNITS,
     };
-    match print_text(memory, address, &mut printer) {
+    match print_text(memory, address, &mut sink) {
         Ok(()) => {}
-        Err(_) => unreachable!(),
+        // all that there is room for was collected
+        Err(_) => {}
     }
 }
 
