@@ -527,12 +527,32 @@ static void refuse_listings(const uint8_t *story, size_t length) {
     say("its first bytes", zkit_listing(game, buffer, sizeof buffer));
     say("of any number of bytes", zkit_list_within(game, ZKIT_LIST_IFID, SIZE_MAX));
     say("its first bytes", zkit_listing(game, buffer, 3));
+    zkit_close(game);
+}
+
+/* Puts the same word so many times, as a text with its end. */
+static void put_text(uint8_t *at, uint16_t word, size_t count) {
+    for (size_t i = 0; i < count; i++, at += 2) {
+        at[0] = (uint8_t)(word >> 8 | (i + 1 == count ? 0x80 : 0));
+        at[1] = (uint8_t)word;
+    }
+}
+
+/* An instruction prints 500 times an abbreviation of 360 letters: less memory is taken where less may be listed. */
+static void bound_listing(void) {
+    uint8_t story[SMALL], code[1002] = {[0] = 0xb2, [1001] = 0xba}; /* print; quit */
+    put_text(code + 1, 0x0405, 500);
+    make_story(story, code, sizeof code);
+    story[0x40] = 0x03; /* the first abbreviation: 00600 */
+    put_text(story + 0x600, 0x18c6, 120);
+    puts("a listing of a long text");
+    zkit *game = opened(story, sizeof story, NULL);
     largest = 0;
-    say("a long listing", zkit_list(game, ZKIT_LIST_CODE));
-    size_t whole = largest;
+    say("all of it", zkit_list(game, ZKIT_LIST_CODE));
+    say("it takes more than 180000 bytes", largest > 180000);
     largest = 0;
     say("of 1000 bytes", zkit_list_within(game, ZKIT_LIST_CODE, 1000));
-    say("its blocks are smaller", largest < whole / 2);
+    say("its blocks are smaller", largest < 100000);
     zkit_close(game);
 }
 
@@ -610,6 +630,7 @@ int main(int count, char **words) {
     keep_snapshots(lighthouse, length, other, read_story(words[2], other));
     tell_story(lighthouse, length);
     refuse_listings(lighthouse, length);
+    bound_listing();
     name_reasons();
     name_refusals();
     say("blocks that are left of all", (size_t)blocks);

@@ -1,6 +1,6 @@
 // Text that has so many bytes at most.
 
-ghost use Rattle.std.specs.Prelude.{◌≡◌, ◌<◌, ◌≤◌, false};
+ghost use Rattle.std.specs.Prelude.{◌≡◌, ◌+◌, ◌<◌, ◌≤◌, false, length};
 ghost use Rattle.zk_host.specs.Collecting.{no_text};
 
 use crate::text::Text;
@@ -33,6 +33,8 @@ impl Bounded {
     fn part_of(&self, count: usize) -> usize
         ensures few { result ≤ count }
         ensures some { 0 < count → 0 < result }
+        ensures within { length self.now.text.bytes ≤ self.now.most
+            → length self.now.text.bytes + result ≤ self.now.most + 1 }
     {
         let room = self.most.saturating_sub(self.text.len());
         if room < count { room + 1 } else { count }
