@@ -18,7 +18,7 @@
  * - A game is used by one thread at a time. Other games may be used by other threads meanwhile.
  * - A game is what zkit_open gave and zkit_close has not taken. No other pointer is null, unless it is said, or the
  *   length after it is 0. A pointer points to as many bytes as that length says, less than 2^63. No argument overlaps
- *   another one of the same call.
+ *   another one of the same call. A struct has as many bytes as its field `size` says, or more.
  * - No function is called from a signal handler, or in the forked child of a process with threads.
  *
  * The library takes its memory by the three functions of zkit_heap.h, which are there already, over malloc.
