@@ -6,6 +6,7 @@
  * that the program keeps where it likes.
  *
  *     zkit *game = zkit_open(story, length, NULL, NULL);
+ *     if (!game) ... it is not opened
  *     do {
  *         asked = zkit_turn(game);
  *         ... show what zkit_text gives, and answer what is asked for, as a line by zkit_line
@@ -17,12 +18,16 @@
  * - A game is used by one thread at a time. Other games may be used by other threads meanwhile.
  * - A game is what zkit_open gave and zkit_close has not taken. No other pointer is null, unless it is said, or the
  *   length after it is 0. A pointer points to as many bytes as that length says, less than 2^63. No argument overlaps
- *   another one of the same call.
+ *   another one of the same call. A struct has as many bytes as its field `size` says, or more.
  * - No function is called from a signal handler, or in the forked child of a process with threads.
  *
  * The library takes its memory by the three functions of zkit_heap.h, which are there already, over malloc.
  *
- * Every function looks at its numbers itself: any value may be passed. A call that is refused changes nothing.
+ * Every function looks at its numbers itself: any value may be passed. A call that is refused changes nothing, but that a
+ * zkit_list that is refused drops what is left of an earlier listing.
+ *
+ * A struct that a program passes has its own size as its first field, which the program sets. The library reads and sets the
+ * fields that lie wholly within that size, and nothing past it, so that later versions can add fields at the end.
  */
 #ifndef ZKIT_H
 #define ZKIT_H
@@ -53,7 +58,10 @@ typedef struct zkit zkit;
 /* So much text waits at most, in bytes, before the story pauses. */
 #define ZKIT_ROOM 1048576
 
-/* How a story is played. A later version adds fields at the end; `size` says which are there. */
+/* A listing by zkit_list has at most so many bytes. */
+#define ZKIT_LISTING 67108864
+
+/* How a story is played. */
 typedef struct zkit_options {
     size_t size;     /* sizeof (zkit_options) */
     uint64_t seed;   /* begins the random numbers: any number. The same seed and the same answers give the same play */
@@ -67,7 +75,7 @@ typedef struct zkit_options {
 } zkit_options;
 
 /* Sets each field that `options->size` has to what zkit_open goes by without options: seed 1, the limits above, and
- * no upper window. */
+ * no upper window. A size without all fields up to `upper` sets none. */
 void zkit_defaults(zkit_options *options);
 
 /* Why zkit_open and zkit_open_snapshot open nothing. */
@@ -79,7 +87,7 @@ enum {
     ZKIT_BAD_STATIC_BASE = 4,   /* static memory begins inside the header or past the story */
     ZKIT_BAD_START = 5,         /* the first instruction lies at or past the end of the story */
     ZKIT_OPEN_NO_MEMORY = 6,    /* there is no memory */
-    ZKIT_BAD_LIMIT = 7,         /* an option lies out of its range */
+    ZKIT_BAD_LIMIT = 7,         /* an option lies out of its range, or `size` is less than the fields up to `upper` take */
     ZKIT_NOT_A_SNAPSHOT = 8,    /* the bytes are no snapshot */
     ZKIT_OTHER_VERSION = 9,     /* the snapshot is of a format that this version does not know */
     ZKIT_OTHER_STORY = 10,      /* the snapshot is of another story */
@@ -104,7 +112,8 @@ enum {
     ZKIT_NOT_A_LINE = 2,        /* the bytes have a new line, or are more than 65,535 */
     ZKIT_NO_ROOM = 3,           /* the buffer is shorter than the file */
     ZKIT_NO_MEMORY = 4,         /* there is no memory */
-    ZKIT_NO_STATE = 5           /* there is no state to go back to */
+    ZKIT_NO_STATE = 5,          /* there is no state to go back to */
+    ZKIT_LISTING_TOO_LONG = 6   /* the listing has more bytes than it may */
 };
 
 /* What zkit_status answers: why the story has stopped. */
@@ -152,12 +161,18 @@ enum {
 /* Opens a story at its start.
  *
  * story    the story file, length bytes. They are copied.
- * options  how it is played; null for what zkit_defaults says. Fields past its size are as zkit_defaults has them.
+ * options  how it is played; null for what zkit_defaults says. Fields past its size are as zkit_defaults has them; a size
+ *          without all fields up to `upper` is refused.
  * reason   gets ZKIT_OPENED or why the story is not opened; may be null.
  *
  * Answers the game; null where it is not opened. Of several reasons it is an option, then the first of the story's,
  * then memory. */
 zkit *zkit_open(const uint8_t *story, size_t length, const zkit_options *options, uint32_t *reason);
+
+/* Puts the words for why nothing is opened, such as "the snapshot is damaged", at the front of a buffer, as UTF-8 without a 0
+ * at its end, or as much of them as there is room for; answers how many bytes. A reason that is not known has none, nor has
+ * ZKIT_OPENED. */
+size_t zkit_text_of_open(uint32_t reason, uint8_t *buffer, size_t length);
 
 /* Gives back all memory of a game. Null is nothing. */
 void zkit_close(zkit *game);
@@ -194,7 +209,8 @@ uint32_t zkit_reason(const zkit *game);
 uint32_t zkit_address(const zkit *game);
 
 /* Puts the words for a status and its reason, such as "division by zero", at the front of a buffer, as UTF-8 without a 0 at
- * its end, or as much of them as there is room for; answers how many bytes. A status or reason that is not known has none. */
+ * its end, or as much of them as there is room for; answers how many bytes. A status or reason that is not known has none, nor
+ * has ZKIT_RUNS. Only after a fault or a limit the reason counts. */
 size_t zkit_text_of_reason(uint32_t status, uint32_t reason, uint8_t *buffer, size_t length);
 
 /* ---- answers */
@@ -271,6 +287,7 @@ zkit *zkit_open_snapshot(const uint8_t *story, size_t length, const uint8_t *sna
 
 /* The upper window: a grid of characters, 80 columns wide, above the text. */
 typedef struct zkit_window {
+    size_t size;       /* sizeof (zkit_window) */
     uint32_t height;   /* how many rows are shown: 0 to 255 */
     uint32_t tallest;  /* the rows of the tallest grid that was shown since the last answer to a read, this one among them.
                           Where it is more than height, its rows were taken away again before the story reads: a box that
@@ -280,7 +297,7 @@ typedef struct zkit_window {
     uint32_t selected; /* 1 where the upper window is selected, else 0 */
 } zkit_window;
 
-/* Tells how the upper window stands. */
+/* Tells how the upper window stands. A size without all fields up to `selected` sets none. */
 void zkit_window_of(const zkit *game, zkit_window *window);
 
 /* Puts the text of a row of the upper window, from 1 on, at the front of a buffer, as UTF-8 without the spaces at its end,
@@ -299,12 +316,13 @@ enum {
 
 /* The figures of a status line. */
 typedef struct zkit_figures {
+    size_t size; /* sizeof (zkit_figures) */
     uint32_t kind;
     int32_t first;
     int32_t second;
 } zkit_figures;
 
-/* Tells the figures of the status line of a story of version 3. */
+/* Tells the figures of the status line of a story of version 3. A size without all fields up to `second` sets none. */
 void zkit_status_line(const zkit *game, zkit_figures *figures);
 
 /* Puts the name in the status line of a story of version 3, which is mostly that of a place, at the front of a buffer, as
@@ -315,13 +333,14 @@ size_t zkit_status_name(const zkit *game, uint8_t *buffer, size_t length);
 
 /* What its file says of a story. */
 typedef struct zkit_story {
+    size_t size;       /* sizeof (zkit_story) */
     uint32_t version;
     uint32_t release;
     uint32_t checksum;
     uint8_t serial[8]; /* six bytes, mostly digits, and zeros */
 } zkit_story;
 
-/* Tells what the story's file says of it. */
+/* Tells what the story's file says of it. A size without all fields up to `serial` sets none. */
 void zkit_story_of(const zkit *game, zkit_story *story);
 
 /* What zkit_list lists. */
@@ -339,10 +358,14 @@ enum {
 
 /* Lists what is in the file of the game's story, for zkit_listing, in place of what is left of an earlier listing: the lines
  * that `zkit info`, `zkit disasm` and `zkit check` show, without the name of the section. The play is not changed. The whole
- * listing is kept, and may be as long as there is memory: a story can have texts of gigabytes.
+ * listing is kept; a story can have texts of gigabytes, so it has at most ZKIT_LISTING bytes.
  *
- * ZKIT_DONE; ZKIT_NOT_AWAITED: there is no such listing; ZKIT_NO_MEMORY: nothing is listed. */
+ * ZKIT_DONE; ZKIT_NOT_AWAITED: there is no such listing; ZKIT_NO_MEMORY; ZKIT_LISTING_TOO_LONG: it has more bytes. Where it is
+ * refused nothing is listed, and what was left of an earlier listing is gone. */
 uint32_t zkit_list(zkit *game, uint32_t listing);
+
+/* The same for a listing of at most so many bytes. No more than that and one byte are kept meanwhile. */
+uint32_t zkit_list_within(zkit *game, uint32_t listing, size_t most);
 
 /* Moves the next bytes of the listing into a buffer, as zkit_text. */
 size_t zkit_listing(zkit *game, uint8_t *buffer, size_t length);

@@ -8,8 +8,6 @@
 #include <stddef.h>
 #include <stdint.h>
 
-#include "zkit.h"
-
 /* A play on the heap, or none: {0, 0}. */
 struct zk_handle {
     void *at;
@@ -27,6 +25,7 @@ uint32_t zk_status(struct zk_handle *game);
 uint32_t zk_reason(struct zk_handle *game);
 uint32_t zk_address(struct zk_handle *game);
 size_t zk_text_of_reason(uint32_t status, uint32_t reason, uint8_t *buffer, size_t length);
+size_t zk_text_of_open(uint32_t reason, uint8_t *buffer, size_t length);
 uint32_t zk_longest_line(struct zk_handle *game);
 uint32_t zk_line(struct zk_handle *game, const uint8_t *line, size_t length);
 uint32_t zk_character(struct zk_handle *game, uint32_t character);
@@ -38,10 +37,24 @@ uint32_t zk_restore_none(struct zk_handle *game);
 uint32_t zk_take_snapshot(struct zk_handle *game, uint8_t *buffer, size_t length, size_t *needed);
 uint32_t zk_open_snapshot(struct zk_handle *game, const uint8_t *story, size_t length, const uint8_t *snapshot,
                           size_t snapshot_length);
-void zk_window(struct zk_handle *game, zkit_window *window);
+/* how the upper window stands */
+struct zk_window {
+    uint32_t height;
+    uint32_t tallest;
+    uint32_t row;
+    uint32_t column;
+    uint32_t selected;
+};
+void zk_window(struct zk_handle *game, struct zk_window *window);
 size_t zk_row(struct zk_handle *game, uint32_t row, uint8_t *buffer, size_t length);
 size_t zk_tallest_row(struct zk_handle *game, uint32_t row, uint8_t *buffer, size_t length);
-void zk_figures(struct zk_handle *game, zkit_figures *figures);
+/* the figures of a status line */
+struct zk_figures {
+    uint32_t kind;
+    int32_t first;
+    int32_t second;
+};
+void zk_figures(struct zk_handle *game, struct zk_figures *figures);
 size_t zk_status_name(struct zk_handle *game, uint8_t *buffer, size_t length);
 /* version, release and checksum of a story; its serial number goes to a buffer */
 struct zk_facts {
@@ -50,7 +63,8 @@ struct zk_facts {
     uint32_t checksum;
 };
 size_t zk_facts(struct zk_handle *game, struct zk_facts *facts, uint8_t *buffer, size_t length);
-uint32_t zk_list(struct zk_handle *game, uint32_t listing);
+/* most: of at most so many bytes */
+uint32_t zk_list(struct zk_handle *game, uint32_t listing, size_t most);
 size_t zk_listing(struct zk_handle *game, uint8_t *buffer, size_t length);
 
 #endif

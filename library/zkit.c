@@ -1,8 +1,8 @@
 /* zkit.c - the functions of zkit.h, each by the function of raw.h that is proved.
  * SPDX-License-Identifier: MIT OR Apache-2.0
  *
- * What is added here: a game is a block on the heap, options have their defaults and their size, the room for text is kept
- * beside the play, and a null pointer with the length 0 becomes one that is not null. */
+ * What is added here: a game is a block on the heap, options have their defaults, structs have their sizes, the room for text
+ * is kept beside the play, and a null pointer with the length 0 becomes one that is not null. */
 #include <stddef.h>
 #include <stdint.h>
 
@@ -39,39 +39,36 @@ uint32_t zkit_version(void) {
     return ZKIT_VERSION;
 }
 
-/* ---- options */
+/* ---- sizes and options */
 
-/* Where each field ends that this version knows. */
-#define END(field) (offsetof(zkit_options, field) + sizeof((zkit_options *)NULL)->field)
-static const size_t ends[] = {END(size),  END(seed), END(frames), END(words),
-                              END(undo), END(steps), END(room),   END(upper)};
+/* Where a field of a struct ends. A struct whose size is less than the end of the first version's last field is left alone. A
+ * field that comes later is read and set only where the size has all of it. */
+#define END(type, field) (offsetof(type, field) + sizeof((type *)NULL)->field)
 
-/* Copies the fields that lie wholly in the first `size` bytes. */
-static void copy_options(zkit_options *to, const zkit_options *from, size_t size) {
-    uint8_t *bytes = (uint8_t *)to;
-    const uint8_t *others = (const uint8_t *)from;
-    size_t end = 0;
-    for (size_t i = 0; i < sizeof ends / sizeof ends[0] && ends[i] <= size; i++)
-        end = ends[i];
-    for (size_t i = 0; i < end; i++)
-        bytes[i] = others[i];
-}
+static const zkit_options default_options = {
+    sizeof(zkit_options), 1, ZKIT_FRAMES, ZKIT_WORDS, ZKIT_UNDO, ZKIT_STEPS, ZKIT_ROOM, 0,
+};
 
-static zkit_options default_options(size_t size) {
-    zkit_options options = {size, 1, ZKIT_FRAMES, ZKIT_WORDS, ZKIT_UNDO, ZKIT_STEPS, ZKIT_ROOM, 0};
-    return options;
+static int has_options(const zkit_options *options) {
+    return options->size >= END(zkit_options, upper);
 }
 
 void zkit_defaults(zkit_options *options) {
-    zkit_options whole = default_options(options->size);
-    copy_options(options, &whole, whole.size);
+    size_t size = options->size;
+    if (!has_options(options))
+        return;
+    *options = default_options;
+    options->size = size;
 }
 
-/* The options that a program gives, with the defaults for those that it has not. */
+/* The options that a program gives, or the defaults where it gives none. Those of a size that is too small get no room, and so
+ * they are refused. */
 static zkit_options whole_options(const zkit_options *given) {
-    zkit_options whole = default_options(sizeof whole);
-    if (given)
-        copy_options(&whole, given, given->size);
+    zkit_options whole = default_options;
+    if (given && has_options(given))
+        whole = *given;
+    else if (given)
+        whole.room = 0;
     return whole;
 }
 
@@ -161,6 +158,10 @@ size_t zkit_text_of_reason(uint32_t status, uint32_t reason, uint8_t *buffer, si
     return zk_text_of_reason(status, reason, buffer_at(buffer), length);
 }
 
+size_t zkit_text_of_open(uint32_t reason, uint8_t *buffer, size_t length) {
+    return zk_text_of_open(reason, buffer_at(buffer), length);
+}
+
 /* ---- answers */
 
 uint32_t zkit_longest_line(const zkit *game) {
@@ -202,7 +203,15 @@ uint32_t zkit_snapshot(zkit *game, uint8_t *buffer, size_t length, size_t *neede
 /* ---- the screen's upper part */
 
 void zkit_window_of(const zkit *game, zkit_window *window) {
-    zk_window(play_of(game), window);
+    struct zk_window told = {0, 0, 0, 0, 0};
+    if (window->size < END(zkit_window, selected))
+        return;
+    zk_window(play_of(game), &told);
+    window->height = told.height;
+    window->tallest = told.tallest;
+    window->row = told.row;
+    window->column = told.column;
+    window->selected = told.selected;
 }
 
 size_t zkit_row(const zkit *game, uint32_t row, uint8_t *buffer, size_t length) {
@@ -214,13 +223,19 @@ size_t zkit_tallest_row(const zkit *game, uint32_t row, uint8_t *buffer, size_t 
 }
 
 void zkit_status_line(const zkit *game, zkit_figures *figures) {
-    zk_figures(play_of(game), figures);
+    struct zk_figures told = {0, 0, 0};
+    if (figures->size < END(zkit_figures, second))
+        return;
+    zk_figures(play_of(game), &told);
+    figures->kind = told.kind;
+    figures->first = told.first;
+    figures->second = told.second;
 }
 
 size_t zkit_status_name(const zkit *game, uint8_t *buffer, size_t length) {
-    zkit_figures figures;
+    struct zk_figures told = {0, 0, 0};
     size_t count = 0, more;
-    zk_figures(play_of(game), &figures);
+    zk_figures(play_of(game), &told);
     while ((more = zk_status_name(play_of(game), buffer_at(buffer) + count, length - count)) > 0)
         count += more;
     return count;
@@ -231,6 +246,8 @@ size_t zkit_status_name(const zkit *game, uint8_t *buffer, size_t length) {
 void zkit_story_of(const zkit *game, zkit_story *story) {
     struct zk_facts facts = {0, 0, 0};
     uint8_t serial[sizeof story->serial] = {0};
+    if (story->size < END(zkit_story, serial))
+        return;
     zk_facts(play_of(game), &facts, serial, sizeof serial);
     story->version = facts.version;
     story->release = facts.release;
@@ -240,7 +257,11 @@ void zkit_story_of(const zkit *game, zkit_story *story) {
 }
 
 uint32_t zkit_list(zkit *game, uint32_t listing) {
-    return zk_list(&game->play, listing);
+    return zkit_list_within(game, listing, ZKIT_LISTING);
+}
+
+uint32_t zkit_list_within(zkit *game, uint32_t listing, size_t most) {
+    return zk_list(&game->play, listing, most);
 }
 
 size_t zkit_listing(zkit *game, uint8_t *buffer, size_t length) {

@@ -163,6 +163,11 @@ function listingsOf(module, file) {
     for (const listing of LISTINGS)
         want(game.list(listing) === byProgramListed(listing, file), `${path.basename(file)}: ${listing}`);
     want(game.list("nothing") === null, "there is no such listing");
+    const bytes = Buffer.from(game.list("ifid") ?? "").length;
+    want(game.list("ifid", bytes) !== null, "a listing has as many bytes as it may");
+    game.calls.zkit_list(game.at, LISTINGS.indexOf("ifid"));
+    want(game.list("ifid", bytes - 1) === null, "a listing has a byte more than it may");
+    want(game.taken(module.calls.zkit_listing).length === 0, "a listing that is refused leaves nothing");
     game.close();
 }
 
@@ -332,6 +337,7 @@ function long(module) {
     const game = module.open(made("long.z5"));
     want(game.turn() === "stopped" && game.status() === TOO_MUCH_TEXT, "too much text of an instruction stops it");
     want(game.list("code") === null, "there is no memory for a listing of so many letters");
+    want(game.list("code", 1 << 20) === null, "it has more bytes than it may");
     want(game.list("header") !== null, "another one is listed after it");
     game.close();
 }

@@ -42,6 +42,7 @@
  * @property {(game: bigint) => number} zkit_reason
  * @property {(game: bigint) => number} zkit_address
  * @property {(status: number, reason: number, buffer: bigint, length: bigint) => bigint} zkit_text_of_reason
+ * @property {(reason: number, buffer: bigint, length: bigint) => bigint} zkit_text_of_open
  * @property {(game: bigint) => number} zkit_longest_line
  * @property {Giving} zkit_line
  * @property {(game: bigint, character: number) => number} zkit_character
@@ -58,6 +59,7 @@
  * @property {Taking} zkit_status_name
  * @property {(game: bigint, story: bigint) => void} zkit_story_of
  * @property {(game: bigint, listing: number) => number} zkit_list
+ * @property {(game: bigint, listing: number, most: bigint) => number} zkit_list_within
  * @property {Taking} zkit_listing
  */
 /** @typedef {(game: bigint, buffer: bigint, length: bigint) => bigint} Taking */
@@ -117,7 +119,14 @@ const LEAD = 64;
 const LONGEST_STORY = 524_289;
 
 const BUFFER = 16_384;
+
+// The sizes of the structs of zkit.h, and of the field `size` that each begins with.
 const OPTIONS_SIZE = 40;
+const WINDOW_SIZE = 32;
+const FIGURES_SIZE = 24;
+const STORY_SIZE = 32;
+const SIZE = 8;
+
 const GREATEST = 0xffff_ffff;
 
 /**
@@ -447,6 +456,7 @@ export class Game {
      * @returns {Window}
      */
     window() {
+        this.sized(WINDOW_SIZE);
         this.calls.zkit_window_of(this.at, this.buffer);
         const [height, tallest, row, column, selected] = this.numbers(5);
         return { height, tallest, row, column, selected: selected !== 0 };
@@ -476,6 +486,7 @@ export class Game {
      * @returns {StatusLine | null}
      */
     statusLine() {
+        this.sized(FIGURES_SIZE);
         this.calls.zkit_status_line(this.at, this.buffer);
         const [kind, first, second] = this.numbers(3);
         if (kind === 0)
@@ -489,28 +500,40 @@ export class Game {
      * @returns {Story}
      */
     story() {
+        this.sized(STORY_SIZE);
         this.calls.zkit_story_of(this.at, this.buffer);
         const [version, release, checksum] = this.numbers(3);
-        const serial = String.fromCharCode(...this.module.bytes(this.buffer + 12n, 6));
+        const serial = String.fromCharCode(...this.module.bytes(this.buffer + 20n, 6));
         return { version, release, checksum, serial };
     }
 
     /**
-     * A listing, one of LISTINGS; null where there is no such one, or no memory.
+     * A listing, one of LISTINGS, of so many bytes at most; null where there is no such one, it has more, or there is no
+     * memory.
      * @param {string} listing
+     * @param {number} [most]
      */
-    list(listing) {
-        if (this.calls.zkit_list(this.at, whole(LISTINGS.indexOf(listing))) !== DONE)
-            return null;
-        return decoder().decode(this.taken(this.calls.zkit_listing));
+    list(listing, most) {
+        const number = whole(LISTINGS.indexOf(listing));
+        const answer = most === undefined ? this.calls.zkit_list(this.at, number)
+            : this.calls.zkit_list_within(this.at, number, BigInt(whole(most)));
+        return answer === DONE ? decoder().decode(this.taken(this.calls.zkit_listing)) : null;
     }
 
     /**
-     * The first numbers of the buffer.
+     * Begins a struct in the buffer by its size.
+     * @param {number} size
+     */
+    sized(size) {
+        this.module.view(this.buffer, SIZE).setBigUint64(0, BigInt(size), true);
+    }
+
+    /**
+     * The first numbers of the struct in the buffer, after its size.
      * @param {number} count
      */
     numbers(count) {
-        const view = this.module.view(this.buffer, 4 * count);
+        const view = this.module.view(this.buffer + BigInt(SIZE), 4 * count);
         return Array.from({ length: count }, (_, i) => view.getUint32(4 * i, true));
     }
 

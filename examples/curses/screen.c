@@ -140,7 +140,7 @@ static void draw_bar(int row, const uint8_t *bytes, size_t count) {
 
 /* Draws the status line of version 3, the name on the left and the figures on the right, and says how many rows it has. */
 static int draw_status_line(void) {
-    zkit_figures it;
+    zkit_figures it = {.size = sizeof it};
     uint8_t name[240];
     char figures[60];
     zkit_status_line(game, &it);
@@ -227,7 +227,7 @@ static void draw_text(int top, int bottom, size_t end, size_t cursor) {
 
 /* Draws all: the text up to an end, with some rows left free below it, and the box that may be shown over it. */
 static void draw(size_t end, size_t cursor, int free_rows) {
-    zkit_window window;
+    zkit_window window = {.size = sizeof window};
     int first, top, row, column;
     erase();
     zkit_window_of(game, &window);
@@ -245,8 +245,8 @@ static void draw(size_t end, size_t cursor, int free_rows) {
 
 /* The rows of text that the screen has. */
 static size_t rows_of_text(void) {
-    zkit_window window;
-    zkit_figures figures;
+    zkit_window window = {.size = sizeof window};
+    zkit_figures figures = {.size = sizeof figures};
     zkit_window_of(game, &window);
     zkit_status_line(game, &figures);
     int rows = LINES - (int)window.height - (figures.kind != ZKIT_NO_STATUS);
@@ -524,6 +524,13 @@ static void play(void) {
     }
 }
 
+/* Tells why the story is not opened. */
+static void refuse(const char *name, uint32_t reason) {
+    uint8_t words[256];
+    size_t count = zkit_text_of_open(reason, words, sizeof words);
+    fprintf(stderr, "screen: %s is not opened: %.*s\n", name, (int)count, (const char *)words);
+}
+
 /* Opens a story, or says why it is not opened. */
 static uint32_t open_story(const char *name, const char *seed) {
     static uint8_t story[LONGEST_STORY];
@@ -543,7 +550,7 @@ int main(int count, char **words) {
     }
     uint32_t reason = open_story(words[1], words[2]);
     if (reason != ZKIT_OPENED) {
-        fprintf(stderr, "screen: %s is not opened, for reason %u\n", words[1], (unsigned)reason);
+        refuse(words[1], reason);
         return 1;
     }
     initscr();

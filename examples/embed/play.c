@@ -154,6 +154,14 @@ static int report(const zkit *game, int came) {
     return status == ZKIT_QUIT ? 0 : (int)status;
 }
 
+/* Tells why the story is not opened, and answers the status of `zkit play`. */
+static int refuse(uint32_t reason) {
+    uint8_t words[256];
+    size_t count = zkit_text_of_open(reason, words, sizeof words);
+    fprintf(stderr, "play: not opened: %.*s\n", (int)count, (const char *)words);
+    return 1;
+}
+
 int main(int count, char **words) {
     size_t length = 0;
     uint32_t reason = ZKIT_OPENED;
@@ -164,10 +172,8 @@ int main(int count, char **words) {
     }
     zkit *game = zkit_open(story, length, NULL, &reason);
     free(story);
-    if (!game) {
-        fprintf(stderr, "play: not opened, for reason %u\n", (unsigned)reason);
-        return 1;
-    }
+    if (!game)
+        return refuse(reason);
     int status = report(game, play(game));
     zkit_close(game);
     return status;

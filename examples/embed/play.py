@@ -55,6 +55,7 @@ def load(path: pathlib.Path) -> ctypes.CDLL:
         ("reason", number, [game]),
         ("address", number, [game]),
         ("text_of_reason", size, [number, number, *content]),
+        ("text_of_open", size, [number, *content]),
     ]
     for name, result, parameters in functions:
         function = getattr(library, "zkit_" + name)
@@ -80,6 +81,12 @@ class Game:
         """Calls a function of the library on the game."""
         function: Callable[..., int] = getattr(self.library, "zkit_" + name)
         return function(self.handle, *words)
+
+    def words(self, what: str, *numbers: int) -> str:
+        """The words for a status and its reason, or for why the story is not opened."""
+        buffer = ctypes.create_string_buffer(256)
+        count = getattr(self.library, "zkit_text_of_" + what)(*numbers, buffer, len(buffer))
+        return buffer.raw[:count].decode()
 
     def text(self, call: str = "text") -> bytes:
         """The text that was shown and not taken yet, or that of the transcript."""
@@ -145,9 +152,8 @@ class Game:
         """Tells why the story has stopped, and answers the status of `zkit play`."""
         status, reason, address = (self.call(name) for name in ("status", "reason", "address"))
         if status not in (0, QUIT):
-            buffer = ctypes.create_string_buffer(256)
-            count = self.library.zkit_text_of_reason(status, reason, buffer, len(buffer))
-            print(f"play.py: {buffer.raw[:count].decode()}, at {address:05x}", file=sys.stderr)
+            words = self.words("reason", status, reason)
+            print(f"play.py: {words}, at {address:05x}", file=sys.stderr)
         return 0 if status == QUIT else status
 
 
@@ -157,7 +163,7 @@ def main() -> int:
         sys.exit(__doc__)
     game = Game(load(LIBRARY), pathlib.Path(sys.argv[1]).read_bytes(), {})
     if game.refused:
-        print(f"play.py: not opened, for reason {game.refused}", file=sys.stderr)
+        print(f"play.py: not opened: {game.words('open', game.refused)}", file=sys.stderr)
         return 1
     status = game.play(iter(sys.stdin.buffer))
     game.call("close")

@@ -77,12 +77,22 @@ static void take_text(zkit *game) {
         text.length += count;
 }
 
+/* Lists something of the story, at the second try if memory is refused. Then nothing is left of an earlier listing. */
+static void list(zkit *game, uint32_t listing) {
+    uint8_t byte;
+    zkit_list(game, ZKIT_LIST_IFID);
+    if (zkit_list(game, listing) != ZKIT_NO_MEMORY)
+        return;
+    if (zkit_listing(game, &byte, 1) > 0)
+        text.length = MOST;
+    zkit_list(game, listing);
+}
+
 /* Lists all that there is of the story, as long as it is there. */
 static void take_listings(zkit *game) {
     for (uint32_t listing = ZKIT_LIST_HEADER; listing <= ZKIT_LIST_FINDINGS; listing++) {
         size_t count;
-        if (zkit_list(game, listing) == ZKIT_NO_MEMORY)
-            zkit_list(game, listing);
+        list(game, listing);
         while ((count = zkit_listing(game, text.at + text.length, MOST - text.length)) > 0)
             text.length += count;
     }

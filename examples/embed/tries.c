@@ -1,6 +1,6 @@
 /* Tries what play.c does not: stories that fault or go past a limit, a saved game that another game restores, calls that are
- * refused, slices and the room for text, the upper window, undo, snapshots, options, and memory that is given back. It writes what comes
- * of each.
+ * refused, slices and the room for text, the upper window, undo, snapshots, options and sizes, listings, words, and memory that
+ * is given back. It writes what comes of each.
  *
  *     tries LIGHTHOUSE OTHER
  *
@@ -14,8 +14,10 @@
 
 enum { SMALL = 4096, LONGEST_STORY = 524288 };
 
-/* The blocks of memory that the library has: these three functions stand in place of those in the archive. */
+/* The blocks of memory that the library has, and the bytes of the largest one that it has asked for: these three functions
+ * stand in place of those in the archive. */
 static long blocks = 0;
+static size_t largest = 0;
 
 static struct rattle_block block_at(void *at) {
     static unsigned char nothing;
@@ -25,12 +27,14 @@ static struct rattle_block block_at(void *at) {
 
 struct rattle_block rattle_alloc(size_t size, size_t alignment) {
     struct rattle_block block = block_at(malloc(size > 0 ? size : alignment));
+    largest = size > largest ? size : largest;
     blocks += block.is_there;
     return block;
 }
 
 struct rattle_block rattle_realloc(void *block, size_t kept, size_t size, size_t alignment) {
     (void)kept;
+    largest = size > largest ? size : largest;
     return block_at(realloc(block, size > 0 ? size : alignment));
 }
 
@@ -209,7 +213,6 @@ static void refuse(const uint8_t *story, size_t length) {
     say("restore", zkit_restore(game, &byte, 1));
     say("no file", zkit_restore_none(game));
     say("undo", zkit_undo(game));
-    say("a listing that there is not", zkit_list(game, 9));
     memset(line, 'x', sizeof line);
     say("a line with a new line", zkit_line(game, (const uint8_t *)"a\nb", 3));
     say("a line of 65536 bytes", zkit_line(game, line, sizeof line));
@@ -272,6 +275,13 @@ static void refuse_options(const uint8_t *story, size_t length) {
     refuse_open("no room, for what is no story", story, 63, &options);
 }
 
+/* Why no game is opened from a snapshot of no bytes. */
+static uint32_t refused_snapshot(const uint8_t *story, size_t length, const zkit_options *options) {
+    uint32_t reason = 99;
+    zkit_close(zkit_open_snapshot(story, length, NULL, 0, options, &reason));
+    return reason;
+}
+
 /* Options of which the program has fewer, or more, than the library. */
 static void size_options(const uint8_t *story, size_t length) {
     struct {
@@ -286,15 +296,42 @@ static void size_options(const uint8_t *story, size_t length) {
     refuse_open("with later fields", story, length, &options.known);
     options.known.frames = 0;
     refuse_open("a bad field", story, length, &options.known);
-    options.known.size = offsetof(zkit_options, frames);
-    refuse_open("the bad field is past the size", story, length, &options.known);
-    options.known.size = offsetof(zkit_options, frames) + 2;
-    refuse_open("half of it is", story, length, &options.known);
-    options.known.size = 0;
-    refuse_open("no size", story, length, &options.known);
+    zkit_defaults(&options.known);
+    options.known.size = offsetof(zkit_options, upper) + sizeof options.known.upper;
+    refuse_open("with all fields and no more", story, length, &options.known);
+    options.known.size--;
+    refuse_open("one byte less", story, length, &options.known);
     options.known.seed = 7;
     zkit_defaults(&options.known);
     say("the seed", (size_t)options.known.seed);
+    options.known.size = 0;
+    refuse_open("no size", story, length, &options.known);
+    say("a snapshot with no size", refused_snapshot(story, length, &options.known));
+}
+
+/* Structs that a game fills, of sizes that a program may have. */
+static void size_answers(const uint8_t *story, size_t length) {
+    zkit_window window = {.size = offsetof(zkit_window, selected), .height = 9};
+    zkit_figures figures = {.size = 0, .kind = 9};
+    struct {
+        zkit_story known;
+        uint8_t later[16];
+    } facts = {.known = {.size = offsetof(zkit_story, serial) + 7, .release = 9}};
+    puts("structs of other sizes");
+    zkit *game = opened(story, length, NULL);
+    zkit_window_of(game, &window);
+    say("a window without its last field", window.height);
+    zkit_status_line(game, &figures);
+    say("a status line with no size", figures.kind);
+    memset(facts.later, 0xff, sizeof facts.later);
+    zkit_story_of(game, &facts.known);
+    say("a story without its last byte", facts.known.release);
+    facts.known.size = sizeof facts;
+    zkit_story_of(game, &facts.known);
+    say("with later fields", facts.known.release);
+    say("these are as they were", facts.later[0] == 0xff);
+    say("and the size", facts.known.size == sizeof facts);
+    zkit_close(game);
 }
 
 /* A story that reads a character and has its transcript on. */
@@ -355,7 +392,7 @@ static void show_row(const char *name, size_t count, const uint8_t *row) {
 }
 
 static void show_window(zkit *game) {
-    zkit_window window;
+    zkit_window window = {.size = sizeof window};
     uint8_t row[240];
     zkit_window_of(game, &window);
     say("height", window.height);
@@ -374,7 +411,7 @@ static void draw_box(void) {
      * read_char 1 -> global 16; read_char 1 -> global 16; quit */
     const uint8_t code[] = {0xea, 0x7f, 0x02, 0xeb, 0x7f, 0x01, 0xef, 0x5f, 0x01, 0x03, 0xe5, 0x7f, 0x61, 0xe5, 0x7f, 0x62,
                             0xeb, 0x7f, 0x00, 0xea, 0x7f, 0x00, 0xf6, 0x7f, 0x01, 0x10, 0xf6, 0x7f, 0x01, 0x10, 0xba};
-    zkit_figures figures = {9, 9, 9};
+    zkit_figures figures = {.size = sizeof figures, .kind = 9, .first = 9, .second = 9};
     puts("a box over the text");
     zkit *game = opened_code(code, sizeof code, NULL);
     say("turn", zkit_turn(game));
@@ -389,7 +426,7 @@ static void draw_box(void) {
 
 /* The status line of a story of version 3, in its parts. */
 static void show_status_line(const uint8_t *story, size_t length) {
-    zkit_figures figures = {9, 9, 9};
+    zkit_figures figures = {.size = sizeof figures, .kind = 9, .first = 9, .second = 9};
     uint8_t name[240];
     puts("a status line");
     zkit *game = opened(story, length, NULL);
@@ -454,7 +491,7 @@ static void keep_snapshots(const uint8_t *story, size_t length, const uint8_t *o
 
 /* What is to be known of a story. */
 static void tell_story(const uint8_t *story, size_t length) {
-    zkit_story facts;
+    zkit_story facts = {.size = sizeof facts};
     uint8_t buffer[40];
     puts("about a story");
     zkit *game = opened(story, length, NULL);
@@ -470,6 +507,52 @@ static void tell_story(const uint8_t *story, size_t length) {
     printf("  it is: %.*s", (int)count, (const char *)buffer);
     say("more of it", zkit_listing(game, buffer, sizeof buffer));
     say("turn", zkit_turn(game));
+    zkit_close(game);
+}
+
+/* Listings that are refused, after one that is not: nothing is left of it. */
+static void refuse_listings(const uint8_t *story, size_t length) {
+    uint8_t buffer[40];
+    puts("listings that are refused");
+    zkit *game = opened(story, length, NULL);
+    say("a listing", zkit_list(game, ZKIT_LIST_IFID));
+    say("one that there is not", zkit_list(game, 9));
+    say("its first bytes", zkit_listing(game, buffer, sizeof buffer));
+    say("of 20 bytes", zkit_list_within(game, ZKIT_LIST_IFID, 20));
+    say("its bytes", zkit_listing(game, buffer, sizeof buffer));
+    say("of 19 bytes", zkit_list_within(game, ZKIT_LIST_IFID, 19));
+    say("its first bytes", zkit_listing(game, buffer, sizeof buffer));
+    say("a listing", zkit_list(game, ZKIT_LIST_IFID));
+    say("of no bytes", zkit_list_within(game, ZKIT_LIST_CODE, 0));
+    say("its first bytes", zkit_listing(game, buffer, sizeof buffer));
+    say("of any number of bytes", zkit_list_within(game, ZKIT_LIST_IFID, SIZE_MAX));
+    say("its first bytes", zkit_listing(game, buffer, 3));
+    zkit_close(game);
+}
+
+/* Puts the same word so many times, as a text with its end. */
+static void put_text(uint8_t *at, uint16_t word, size_t count) {
+    for (size_t i = 0; i < count; i++, at += 2) {
+        at[0] = (uint8_t)(word >> 8 | (i + 1 == count ? 0x80 : 0));
+        at[1] = (uint8_t)word;
+    }
+}
+
+/* An instruction prints 500 times an abbreviation of 360 letters: less memory is taken where less may be listed. */
+static void bound_listing(void) {
+    uint8_t story[SMALL], code[1002] = {[0] = 0xb2, [1001] = 0xba}; /* print; quit */
+    put_text(code + 1, 0x0405, 500);
+    make_story(story, code, sizeof code);
+    story[0x40] = 0x03; /* the first abbreviation: 00600 */
+    put_text(story + 0x600, 0x18c6, 120);
+    puts("a listing of a long text");
+    zkit *game = opened(story, sizeof story, NULL);
+    largest = 0;
+    say("all of it", zkit_list(game, ZKIT_LIST_CODE));
+    say("it takes more than 180000 bytes", largest > 180000);
+    largest = 0;
+    say("of 1000 bytes", zkit_list_within(game, ZKIT_LIST_CODE, 1000));
+    say("its blocks are smaller", largest < 100000);
     zkit_close(game);
 }
 
@@ -489,12 +572,23 @@ static void name_reasons(void) {
         limits += has_words(ZKIT_LIMIT, reason);
     say("faults", faults);
     say("limits", limits);
-    say("no memory", has_words(ZKIT_OUT_OF_MEMORY, 0));
-    say("too much text", has_words(ZKIT_TOO_MUCH_TEXT, 0));
     say("other ones", has_words(ZKIT_FAULT, 0) + has_words(ZKIT_FAULT, 19) + has_words(ZKIT_LIMIT, 0) +
-                          has_words(ZKIT_LIMIT, 5) + has_words(99, 1));
+                          has_words(ZKIT_LIMIT, 5) + has_words(ZKIT_RUNS, 0) + has_words(4, 0) + has_words(7, 0) +
+                          has_words(99, 1));
+    for (uint32_t status = ZKIT_QUIT; status <= ZKIT_TOO_MUCH_TEXT; status++)
+        show_row("its words", zkit_text_of_reason(status, 1, words, sizeof words), words);
     show_row("first bytes", zkit_text_of_reason(ZKIT_FAULT, ZKIT_DIVISION_BY_ZERO, words, 8), words);
     say("without a buffer", zkit_text_of_reason(ZKIT_FAULT, ZKIT_DIVISION_BY_ZERO, NULL, 0));
+}
+
+/* Each reason why nothing is opened has words, and no other number. */
+static void name_refusals(void) {
+    uint8_t words[100];
+    puts("why nothing is opened, in words");
+    for (uint32_t reason = ZKIT_OPENED; reason <= ZKIT_DAMAGED + 1; reason++)
+        show_row("its words", zkit_text_of_open(reason, words, sizeof words), words);
+    show_row("first bytes", zkit_text_of_open(ZKIT_DAMAGED, words, 8), words);
+    say("without a buffer", zkit_text_of_open(ZKIT_DAMAGED, NULL, 0));
 }
 
 /* Reads a story, and says its length: 0 where it can't be read. */
@@ -526,6 +620,7 @@ int main(int count, char **words) {
     refuse_stories();
     refuse_options(lighthouse, length);
     size_options(lighthouse, length);
+    size_answers(lighthouse, length);
     type_character();
     run_slices();
     fill_room();
@@ -534,7 +629,10 @@ int main(int count, char **words) {
     undo();
     keep_snapshots(lighthouse, length, other, read_story(words[2], other));
     tell_story(lighthouse, length);
+    refuse_listings(lighthouse, length);
+    bound_listing();
     name_reasons();
+    name_refusals();
     say("blocks that are left of all", (size_t)blocks);
     return 0;
 }

@@ -25,7 +25,7 @@ use zk_host::numbers::{
 };
 use zk_host::options::{limits_said, view_if};
 use zk_host::play::Play;
-use zk_host::reasons::words;
+use zk_host::reasons::{words, words_on_open};
 use zk_host::text::{put_file, put_front};
 
 /// What is not awaited: a handle that is not open awaits nothing.
@@ -438,19 +438,31 @@ pub extern "C" fn zk_text_of_reason(status: u32, reason: u32, buffer: &mut [u8])
     put_front(words(status, reason).as_bytes(), buffer)
 }
 
-/// Lists the story's file, for `zk_listing`. Answers 0, 1 where there is no such listing, or 4 where there is no memory.
+/// Puts the words for why `zk_open` or `zk_open_snapshot` opens nothing at the front of a buffer, as many bytes as there is
+/// room for. Answers how many.
 #[unsafe(no_mangle)]
-pub extern "C" fn zk_list(alloc: Global, game: &mut Zkit, listing: u32) -> u32
-    ensures { OnPlay game.old.play game.new.play
-        (λ old new. IsListed (listing_numbered listing) old new result) (result ≡ 1) }
+pub extern "C" fn zk_text_of_open(reason: u32, buffer: &mut [u8]) -> usize
+    ensures { (bytes : List ℕ) × IsPutInFront bytes buffer.old buffer.new result }
 {
-    let Some(listing) = listing_of(listing) else {
-        return NOT_AWAITED;
-    };
+    put_front(words_on_open(reason).as_bytes(), buffer)
+}
+
+/// Lists the story's file in at most so many bytes, for `zk_listing`. Answers 0, 1 where there is no such listing, 4 where
+/// there is no memory, or 6 where it has more bytes. Where it is refused, nothing is left of an earlier listing.
+#[unsafe(no_mangle)]
+pub extern "C" fn zk_list(alloc: Global, game: &mut Zkit, listing: u32, most: usize) -> u32
+    ensures { OnPlay game.old.play game.new.play
+        (λ old new. IsListed (listing_numbered listing) most old new result) (result ≡ 1) }
+{
     let Some(mut play) = game.take(alloc) else {
         return NOT_AWAITED;
     };
-    let listed = play.list(alloc, listing);
+    let Some(listing) = listing_of(listing) else {
+        play.drop_listing(alloc);
+        game.put(alloc, play);
+        return NOT_AWAITED;
+    };
+    let listed = play.list(alloc, listing, most);
     game.put(alloc, play);
     answer_number(listed)
 }

@@ -1,5 +1,5 @@
 -- What the calls of a play answer, and how they leave it.
-use Rattle.std.specs.Prelude.{◌≡◌, ◌⊎◌, ◌+◌, ℕ, Bool, true, false, List, Option, Some, None, Result, Ok, Err, if◌then◌else◌}
+use Rattle.std.specs.Prelude.{◌≡◌, ◌≤◌, ◌⊎◌, ◌+◌, ℕ, Bool, true, false, List, length, Option, Some, None, Result, Ok, Err, if◌then◌else◌}
 use Rattle.std.specs.Global.{Vec, Box}
 use Rattle.zk_text.specs.Extra.{own_characters}
 use Rattle.zk_step.specs.declared.state.game_state.View.{View}
@@ -27,12 +27,13 @@ use Rattle.zk_host.specs.Collecting.{Collects, has_no_room, is_lost, no_text, no
 use Rattle.zk_host.specs.Drawing.{HasStatus, figures_or_none}
 use Rattle.zk_host.specs.Names.{HasName}
 use Rattle.zk_mem.specs.Fresh.{fresh}
+use Rattle.zk_mem.specs.Map.{MemoryMap}
 use Rattle.zk_mem.specs.Story.{refusal}
 use Rattle.zk_mem.specs.declared.story.OpenError.TheVariants.{OutOfMemory}
 use Rattle.zk_snapshot.specs.Opening.{IsOpened, IsRefused}
 use Rattle.zk_snapshot.specs.Snapshots.{HasSnapshot, snapshot_of}
 use Rattle.zk_host.specs.declared.listing.Listing.{Listing}
-use Rattle.zk_host.specs.Listings.{IsListing}
+use Rattle.zk_host.specs.Listings.{IsListing, IsUnlisted}
 use Rattle.zk_host.specs.Typing.{is_line, character_code}
 
 -- what a play waits for
@@ -188,11 +189,18 @@ pub record IsStatus (old new : Play) (f : StatusFigures) : Type 0 where
 
 -- ---- listings
 
--- the story's file is listed, in place of an earlier listing, as it is before its first instruction with 16 states to go
--- back to; or there is no memory, and nothing changes
-abbrev pub IsListedBy : Listing → Play → Play → Result (Unit {0}) Refusal → Type 0
-IsListedBy listing old new (Ok u) = IsListing listing (fresh old.machine.state.game.memory.file 16) new.listing.bytes × (new ≡ record old { listing = new.listing })
-IsListedBy listing old new (Err r) = (r ≡ refused.Memory) × (new ≡ old)
+-- a story's file as it is before its first instruction, with 16 states to go back to
+abbrev pub file_of : Play → MemoryMap
+file_of p = fresh p.machine.state.game.memory.file 16
+
+-- a play without a listing
+abbrev pub with_none_listed : Play → Play
+with_none_listed p = record p { listing = no_text }
+
+-- the story's file is listed in at most so many bytes, in place of an earlier listing; or it is not, and there is none
+abbrev pub IsListedBy : Listing → ℕ → Play → Play → Result (Unit {0}) Refusal → Type 0
+IsListedBy l most old new (Ok u) = IsListing l (file_of old) new.listing.bytes × (length new.listing.bytes ≤ most) × (new ≡ record old { listing = new.listing })
+IsListedBy l most old new (Err r) = IsUnlisted l (file_of old) most r × (new ≡ with_none_listed old)
 
 -- ---- snapshots
 

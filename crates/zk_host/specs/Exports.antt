@@ -18,7 +18,7 @@ use Rattle.zk_mem.specs.declared.header.Header.{Header}
 use Rattle.zk_vm.specs.Sessions.{Session}
 use Rattle.zk_host.specs.declared.facts.Facts.{Facts}
 use Rattle.zk_host.specs.declared.listing.Listing.{Listing}
-use Rattle.zk_host.specs.Calls.{awaited, begun_play, read_refused, IsGiven, IsGoneBack, IsListedBy, IsOpenedFrom, IsSnapshot, IsTurned}
+use Rattle.zk_host.specs.Calls.{awaited, begun_play, read_refused, IsGiven, IsGoneBack, IsListedBy, IsOpenedFrom, IsSnapshot, IsTurned, with_none_listed}
 use Rattle.zk_host.specs.Numbers.{answer_number, snapshot_number, turn_number, refused_number}
 
 -- a handle has a play before and after, of which something holds; or it is closed and stays so, and something else
@@ -106,7 +106,7 @@ IsOpenedAgain old new story bytes n = (result : Result (Box Play) SnapshotRefusa
 abbrev pub facts_of : Header → Facts
 facts_of h = record { version = h.version; release = h.release; checksum = h.checksum }
 
--- a story is listed, by which listing is asked for, if there is one
-abbrev pub IsListed : Option Listing → Play → Play → ℕ → Type 0
-IsListed None old new n = (n ≡ 1) × (new ≡ old)
-IsListed (Some listing) old new n = (result : Result (Unit {0}) Refusal) × (n ≡ answer_number result) × IsListedBy listing old new result
+-- a story is listed in at most so many bytes, by which listing is asked for, if there is one
+abbrev pub IsListed : Option Listing → ℕ → Play → Play → ℕ → Type 0
+IsListed None most old new n = (n ≡ 1) × (new ≡ with_none_listed old)
+IsListed (Some listing) most old new n = (result : Result (Unit {0}) Refusal) × (n ≡ answer_number result) × IsListedBy listing most old new result

@@ -1,5 +1,5 @@
 -- Listings of a story.
-use Rattle.std.specs.Prelude.{◌≡◌, ℕ, List, Option, Some, None, if◌then◌else◌, ◌==◌}
+use Rattle.std.specs.Prelude.{◌≡◌, ◌<◌, ℕ, List, Option, Some, None, if◌then◌else◌, ◌==◌, length}
 use Rattle.std.specs.List.{flat_map}
 use Rattle.zk_mem.specs.Map.{MemoryMap}
 use Rattle.zk_inspect.specs.AbbreviationLines.{abbreviation_lines}
@@ -12,11 +12,13 @@ use Rattle.zk_inspect.specs.Ifid.{ifid_line}
 use Rattle.zk_inspect.specs.Listing.{disassembly}
 use Rattle.zk_inspect.specs.MapLines.{map_lines}
 use Rattle.zk_inspect.specs.ObjectLines.{AreObjectLines}
-use Rattle.zk_inspect.specs.TreeLines.{AreTreeRows}
+use Rattle.zk_inspect.specs.TreeLines.{AreSomeRows, AreTreeRows}
 use Rattle.zk_inspect.specs.declared.reach.code.Code as code
 use Rattle.zk_inspect.specs.declared.check.finding.Finding.{Finding}
 use Rattle.zk_host.specs.declared.listing.Listing.{Listing}
 use Rattle.zk_host.specs.declared.listing.Listing.TheVariants as listing
+use Rattle.zk_host.specs.declared.play.Refusal.{Refusal}
+use Rattle.zk_host.specs.declared.play.Refusal.TheVariants as refused
 
 -- a text is a listing of a story
 abbrev pub IsListing : Listing → MemoryMap → List ℕ → Type 0
@@ -29,6 +31,25 @@ IsListing listing.Tree m text = AreTreeRows m text
 IsListing listing.Ifid m text = text ≡ ifid_line m
 IsListing listing.Code m text = (c : code.Code) × IsCodeOf m c × (text ≡ disassembly m c)
 IsListing listing.Findings m text = (fs : List Finding) × AreFindings m fs × (text ≡ flat_map finding_line fs)
+
+-- a text is a listing of a story, or some rows of its tree
+abbrev pub IsListingOrRows : Listing → MemoryMap → List ℕ → Type 0
+IsListingOrRows listing.Tree m text = AreSomeRows m text
+IsListingOrRows l m text = IsListing l m text
+
+-- a listing of a story has more than so many bytes
+pub record IsLonger (l : Listing) (m : MemoryMap) (most : ℕ) : Type 0 where
+  pub text : List ℕ
+  pub is : IsListingOrRows l m text
+  pub longer : most < length text
+
+-- why there is no listing of at most so many bytes: it has more, or there is no memory
+abbrev pub IsUnlisted : Listing → MemoryMap → ℕ → Refusal → Type 0
+IsUnlisted l m most refused.TooLong = IsLonger l m most
+IsUnlisted l m most refused.Memory = Unit {0}
+IsUnlisted l m most refused.NotAwaited = ⊥
+IsUnlisted l m most refused.NotALine = ⊥
+IsUnlisted l m most refused.NoState = ⊥
 
 -- the listings by their numbers
 abbrev pub listing_numbered : ℕ → Option Listing

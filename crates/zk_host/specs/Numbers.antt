@@ -34,6 +34,7 @@ refused_number refused.NotAwaited = 1
 refused_number refused.NotALine = 2
 refused_number refused.Memory = 4
 refused_number refused.NoState = 5
+refused_number refused.TooLong = 6
 
 abbrev pub answer_number : Result (Unit {0}) Refusal → ℕ
 answer_number (Ok u) = 0

@@ -1,6 +1,7 @@
 // Playing a story by calls, each of which is answered by numbers and bytes: what the library for C exports.
 #![tactic(auto)]
 
+mod bounded;
 mod collected;
 pub mod drawing;
 pub mod facts;

@@ -1,11 +1,12 @@
 // Listings of a story, as text that is taken in parts.
 
-ghost use Rattle.std.specs.Prelude.{◌≡◌, IfOk, OnOk};
-ghost use Rattle.zk_host.specs.Collecting.{no_text};
-ghost use Rattle.zk_host.specs.Listings.{IsListing, listing_numbered};
+ghost use Rattle.std.specs.Prelude.{◌≡◌, ◌<◌, ◌≤◌, [], ℕ, IfErr, IfOk, OnOk, length};
+ghost use Rattle.zk_host.specs.Listings.{IsListing, IsLonger, IsUnlisted, listing_numbered};
 
+use crate::bounded::Bounded;
+use crate::play::Refusal;
 use crate::text::Text;
-use std::alloc::{AllocError, Global};
+use std::alloc::Global;
 use zk_inspect::check::check;
 use zk_inspect::check::finding_lines::write_findings;
 use zk_inspect::error::ListError;
@@ -49,52 +50,74 @@ pub fn listing_of(number: u32) -> Option<Listing>
 }
 
 /// Writes a disassembly.
-fn write_code(alloc: Global, memory: &Memory, text: &mut Text) -> Result<(), ListError>
-    requires { text.old ≡ no_text }
-    ensures { OnOk result (IsListing Listing.Code memory.now text.new.bytes) }
+fn write_code(alloc: Global, memory: &Memory, target: &mut Bounded) -> Result<(), ListError>
+    requires { target.old.text.bytes ≡ [] }
+    ensures whole { OnOk result (IsListing Listing.Code memory.now target.new.text.bytes) }
+    ensures longer { (most : ℕ) → most < length target.new.text.bytes →
+        IsLonger Listing.Code memory.now most }
 {
     let Ok(code) = reach(alloc, memory) else {
         return Err(ListError::Memory);
     };
-    disassemble(memory, &code, text)
+    disassemble(memory, &code, target)
 }
 
 /// Writes what is wrong with a story.
-fn write_all_findings(alloc: Global, memory: &Memory, text: &mut Text) -> Result<(), ListError>
-    requires { text.old ≡ no_text }
-    ensures { OnOk result (IsListing Listing.Findings memory.now text.new.bytes) }
+fn write_all_findings(alloc: Global, memory: &Memory, target: &mut Bounded) -> Result<(), ListError>
+    requires { target.old.text.bytes ≡ [] }
+    ensures whole { OnOk result (IsListing Listing.Findings memory.now target.new.text.bytes) }
+    ensures longer { (most : ℕ) → most < length target.new.text.bytes →
+        IsLonger Listing.Findings memory.now most }
 {
     let Ok(findings) = check(alloc, memory) else {
         return Err(ListError::Memory);
     };
-    write_findings(findings.as_slice(), text)
+    write_findings(findings.as_slice(), target)
 }
 
-/// Writes a listing.
-fn write(alloc: Global, memory: &Memory, listing: Listing, text: &mut Text) -> Result<(), ListError>
-    requires { text.old ≡ no_text }
-    ensures { OnOk result (IsListing listing memory.now text.new.bytes) }
+/// Writes a listing. Where it is not written to its end, it has more bytes than were taken, or as many.
+fn write(
+    alloc: Global,
+    memory: &Memory,
+    listing: Listing,
+    target: &mut Bounded,
+) -> Result<(), ListError>
+    requires { target.old.text.bytes ≡ [] }
+    ensures whole { OnOk result (IsListing listing memory.now target.new.text.bytes) }
+    ensures longer { (most : ℕ) → most < length target.new.text.bytes →
+        IsLonger listing memory.now most }
 {
     match listing {
-        Listing::Header => header(memory, text),
-        Listing::Map => map(memory, text),
-        Listing::Abbreviations => abbreviations(memory, text),
-        Listing::Dictionary => dictionary(memory, text),
-        Listing::Objects => objects(memory, text),
-        Listing::Tree => tree(alloc, memory, text),
-        Listing::Ifid => ifid(memory, text),
-        Listing::Code => write_code(alloc, memory, text),
-        Listing::Findings => write_all_findings(alloc, memory, text),
+        Listing::Header => header(memory, target),
+        Listing::Map => map(memory, target),
+        Listing::Abbreviations => abbreviations(memory, target),
+        Listing::Dictionary => dictionary(memory, target),
+        Listing::Objects => objects(memory, target),
+        Listing::Tree => tree(alloc, memory, target),
+        Listing::Ifid => ifid(memory, target),
+        Listing::Code => write_code(alloc, memory, target),
+        Listing::Findings => write_all_findings(alloc, memory, target),
     }
 }
 
-/// A listing of a story.
-pub(crate) fn list(alloc: Global, memory: &Memory, listing: Listing) -> Result<Text, AllocError>
-    ensures { IfOk result (λ text. IsListing listing memory.now text.bytes) }
+/// A listing of a story, of so many bytes at most.
+pub(crate) fn list(
+    alloc: Global,
+    memory: &Memory,
+    listing: Listing,
+    most: usize,
+) -> Result<Text, Refusal>
+    ensures whole { IfOk result (λ text. IsListing listing memory.now text.bytes) }
+    ensures bounded { IfOk result (λ text. length text.bytes ≤ most) }
+    ensures refused { IfErr result (λ r. IsUnlisted listing memory.now most r) }
 {
-    let mut text = Text::new(alloc);
-    match write(alloc, memory, listing, &mut text) {
-        Ok(()) => Ok(text),
-        Err(_) => Err(AllocError),
+    let mut target = Bounded::new(alloc, most);
+    let written = write(alloc, memory, listing, &mut target);
+    if most < target.text.len() {
+        return Err(Refusal::TooLong);
+    }
+    match written {
+        Ok(()) => Ok(target.text),
+        Err(_) => Err(Refusal::Memory),
     }
 }

@@ -41,6 +41,7 @@ pub fn refused_number(refusal: Refusal) -> u32
         Refusal::NotALine => 2,
         Refusal::Memory => 4,
         Refusal::NoState => 5,
+        Refusal::TooLong => 6,
     }
 }
 

@@ -1,6 +1,6 @@
 // A story that is played by calls.
 
-ghost use Rattle.std.specs.Prelude.{◌≡◌, ◌⊎◌, IfErr, IfOk, OnOk};
+ghost use Rattle.std.specs.Prelude.{◌≡◌, ◌≤◌, ◌⊎◌, IfErr, IfOk, OnOk, length};
 ghost use Rattle.zk_vm.specs.Answers.Answer.{Typed, GameKept, File};
 ghost use Rattle.zk_vm.specs.Bounds.{AreInRange};
 ghost use Rattle.zk_vm.specs.Plays.{codes_read, image_of};
@@ -10,7 +10,7 @@ ghost use Rattle.zk_mem.specs.Story.{refusal};
 ghost use Rattle.zk_term.specs.Windows.{row_text, tallest_row_text};
 ghost use Rattle.zk_vm.specs.Sessions.{with_grid_forgotten};
 ghost use Rattle.zk_host.specs.Drawing.{longest_line, row_bytes, row_number, window_of};
-ghost use Rattle.zk_host.specs.Listings.{IsListing};
+ghost use Rattle.zk_host.specs.Listings.{IsListing, IsUnlisted};
 ghost use Rattle.zk_snapshot.specs.Opening.{IsRefused};
 ghost use Rattle.zk_host.specs.Texts.{IsTaken};
 
@@ -46,6 +46,8 @@ pub enum Refusal {
     Memory,
     /// There is no state to go back to.
     NoState,
+    /// The listing has more bytes than it may.
+    TooLong,
 }
 
 /// Why no play goes on from a snapshot.
@@ -98,16 +100,21 @@ fn file_of(alloc: Global, memory: &Memory) -> Result<Memory, AllocError>
     }
 }
 
-/// A listing of the file of a story that is played.
-fn list_file(alloc: Global, memory: &Memory, listing: Listing) -> Result<Text, AllocError>
-    ensures { IfOk result (λ text. IsListing listing (fresh memory.now.file 16) text.bytes) }
+/// A listing of the file of a story that is played, of so many bytes at most.
+fn list_file(alloc: Global, memory: &Memory, listing: Listing, most: usize) -> Result<Text, Refusal>
+    ensures whole { IfOk result
+        (λ text. IsListing listing (fresh memory.now.file 16) text.bytes) }
+    ensures bounded { IfOk result (λ text. length text.bytes ≤ most) }
+    ensures refused { IfErr result (λ r. IsUnlisted listing (fresh memory.now.file 16) most r) }
 {
-    let memory = file_of(alloc, memory)?;
-    list(alloc, &memory, listing)
+    match file_of(alloc, memory) {
+        Ok(memory) => list(alloc, &memory, listing, most),
+        Err(AllocError) => Err(Refusal::Memory),
+    }
 }
 
 impl Play {
-    ghost use Rattle.zk_host.specs.Calls.{begun_play, play_of, IsOpenedFrom, IsOpenedPlay, IsSnapshot, awaited, pause_of, HasRun, IsGivenUnless, IsGoneBack, IsImage, IsListedBy, IsStatus, IsTurned, line_refused, character_refused, read_refused, save_refused, restore_refused, character_read};
+    ghost use Rattle.zk_host.specs.Calls.{begun_play, play_of, IsOpenedFrom, IsOpenedPlay, IsSnapshot, awaited, pause_of, HasRun, IsGivenUnless, IsGoneBack, IsImage, IsListedBy, IsStatus, IsTurned, line_refused, character_refused, read_refused, save_refused, restore_refused, character_read, with_none_listed};
     ghost use Rattle.zk_host.specs.Collecting.{has_no_room};
     ghost use Rattle.std.specs.Prelude.{Option, Some, None, false, option_copied, ◌∷◌, []};
 
@@ -426,16 +433,24 @@ impl Play {
         self.machine.memory().header()
     }
 
-    /// Lists the story's file, in place of an earlier listing.
-    pub fn list(&mut self, alloc: Global, listing: Listing) -> Result<(), Refusal>
-        ensures { IsListedBy listing self.old self.new result }
+    /// Drops what is left of a listing.
+    pub fn drop_listing(&mut self, alloc: Global)
+        ensures { self.new ≡ with_none_listed self.old }
     {
-        match list_file(alloc, self.machine.memory(), listing) {
+        self.listing = Text::new(alloc);
+    }
+
+    /// Lists the story's file in at most so many bytes, in place of an earlier listing. Where it is refused there is none.
+    pub fn list(&mut self, alloc: Global, listing: Listing, most: usize) -> Result<(), Refusal>
+        ensures { IsListedBy listing most self.old self.new result }
+    {
+        self.drop_listing(alloc);
+        match list_file(alloc, self.machine.memory(), listing, most) {
             Ok(text) => {
                 self.listing = text;
                 Ok(())
             }
-            Err(AllocError) => Err(Refusal::Memory),
+            Err(refusal) => Err(refusal),
         }
     }
 

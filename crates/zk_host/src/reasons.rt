@@ -1,4 +1,4 @@
-// Why a story has stopped, in words.
+// Why a story has stopped, or nothing is opened, in words.
 
 ghost use Rattle.std.specs.Prelude.{◌≡◌, IfSome};
 ghost use Rattle.zk_mem.specs.Faults.{fault_number};
@@ -71,6 +71,24 @@ pub fn words(status: u32, reason: u32) -> &'static str {
         3 => words_on_limit(reason),
         5 => "out of memory",
         6 => "an instruction shows more text than there may be",
+        _ => "",
+    }
+}
+
+/// The words for why nothing is opened; none where the number is not known.
+pub fn words_on_open(number: u32) -> &'static str {
+    match number {
+        1 => "the file is shorter than a header",
+        2 => "its version is not played",
+        3 => "the file is too long for its version",
+        4 => "static memory begins inside the header or past the file",
+        5 => "the first instruction lies past the file",
+        6 => "out of memory",
+        7 => "a limit is out of its range",
+        8 => "this is no snapshot",
+        9 => "the snapshot is of another version",
+        10 => "the snapshot is of another story",
+        11 => "the snapshot is damaged",
         _ => "",
     }
 }

@@ -73,6 +73,14 @@ by_twice true false z a b c s t h k = let no = h.0 in absurd cc
 pub given_nothing : (a : Sheet) → Given a a []
 given_nothing a = record { by = by_nothing a.failed a }
 
+by_late : (x : Bool) (a : Sheet) (bytes : List ℕ) → x ≡ true → GivenBy x x a a bytes
+by_late true a bytes is = (refl, refl, refl)
+by_late false a bytes is = absurd cc
+
+-- once a write has failed nothing is done with what is given
+pub given_late : (a : Sheet) (bytes : List ℕ) → a.failed ≡ true → Given a a bytes
+given_late a bytes is = record { by = by_late a.failed a bytes is }
+
 pub given_twice : (a b c : Sheet) (s t : List ℕ) → Given a b s → Given b c t → Given a c (s ++ t)
 given_twice a b c s t h k = record { by = by_twice a.failed b.failed c.failed a b c s t h.by k.by }
 

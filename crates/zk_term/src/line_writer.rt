@@ -8,19 +8,28 @@ use arrayvec::ArrayVec;
 
 /// Takes the bytes of lines.
 pub trait LineWriter {
-    ghost use Rattle.std.specs.Prelude.{List, ℕ, [], ◌++◌};
+    ghost use Rattle.std.specs.Prelude.{◌≡◌, List, ℕ, Bool, true, [], ◌++◌};
 
     // what came of a writer that was given bytes
     ghost wrote: { Self → Self → List ℕ → Type 0 };
+
+    // that a write has failed, and nothing more is taken
+    ghost ended: { Self → Bool };
 
     /// Writes bytes, if no write has failed before.
     fn write(&mut self, bytes: &[u8])
         ensures { wrote self.old self.new bytes.now };
 
+    /// Whether a write has failed: then nothing more is taken, and no text need be made for it.
+    fn has_ended(&self) -> bool
+        ensures { result ≡ ended self.now };
+
     ghost nothing: { (a : Self) → wrote a a [] };
 
     ghost twice: { (a b c : Self) (s t : List ℕ) → wrote a b s → wrote b c t
         → wrote a c (s ++ t) };
+
+    ghost late: { (a : Self) (s : List ℕ) → ended a ≡ true → wrote a a s };
 }
 
 /// A writer over a target: bytes wait, at most 1,024, and go out together where there is no room for more, and at `finish`.
@@ -71,11 +80,17 @@ impl<'a, T: Target> TargetWriter<'a, T> {
 impl<'a, T: Target> LineWriter for TargetWriter<'a, T> {
     ghost use Rattle.std.specs.Prelude.{◌≡◌, refl};
     ghost use Rattle.std.proofs.Common.{◌∙◌};
-    ghost use Rattle.zk_term.specs.LineWriters.{Given, given_nothing, given_twice, sheet};
+    ghost use Rattle.zk_term.specs.LineWriters.{Given, given_late, given_nothing, given_twice, sheet};
 
     ghost wrote = { λ a b s. (b.target.ghost_name ≡ a.target.ghost_name) × Given
         (sheet T.taken T.failed a.target.now a.waiting.items a.failed)
         (sheet T.taken T.failed b.target.now b.waiting.items b.failed) s };
+
+    ghost ended = { λ a. a.failed };
+
+    fn has_ended(&self) -> bool {
+        self.failed
+    }
 
     fn write(&mut self, bytes: &[u8]) {
         if self.failed {
@@ -101,4 +116,6 @@ impl<'a, T: Target> LineWriter for TargetWriter<'a, T> {
     ghost nothing = { λ a. (refl, given_nothing _) };
 
     ghost twice = { λ a b c s t h k. (k.0 ∙ h.0, given_twice _ _ _ s t h.1 k.1) };
+
+    ghost late = { λ a s h. (refl, given_late _ s h) };
 }

@@ -73,9 +73,15 @@ impl<'a, P: LineWriter> Sink for Quoting<'a, P> {
         × (b.extra.now ≡ a.extra.now)
         × P.wrote a.writer.now b.writer.now (quoted_units a.extra.now us) };
 
-    ghost refused = { λ a b us. ⊥ };
+    // once a write has failed: nothing is done with what is given
+    ghost refused = { λ a b us. (b.writer.ghost_name ≡ a.writer.ghost_name)
+        × (b.extra.now ≡ a.extra.now)
+        × P.wrote a.writer.now b.writer.now (quoted_units a.extra.now us) };
 
     fn put(&mut self, unit: Unit) -> Result<(), SinkFault> {
+        if self.writer.has_ended() {
+            return Err(SinkFault);
+        }
         match Shown::of(self.extra, unit) {
             Shown::Nothing => Ok(()),
             Shown::One(c) => {
@@ -102,7 +108,12 @@ impl<'a, P: LineWriter> Sink for Quoting<'a, P> {
           a.extra.now b.extra.now a.writer.now b.writer.now c.writer.now s t h.1 h.2 k.2,
     ) };
 
-    ghost late = { λ a b c s t h k. k };
+    ghost late = { λ a b c s t h k. (
+      k.0 ∙ h.0,
+      k.1 ∙ h.1,
+      quoted_twice P.wrote P.twice
+          a.extra.now b.extra.now a.writer.now b.writer.now c.writer.now s t h.1 h.2 k.2,
+    ) };
 }
 
 /// Writes a ZSCII code as it stands between quotes.
@@ -148,10 +159,13 @@ pub(crate) fn write_meaning<P: LineWriter>(writer: &mut P, memory: &Memory, addr
     writer.write(b"\"");
 }
 
-/// Writes what a text prints between quotes, or why it has no meaning.
+/// Writes what a text prints between quotes, or why it has no meaning. Once a write has failed no text is looked at.
 pub(crate) fn write_quoted<P: LineWriter>(writer: &mut P, memory: &Memory, address: u32)
     ensures { P.wrote writer.old writer.new (units_text memory.now (text_units memory.now address)) }
 {
+    if writer.has_ended() {
+        return;
+    }
     match check_text(memory, address) {
         Ok(_) => write_meaning(writer, memory, address),
         Err(fault) => write_decimal(writer, b"! F", fault.number() as u32),
