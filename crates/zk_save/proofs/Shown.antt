@@ -2,7 +2,7 @@
 use Rattle.std.specs.Prelude.{map, reverse, slice_get, bit_xor, option_map}
 use Rattle.std.specs.Int.Bits.{xor_zero_l, xor_comm, xor_assoc, xor_self}
 use Rattle.std.specs.List.{All}
-use Rattle.std.proofs.Common.{◌≡◌, ◌∙◌, ◌≤◌, ℕ, List, [], ◌∷◌, ◌++◌, length, take, Option, Some, None, refl, ap, sym, subst, arith}
+use Rattle.std.proofs.Common.{◌≡◌, ◌∙◌, ◌≤◌, ℕ, List, [], ◌∷◌, ◌++◌, length, take, Some, refl, ap, sym, subst, arith}
 use Rattle.std.proofs.lemmas.List.{reverse-append, reverse-reverse, map-append, length-take-le}
 use Rattle.std.proofs.lemmas.List.Elements.{All-append, All-head, All-tail, All-cons, All-nil}
 use Rattle.std.proofs.lemmas.Option.{slice_get_within, slice_get-map, get_or_from_slice_get}
@@ -11,7 +11,6 @@ use Rattle.zk_state.specs.Frames.{Frame, FrameList, frames_of, with_frames}
 use Rattle.zk_save.specs.Packing.{packed}
 use Rattle.zk_save.specs.Unpacking.{xored}
 use Rattle.zk_save.specs.States.{WholeState, KeptState, UndoStates, whole_state, packed_of, states_in, IsOf, AreOf}
-use Rattle.zk_save.proofs.Packs.{length-xored}
 use Rattle.zk_save.proofs.Wholes.{xored_front, length-xored_same}
 
 -- ---- lists the other way round
@@ -19,7 +18,7 @@ use Rattle.zk_save.proofs.Wholes.{xored_front, length-xored_same}
 reverse_cons : {X : Type 0} (x : X) (xs : List X) → reverse (x ∷ xs) ≡ reverse xs ++ x ∷ []
 reverse_cons {X} x xs = reverse-append (x ∷ []) xs
 
-all_reversed : {X : Type 0} (P : X → Type 0) (xs : List X) → All P xs → All P (reverse xs)
+pub all_reversed : {X : Type 0} (P : X → Type 0) (xs : List X) → All P xs → All P (reverse xs)
 all_reversed {X} P [] h = h
 all_reversed {X} P (x ∷ xs) h =
     let last : All P (x ∷ []) = All-cons P x [] (All-head P x xs h) (All-nil P) in

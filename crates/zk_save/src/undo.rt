@@ -1,6 +1,6 @@
 // The newest states, to go back to.
 
-ghost use Rattle.std.specs.Prelude.{◌≡◌, ◌<◌, ◌≤◌, [], ◌∷◌, take, length, reverse, slice_get, Some, None, MatchOption, IsOk, IfOk, OnOk, OnErr};
+ghost use Rattle.std.specs.Prelude.{◌≡◌, ◌<◌, ◌≤◌, ◌^◌, [], ◌∷◌, take, length, reverse, slice_get, Some, None, MatchOption, IsOk, IfOk, OnOk, OnErr};
 ghost use Rattle.zk_mem.specs.Map.{MemoryMap};
 ghost use Rattle.zk_state.specs.Frames.{FrameList, bounds_of, frames_of};
 ghost use Rattle.zk_save.specs.States.{WholeState, state_of, states_in, packed_of, gone_back, AreOf};
@@ -83,6 +83,7 @@ impl Undo {
             → slice_get (reverse (states_in memory.now.file self.now)) number ≡ Some w
             → (result.packed.now ≡ packed_of memory.now.file w)
             × (frames_of frames.new ≡ w.frames) × (result.pc ≡ w.pc) }
+        ensures short { length result.packed.now < 2 ^ 17 }
         ensures bounds { bounds_of frames.new ≡ bounds_of frames.old }
         ensures are_of { AreOf memory.now frames.new self.now }
     {

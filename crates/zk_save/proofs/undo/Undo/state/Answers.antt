@@ -1,8 +1,9 @@
-use Rattle.std.proofs.Common.{◌≡◌, ◌∙◌, ◌≤◌, ℕ, List, length, Some, ap, refl, sym, arith}
+use Rattle.std.proofs.Common.{◌≡◌, ℕ, List, length, Some, ap, refl, sym, arith}
 use Rattle.std.specs.Prelude.{reverse, slice_get}
 use Rattle.zk_mem.specs.Map.{MemoryMap}
 use Rattle.zk_state.specs.Frames.{FrameList}
 use Rattle.zk_save.specs.States.{KeptState, UndoStates, states_in, IsOf, AreOf}
+use Rattle.zk_save.proofs.RoundTrip.{packs_short}
 use Rattle.zk_save.proofs.Shown.{holds_there, shown_is}
 use Rattle.zk_save.proofs.Wholes.{put_bounds, same_of}
 use Rattle.zk_save.proofs.undo.Undo.state.Goals as goal
@@ -37,3 +38,11 @@ returns-clause-state c =
     let k = c.in-Some-get.kept.now in
     let kept : IsOf c.args.memory.now.static_base c.args.frames.now.most_frames c.args.frames.now.most_words k = kept_of c.in-Some.ring.items c.args.number k c.args.self.now c.args.memory.now c.args.frames.now (ap (λ (u : UndoStates). u.states) view) (sym there) c.requires.are_of in
     rw (← view) (λ w h. shown_is c.args.memory.now.file c.in-Some.ring.items c.args.number k w c.show.result.packed.now c.args.frames.now c.show.new.frames c.show.result.pc (sym there) (omega (arith, kept.dynamic, c.dynamic.ensures.within)) kept.some c.show.ensures.packed c.show.ensures.frames c.show.ensures.pc h)
+
+pub returns-clause-short : goal.returns-clause-short
+returns-clause-short c =
+    let there = rw c.in-Some-get.is at c.get.ensures in
+    let view = rw c.in-Some.is at c.self.view_is in
+    let k = c.in-Some-get.kept.now in
+    let kept : IsOf c.args.memory.now.static_base c.args.frames.now.most_frames c.args.frames.now.most_words k = kept_of c.in-Some.ring.items c.args.number k c.args.self.now c.args.memory.now c.args.frames.now (ap (λ (u : UndoStates). u.states) view) (sym there) c.requires.are_of in
+    omega (arith, packs_short k.difference, ap (λ (l : List ℕ). length l) c.show.ensures.packed, kept.dynamic, c.dynamic.ensures.small)
