@@ -8,3 +8,4 @@ pub mod Typing
 pub mod Calls
 pub mod Numbers
 pub mod Exports
+pub mod Within
