@@ -1,15 +1,14 @@
 // Playing a story from C: what `library/raw.h` declares, on which `library/zkit.c` makes the functions of `include/zkit.h`.
 #![tactic(auto)]
 
-ghost use Rattle.std.specs.Prelude.{◌≡◌, ◌-◌, ◌^◌, ◌∷◌, ◌==◌, [], List, ℕ, None, Some, min, not};
+ghost use Rattle.std.specs.Prelude.{◌≡◌, ◌∷◌, ◌==◌, [], List, ℕ, None, Some, not};
 ghost use Rattle.zk_mem.specs.Header.{header_of};
 ghost use Rattle.zk_term.specs.Windows.{row_text, tallest_row_text};
-ghost use Rattle.zk_snapshot.specs.Snapshots.{longest_of};
 ghost use Rattle.zk_vm.specs.Sessions.{with_grid_forgotten};
 ghost use Rattle.zk_vm.specs.Answers.Answer.{Typed, GameKept, File};
 ghost use Rattle.zk_vm.specs.Plays.{codes_read};
 ghost use Rattle.zk_host.specs.Texts.{IsPutInFront, IsTaken};
-ghost use Rattle.zk_host.specs.Calls.{IsStatus, awaited, character_read, character_refused, line_refused, restore_refused, save_refused};
+ghost use Rattle.zk_host.specs.Calls.{IsStatus, awaited, character_read, character_refused, line_refused, longest_snapshot, restore_refused, save_refused};
 ghost use Rattle.zk_host.specs.Drawing.{longest_line, row_bytes, row_number, window_of};
 ghost use Rattle.zk_host.specs.Listings.{listing_numbered};
 ghost use Rattle.zk_host.specs.Numbers.{address_number, reason_number, status_number};
@@ -205,8 +204,7 @@ pub extern "C" fn zk_take_snapshot(
 #[unsafe(no_mangle)]
 pub extern "C" fn zk_longest_snapshot(alloc: Global, game: &mut Zkit, undo_bytes: usize) -> usize
     ensures { OnPlay game.old.play game.new.play (λ old new. (new ≡ old)
-        × (result ≡ min (longest_of old.machine.limits old.machine.state.game.memory.static_base
-        undo_bytes) (2 ^ 64 - 1))) (result ≡ 0) }
+        × (result ≡ longest_snapshot old undo_bytes)) (result ≡ 0) }
 {
     let Some(play) = game.take(alloc) else {
         return 0;

@@ -1,5 +1,5 @@
 -- What the calls of a play answer, and how they leave it.
-use Rattle.std.specs.Prelude.{◌≡◌, ◌≤◌, ◌⊎◌, ◌+◌, ℕ, Bool, true, false, List, length, Option, Some, None, Result, Ok, Err, if◌then◌else◌}
+use Rattle.std.specs.Prelude.{◌≡◌, ◌≤◌, ◌⊎◌, ◌+◌, ◌-◌, ◌^◌, min, ℕ, Bool, true, false, List, length, Option, Some, None, Result, Ok, Err, if◌then◌else◌}
 use Rattle.std.specs.Global.{Vec, Box}
 use Rattle.zk_text.specs.Extra.{own_characters}
 use Rattle.zk_step.specs.declared.state.game_state.View.{View}
@@ -196,6 +196,10 @@ IsListedBy listing old new (Ok u) = IsListing listing (fresh old.machine.state.g
 IsListedBy listing old new (Err r) = (r ≡ refused.Memory) × (new ≡ old)
 
 -- ---- snapshots
+
+-- the most bytes of a snapshot of a play with so many bytes of states, as far as a number of 64 bits tells it
+abbrev pub longest_snapshot : Play → ℕ → ℕ
+longest_snapshot p most = min (longest_of p.machine.limits p.machine.state.game.memory.static_base most) (2 ^ 64 - 1)
 
 -- the snapshot of a play, which has one, with the newest states that fit in so many bytes; or it has none, or there is no
 -- memory for it

@@ -1,6 +1,6 @@
 // A story that is played by calls.
 
-ghost use Rattle.std.specs.Prelude.{◌≡◌, ◌⊎◌, ◌-◌, ◌^◌, min, IfErr, IfOk, OnOk};
+ghost use Rattle.std.specs.Prelude.{◌≡◌, ◌⊎◌, IfErr, IfOk, OnOk};
 ghost use Rattle.zk_vm.specs.Answers.Answer.{Typed, GameKept, File};
 ghost use Rattle.zk_vm.specs.Bounds.{AreInRange};
 ghost use Rattle.zk_vm.specs.Plays.{codes_read, image_of};
@@ -12,7 +12,6 @@ ghost use Rattle.zk_vm.specs.Sessions.{with_grid_forgotten};
 ghost use Rattle.zk_host.specs.Drawing.{longest_line, row_bytes, row_number, window_of};
 ghost use Rattle.zk_host.specs.Listings.{IsListing};
 ghost use Rattle.zk_snapshot.specs.Opening.{IsRefused};
-ghost use Rattle.zk_snapshot.specs.Snapshots.{longest_of};
 ghost use Rattle.zk_host.specs.Texts.{IsTaken};
 
 use crate::collected::Collected;
@@ -111,7 +110,7 @@ fn list_file(alloc: Global, memory: &Memory, listing: Listing) -> Result<Text, A
 }
 
 impl Play {
-    ghost use Rattle.zk_host.specs.Calls.{begun_play, play_of, IsOpenedFrom, IsPlayOpened, IsSnapshot, awaited, pause_of, HasRun, IsGivenUnless, IsGoneBack, IsImage, IsListedBy, IsStatus, IsTurned, line_refused, character_refused, read_refused, save_refused, restore_refused, character_read};
+    ghost use Rattle.zk_host.specs.Calls.{begun_play, play_of, IsOpenedFrom, IsPlayOpened, IsSnapshot, longest_snapshot, awaited, pause_of, HasRun, IsGivenUnless, IsGoneBack, IsImage, IsListedBy, IsStatus, IsTurned, line_refused, character_refused, read_refused, save_refused, restore_refused, character_read};
     ghost use Rattle.zk_host.specs.Collecting.{has_no_room};
     ghost use Rattle.std.specs.Prelude.{Option, Some, None, false, option_copied, ◌∷◌, []};
 
@@ -340,9 +339,7 @@ impl Play {
 
     /// How many bytes a snapshot of the play has at most, now or later, with so many bytes of states.
     pub fn longest_snapshot(&self, most: usize) -> usize
-        ensures { result ≡ min (longest_of self.now.machine.limits
-            self.now.machine.state.game.memory.static_base most)
-            (2 ^ 64 - 1) }
+        ensures { result ≡ longest_snapshot self.now most }
     {
         longest_snapshot(&self.machine, most)
     }
