@@ -87,11 +87,12 @@ enum {
     ZKIT_BAD_STATIC_BASE = 4,   /* static memory begins inside the header or past the story */
     ZKIT_BAD_START = 5,         /* the first instruction lies at or past the end of the story */
     ZKIT_OPEN_NO_MEMORY = 6,    /* there is no memory */
-    ZKIT_BAD_LIMIT = 7,         /* an option lies out of its range, or `size` is less than the fields up to `upper` take */
+    ZKIT_BAD_LIMIT = 7,         /* an option lies out of its range, `size` is less than the fields up to `upper` take, or a limit
+                                   of the snapshot is greater than the option */
     ZKIT_NOT_A_SNAPSHOT = 8,    /* the bytes are no snapshot */
     ZKIT_OTHER_VERSION = 9,     /* the snapshot is of a format that this version does not know */
     ZKIT_OTHER_STORY = 10,      /* the snapshot is of another story */
-    ZKIT_DAMAGED = 11           /* the snapshot is damaged */
+    ZKIT_DAMAGED = 11           /* the snapshot begins as one of this story should, but is damaged */
 };
 
 /* What a turn answers: what is awaited. */
@@ -265,21 +266,38 @@ uint32_t zkit_restore_none(zkit *game);
 /* ---- snapshots */
 
 /* Copies a snapshot of the play to the front of a buffer of length bytes, and says in *needed how many bytes it has. It may
- * be had where the story awaits a line or a character, but not while it prints into a table of its own. It has memory,
- * routines, random numbers, streams and windows as they are, so that the same answers give the same play from there on, in
- * another process too. It has not the states that zkit_undo and the story's own `restore_undo` go back to, nor the grid of a
- * box that is gone, nor text that was not taken: take that first.
+ * be had where the story awaits a line or a character. It has memory, routines, random numbers, streams and windows as they
+ * are, so that the same answers give the same play from there on, in another process too. It has not the states that
+ * zkit_undo and the story's own `restore_undo` go back to, nor the grid of a box that is gone, nor text that was not taken:
+ * take that first.
  *
- * Its format is this project's own; it begins with a number of its version, and a later version may not read it. A
- * saved game, by zkit_image, is what other interpreters and later versions read.
+ * Its format is this project's own, and begins with a number of its version. From 1.0.0 on a later version of the same first
+ * number reads it. A saved game, by zkit_image, is what other interpreters read.
  *
  * ZKIT_DONE; ZKIT_NO_ROOM: *needed is set and the buffer is as it was; ZKIT_NOT_AWAITED or ZKIT_NO_MEMORY: both are as
  * they were. */
 uint32_t zkit_snapshot(zkit *game, uint8_t *buffer, size_t length, size_t *needed);
 
+/* The same with states to go back to: as many of the newest as fit in undo_bytes bytes, up to the first that does not. A
+ * state has 10 bytes, what dynamic memory then differed in from the story's file, packed, and 10 bytes for each frame and 2
+ * for each of their words. */
+uint32_t zkit_snapshot_with_undo(zkit *game, size_t undo_bytes, uint8_t *buffer, size_t length, size_t *needed);
+
+/* How many bytes a snapshot of the game has at most, now or later, with so many bytes of states: 0 for those of
+ * zkit_snapshot. It is 82,007 and the bytes of the story's dynamic memory (less than 65,536), and 10 for each frame and 2 for
+ * each word that the limits allow, and undo_bytes, or SIZE_MAX where that is less. */
+size_t zkit_longest_snapshot(const zkit *game, size_t undo_bytes);
+
 /* Opens a game that goes on from a snapshot, in the place of the one that it was taken of: as zkit_open, with the story's
- * file and the snapshot's bytes. Of the options `room` is used; the limits and whether the upper window is in the text are
- * in the snapshot. A snapshot that is damaged, or of another story, is refused. */
+ * file and the snapshot's bytes. The game has the limits that are in the snapshot, and shows the upper window in the text as
+ * that game did.
+ *
+ * options  the most that frames, words, undo and steps of the snapshot may be, and `room`; null for any limits, and the room
+ *          that zkit_defaults says. Fields past its size are as zkit_defaults has them.
+ *
+ * Of several reasons why it is not opened it is an option out of its range, then the first of the story's, then the first of
+ * the snapshot's, 8 to 11, then a limit of the snapshot that is greater than the option. There may be no memory at any
+ * time. */
 zkit *zkit_open_snapshot(const uint8_t *story, size_t length, const uint8_t *snapshot, size_t snapshot_length,
                          const zkit_options *options, uint32_t *reason);
 

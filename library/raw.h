@@ -34,9 +34,11 @@ uint32_t zk_image(struct zk_handle *game, uint8_t *buffer, size_t length, size_t
 uint32_t zk_saved(struct zk_handle *game, uint32_t kept);
 uint32_t zk_restore(struct zk_handle *game, const uint8_t *file, size_t length);
 uint32_t zk_restore_none(struct zk_handle *game);
-uint32_t zk_take_snapshot(struct zk_handle *game, uint8_t *buffer, size_t length, size_t *needed);
+uint32_t zk_take_snapshot(struct zk_handle *game, size_t undo_bytes, uint8_t *buffer, size_t length, size_t *needed);
+size_t zk_longest_snapshot(struct zk_handle *game, size_t undo_bytes);
+/* frames, words, undo, steps: the most that the snapshot's limits may be */
 uint32_t zk_open_snapshot(struct zk_handle *game, const uint8_t *story, size_t length, const uint8_t *snapshot,
-                          size_t snapshot_length);
+                          size_t snapshot_length, uint32_t frames, uint32_t words, uint32_t undo, uint32_t steps);
 /* how the upper window stands */
 struct zk_window {
     uint32_t height;

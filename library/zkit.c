@@ -15,7 +15,13 @@ struct zkit {
     uint32_t room;
 };
 
-enum { GREATEST_ROOM = 2147483647 };
+enum {
+    GREATEST_FRAMES = 65535,
+    GREATEST_WORDS = 65535,
+    GREATEST_UNDO = 64,
+    GREATEST_STEPS = 1000000000,
+    GREATEST_ROOM = 2147483647
+};
 
 /* The functions of raw.h get no null pointer: this is what they get in its place. */
 static uint8_t nothing;
@@ -107,13 +113,26 @@ zkit *zkit_open(const uint8_t *story, size_t length, const zkit_options *options
     return game_with(&play, refused, whole.room, reason);
 }
 
+/* The options by which a snapshot is opened: without any its limits may be as great as limits can be. */
+static zkit_options snapshot_options(const zkit_options *given) {
+    zkit_options whole = whole_options(given);
+    if (!given) {
+        whole.frames = GREATEST_FRAMES;
+        whole.words = GREATEST_WORDS;
+        whole.undo = GREATEST_UNDO;
+        whole.steps = GREATEST_STEPS;
+    }
+    return whole;
+}
+
 zkit *zkit_open_snapshot(const uint8_t *story, size_t length, const uint8_t *snapshot, size_t snapshot_length,
                          const zkit_options *options, uint32_t *reason) {
-    zkit_options whole = whole_options(options);
+    zkit_options whole = snapshot_options(options);
     struct zk_handle play = {NULL, 0};
     uint32_t refused = ZKIT_BAD_LIMIT;
     if (has_room(&whole))
-        refused = zk_open_snapshot(&play, bytes_at(story), length, bytes_at(snapshot), snapshot_length);
+        refused = zk_open_snapshot(&play, bytes_at(story), length, bytes_at(snapshot), snapshot_length, whole.frames,
+                                   whole.words, whole.undo, whole.steps);
     return game_with(&play, refused, whole.room, reason);
 }
 
@@ -197,7 +216,15 @@ uint32_t zkit_restore_none(zkit *game) {
 }
 
 uint32_t zkit_snapshot(zkit *game, uint8_t *buffer, size_t length, size_t *needed) {
-    return zk_take_snapshot(&game->play, buffer_at(buffer), length, needed);
+    return zk_take_snapshot(&game->play, 0, buffer_at(buffer), length, needed);
+}
+
+uint32_t zkit_snapshot_with_undo(zkit *game, size_t undo_bytes, uint8_t *buffer, size_t length, size_t *needed) {
+    return zk_take_snapshot(&game->play, undo_bytes, buffer_at(buffer), length, needed);
+}
+
+size_t zkit_longest_snapshot(const zkit *game, size_t undo_bytes) {
+    return zk_longest_snapshot(play_of(game), undo_bytes);
 }
 
 /* ---- the screen's upper part */

@@ -208,7 +208,8 @@ export class Module {
     }
 
     /**
-     * Opens a game that goes on from a snapshot, or throws Refused. Of the options `room` alone is used.
+     * Opens a game that goes on from a snapshot, or throws Refused. The limits of the snapshot may be at most those of the
+     * options.
      * @param {Uint8Array} story
      * @param {Uint8Array} snapshot
      * @param {Options} [options]

@@ -3,15 +3,15 @@
  *     kept STORY SNAPSHOT [LINE]
  *
  * Without a file SNAPSHOT the story begins; else it goes on from there, and LINE answers it. What it shows up to the next read
- * goes to standard output, and SNAPSHOT is written anew. Once the story has stopped SNAPSHOT is removed, and the status is 3.
- * Nothing is saved, and nothing restored. The status is 1 where a file can't be read or is refused. */
+ * goes to standard output, and SNAPSHOT is written anew, with the newest states for the story's UNDO. Once the story has
+ * stopped SNAPSHOT is removed, and the status is 3. Nothing is saved, and nothing restored. The status is 1 where a file can't be read or is refused. */
 #include <stdio.h>
 #include <stdlib.h>
 #include <string.h>
 
 #include "zkit.h"
 
-enum { LONGEST_STORY = 524289, LONGEST_SNAPSHOT = 1048576 };
+enum { LONGEST_STORY = 524289, LONGEST_SNAPSHOT = 4194304, UNDO_BYTES = 3145728 };
 
 static uint8_t story[LONGEST_STORY];
 static uint8_t snapshot[LONGEST_SNAPSHOT];
@@ -86,7 +86,8 @@ int main(int count, char **words) {
         zkit_close(game);
         return 3;
     }
-    if (zkit_snapshot(game, snapshot, sizeof snapshot, &length) != ZKIT_DONE || !write_file(words[2], length))
+    if (zkit_snapshot_with_undo(game, UNDO_BYTES, snapshot, sizeof snapshot, &length) != ZKIT_DONE
+        || !write_file(words[2], length))
         return 1;
     zkit_close(game);
     return 0;

@@ -150,8 +150,8 @@ static zkit *from_snapshot(zkit *game) {
     take_text(game);
     if (asked != ZKIT_AWAITS_LINE && asked != ZKIT_AWAITS_CHARACTER)
         return game;
-    if (zkit_snapshot(game, kept, sizeof kept, &size) == ZKIT_NO_MEMORY)
-        zkit_snapshot(game, kept, sizeof kept, &size);
+    if (zkit_snapshot_with_undo(game, sizeof kept, kept, sizeof kept, &size) == ZKIT_NO_MEMORY)
+        zkit_snapshot_with_undo(game, sizeof kept, kept, sizeof kept, &size);
     zkit_close(game);
     game = zkit_open_snapshot(story, story_length, kept, size, NULL, &reason);
     if (!game && reason == ZKIT_OPEN_NO_MEMORY)

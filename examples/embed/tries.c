@@ -454,6 +454,46 @@ static void undo(void) {
     zkit_close(game);
 }
 
+/* Says whether a game that goes on from a snapshot has a state to go back to. */
+static void undo_from(const char *what, zkit *game, const uint8_t *story, size_t undo_bytes) {
+    static uint8_t kept[SMALL * 16];
+    size_t size = 0;
+    puts(what);
+    say("kept", zkit_snapshot_with_undo(game, undo_bytes, kept, sizeof kept, &size));
+    say("within the longest", size <= zkit_longest_snapshot(game, undo_bytes));
+    zkit *other = zkit_open_snapshot(story, SMALL, kept, size, NULL, NULL);
+    say("undo", zkit_undo(other));
+    say("turn", zkit_turn(other));
+    show(other);
+    zkit_close(other);
+}
+
+/* States to go back to are in a snapshot as far as they fit. */
+static void undo_from_snapshots(void) {
+    /* save_undo -> global 16; print_num global 16; read_char 1 -> global 17; quit */
+    const uint8_t code[] = {0xbe, 0x09, 0xff, 0x10, 0xe6, 0xbf, 0x10, 0xf6, 0x7f, 0x01, 0x11, 0xba};
+    uint8_t story[SMALL];
+    make_story(story, code, sizeof code);
+    zkit *game = opened(story, sizeof story, NULL);
+    zkit_turn(game);
+    show(game);
+    undo_from("a snapshot with a state", game, story, SIZE_MAX);
+    undo_from("a snapshot without room for it", game, story, 19);
+    zkit_close(game);
+}
+
+/* Says why a snapshot is refused, or that it is opened, where its limits may be these at most. */
+static void open_within(const char *what, const uint8_t *story, size_t length, const uint8_t *kept, size_t size, uint32_t frames,
+                        uint32_t undo) {
+    zkit_options options = {sizeof options, 0, 0, 0, 0, 0, 0, 0};
+    uint32_t reason = 99;
+    zkit_defaults(&options);
+    options.frames = frames;
+    options.undo = undo;
+    zkit_close(zkit_open_snapshot(story, length, kept, size, &options, &reason));
+    say(what, reason);
+}
+
 /* Says why a snapshot is refused, or that it is opened and awaits a line. */
 static void open_snapshot(const char *what, const uint8_t *story, size_t length, const uint8_t *kept, size_t size) {
     uint32_t reason = 99;
@@ -478,6 +518,11 @@ static void keep_snapshots(const uint8_t *story, size_t length, const uint8_t *o
     say("just long enough", zkit_snapshot(game, kept, size, &size));
     zkit_close(game);
     open_snapshot("opened", story, length, kept, size);
+    open_within("opened within its limits", story, length, kept, size, ZKIT_FRAMES, ZKIT_UNDO);
+    open_within("a frame fewer", story, length, kept, size, ZKIT_FRAMES - 1, ZKIT_UNDO);
+    open_within("a state fewer", story, length, kept, size, ZKIT_FRAMES, ZKIT_UNDO - 1);
+    open_within("too many states, and no snapshot", story, length, story, length, ZKIT_FRAMES, 65);
+    open_within("a frame fewer, and no snapshot", story, length, story, length, ZKIT_FRAMES - 1, ZKIT_UNDO);
     open_snapshot("of another story", other, other_length, kept, size);
     open_snapshot("one byte less", story, length, kept, size - 1);
     open_snapshot("no bytes", story, length, NULL, 0);
@@ -627,6 +672,7 @@ int main(int count, char **words) {
     draw_box();
     show_status_line(other, read_story(words[2], other));
     undo();
+    undo_from_snapshots();
     keep_snapshots(lighthouse, length, other, read_story(words[2], other));
     tell_story(lighthouse, length);
     refuse_listings(lighthouse, length);

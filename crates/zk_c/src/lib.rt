@@ -8,7 +8,7 @@ ghost use Rattle.zk_vm.specs.Sessions.{with_grid_forgotten};
 ghost use Rattle.zk_vm.specs.Answers.Answer.{Typed, GameKept, File};
 ghost use Rattle.zk_vm.specs.Plays.{codes_read};
 ghost use Rattle.zk_host.specs.Texts.{IsPutInFront, IsTaken};
-ghost use Rattle.zk_host.specs.Calls.{IsStatus, awaited, character_read, character_refused, line_refused, restore_refused, save_refused};
+ghost use Rattle.zk_host.specs.Calls.{IsStatus, awaited, character_read, character_refused, line_refused, longest_snapshot, restore_refused, save_refused};
 ghost use Rattle.zk_host.specs.Drawing.{longest_line, row_bytes, row_number, window_of};
 ghost use Rattle.zk_host.specs.Listings.{listing_numbered};
 ghost use Rattle.zk_host.specs.Numbers.{address_number, reason_number, status_number};
@@ -173,23 +173,25 @@ pub extern "C" fn zk_image(
 }
 
 /// Copies the snapshot of a play that waits for a line or a character to the front of a buffer, and its length in bytes to
-/// `length`: `snapshot` of `zk_snapshot`. Text that was not taken is not in it. Answers 0, 1 where nothing of the kind is
-/// awaited or a table of stream 3 is open, 3 where the buffer is shorter, or 4 where there is no memory.
+/// `length`: `snapshot` of `zk_snapshot`, with as many of the newest states to go back to as fit in `undo_bytes`. Text that
+/// was not taken is not in it. Answers 0, 1 where nothing of the kind is awaited, 3 where the buffer is shorter, or 4 where
+/// there is no memory.
 #[unsafe(no_mangle)]
 pub extern "C" fn zk_take_snapshot(
     alloc: Global,
     game: &mut Zkit,
+    undo_bytes: usize,
     buffer: &mut [u8],
     length: &mut usize,
 ) -> u32
     ensures { OnPlay game.old.play game.new.play (λ old new.
-        IsSnapshotPut old new buffer.old buffer.new length.old length.new result)
+        IsSnapshotPut old new undo_bytes buffer.old buffer.new length.old length.new result)
         ((result ≡ 1) × (buffer.new ≡ buffer.old) × (length.new ≡ length.old)) }
 {
     let Some(play) = game.take(alloc) else {
         return NOT_AWAITED;
     };
-    let snapshot = play.snapshot(alloc);
+    let snapshot = play.snapshot(alloc, undo_bytes);
     game.put(alloc, play);
     match snapshot {
         Ok(bytes) => put_file(bytes.as_slice(), buffer, length),
@@ -197,24 +199,49 @@ pub extern "C" fn zk_take_snapshot(
     }
 }
 
-/// Opens a play that goes on from a snapshot of a story, in place of one that the handle may have: `open_snapshot` of
-/// `zk_snapshot`. Answers 0, or why it is not opened: 1 to 6 as `zk_open`, 8 to 11 since the bytes are no snapshot, one of
-/// another version or another story, or damaged. Then the handle is as it was.
+/// How many bytes a snapshot of the play has at most, now or later, with `undo_bytes` bytes of states to go back to:
+/// `longest_snapshot` of `zk_snapshot`.
+#[unsafe(no_mangle)]
+pub extern "C" fn zk_longest_snapshot(alloc: Global, game: &mut Zkit, undo_bytes: usize) -> usize
+    ensures { OnPlay game.old.play game.new.play (λ old new. (new ≡ old)
+        × (result ≡ longest_snapshot old undo_bytes)) (result ≡ 0) }
+{
+    let Some(play) = game.take(alloc) else {
+        return 0;
+    };
+    let longest = play.longest_snapshot(undo_bytes);
+    game.put(alloc, play);
+    longest
+}
+
+/// Opens a play that goes on from a snapshot of a story, in place of one that the handle may have, where the snapshot's limits
+/// are at most these: `open_snapshot` of `zk_snapshot`. Answers 0, or why it is not opened: 7 where one of these lies out of
+/// its range, else 1 to 6 as `zk_open`, else 8 to 11 since the bytes are no snapshot, one of another version or another
+/// story, or damaged, else 7 where one of its limits is greater; 6 may come in place of 7 to 11. Then the handle is as it
+/// was.
 #[unsafe(no_mangle)]
 pub extern "C" fn zk_open_snapshot(
     alloc: Global,
     game: &mut Zkit,
     story: &[u8],
     snapshot: &[u8],
+    frames: u32,
+    words: u32,
+    undo: u32,
+    steps: u32,
 ) -> u32
-    ensures { IsOpenedAgain game.old.play game.new.play story.now snapshot.now result }
+    ensures { IsOpenedAgain game.old.play game.new.play story.now snapshot.now
+        (limits_said frames words undo steps) result }
 {
-    match Play::open_snapshot(alloc, story, snapshot) {
-        Ok(play) => {
-            game.put(alloc, play);
-            0
-        }
-        Err(refusal) => snapshot_number(refusal),
+    match limits_said(frames, words, undo, steps) {
+        None => BAD_LIMIT,
+        Some(most) => match Play::open_snapshot(alloc, story, snapshot, most) {
+            Ok(play) => {
+                game.put(alloc, play);
+                0
+            }
+            Err(refusal) => snapshot_number(refusal),
+        },
     }
 }
 

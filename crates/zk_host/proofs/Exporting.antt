@@ -9,7 +9,9 @@ use Rattle.zk_vm.specs.declared.limits.Limits.{Limits}
 use Rattle.zk_vm.specs.Plays.{image_of}
 use Rattle.zk_host.specs.declared.play.Play.{Play}
 use Rattle.zk_host.specs.declared.play.Refusal.{Refusal}
-use Rattle.zk_host.specs.Calls.{IsImage}
+use Rattle.zk_host.specs.declared.play.SnapshotRefusal.{SnapshotRefusal}
+use Rattle.zk_host.specs.declared.play.SnapshotRefusal.TheVariants as snapshot_refused
+use Rattle.zk_host.specs.Calls.{IsImage, IsOpenedFrom, IsPlayOpened}
 use Rattle.zk_host.specs.Numbers.{refused_number}
 use Rattle.zk_host.specs.Exports.{AreLimits, IsOpened, IsImaged, IsPut}
 use Rattle.zk_host.specs.Exports.IsOpened.{NoStory, NoMemory}
@@ -29,3 +31,9 @@ pub not_opened : (old : Option Play) (story : List ℕ) (seed : ℕ) (limits : L
     → (refusal story ≡ Some e) ⊎ ((e ≡ OutOfMemory) × (refusal story ≡ None)) → IsOpened old old story seed limits view n
 not_opened old story seed limits view e n l is (inl r) = subst (λ (m : ℕ). IsOpened old old story seed limits view m) (sym is) (NoStory e r refl)
 not_opened old story seed limits view e n l is (inr m) = subst (λ (m : ℕ). IsOpened old old story seed limits view m) (sym (is ∙ ap refusal_number m.0)) (NoMemory l m.1 refl)
+
+-- the story is one, and the snapshot or its limits are refused
+pub snapshot_refused_by : (story bytes : List ℕ) (most : Limits) (r : SnapshotRefusal) → refusal story ≡ None → IsPlayOpened story bytes most (Err r) → IsOpenedFrom story bytes most (Err r)
+snapshot_refused_by story bytes most (snapshot_refused.Story e) is h = absurd h
+snapshot_refused_by story bytes most (snapshot_refused.Snapshot e) is h = (is, h)
+snapshot_refused_by story bytes most snapshot_refused.Limits is h = (is, h)

@@ -1,5 +1,5 @@
 -- What the calls of a play answer, and how they leave it.
-use Rattle.std.specs.Prelude.{◌≡◌, ◌≤◌, ◌⊎◌, ◌+◌, ℕ, Bool, true, false, List, length, Option, Some, None, Result, Ok, Err, if◌then◌else◌}
+use Rattle.std.specs.Prelude.{◌≡◌, ◌≤◌, ◌⊎◌, ◌+◌, ◌-◌, ◌^◌, min, ℕ, Bool, true, false, List, length, Option, Some, None, Result, Ok, Err, if◌then◌else◌}
 use Rattle.std.specs.Global.{Vec, Box}
 use Rattle.zk_text.specs.Extra.{own_characters}
 use Rattle.zk_step.specs.declared.state.game_state.View.{View}
@@ -31,10 +31,11 @@ use Rattle.zk_mem.specs.Map.{MemoryMap}
 use Rattle.zk_mem.specs.Story.{refusal}
 use Rattle.zk_mem.specs.declared.story.OpenError.TheVariants.{OutOfMemory}
 use Rattle.zk_snapshot.specs.Opening.{IsOpened, IsRefused}
-use Rattle.zk_snapshot.specs.Snapshots.{HasSnapshot, snapshot_of}
+use Rattle.zk_snapshot.specs.Snapshots.{HasSnapshot, longest_of, snapshot_of}
 use Rattle.zk_host.specs.declared.listing.Listing.{Listing}
 use Rattle.zk_host.specs.Listings.{IsListing, IsUnlisted}
 use Rattle.zk_host.specs.Typing.{is_line, character_code}
+use Rattle.zk_host.specs.Within.{AreWithin}
 
 -- what a play waits for
 abbrev pub awaited : Play → Option Event
@@ -204,17 +205,36 @@ IsListedBy l most old new (Err r) = IsUnlisted l (file_of old) most r × (new �
 
 -- ---- snapshots
 
--- the snapshot of a play, which has one; or it has none, or there is no memory for it
-abbrev pub IsSnapshot : Play → Result (Vec ℕ) Refusal → Type 0
-IsSnapshot p (Ok bytes) = HasSnapshot p.machine × (bytes.items ≡ snapshot_of p.machine)
-IsSnapshot p (Err r) = ((r ≡ refused.NotAwaited) × (HasSnapshot p.machine → ⊥)) ⊎ ((r ≡ refused.Memory) × HasSnapshot p.machine)
+-- the most bytes of a snapshot of a play with so many bytes of states, as far as a number of 64 bits tells it
+abbrev pub longest_snapshot : Play → ℕ → ℕ
+longest_snapshot p most = min (longest_of p.machine.limits p.machine.state.game.memory.static_base most) (2 ^ 64 - 1)
+
+-- the snapshot of a play, which has one, with the newest states that fit in so many bytes; or it has none, or there is no
+-- memory for it
+abbrev pub IsSnapshot : Play → ℕ → Result (Vec ℕ) Refusal → Type 0
+IsSnapshot p most (Ok bytes) =
+    HasSnapshot p.machine × (bytes.items ≡ snapshot_of most p.machine)
+    × (length bytes.items ≤ longest_of p.machine.limits p.machine.state.game.memory.static_base most)
+IsSnapshot p most (Err r) = ((r ≡ refused.NotAwaited) × (HasSnapshot p.machine → ⊥)) ⊎ ((r ≡ refused.Memory) × HasSnapshot p.machine)
 
 -- a play goes on from a snapshot of a story: its machine is one that has these bytes as its snapshot
 abbrev pub IsOpenedPlay : List ℕ → List ℕ → Play → Type 0
 IsOpenedPlay story bytes p = IsOpened story bytes p.machine × (p ≡ play_of p.machine)
 
--- bytes are a story, and others a snapshot of it; or they are refused, the story first
-abbrev pub IsOpenedFrom : List ℕ → List ℕ → Result (Box Play) SnapshotRefusal → Type 0
-IsOpenedFrom story bytes (Ok p) = (refusal story ≡ None) × IsOpenedPlay story bytes p.value
-IsOpenedFrom story bytes (Err (snapshot_refused.Story e)) = (refusal story ≡ Some e) ⊎ ((e ≡ OutOfMemory) × (refusal story ≡ None))
-IsOpenedFrom story bytes (Err (snapshot_refused.Snapshot e)) = (refusal story ≡ None) × IsRefused story bytes e
+-- a machine has these bytes as its snapshot, and a limit that is beyond the one that it may have
+abbrev pub IsBeyond : List ℕ → List ℕ → Limits → Type 0
+IsBeyond story bytes most = (m : Session) × IsOpened story bytes m × (AreWithin m.limits most → ⊥)
+
+-- a play goes on from a snapshot, within limits; or the snapshot is refused, or its limits
+abbrev pub IsPlayOpened : List ℕ → List ℕ → Limits → Result (Box Play) SnapshotRefusal → Type 0
+IsPlayOpened story bytes most (Ok p) = IsOpenedPlay story bytes p.value × AreWithin p.value.machine.limits most
+IsPlayOpened story bytes most (Err (snapshot_refused.Story e)) = ⊥
+IsPlayOpened story bytes most (Err (snapshot_refused.Snapshot e)) = IsRefused story bytes e
+IsPlayOpened story bytes most (Err snapshot_refused.Limits) = IsBeyond story bytes most
+
+-- bytes are a story, and others a snapshot of it within limits; or they are refused, the story first and the limits last
+abbrev pub IsOpenedFrom : List ℕ → List ℕ → Limits → Result (Box Play) SnapshotRefusal → Type 0
+IsOpenedFrom story bytes most (Ok p) = (refusal story ≡ None) × IsOpenedPlay story bytes p.value × AreWithin p.value.machine.limits most
+IsOpenedFrom story bytes most (Err (snapshot_refused.Story e)) = (refusal story ≡ Some e) ⊎ ((e ≡ OutOfMemory) × (refusal story ≡ None))
+IsOpenedFrom story bytes most (Err (snapshot_refused.Snapshot e)) = (refusal story ≡ None) × IsRefused story bytes e
+IsOpenedFrom story bytes most (Err snapshot_refused.Limits) = (refusal story ≡ None) × IsBeyond story bytes most

@@ -89,17 +89,19 @@ IsPutUnless (Ok bytes) before after length_before length_after n = IsPut bytes.i
 IsPutUnless (Err r) before after length_before length_after n = (n ≡ refused_number r) × (after ≡ before) × (length_after ≡ length_before)
 
 -- the snapshot of a play was put there, or it is refused; the play stays
-abbrev pub IsSnapshotPut : Play → Play → List ℕ → List ℕ → ℕ → ℕ → ℕ → Type 0
-IsSnapshotPut old new before after length_before length_after n =
-    (result : Result (Vec ℕ) Refusal) × IsSnapshot old result × IsPutUnless result before after length_before length_after n × (new ≡ old)
+abbrev pub IsSnapshotPut : Play → Play → (most : ℕ) → List ℕ → List ℕ → ℕ → ℕ → ℕ → Type 0
+IsSnapshotPut old new most before after length_before length_after n =
+    (result : Result (Vec ℕ) Refusal) × IsSnapshot old most result × IsPutUnless result before after length_before length_after n × (new ≡ old)
 
 -- a handle has a play that goes on from a snapshot, or is as it was, and a number says why
 abbrev pub IsHeld : Option Play → Option Play → Result (Box Play) SnapshotRefusal → ℕ → Type 0
 IsHeld old new (Ok p) n = (n ≡ 0) × (new ≡ Some p.value)
 IsHeld old new (Err r) n = (n ≡ snapshot_number r) × (new ≡ old)
 
-abbrev pub IsOpenedAgain : Option Play → Option Play → List ℕ → List ℕ → ℕ → Type 0
-IsOpenedAgain old new story bytes n = (result : Result (Box Play) SnapshotRefusal) × IsOpenedFrom story bytes result × IsHeld old new result n
+-- the same, where the limits that the snapshot may have lie in their ranges; or they do not
+pub data IsOpenedAgain (old new : Option Play) (story bytes : List ℕ) (most : Limits) : ℕ → Type 0 where
+  InRange : (n : ℕ) (result : Result (Box Play) SnapshotRefusal) → AreLimits most → IsOpenedFrom story bytes most result → IsHeld old new result n → IsOpenedAgain old new story bytes most n
+  NoLimits : (AreLimits most → ⊥) → new ≡ old → IsOpenedAgain old new story bytes most 7
 
 -- ---- about a story
 

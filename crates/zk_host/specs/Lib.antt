@@ -9,3 +9,4 @@ pub mod Typing
 pub mod Calls
 pub mod Numbers
 pub mod Exports
+pub mod Within

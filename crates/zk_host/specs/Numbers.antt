@@ -67,7 +67,8 @@ address_number (Some (Fault a f)) = a
 address_number (Some (Limit a l)) = a
 address_number _ = 0
 
--- why no play goes on from a snapshot: the numbers of a story's refusals, and after them those of a snapshot's
+-- why no play goes on from a snapshot: the numbers of a story's refusals and of limits, and after them those of a
+-- snapshot's
 abbrev pub snapshot_number : SnapshotRefusal → ℕ
 snapshot_number (snapshot_refused.Story e) = refusal_number e
 snapshot_number (snapshot_refused.Snapshot NotASnapshot) = 8
@@ -75,3 +76,4 @@ snapshot_number (snapshot_refused.Snapshot OtherVersion) = 9
 snapshot_number (snapshot_refused.Snapshot OtherStory) = 10
 snapshot_number (snapshot_refused.Snapshot Damaged) = 11
 snapshot_number (snapshot_refused.Snapshot OutOfMemory) = 6
+snapshot_number snapshot_refused.Limits = 7

@@ -66,6 +66,7 @@ pub fn snapshot_number(refusal: SnapshotRefusal) -> u32
         SnapshotRefusal::Snapshot(SnapshotError::OtherStory) => 10,
         SnapshotRefusal::Snapshot(SnapshotError::Damaged) => 11,
         SnapshotRefusal::Snapshot(SnapshotError::OutOfMemory) => 6,
+        SnapshotRefusal::Limits => 7,
     }
 }
 

@@ -1,7 +1,8 @@
 // What numbers say of how a story is opened.
 
-ghost use Rattle.std.specs.Prelude.{◌≡◌, None, IfSome};
+ghost use Rattle.std.specs.Prelude.{◌≡◌, ◌↔◌, None, IfSome, IsTrue};
 ghost use Rattle.zk_host.specs.Exports.{AreLimits, limits_said, view_if};
+ghost use Rattle.zk_host.specs.Within.{AreWithin};
 
 use zk_step::state::game_state::View;
 use zk_vm::limits::Limits;
@@ -21,6 +22,16 @@ pub fn limits_said(frames: u32, words: u32, undo: u32, steps: u32) -> Option<Lim
         steps,
     };
     if limits.check() { Some(limits) } else { None }
+}
+
+/// Whether limits lie within others.
+pub fn are_within(limits: Limits, most: Limits) -> bool
+    ensures { IsTrue result ↔ AreWithin limits most }
+{
+    limits.frames <= most.frames
+        && limits.words <= most.words
+        && limits.undo <= most.undo
+        && limits.steps <= most.steps
 }
 
 /// What is shown of the upper window.

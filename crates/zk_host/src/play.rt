@@ -20,6 +20,7 @@ use crate::drawing::{
 };
 use crate::listing::{Listing, list};
 use crate::name::name_of;
+use crate::options::are_within;
 use crate::text::Text;
 use crate::typed::{code_of, codes_of, is_line};
 use arrayvec::ArrayVec;
@@ -28,7 +29,7 @@ use zk_mem::header::Header;
 use zk_mem::memory::{Memory, Setup};
 use zk_mem::story::{OpenError, Story};
 use zk_snapshot::opening::{SnapshotError, open_snapshot};
-use zk_snapshot::snapshot::{has_snapshot, snapshot};
+use zk_snapshot::snapshot::{has_snapshot, longest_snapshot, snapshot};
 use zk_step::state::ending::Event;
 use zk_step::state::game_state::View;
 use zk_vm::limits::Limits;
@@ -57,6 +58,8 @@ pub enum SnapshotRefusal {
     Story(OpenError),
     /// The bytes are no snapshot of it, or there is no memory.
     Snapshot(SnapshotError),
+    /// The snapshot's limits go beyond those that it may have.
+    Limits,
 }
 
 /// What a turn has come to.
@@ -114,7 +117,7 @@ fn list_file(alloc: Global, memory: &Memory, listing: Listing, most: usize) -> R
 }
 
 impl Play {
-    ghost use Rattle.zk_host.specs.Calls.{begun_play, play_of, IsOpenedFrom, IsOpenedPlay, IsSnapshot, awaited, pause_of, HasRun, IsGivenUnless, IsGoneBack, IsImage, IsListedBy, IsStatus, IsTurned, line_refused, character_refused, read_refused, save_refused, restore_refused, character_read, with_none_listed};
+    ghost use Rattle.zk_host.specs.Calls.{begun_play, play_of, IsOpenedFrom, IsPlayOpened, IsSnapshot, longest_snapshot, awaited, pause_of, HasRun, IsGivenUnless, IsGoneBack, IsImage, IsListedBy, IsStatus, IsTurned, line_refused, character_refused, read_refused, save_refused, restore_refused, character_read, with_none_listed};
     ghost use Rattle.zk_host.specs.Collecting.{has_no_room};
     ghost use Rattle.std.specs.Prelude.{Option, Some, None, false, option_copied, ◌∷◌, []};
 
@@ -172,33 +175,42 @@ impl Play {
         }
     }
 
-    /// A play that goes on from a snapshot of a story, with no text.
-    fn opened(alloc: Global, story: Story, bytes: &[u8]) -> Result<Box<Play>, SnapshotError>
-        ensures ok { IfOk result (λ p. IsOpenedPlay story bytes.now p.value) }
-        ensures err { IfErr result (λ e. IsRefused story bytes.now e) }
+    /// A play that goes on from a snapshot of a story, with no text, where its limits lie within others.
+    fn opened(
+        alloc: Global,
+        story: Story,
+        bytes: &[u8],
+        most: Limits,
+    ) -> Result<Box<Play>, SnapshotRefusal>
+        ensures { IsPlayOpened story bytes.now most result }
     {
         let machine = match open_snapshot(alloc, story, bytes) {
             Ok(machine) => machine,
-            Err(error) => return Err(error),
+            Err(error) => return Err(SnapshotRefusal::Snapshot(error)),
         };
+        if !are_within(machine.limits(), most) {
+            return Err(SnapshotRefusal::Limits);
+        }
         match Play::of(alloc, machine) {
             Ok(play) => Ok(play),
-            Err(_) => Err(SnapshotError::OutOfMemory),
+            Err(_) => Err(SnapshotRefusal::Snapshot(SnapshotError::OutOfMemory)),
         }
     }
 
-    /// A play that goes on from a snapshot of the story that bytes are.
+    /// A play that goes on from a snapshot of the story that bytes are, where its limits lie within others. The story is
+    /// looked at first, then the snapshot, and then its limits.
     pub fn open_snapshot(
         alloc: Global,
         story: &[u8],
         bytes: &[u8],
+        most: Limits,
     ) -> Result<Box<Play>, SnapshotRefusal>
-        ensures { IsOpenedFrom story.now bytes.now result }
+        ensures { IsOpenedFrom story.now bytes.now most result }
     {
         match Story::open(alloc, story) {
-            Ok(story) => match Play::opened(alloc, story, bytes) {
+            Ok(story) => match Play::opened(alloc, story, bytes, most) {
                 Ok(play) => Ok(play),
-                Err(error) => Err(SnapshotRefusal::Snapshot(error)),
+                Err(refusal) => Err(refusal),
             },
             Err(error) => Err(SnapshotRefusal::Story(error)),
         }
@@ -319,17 +331,24 @@ impl Play {
         }
     }
 
-    /// The snapshot of a play that waits for a line or a character, but not while a table of stream 3 is open.
-    pub fn snapshot(&self, alloc: Global) -> Result<Vec<u8>, Refusal>
-        ensures { IsSnapshot self.now result }
+    /// The snapshot of a play that waits for a line or a character, with as many of its newest states as fit in so many bytes.
+    pub fn snapshot(&self, alloc: Global, most: usize) -> Result<Vec<u8>, Refusal>
+        ensures { IsSnapshot self.now most result }
     {
         if !has_snapshot(&self.machine) {
             return Err(Refusal::NotAwaited);
         }
-        match snapshot(alloc, &self.machine) {
+        match snapshot(alloc, &self.machine, most) {
             Ok(bytes) => Ok(bytes),
             Err(_) => Err(Refusal::Memory),
         }
+    }
+
+    /// How many bytes a snapshot of the play has at most, now or later, with so many bytes of states.
+    pub fn longest_snapshot(&self, most: usize) -> usize
+        ensures { result ≡ longest_snapshot self.now most }
+    {
+        longest_snapshot(&self.machine, most)
     }
 
     /// Answers whether the saved game was kept.

@@ -17,3 +17,4 @@ pub mod Loads
 pub mod SavedLoads
 pub mod Spellings
 pub mod Walks
+pub mod Shown

@@ -13,7 +13,7 @@ use Rattle.zk_save.proofs.Packs.{length-xored}
 use Rattle.zk_save.proofs.RoundTrip.{turns_back, comes_back}
 
 -- after the end of the first list nothing counts
-xored_front : (bytes file : List ℕ) → xored bytes file ≡ xored bytes (take (length bytes) file)
+pub xored_front : (bytes file : List ℕ) → xored bytes file ≡ xored bytes (take (length bytes) file)
 unfolding xored
 xored_front [] [] = refl
 xored_front [] (f ∷ fs) = refl
@@ -27,7 +27,7 @@ xored_back file [] h = refl
 xored_back [] (d ∷ ds) h = absurd (omega arith)
 xored_back (f ∷ fs) (d ∷ ds) h = ap (λ (l : List ℕ). bit_xor f d ∷ l) (xored_back fs ds (omega arith))
 
-length-xored_same : (xs ds : List ℕ) → length xs ≡ length ds → length (xored xs ds) ≡ length ds
+pub length-xored_same : (xs ds : List ℕ) → length xs ≡ length ds → length (xored xs ds) ≡ length ds
 length-xored_same xs ds e = length-xored xs ds (omega (arith, e)) ∙ e
 
 -- what is kept gives the bytes back over the file

@@ -3,6 +3,7 @@ use Rattle.std.specs.Prelude.{◌≡◌, ℕ, ◌≤◌, List, [], ◌∷◌, �
 use Rattle.zk_mem.specs.Map.{MemoryMap}
 use Rattle.zk_mem.specs.Again.{again}
 use Rattle.zk_state.specs.Frames.{Frame, FrameList, frames_of, sizes_of, bounds_of, with_frames}
+use Rattle.zk_save.specs.Packing.{packed}
 use Rattle.zk_save.specs.Unpacking.{xored}
 
 -- a whole state: dynamic memory, all frames with the newest first, and the address where the run goes on (section 6.1)
@@ -34,6 +35,10 @@ whole_state file k = record { dynamic = xored (take (length k.difference) file) 
 unfoldable pub states_in : List ℕ → UndoStates → List WholeState
 states_in file u = map (whole_state file) u.states
 
+-- what the dynamic memory of a state differs in from the story file, packed (Quetzal 1.4, section 3)
+abbrev pub packed_of : List ℕ → WholeState → List ℕ
+packed_of file w = packed (xored w.dynamic file)
+
 -- the dynamic memory of a state is put back, with the file's bytes after it
 abbrev pub memory_back : WholeState → MemoryMap → MemoryMap
 memory_back w m = again m (w.dynamic ++ drop (length w.dynamic) m.file)
@@ -47,6 +52,7 @@ gone_back (w ∷ ws) m f = Some (memory_back w m, with_frames f w.frames, w.pc, 
 -- a kept state of a story with its static base here, and within bounds on frames and words
 pub record IsOf (base most_frames most_words : ℕ) (k : KeptState) : Type 0 where
   pub dynamic : length k.difference ≡ base
+  pub some : 1 ≤ length k.frames
   pub frames : length k.frames ≤ most_frames
   pub words : sizes_of k.frames ≤ most_words
 

@@ -1,7 +1,8 @@
 // A state that is kept.
 
-ghost use Rattle.std.specs.Prelude.{◌≡◌, List, ◌∷◌, Some, IfOk};
-ghost use Rattle.zk_state.specs.Frames.{bounds_of};
+ghost use Rattle.std.specs.Prelude.{◌≡◌, ◌≤◌, List, ◌∷◌, Some, IfOk, length};
+ghost use Rattle.zk_state.specs.Frames.{bounds_of, sizes_of, with_frames};
+ghost use Rattle.zk_save.specs.Packing.{packed};
 ghost use Rattle.zk_save.specs.States.{WholeState, state_of, whole_state, gone_back, IsOf};
 
 use crate::packing::{pack_difference, turn};
@@ -9,6 +10,14 @@ use std::alloc::{AllocError, Global};
 use std::marker::Model;
 use zk_mem::memory::Memory;
 use zk_state::frames::{Frames, FramesCopy};
+
+/// What is told of a state that is kept: what dynamic memory differs in from the story file, packed, and the address
+/// where the run goes on.
+#[derive(Clone, Copy, Drop)]
+pub struct StateView<'a> {
+    pub packed: &'a [u8],
+    pub pc: u32,
+}
 
 /// A state that is kept: what dynamic memory differs in from the story file, packed, a copy of all frames,
 /// and the address where the run goes on.
@@ -77,5 +86,20 @@ impl PackedState {
         memory.settle(flags);
         frames.put_back(&self.frames);
         self.pc
+    }
+    /// What is told of the state. Its frames are put in the place of all, of which there may be as many.
+    pub(crate) fn show(&self, frames: &mut Frames) -> StateView<'_>
+        requires frames { length self.now.frames ≤ frames.old.most_frames }
+        requires words { sizes_of self.now.frames ≤ frames.old.most_words }
+        ensures packed { result.packed.now ≡ packed self.now.difference }
+        ensures pc { result.pc ≡ self.now.pc }
+        ensures frames { frames.new ≡ with_frames frames.old self.now.frames }
+    {
+        let copy = &self.frames;
+        frames.put_back(copy);
+        StateView {
+            packed: self.packed.as_slice(),
+            pc: self.pc,
+        }
     }
 }

@@ -122,7 +122,7 @@ pub(crate) fn pack_difference(
 }
 
 /// Turns the bytes of dynamic memory by a difference, which is packed.
-pub(crate) fn turn(packed: &[u8], memory: &mut Memory)
+pub fn turn(packed: &[u8], memory: &mut Memory)
     ensures turned { (ds : List ℕ) → unpacked (length ds) packed.now ≡ Some ds
         → length ds ≡ memory.old.static_base
         → memory.new ≡ with_bytes memory.old (xored memory.old.bytes ds) }

@@ -1,11 +1,11 @@
 // The newest states, to go back to.
 
-ghost use Rattle.std.specs.Prelude.{◌≡◌, ◌<◌, ◌≤◌, [], ◌∷◌, take, length, Some, None, MatchOption, IsOk, IfOk, OnOk, OnErr};
+ghost use Rattle.std.specs.Prelude.{◌≡◌, ◌<◌, ◌≤◌, ◌^◌, [], ◌∷◌, take, length, reverse, slice_get, Some, None, MatchOption, IsOk, IfOk, OnOk, OnErr};
 ghost use Rattle.zk_mem.specs.Map.{MemoryMap};
-ghost use Rattle.zk_state.specs.Frames.{FrameList};
-ghost use Rattle.zk_save.specs.States.{state_of, states_in, gone_back, AreOf};
+ghost use Rattle.zk_state.specs.Frames.{FrameList, bounds_of, frames_of};
+ghost use Rattle.zk_save.specs.States.{WholeState, state_of, states_in, packed_of, gone_back, AreOf};
 
-use crate::packed_state::PackedState;
+use crate::packed_state::{PackedState, StateView};
 use circular_buffer::HeapCircularBuffer;
 use std::alloc::{AllocError, Global};
 use std::marker::Model;
@@ -72,6 +72,29 @@ impl Undo {
             Some(ring) => ring.len() as u8,
             None => 0,
         }
+    }
+
+    /// What is told of the state of a number, where the oldest has number 0. Its frames are put in the place of all. The
+    /// states have to be of the same story and bounds.
+    pub fn state(&self, memory: &Memory, frames: &mut Frames, number: u8) -> StateView<'_>
+        requires are_of { AreOf memory.now frames.old self.now }
+        requires number { number < length self.now.states }
+        ensures state { (w : WholeState)
+            → slice_get (reverse (states_in memory.now.file self.now)) number ≡ Some w
+            → (result.packed.now ≡ packed_of memory.now.file w)
+            × (frames_of frames.new ≡ w.frames) × (result.pc ≡ w.pc) }
+        ensures short { length result.packed.now < 2 ^ 17 }
+        ensures bounds { bounds_of frames.new ≡ bounds_of frames.old }
+        ensures are_of { AreOf memory.now frames.new self.now }
+    {
+        memory.dynamic();
+        let Some(ring) = &self.ring else {
+            unreachable!();
+        };
+        let Some(kept) = ring.get(number as usize) else {
+            unreachable!();
+        };
+        kept.show(frames)
     }
 
     /// Keeps the state of a memory and frames that goes on at an address, and drops the oldest state where

@@ -1,8 +1,9 @@
--- What filling memory leaves alone.
+-- What filling memory and frames leaves alone.
 use Rattle.std.proofs.Common.{◌≡◌, ℕ, Bool, true, false, List, Ok, Err, refl, ap, sym, nat_lt}
 use Rattle.zk_mem.specs.Fresh.{fresh}
 use Rattle.zk_mem.specs.Map.{MemoryMap, byte_put, readable_end, with_byte}
 use Rattle.zk_mem.specs.declared.fault.Fault.TheVariants.{BadAddress, ReadOnly}
+use Rattle.zk_state.specs.Frames.{FrameList, bounds_of, first_frames}
 use Rattle.zk_step.specs.Laws.{fixed_parts}
 use Rattle.std.specs.Prelude.{if◌then◌else◌}
 
@@ -31,3 +32,15 @@ same_file m n e = ap (λ (p : (ℕ × ℕ) × (List ℕ × ℕ)). p.1.0) e
 pub same_undo : (m n : MemoryMap) → fixed_parts n ≡ fixed_parts m → n.undo_states ≡ m.undo_states
 unfolding fixed_parts
 same_undo m n e = ap (λ (p : (ℕ × ℕ) × (List ℕ × ℕ)). p.1.1) e
+
+pub same_base : (m n : MemoryMap) → fixed_parts n ≡ fixed_parts m → n.static_base ≡ m.static_base
+unfolding fixed_parts
+same_base m n e = ap (λ (p : (ℕ × ℕ) × (List ℕ × ℕ)). p.0.1) e
+
+pub first_bounds : (f : FrameList) → bounds_of (first_frames f.most_frames f.most_words) ≡ bounds_of f
+unfolding bounds_of
+first_bounds f = refl
+
+pub made_bounds : (f : FrameList) (frames words : ℕ) → f ≡ first_frames frames words → bounds_of f ≡ (frames, words)
+unfolding bounds_of
+made_bounds f frames words e = ap (λ (x : FrameList). (x.most_frames, x.most_words)) e

@@ -1,16 +1,17 @@
 -- The rows of the upper window, and the frames, are read back in one way alone.
 use Rattle.std.specs.List.{flat_map}
-use Rattle.std.specs.Prelude.{map, ◌==◌, if◌then◌else◌, nat_eq}
+use Rattle.std.specs.Prelude.{map, reverse, ◌==◌, if◌then◌else◌, nat_eq}
 use Rattle.std.proofs.Common.{◌≡◌, ◌∙◌, ◌<◌, ◌≤◌, ℕ, zero, suc, Bool, true, false, ◌+◌, List, [], ◌∷◌, ◌++◌, length, Option, Some, None, refl, ap, sym, arith, append_assoc}
 use Rattle.std.proofs.lemmas.Bool.{eqb-true}
 use Rattle.std.proofs.lemmas.Bool.Decides.{nat_tests}
+use Rattle.std.proofs.lemmas.List.{length-reverse, reverse-reverse}
 use Rattle.zk_save.specs.Quetzal.{bytes_2, bytes_4, words_bytes}
 use Rattle.zk_state.specs.Frames.{Frame}
 use Rattle.zk_term.specs.Grid.{Cells, no_cells}
 use Rattle.zk_term.specs.GridCode.{is_on_grid-true, same_cells}
 use Rattle.zk_term.specs.Windows.{Windows, before_blanks, columns_from, forgotten, row_text, without_last_blanks}
 use Rattle.zk_term.specs.declared.windows.Window.{Window}
-use Rattle.zk_snapshot.specs.Snapshots.{store_bytes, row_bytes, rows_bytes, frame_bytes}
+use Rattle.zk_snapshot.specs.Snapshots.{store_bytes, row_bytes, rows_bytes, frame_bytes, frames_bytes}
 use Rattle.zk_snapshot.proofs.Codes.{cons_head, cons_tail, split_same, same_2, same_4, same_store, store_size, words_size, same_words, fours_size, same_fours}
 
 -- ---- rows
@@ -169,13 +170,27 @@ same_frame f g a b h =
     let fifth = split_same (words_bytes f.words) (words_bytes g.words) a b (omega (arith, words, words_size f.words, words_size g.words)) fourth.1 in
     (frames_joined f.locals g.locals f.words g.words f.pc g.pc f.result g.result f.supplied g.supplied (same_words f.locals g.locals locals fourth.0) (same_words f.words g.words words fifth.0) (same_4 f.pc g.pc first.0) (same_store f.result g.result second.0) supplied, fifth.1)
 
-pub same_frames : (fs gs : List Frame) → length fs ≡ length gs → flat_map frame_bytes fs ≡ flat_map frame_bytes gs → fs ≡ gs
-same_frames [] [] e h = refl
-same_frames [] (g ∷ gs) e h = absurd (omega (arith, e))
-same_frames (f ∷ fs) [] e h = absurd (omega (arith, e))
-same_frames (f ∷ fs) (g ∷ gs) e h =
-    let both = same_frame f g (flat_map frame_bytes fs) (flat_map frame_bytes gs) h in
-    joined f g fs gs both.0 (same_frames fs gs (omega (arith, e)) both.1)
+pub same_frames : (fs gs : List Frame) (a b : List ℕ) → length fs ≡ length gs → flat_map frame_bytes fs ++ a ≡ flat_map frame_bytes gs ++ b → (fs ≡ gs) × (a ≡ b)
+same_frames [] [] a b e h = (refl, h)
+same_frames [] (g ∷ gs) a b e h = absurd (omega (arith, e))
+same_frames (f ∷ fs) [] a b e h = absurd (omega (arith, e))
+same_frames (f ∷ fs) (g ∷ gs) a b e h =
+    let whole = sym (append_assoc (frame_bytes f) (flat_map frame_bytes fs) a) ∙ h ∙ append_assoc (frame_bytes g) (flat_map frame_bytes gs) b in
+    let first = same_frame f g (flat_map frame_bytes fs ++ a) (flat_map frame_bytes gs ++ b) whole in
+    let rest = same_frames fs gs a b (omega (arith, e)) first.1 in
+    (joined f g fs gs first.0 rest.0, rest.1)
   where
     joined : (x y : Frame) (xs ys : List Frame) → x ≡ y → xs ≡ ys → x ∷ xs ≡ y ∷ ys
     joined x y xs ys e h = cc
+
+-- all frames, after how many they are
+pub same_all_frames : (fs gs : List Frame) (a b : List ℕ) → frames_bytes fs ++ a ≡ frames_bytes gs ++ b → (fs ≡ gs) × (a ≡ b)
+unfolding frames_bytes
+same_all_frames fs gs a b h =
+    let f = flat_map frame_bytes (reverse fs) in
+    let g = flat_map frame_bytes (reverse gs) in
+    let whole = sym (append_assoc (bytes_2 (length fs)) f a) ∙ h ∙ append_assoc (bytes_2 (length gs)) g b in
+    let both = split_same (bytes_2 (length fs)) (bytes_2 (length gs)) (f ++ a) (g ++ b) refl whole in
+    let many = same_2 (length fs) (length gs) both.0 in
+    let up = same_frames (reverse fs) (reverse gs) a b (omega (arith, many, length-reverse fs, length-reverse gs)) both.1 in
+    (sym (reverse-reverse fs) ∙ ap (λ (l : List Frame). reverse l) up.0 ∙ reverse-reverse gs, up.1)

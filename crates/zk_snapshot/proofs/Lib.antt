@@ -4,5 +4,9 @@ pub mod Filled
 pub mod Waits
 pub mod Codes
 pub mod Grown
+pub mod SameStates
 pub mod Unique
 pub mod Kept
+pub mod Sizes
+pub mod Fitting
+pub mod Longest

@@ -1,8 +1,9 @@
 -- A snapshot is the snapshot of one play alone.
 use Rattle.std.specs.List.{flat_map}
-use Rattle.std.specs.Prelude.{reverse, min, IfSome}
+use Rattle.std.specs.Prelude.{All, min, IfSome}
 use Rattle.std.proofs.Common.{◌≡◌, ◌∙◌, ℕ, Bool, true, false, List, [], ◌∷◌, ◌++◌, length, take, drop, Option, Some, None, Result, Ok, refl, ap, sym, arith, append_assoc}
-use Rattle.std.proofs.lemmas.List.{length-reverse, reverse-reverse, take-append-drop, length-take, length-append}
+use Rattle.std.proofs.lemmas.List.Elements.{All-take}
+use Rattle.std.proofs.lemmas.List.{take-append-drop, length-take, length-append}
 use Rattle.zk_mem.specs.Header.{header_of}
 use Rattle.zk_mem.specs.declared.fault.Fault.{Fault}
 use Rattle.zk_code.specs.declared.instr.Instr.{Instr}
@@ -10,6 +11,7 @@ use Rattle.zk_code.specs.Reading.{instr_at}
 use Rattle.zk_vm.specs.declared.stop.Stop.{Stop}
 use Rattle.zk_mem.specs.Map.{MemoryMap, IsOfFile}
 use Rattle.zk_save.specs.Quetzal.{bytes_2, bytes_4}
+use Rattle.zk_save.specs.States.{WholeState}
 use Rattle.zk_state.specs.Frames.{Frame, FrameList, bounds_of, frames_of}
 use Rattle.zk_term.specs.Windows.{Windows, forgotten}
 use Rattle.zk_term.specs.declared.windows.Window.{Window}
@@ -29,11 +31,12 @@ use Rattle.zk_vm.specs.declared.waiting.Waiting.{Waiting}
 use Rattle.zk_vm.specs.Halts.{event_waited}
 use Rattle.zk_vm.specs.Sessions.{Session}
 use Rattle.zk_vm.specs.Parts.{asking_of, place_of}
-use Rattle.zk_snapshot.specs.Laws.{without_gone, with_nothing_kept, IsKept}
+use Rattle.zk_snapshot.specs.Laws.{without_gone, with_kept, newest, IsKept, IsOfOnePlay}
 use Rattle.zk_snapshot.specs.Sums.{sum_of}
-use Rattle.zk_snapshot.specs.Snapshots.{bytes_8, truth_byte, store_bytes, state_bytes, limits_bytes, place_bytes, event_bytes, asking_bytes, view_byte, window_byte, generators_bytes, rows_bytes, windows_bytes, frame_bytes, frames_bytes, game_bytes, head_bytes, body_bytes, snapshot_of}
+use Rattle.zk_snapshot.specs.Snapshots.{bytes_8, truth_byte, store_bytes, state_bytes, limits_bytes, place_bytes, event_bytes, asking_bytes, view_byte, window_byte, generators_bytes, rows_bytes, windows_bytes, frames_bytes, table_bytes, streams_bytes, game_bytes, states_bytes, head_bytes, body_bytes, snapshot_with}
 use Rattle.zk_snapshot.proofs.Codes.{cons_head, cons_tail, split_same, same_2, same_4, same_8, same_store, store_size, same_state, state_size}
-use Rattle.zk_snapshot.proofs.Grown.{same_rows, cells_same, windows_same, same_frames}
+use Rattle.zk_snapshot.proofs.Grown.{same_rows, cells_same, windows_same, same_all_frames}
+use Rattle.zk_snapshot.proofs.SameStates.{HasBytes, same_states}
 
 -- ---- choices
 
@@ -180,14 +183,6 @@ same_windows w v a b h =
 
 -- ---- frames
 
-same_all_frames : (s t : FrameList) → frames_bytes s ≡ frames_bytes t → frames_of s ≡ frames_of t
-unfolding frames_bytes
-same_all_frames s t h =
-    let both = split_same (bytes_2 (length s.callers)) (bytes_2 (length t.callers)) (flat_map frame_bytes (reverse (frames_of s))) (flat_map frame_bytes (reverse (frames_of t))) refl h in
-    let many = same_2 (length s.callers) (length t.callers) both.0 in
-    let up = same_frames (reverse (frames_of s)) (reverse (frames_of t)) (omega (arith, many, length-reverse (frames_of s), length-reverse (frames_of t))) both.1 in
-    sym (reverse-reverse (frames_of s)) ∙ ap reverse up ∙ reverse-reverse (frames_of t)
-
 frames_joined : (s t : FrameList) → frames_of s ≡ frames_of t → bounds_of s ≡ bounds_of t → s ≡ t
 unfolding bounds_of
 frames_joined s t h b =
@@ -226,9 +221,34 @@ dynamic_size m n is also file =
 
 -- ---- the game state
 
-streams_same : (s t : OutputStreams) → s.screen ≡ t.screen → s.tables ≡ [] → t.tables ≡ [] → s ≡ t
-streams_same s t screen e f =
-    ap (λ (x : Bool). made x s.tables) screen ∙ ap (λ (x : List OpenTable). made t.screen x) (e ∙ sym f)
+tables_same : (ts us : List OpenTable) (a b : List ℕ) → length ts ≡ length us → flat_map table_bytes ts ++ a ≡ flat_map table_bytes us ++ b → (ts ≡ us) × (a ≡ b)
+tables_same [] [] a b e h = (refl, h)
+tables_same [] (u ∷ us) a b e h = absurd (omega (arith, e))
+tables_same (t ∷ ts) [] a b e h = absurd (omega (arith, e))
+tables_same (t ∷ ts) (u ∷ us) a b e h =
+    let more = flat_map table_bytes ts ++ a in
+    let others = flat_map table_bytes us ++ b in
+    let one = split_same (bytes_2 t.address) (bytes_2 u.address) (bytes_2 t.count ++ more) (bytes_2 u.count ++ others) refl h in
+    let two = split_same (bytes_2 t.count) (bytes_2 u.count) more others refl one.1 in
+    let rest = tables_same ts us a b (omega (arith, e)) two.1 in
+    (joined t.address u.address t.count u.count ts us (same_2 t.address u.address one.0) (same_2 t.count u.count two.0) rest.0, rest.1)
+  where
+    made : ℕ → ℕ → List OpenTable → List OpenTable
+    made a c ts = record { address = a; count = c } ∷ ts
+
+    joined : (a b c d : ℕ) (ts us : List OpenTable) → a ≡ b → c ≡ d → ts ≡ us → made a c ts ≡ made b d us
+    joined a b c d ts us e1 e2 e3 = ap (λ (x : ℕ). made x c ts) e1 ∙ ap (λ (x : ℕ). made b x ts) e2 ∙ ap (λ (x : List OpenTable). made b d x) e3
+
+streams_same : (s t : OutputStreams) (a b : List ℕ) → streams_bytes s ++ a ≡ streams_bytes t ++ b → (s ≡ t) × (a ≡ b)
+unfolding streams_bytes
+streams_same s t a b h =
+    let st = length s.tables ∷ (flat_map table_bytes s.tables ++ a) in
+    let tt_ = length t.tables ∷ (flat_map table_bytes t.tables ++ b) in
+    let screen = same_truth s.screen t.screen (cons_head (truth_byte s.screen) (truth_byte t.screen) st tt_ h) in
+    let h1 = cons_tail (truth_byte s.screen) (truth_byte t.screen) st tt_ h in
+    let many = cons_head (length s.tables) (length t.tables) (flat_map table_bytes s.tables ++ a) (flat_map table_bytes t.tables ++ b) h1 in
+    let tables = tables_same s.tables t.tables a b many (cons_tail (length s.tables) (length t.tables) (flat_map table_bytes s.tables ++ a) (flat_map table_bytes t.tables ++ b) h1) in
+    (ap (λ (x : Bool). made x s.tables) screen ∙ ap (λ (x : List OpenTable). made t.screen x) tables.0, tables.1)
   where
     made : Bool → List OpenTable → OutputStreams
     made b l = record { screen = b; tables = l }
@@ -246,25 +266,39 @@ games_joined g k e1 e2 e3 e4 e5 e6 e7 =
     made : FrameList → MemoryMap → OutputStreams → Windows → Generators → Bool → View → GameState
     made f m s w r l v = record { frames = f; memory = m; streams = s; windows = w; generators = r; at_line_start = l; view = v }
 
-same_game : (g k : GameState) → IsOfFile g.memory → IsOfFile k.memory → g.memory.file ≡ k.memory.file → g.memory.undo_states ≡ k.memory.undo_states → bounds_of g.frames ≡ bounds_of k.frames → g.streams.tables ≡ [] → k.streams.tables ≡ [] → game_bytes g ≡ game_bytes k → without_gone g ≡ without_gone k
-unfolding game_bytes
-same_game g k is also file undo bounds e f h =
+-- the parts after the view and the screen's last line
+rest_of : GameState → List ℕ → List ℕ
+rest_of g a = streams_bytes g.streams ++ (generators_bytes g.generators ++ (windows_bytes g.windows ++ (take g.memory.static_base g.memory.bytes ++ (frames_bytes (frames_of g.frames) ++ a))))
+
+game_is : (g : GameState) (a : List ℕ) → game_bytes g ++ a ≡ view_byte g.view ∷ truth_byte g.at_line_start ∷ rest_of g a
+unfolding game_bytes rest_of
+game_is g a =
+    let v = view_byte g.view ∷ truth_byte g.at_line_start ∷ [] in
+    let s = streams_bytes g.streams in
+    let r = generators_bytes g.generators in
+    let w = windows_bytes g.windows in
+    let m = take g.memory.static_base g.memory.bytes in
+    let f = frames_bytes (frames_of g.frames) in
+    append_assoc (v ++ s ++ r ++ w ++ m) f a ∙ append_assoc (v ++ s ++ r ++ w) m (f ++ a) ∙ append_assoc (v ++ s ++ r) w (m ++ (f ++ a)) ∙ append_assoc (v ++ s) r (w ++ (m ++ (f ++ a))) ∙ append_assoc v s (r ++ (w ++ (m ++ (f ++ a))))
+
+same_game : (g k : GameState) (a b : List ℕ) → IsOfFile g.memory → IsOfFile k.memory → g.memory.file ≡ k.memory.file → g.memory.undo_states ≡ k.memory.undo_states → bounds_of g.frames ≡ bounds_of k.frames → game_bytes g ++ a ≡ game_bytes k ++ b → (without_gone g ≡ without_gone k) × (a ≡ b)
+unfolding rest_of
+same_game g k a b is also file undo bounds h =
     let gm = take g.memory.static_base g.memory.bytes in
     let km = take k.memory.static_base k.memory.bytes in
-    let gr = generators_bytes g.generators ++ windows_bytes g.windows ++ gm ++ frames_bytes g.frames in
-    let kr = generators_bytes k.generators ++ windows_bytes k.windows ++ km ++ frames_bytes k.frames in
-    let view = same_view g.view k.view (cons_head (view_byte g.view) (view_byte k.view) (truth_byte g.at_line_start ∷ truth_byte g.streams.screen ∷ gr) (truth_byte k.at_line_start ∷ truth_byte k.streams.screen ∷ kr) h) in
-    let h1 = cons_tail (view_byte g.view) (view_byte k.view) (truth_byte g.at_line_start ∷ truth_byte g.streams.screen ∷ gr) (truth_byte k.at_line_start ∷ truth_byte k.streams.screen ∷ kr) h in
-    let start = same_truth g.at_line_start k.at_line_start (cons_head (truth_byte g.at_line_start) (truth_byte k.at_line_start) (truth_byte g.streams.screen ∷ gr) (truth_byte k.streams.screen ∷ kr) h1) in
-    let h2 = cons_tail (truth_byte g.at_line_start) (truth_byte k.at_line_start) (truth_byte g.streams.screen ∷ gr) (truth_byte k.streams.screen ∷ kr) h1 in
-    let screen = same_truth g.streams.screen k.streams.screen (cons_head (truth_byte g.streams.screen) (truth_byte k.streams.screen) gr kr h2) in
-    let h3 = cons_tail (truth_byte g.streams.screen) (truth_byte k.streams.screen) gr kr h2 in
-    let whole = sym (append_assoc (generators_bytes g.generators ++ windows_bytes g.windows) gm (frames_bytes g.frames) ∙ append_assoc (generators_bytes g.generators) (windows_bytes g.windows) (gm ++ frames_bytes g.frames)) ∙ h3
-    ∙ append_assoc (generators_bytes k.generators ++ windows_bytes k.windows) km (frames_bytes k.frames) ∙ append_assoc (generators_bytes k.generators) (windows_bytes k.windows) (km ++ frames_bytes k.frames) in
-    let one = split_same (generators_bytes g.generators) (generators_bytes k.generators) (windows_bytes g.windows ++ (gm ++ frames_bytes g.frames)) (windows_bytes k.windows ++ (km ++ frames_bytes k.frames)) (generators_size g.generators ∙ sym (generators_size k.generators)) whole in
-    let two = same_windows g.windows k.windows (gm ++ frames_bytes g.frames) (km ++ frames_bytes k.frames) one.1 in
-    let three = split_same gm km (frames_bytes g.frames) (frames_bytes k.frames) (dynamic_size g.memory k.memory is also file) two.1 in
-    games_joined g k (frames_joined g.frames k.frames (same_all_frames g.frames k.frames three.1) bounds) (same_memory g.memory k.memory is also file undo three.0) (streams_same g.streams k.streams screen e f) two.0 (same_generators g.generators k.generators one.0) start view
+    let gf = frames_bytes (frames_of g.frames) ++ a in
+    let kf = frames_bytes (frames_of k.frames) ++ b in
+    let h0 = sym (game_is g a) ∙ h ∙ game_is k b in
+    let view = same_view g.view k.view (cons_head (view_byte g.view) (view_byte k.view) (truth_byte g.at_line_start ∷ rest_of g a) (truth_byte k.at_line_start ∷ rest_of k b) h0) in
+    let h1 = cons_tail (view_byte g.view) (view_byte k.view) (truth_byte g.at_line_start ∷ rest_of g a) (truth_byte k.at_line_start ∷ rest_of k b) h0 in
+    let start = same_truth g.at_line_start k.at_line_start (cons_head (truth_byte g.at_line_start) (truth_byte k.at_line_start) (rest_of g a) (rest_of k b) h1) in
+    let h2 = cons_tail (truth_byte g.at_line_start) (truth_byte k.at_line_start) (rest_of g a) (rest_of k b) h1 in
+    let zero_ = streams_same g.streams k.streams (generators_bytes g.generators ++ (windows_bytes g.windows ++ (gm ++ gf))) (generators_bytes k.generators ++ (windows_bytes k.windows ++ (km ++ kf))) h2 in
+    let one = split_same (generators_bytes g.generators) (generators_bytes k.generators) (windows_bytes g.windows ++ (gm ++ gf)) (windows_bytes k.windows ++ (km ++ kf)) (generators_size g.generators ∙ sym (generators_size k.generators)) zero_.1 in
+    let two = same_windows g.windows k.windows (gm ++ gf) (km ++ kf) one.1 in
+    let three = split_same gm km gf kf (dynamic_size g.memory k.memory is also file) two.1 in
+    let four = same_all_frames (frames_of g.frames) (frames_of k.frames) a b three.1 in
+    (games_joined g k (frames_joined g.frames k.frames four.0 bounds) (same_memory g.memory k.memory is also file undo three.0) zero_.0 two.0 (same_generators g.generators k.generators one.0) start view, four.1)
 
 -- ---- the whole
 
@@ -279,15 +313,16 @@ same_bodies a b h =
     let both = ap (λ (l : List ℕ). length l) h in
     (split_same a b (bytes_4 (sum_of a)) (bytes_4 (sum_of b)) (omega (arith, sizes, others, both)) h).0
 
-body_is : (s : Session) → body_bytes s ≡ head_bytes s.state.game.memory.file ++ (limits_bytes s.limits ++ (place_bytes (place_of s) ++ (asking_bytes (asking_of s.waiting) ++ game_bytes s.state.game)))
+body_is : (states : List WholeState) (s : Session) → body_bytes states s ≡ head_bytes s.state.game.memory.file ++ (limits_bytes s.limits ++ (place_bytes (place_of s) ++ (asking_bytes (asking_of s.waiting) ++ (game_bytes s.state.game ++ states_bytes s.state.game.memory.file states))))
 unfolding body_bytes
-body_is s =
+body_is states s =
     let h = head_bytes s.state.game.memory.file in
     let l = limits_bytes s.limits in
     let p = place_bytes (place_of s) in
     let q = asking_bytes (asking_of s.waiting) in
     let g = game_bytes s.state.game in
-    append_assoc (h ++ l ++ p) q g ∙ append_assoc (h ++ l) p (q ++ g) ∙ append_assoc h l (p ++ (q ++ g))
+    let u = states_bytes s.state.game.memory.file states in
+    append_assoc (h ++ l ++ p ++ q) g u ∙ append_assoc (h ++ l ++ p) q (g ++ u) ∙ append_assoc (h ++ l) p (q ++ (g ++ u)) ∙ append_assoc h l (p ++ (q ++ (g ++ u)))
 
 -- what waits is the instruction at the program counter
 same_waiting : (x y : Option Waiting) (m n : MemoryMap) (p q : ℕ) → asking_of x ≡ asking_of y → IfSome x (λ w. instr_at m p ≡ Ok w.instruction) → IfSome y (λ w. instr_at n q ≡ Ok w.instruction) → m ≡ n → p ≡ q → x ≡ y
@@ -306,35 +341,44 @@ same_waiting (Some w) (Some v) m n p q h e f same there =
     joined : (e f : Event) (i j : Instr) → e ≡ f → i ≡ j → made e i ≡ made f j
     joined e f i j h k = ap (λ (z : Event). made z i) h ∙ ap (λ (z : Instr). made f z) k
 
-abbrev whole_of : GameState → Place → List ℕ → Limits → Option Waiting → Option Stop → Session
-whole_of g p d l w s = record { state = record { game = g; pc = p.pc; steps = p.steps; reads = p.reads; due = d; undo = [] }; limits = l; waiting = w; stopped = s }
+abbrev whole_of : GameState → Place → List ℕ → List WholeState → Limits → Option Waiting → Option Stop → Session
+whole_of g p d u l w s = record { state = record { game = g; pc = p.pc; steps = p.steps; reads = p.reads; due = d; undo = u }; limits = l; waiting = w; stopped = s }
 
-plays_joined : (g k : GameState) (p q : Place) (d e : List ℕ) (l m : Limits) (w v : Option Waiting) (s t : Option Stop) → g ≡ k → p ≡ q → d ≡ e → l ≡ m → w ≡ v → s ≡ t → whole_of g p d l w s ≡ whole_of k q e m v t
-plays_joined g k p q d e l m w v s t e1 e2 e3 e4 e5 e6 =
-    ap (λ (x : GameState). whole_of x p d l w s) e1 ∙ ap (λ (x : Place). whole_of k x d l w s) e2 ∙ ap (λ (x : List ℕ). whole_of k q x l w s) e3 ∙ ap (λ (x : Limits). whole_of k q e x w s) e4
-    ∙ ap (λ (x : Option Waiting). whole_of k q e m x s) e5 ∙ ap (λ (x : Option Stop). whole_of k q e m v x) e6
+plays_joined : (g k : GameState) (p q : Place) (d e : List ℕ) (u x : List WholeState) (l m : Limits) (w v : Option Waiting) (s t : Option Stop) → g ≡ k → p ≡ q → d ≡ e → u ≡ x → l ≡ m → w ≡ v → s ≡ t → whole_of g p d u l w s ≡ whole_of k q e x m v t
+plays_joined g k p q d e u x l m w v s t e1 e2 e3 e4 e5 e6 e7 =
+    ap (λ (y : GameState). whole_of y p d u l w s) e1 ∙ ap (λ (y : Place). whole_of k y d u l w s) e2 ∙ ap (λ (y : List ℕ). whole_of k q y u l w s) e3 ∙ ap (λ (y : List WholeState). whole_of k q e y l w s) e4
+    ∙ ap (λ (y : Limits). whole_of k q e x y w s) e5 ∙ ap (λ (y : Option Waiting). whole_of k q e x m y s) e6 ∙ ap (λ (y : Option Stop). whole_of k q e x m v y) e7
 
-pub same_play : (a b : Session) → IsKept a → IsKept b → a.state.game.memory.file ≡ b.state.game.memory.file → snapshot_of a ≡ snapshot_of b → with_nothing_kept a ≡ with_nothing_kept b
-unfolding snapshot_of
-same_play a b is also file h =
-    let body = sym (body_is a) ∙ same_bodies (body_bytes a) (body_bytes b) h ∙ body_is b in
-    let aq = asking_bytes (asking_of a.waiting) ++ game_bytes a.state.game in
-    let bq = asking_bytes (asking_of b.waiting) ++ game_bytes b.state.game in
+same_play : (us vs : List WholeState) (a b : Session) → IsKept a → IsKept b → a.state.game.memory.file ≡ b.state.game.memory.file → All (HasBytes a.state.game.memory.static_base) us → All (HasBytes b.state.game.memory.static_base) vs → snapshot_with us a ≡ snapshot_with vs b → with_kept us a ≡ with_kept vs b
+unfolding snapshot_with
+same_play us vs a b is also file sized also_sized h =
+    let body = sym (body_is us a) ∙ same_bodies (body_bytes us a) (body_bytes vs b) h ∙ body_is vs b in
+    let au = states_bytes a.state.game.memory.file us in
+    let bu = states_bytes b.state.game.memory.file vs in
+    let aq = asking_bytes (asking_of a.waiting) ++ (game_bytes a.state.game ++ au) in
+    let bq = asking_bytes (asking_of b.waiting) ++ (game_bytes b.state.game ++ bu) in
     let ap_ = place_bytes (place_of a) ++ aq in
     let bp = place_bytes (place_of b) ++ bq in
     let one = split_same (head_bytes a.state.game.memory.file) (head_bytes b.state.game.memory.file) (limits_bytes a.limits ++ ap_) (limits_bytes b.limits ++ bp) (ap (λ (f : List ℕ). length (head_bytes f)) file) body in
     let two = split_same (limits_bytes a.limits) (limits_bytes b.limits) ap_ bp (limits_size a.limits ∙ sym (limits_size b.limits)) one.1 in
     let three = split_same (place_bytes (place_of a)) (place_bytes (place_of b)) aq bq (place_size (place_of a) ∙ sym (place_size (place_of b))) two.1 in
-    let p = asks a.waiting is.has.waits.0 is.has.waits.1.0 in
-    let q = asks b.waiting also.has.waits.0 also.has.waits.1.0 in
-    let four = same_asking (asking_of a.waiting) (asking_of b.waiting) p.0 q.0 (game_bytes a.state.game) (game_bytes b.state.game) p.1 q.1 three.1 in
+    let p = asks a.waiting is.has.0 is.has.1.0 in
+    let q = asks b.waiting also.has.0 also.has.1.0 in
+    let four = same_asking (asking_of a.waiting) (asking_of b.waiting) p.0 q.0 (game_bytes a.state.game ++ au) (game_bytes b.state.game ++ bu) p.1 q.1 three.1 in
     let limits = same_limits a.limits b.limits two.0 in
     let undo : a.state.game.memory.undo_states ≡ b.state.game.memory.undo_states = is.undo ∙ ap (λ (l : Limits). l.undo) limits ∙ sym also.undo in
     let bounds : bounds_of a.state.game.frames ≡ bounds_of b.state.game.frames = is.bounds ∙ ap pair limits ∙ sym also.bounds in
-    let game = same_game a.state.game b.state.game is.of_file also.of_file file undo bounds is.has.tables also.has.tables four.1 in
+    let game = same_game a.state.game b.state.game au bu is.of_file also.of_file file undo bounds four.1 in
     let place = same_place (place_of a) (place_of b) three.0 in
-    let waiting = same_waiting a.waiting b.waiting a.state.game.memory b.state.game.memory a.state.pc b.state.pc four.0 is.fetched also.fetched (ap (λ (g : GameState). g.memory) game) (ap (λ (p : Place). p.pc) place) in
-    plays_joined (without_gone a.state.game) (without_gone b.state.game) (place_of a) (place_of b) a.state.due b.state.due a.limits b.limits a.waiting b.waiting a.stopped b.stopped game place (is.due ∙ sym also.due) limits waiting (is.stopped ∙ sym also.stopped)
+    let waiting = same_waiting a.waiting b.waiting a.state.game.memory b.state.game.memory a.state.pc b.state.pc four.0 is.fetched also.fetched (ap (λ (g : GameState). g.memory) game.0) (ap (λ (p : Place). p.pc) place) in
+    let base : b.state.game.memory.static_base ≡ a.state.game.memory.static_base = ap (λ (g : GameState). g.memory.static_base) (sym game.0) in
+    let others = rw base at also_sized in
+    let states = same_states a.state.game.memory.file a.state.game.memory.static_base us vs is.within sized others (game.1 ∙ ap (λ (f : List ℕ). states_bytes f vs) (sym file)) in
+    plays_joined (without_gone a.state.game) (without_gone b.state.game) (place_of a) (place_of b) a.state.due b.state.due us vs a.limits b.limits a.waiting b.waiting a.stopped b.stopped game.0 place (is.due ∙ sym also.due) states limits waiting (is.stopped ∙ sym also.stopped)
   where
     pair : Limits → ℕ × ℕ
     pair l = (l.frames, l.words)
+
+pub one_play : (a b : Session) → IsKept a → IsKept b → a.state.game.memory.file ≡ b.state.game.memory.file → IsOfOnePlay a b
+one_play a b is also file m n h =
+    same_play (newest m a) (newest n b) a b is also file (All-take (HasBytes a.state.game.memory.static_base) m a.state.undo is.sized) (All-take (HasBytes b.state.game.memory.static_base) n b.state.undo also.sized) h

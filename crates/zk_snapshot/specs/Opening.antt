@@ -3,7 +3,7 @@ use Rattle.std.specs.Prelude.{◌≡◌, ◌⊎◌, not, ℕ, List, [], ◌∷�
 use Rattle.std.specs.Str.{bytes_eq}
 use Rattle.zk_snapshot.specs.declared.opening.SnapshotError.{SnapshotError}
 use Rattle.zk_snapshot.specs.declared.opening.SnapshotError.TheVariants.{NotASnapshot, OtherVersion, OtherStory, Damaged, OutOfMemory}
-use Rattle.zk_snapshot.specs.Snapshots.{name_bytes, version_byte, story_bytes, snapshot_of, HasSnapshot}
+use Rattle.zk_snapshot.specs.Snapshots.{name_bytes, version_byte, story_bytes, snapshot_with, HasSnapshot}
 use Rattle.zk_vm.specs.Sessions.{Session}
 
 -- what the first 23 bytes are refused for, in this order: the name, the version, the story
@@ -22,9 +22,9 @@ refusal_by (Some e) = e
 abbrev pub IsRefused : List ℕ → List ℕ → SnapshotError → Type 0
 IsRefused story bytes e = (e ≡ OutOfMemory) ⊎ (e ≡ refusal_by (head_refusal story bytes))
 
--- a machine of a story has these bytes as its snapshot
+-- a machine of a story has these bytes as its snapshot with all states that it can go back to
 pub record IsOpened (story bytes : List ℕ) (s : Session) : Type 0 where
   pub head : head_refusal story bytes ≡ None
   pub waits : HasSnapshot s
   pub story_is : s.state.game.memory.file ≡ story
-  pub same : snapshot_of s ≡ bytes
+  pub same : snapshot_with s.state.undo s ≡ bytes

@@ -1,9 +1,10 @@
 -- The bytes of a snapshot: a machine that waits for a line or a character. Numbers have their high byte first.
-use Rattle.std.specs.Prelude.{◌≡◌, ℕ, zero, suc, ◌/◌, ◌%◌, Bool, true, false, List, [], ◌∷◌, ◌++◌, length, take, reverse, Option, Some, None}
+use Rattle.std.specs.Prelude.{ℕ, zero, suc, ◌+◌, ◌-◌, ◌*◌, ◌/◌, ◌%◌, Bool, true, false, List, [], ◌∷◌, ◌++◌, length, take, reverse, nat_le, if◌then◌else◌, Option, Some, None}
 use Rattle.std.specs.List.{flat_map}
 use Rattle.zk_mem.specs.Header.{header_of}
-use Rattle.zk_state.specs.Frames.{Frame, FrameList, frames_of}
+use Rattle.zk_state.specs.Frames.{Frame, frames_of}
 use Rattle.zk_save.specs.Quetzal.{bytes_2, bytes_4, words_bytes}
+use Rattle.zk_save.specs.States.{WholeState, packed_of}
 use Rattle.zk_term.specs.Windows.{Windows, row_text}
 use Rattle.zk_term.specs.declared.windows.Window.{Window}
 use Rattle.zk_term.specs.declared.windows.Window.TheVariants.{Lower}
@@ -14,6 +15,8 @@ use Rattle.zk_step.specs.declared.state.game_state.GameState.{GameState}
 use Rattle.zk_step.specs.declared.state.game_state.View.{View}
 use Rattle.zk_step.specs.declared.state.game_state.View.TheVariants.{Plain, Upper}
 use Rattle.zk_step.specs.declared.state.random.Generators.{Generators}
+use Rattle.zk_step.specs.declared.output.streams.OpenTable.{OpenTable}
+use Rattle.zk_step.specs.Streams.{OutputStreams}
 use Rattle.zk_vm.specs.declared.limits.Limits.{Limits}
 use Rattle.zk_vm.specs.declared.machine.parts.Asking.{Asking}
 use Rattle.zk_vm.specs.declared.machine.parts.Place.{Place}
@@ -51,7 +54,7 @@ name_bytes = 90 ∷ 75 ∷ 83 ∷ 78 ∷ []
 
 -- the version of the format
 abbrev pub version_byte : ℕ
-version_byte = 1
+version_byte = 2
 
 -- what a story's file is known by, in 18 bytes: its length, its release, its serial number, its checksum, and the sum of all
 -- its bytes
@@ -115,14 +118,40 @@ windows_bytes w = w.height ∷ [] ++ bytes_2 w.row ++ w.column ∷ [] ++ window_
 unfoldable pub frame_bytes : Frame → List ℕ
 frame_bytes f = bytes_4 f.pc ++ store_bytes f.result ++ f.supplied ∷ [] ++ length f.locals ∷ [] ++ bytes_2 (length f.words) ++ words_bytes f.locals ++ words_bytes f.words
 
--- the frames: how many wait, and all of them, the first before the others
-unfoldable pub frames_bytes : FrameList → List ℕ
-frames_bytes s = bytes_2 (length s.callers) ++ flat_map frame_bytes (reverse (frames_of s))
+-- frames, newest first: how many they are, and all of them, the first before the others
+unfoldable pub frames_bytes : List Frame → List ℕ
+frames_bytes fs = bytes_2 (length fs) ++ flat_map frame_bytes (reverse fs)
 
--- the game state: the view, whether the screen's last line is empty, whether the screen is on, the random numbers, the upper
+-- a table of stream 3 that is open: its address, and how many codes were stored in it
+abbrev pub table_bytes : OpenTable → List ℕ
+table_bytes t = bytes_2 t.address ++ bytes_2 t.count
+
+-- the output streams: whether the screen is on, how many tables are open, and these, the newest first
+unfoldable pub streams_bytes : OutputStreams → List ℕ
+streams_bytes s = truth_byte s.screen ∷ length s.tables ∷ [] ++ flat_map table_bytes s.tables
+
+-- the game state: the view, whether the screen's last line is empty, the output streams, the random numbers, the upper
 -- window, dynamic memory as it stands, and the frames
 unfoldable pub game_bytes : GameState → List ℕ
-game_bytes g = view_byte g.view ∷ [] ++ truth_byte g.at_line_start ∷ [] ++ truth_byte g.streams.screen ∷ [] ++ generators_bytes g.generators ++ windows_bytes g.windows ++ take g.memory.static_base g.memory.bytes ++ frames_bytes g.frames
+game_bytes g = view_byte g.view ∷ truth_byte g.at_line_start ∷ [] ++ streams_bytes g.streams ++ generators_bytes g.generators ++ windows_bytes g.windows ++ take g.memory.static_base g.memory.bytes ++ frames_bytes (frames_of g.frames)
+
+-- ---- states to go back to
+
+-- a state: what its dynamic memory differs in from the story's file, packed, after the length of that; its frames, and the
+-- address where it goes on
+unfoldable pub kept_bytes : List ℕ → WholeState → List ℕ
+kept_bytes file w = bytes_4 (length (packed_of file w)) ++ packed_of file w ++ frames_bytes w.frames ++ bytes_4 w.pc
+
+-- states, newest first: how many they are, and all of them, the oldest before the others
+unfoldable pub states_bytes : List ℕ → List WholeState → List ℕ
+states_bytes file ws = length ws ∷ [] ++ flat_map (kept_bytes file) (reverse ws)
+
+-- the newest states, up to the first whose bytes are more than is left of so many
+unfoldable pub fitting : List ℕ → ℕ → List WholeState → List WholeState
+fitting file most [] = []
+fitting file most (w ∷ ws) =
+    let size = length (kept_bytes file w) in
+    if nat_le size most then w ∷ fitting file (most - size) ws else []
 
 -- ---- the whole
 
@@ -130,19 +159,29 @@ game_bytes g = view_byte g.view ∷ [] ++ truth_byte g.at_line_start ∷ [] ++ t
 unfoldable pub head_bytes : List ℕ → List ℕ
 head_bytes file = name_bytes ++ version_byte ∷ [] ++ story_bytes file
 
--- all but the sum
-unfoldable pub body_bytes : Session → List ℕ
-body_bytes s = head_bytes s.state.game.memory.file ++ limits_bytes s.limits ++ place_bytes (place_of s) ++ asking_bytes (asking_of s.waiting) ++ game_bytes s.state.game
+-- all but the sum, with some states to go back to
+unfoldable pub body_bytes : List WholeState → Session → List ℕ
+body_bytes states s =
+    let file = s.state.game.memory.file in
+    head_bytes file ++ limits_bytes s.limits ++ place_bytes (place_of s) ++ asking_bytes (asking_of s.waiting) ++ game_bytes s.state.game ++ states_bytes file states
 
 -- bytes with their sum after them
 abbrev pub with_sum : List ℕ → List ℕ
 with_sum bytes = bytes ++ bytes_4 (sum_of bytes)
 
--- the snapshot of a machine
-unfoldable pub snapshot_of : Session → List ℕ
-snapshot_of s = with_sum (body_bytes s)
+-- the snapshot of a machine with some states to go back to
+unfoldable pub snapshot_with : List WholeState → Session → List ℕ
+snapshot_with states s = with_sum (body_bytes states s)
 
--- a machine has a snapshot where it waits for a line or a character and no table of stream 3 is open
-pub record HasSnapshot (s : Session) : Type 0 where
-  pub waits : AsksForLine s
-  pub tables : s.state.game.streams.tables ≡ []
+-- the snapshot of a machine with as many of its newest states as fit in so many bytes
+abbrev pub snapshot_of : ℕ → Session → List ℕ
+snapshot_of most s = snapshot_with (fitting s.state.game.memory.file most s.state.undo) s
+
+-- a machine has a snapshot where it waits for a line or a character
+abbrev pub HasSnapshot : Session → Type 0
+HasSnapshot s = AsksForLine s
+
+-- the most bytes of a snapshot within limits, of a story with so many bytes of dynamic memory and with so many bytes of
+-- states: 255 rows of 80 characters and 16 tables are among the others
+unfoldable pub longest_of : Limits → (base most : ℕ) → ℕ
+longest_of l base most = 82007 + base + 10 * l.frames + 2 * l.words + most

@@ -1,8 +1,9 @@
 // Laws of snapshots.
 
-ghost use Rattle.std.specs.Prelude.{◌≡◌};
-ghost use Rattle.zk_snapshot.specs.Laws.{with_nothing_kept, IsKept};
-ghost use Rattle.zk_snapshot.specs.Snapshots.{snapshot_of, HasSnapshot};
+ghost use Rattle.std.specs.Prelude.{◌≡◌, ℕ, List};
+ghost use Rattle.zk_save.specs.States.{WholeState};
+ghost use Rattle.zk_snapshot.specs.Laws.{FitsNewest, IsKept, IsOfOnePlay};
+ghost use Rattle.zk_snapshot.specs.Snapshots.{HasSnapshot};
 
 use zk_vm::machine::Machine;
 
@@ -13,19 +14,25 @@ fn is_kept(machine: &Machine)
     ensures { IsKept machine.now }
 {
     machine.is_whole();
+    machine.undo();
     machine.memory().is_of_file();
+    machine.memory().dynamic();
 }
 
-/// A snapshot is that of one play alone: two machines of a story that have the same snapshot are the same, but
-/// for the states to go back to and the grid that is gone. So the machine that `open_snapshot` makes of what
-/// `snapshot` wrote goes on with the play.
+/// A snapshot is that of one play alone: two machines of a story that have the same snapshot, each with some of its newest
+/// states to go back to, are the same, but for the other states and the grid that is gone. So the machine that
+/// `open_snapshot` makes of what `snapshot` wrote goes on with the play.
 pub fn one_play(first: &Machine, second: &Machine)
     requires first { HasSnapshot first.now }
     requires second { HasSnapshot second.now }
     requires story { first.now.state.game.memory.file ≡ second.now.state.game.memory.file }
-    ensures { snapshot_of first.now ≡ snapshot_of second.now
-        → with_nothing_kept first.now ≡ with_nothing_kept second.now }
+    ensures { IsOfOnePlay first.now second.now }
 {
     is_kept(first);
     is_kept(second);
 }
+
+/// What a snapshot keeps of states to go back to are the newest, and these take no more bytes than it was told.
+pub fn newest_fit()
+    ensures { (file : List ℕ) (states : List WholeState) → FitsNewest file states }
+{}

@@ -5,5 +5,6 @@ pub mod laws;
 pub mod opening;
 mod reading;
 pub mod snapshot;
+mod states;
 mod sums;
 mod writing;

@@ -1,23 +1,28 @@
 // A machine is made of its snapshot.
 
-ghost use Rattle.std.specs.Prelude.{◌≡◌, true, [], take, drop, IfOk, IfErr, IfSome, MatchResult, Some, None};
+ghost use Rattle.std.specs.Prelude.{◌≡◌, true, take, drop, IfOk, IfErr, IfSome, MatchResult, Some, None};
+ghost use Rattle.zk_save.specs.States.{AreOf};
+ghost use Rattle.zk_state.specs.Frames.{bounds_of};
 ghost use Rattle.zk_snapshot.specs.Opening.{head_refusal, refusal_by, IsOpened, IsRefused};
+ghost use Rattle.zk_vm.specs.Bounds.{AreInRange};
 ghost use Rattle.zk_vm.specs.Step.{is_read};
 ghost use Rattle.zk_snapshot.specs.Snapshots.{story_bytes, HasSnapshot};
 
-use crate::reading::{Front, Reader, fill_frames, fill_memory, fill_windows, front_in};
-use crate::snapshot::snapshot;
+use crate::reading::{
+    Front, GameFront, Reader, fill_frames, fill_states, fill_windows, front_in, game_front_in,
+    put_bytes,
+};
+use crate::snapshot::whole_snapshot;
 use crate::writing::put_story;
 use std::alloc::{AllocError, Global};
 use thiserror::Error;
 use zk_code::decode::decode;
 use zk_mem::memory::{Memory, Setup};
 use zk_mem::story::Story;
+use zk_save::undo::Undo;
 use zk_state::frames::Frames;
-use zk_step::output::streams::Streams;
 use zk_step::state::game_state::GameState;
 use zk_term::windows::Windows;
-use zk_vm::limits::Limits;
 use zk_vm::machine::{MOST_READS, Machine};
 
 /// Why bytes are opened as no snapshot, in the order in which it is looked for; lack of memory may come at any
@@ -72,7 +77,7 @@ fn head_refusal(
     if part(bytes, 0, 4) != [90, 75, 83, 78].as_slice() {
         return Ok(Some(SnapshotError::NotASnapshot));
     }
-    if part(bytes, 4, 1) != [1].as_slice() {
+    if part(bytes, 4, 1) != [2].as_slice() {
         return Ok(Some(SnapshotError::OtherVersion));
     }
     let story = story_of(alloc, memory)?;
@@ -82,42 +87,47 @@ fn head_refusal(
     Ok(None)
 }
 
-/// A machine that is made of the bytes after the first 23, if they are of use.
+/// A machine that is made of the bytes after the first 23, if they are of use. Memory and frames are room for each state to
+/// go back to, and get their own bytes after these.
 fn machine_in(
     alloc: Global,
     mut memory: Memory,
-    undo: u8,
+    undo_states: u8,
     bytes: &[u8],
 ) -> Result<Option<Machine>, AllocError>
-    requires { memory.undo_states ≡ undo }
+    requires { memory.undo_states ≡ undo_states }
     ensures { IfOk result (λ found. IfSome found
         (λ m. HasSnapshot m × (m.state.game.memory.file ≡ memory.file))) }
 {
     let mut reader = Reader::new(bytes);
     let front = front_in(&mut reader);
-    if front.limits.frames == 0 {
+    if !front.limits.check() || front.limits.undo != undo_states {
         return Ok(None);
     }
     let mut windows = Windows::new(alloc)?;
     let mut frames = Frames::new(alloc, front.limits.frames, front.limits.words)?;
+    let mut undo = Undo::new(alloc, undo_states)?;
+    let game_front = game_front_in(&mut reader);
     fill_windows(&mut reader, &mut windows);
-    fill_memory(&mut reader, &mut memory);
+    let dynamic = reader.take(memory.dynamic().len());
+    let mut frames_reader = reader.again();
     fill_frames(&mut reader, &mut frames);
-    let game = game_of(front, memory, frames, windows);
-    waiting_machine(alloc, front, undo, game)
+    fill_states(&mut reader, &mut memory, &mut frames, &mut undo)?;
+    put_bytes(&mut memory, dynamic);
+    fill_frames(&mut frames_reader, &mut frames);
+    let game = game_of(game_front, memory, frames, windows);
+    waiting_machine(alloc, front, game, undo)
 }
 
-/// A game state that is made of its parts. No table of stream 3 is open.
-fn game_of(front: Front, memory: Memory, frames: Frames, windows: Windows) -> GameState
+/// A game state that is made of its parts.
+fn game_of(front: GameFront, memory: Memory, frames: Frames, windows: Windows) -> GameState
     ensures memory { result.memory ≡ memory }
-    ensures tables { result.streams.tables ≡ [] }
+    ensures frames { result.frames ≡ frames }
 {
-    let mut streams = Streams::new();
-    streams.set_screen(front.screen);
     GameState {
         frames,
         memory,
-        streams,
+        streams: front.streams,
         windows,
         generators: front.generators,
         at_line_start: front.at_line_start,
@@ -126,36 +136,30 @@ fn game_of(front: Front, memory: Memory, frames: Frames, windows: Windows) -> Ga
 }
 
 /// A machine with this game state that waits, where an instruction stands there and the numbers are within limits.
-#[tactic(auto, unfolding(zk_state::specs::Frames::bounds_of))]
 fn waiting_machine(
     alloc: Global,
     front: Front,
-    undo: u8,
     game: GameState,
+    undo: Undo,
 ) -> Result<Option<Machine>, AllocError>
-    requires undo { game.memory.undo_states ≡ undo }
-    requires tables { game.streams.tables ≡ [] }
+    requires range { AreInRange front.limits }
+    requires bounds { bounds_of game.frames ≡ (front.limits.frames, front.limits.words) }
+    requires told { game.memory.undo_states ≡ front.limits.undo }
+    requires most { undo.most ≡ front.limits.undo }
+    requires are_of { AreOf game.memory game.frames undo }
     requires read { is_read front.event ≡ true }
     ensures { IfOk result (λ found. IfSome found
         (λ m. HasSnapshot m × (m.state.game.memory.file ≡ game.memory.file))) }
 {
     let place = front.place;
-    let limits = Limits {
-        frames: game.frames.most_frames(),
-        words: game.frames.most_words(),
-        undo,
-        steps: front.limits.steps,
-    };
-    if !limits.check() || place.steps >= limits.steps || place.reads >= MOST_READS {
-        return Ok(None);
-    }
-    if place.pc >= 1_048_576 {
+    let limits = front.limits;
+    if place.steps >= limits.steps || place.reads >= MOST_READS || place.pc >= 1_048_576 {
         return Ok(None);
     }
     let Ok(instruction) = decode(&game.memory, place.pc) else {
         return Ok(None);
     };
-    let machine = Machine::of_parts(alloc, game, place, limits, front.event, instruction)?;
+    let machine = Machine::of_parts(alloc, game, place, limits, front.event, instruction, undo)?;
     Ok(Some(machine))
 }
 
@@ -163,10 +167,10 @@ fn waiting_machine(
 fn opened(
     alloc: Global,
     memory: Memory,
-    undo: u8,
+    undo_states: u8,
     bytes: &[u8],
 ) -> Result<Result<Machine, SnapshotError>, AllocError>
-    requires { memory.undo_states ≡ undo }
+    requires { memory.undo_states ≡ undo_states }
     ensures { IfOk result (λ answer. MatchResult answer
         (λ m. IsOpened memory.file bytes.now m)
         (λ e. e ≡ refusal_by (head_refusal memory.file bytes.now))) }
@@ -174,35 +178,35 @@ fn opened(
     if let Some(error) = head_refusal(alloc, &memory, bytes)? {
         return Ok(Err(error));
     }
-    let Some(machine) = machine_in(alloc, memory, undo, part(bytes, 23, bytes.len()))? else {
+    let Some(machine) = machine_in(alloc, memory, undo_states, part(bytes, 23, bytes.len()))? else {
         return Ok(Err(SnapshotError::Damaged));
     };
-    let again = snapshot(alloc, &machine)?;
+    let again = whole_snapshot(alloc, &machine)?;
     if again.as_slice() != bytes {
         return Ok(Err(SnapshotError::Damaged));
     }
     Ok(Ok(machine))
 }
 
-/// The machine whose snapshot some bytes are: it waits where the other one waited, for the same answers. There
-/// are no states to go back to, and no grid that is gone.
+/// The machine whose snapshot some bytes are: it waits where the other one waited, for the same answers. The states to go
+/// back to are those in the snapshot, and there is no grid that is gone.
 ///
 /// The refusals, in the order in which they are looked for: `NotASnapshot` where the bytes don't begin with the
 /// name; `OtherVersion` where another version of the format follows; `OtherStory` where the length, the release,
-/// the serial number, the checksum or the sum of the story's file is another; `Damaged` where the machine
-/// that is made of the bytes after them has other bytes as its snapshot, or none is made. `OutOfMemory` may come in place
-/// of each of them. That no snapshot of a machine is taken as damaged is tested, not proved.
+/// the serial number, the checksum or the sum of the story's file is another; `Damaged` for all others, whose first 23
+/// bytes are those of a snapshot of this story. `OutOfMemory` may come in place of each of them. That no snapshot of a
+/// machine is taken as damaged is tested, not proved.
 #[tactic(auto, using(crate::proofs::Filled::fresh_file, crate::proofs::Filled::fresh_undo))]
 pub fn open_snapshot(alloc: Global, story: Story, bytes: &[u8]) -> Result<Machine, SnapshotError>
     ensures ok { IfOk result (λ m. IsOpened story bytes.now m) }
     ensures err { IfErr result (λ e. IsRefused story bytes.now e) }
 {
-    let undo = bytes.get(27).copied().unwrap_or(0);
-    let setup = Setup { undo_states: undo };
+    let undo_states = bytes.get(27).copied().unwrap_or(0);
+    let setup = Setup { undo_states };
     let Ok(memory) = Memory::start(alloc, story, setup) else {
         return Err(SnapshotError::OutOfMemory);
     };
-    match opened(alloc, memory, undo, bytes) {
+    match opened(alloc, memory, undo_states, bytes) {
         Ok(Ok(machine)) => Ok(machine),
         Ok(Err(error)) => Err(error),
         Err(_) => Err(SnapshotError::OutOfMemory),

@@ -1,12 +1,19 @@
 // The parts of a machine, read from bytes. What is made of them counts only where it has these bytes as its
 // snapshot, so what is read here is looked at once, when all is there.
 
-ghost use Rattle.std.specs.Prelude.{◌≡◌, ◌<◌, ◌≤◌, true, length, IfSome};
+ghost use Rattle.std.specs.Prelude.{◌≡◌, ◌<◌, ◌≤◌, true, length};
+ghost use Rattle.zk_save.specs.States.{AreOf};
+ghost use Rattle.zk_state.specs.Frames.{bounds_of};
 ghost use Rattle.zk_step.specs.Laws.{fixed_parts};
 ghost use Rattle.zk_vm.specs.Step.{is_read};
 
+use arrayvec::ArrayVec;
+use std::alloc::AllocError;
 use zk_mem::memory::Memory;
+use zk_save::packing::turn;
+use zk_save::undo::Undo;
 use zk_state::frames::Frames;
+use zk_step::output::streams::{OpenTable, Streams};
 use zk_step::state::ending::Event;
 use zk_step::state::game_state::View;
 use zk_step::state::random::Generators;
@@ -25,6 +32,11 @@ impl<'a> Reader<'a> {
     /// A reader at the first of some bytes.
     pub(crate) fn new(bytes: &'a [u8]) -> Reader<'a> {
         Reader { rest: bytes }
+    }
+
+    /// Another reader at the same place.
+    pub(crate) fn again(&self) -> Reader<'a> {
+        Reader { rest: self.rest }
     }
 
     /// The next bytes, so many of them, or as many as are left.
@@ -65,15 +77,20 @@ impl<'a> Reader<'a> {
     }
 }
 
-/// What a snapshot says besides the upper window, memory and frames.
+/// What a snapshot says before the game state.
 #[derive(Clone, Copy, Drop)]
 pub(crate) struct Front {
     pub limits: Limits,
     pub place: Place,
     pub event: Event,
+}
+
+/// What a snapshot says of the game state before the upper window.
+#[derive(Drop)]
+pub(crate) struct GameFront {
     pub view: View,
     pub at_line_start: bool,
-    pub screen: bool,
+    pub streams: Streams,
     pub generators: Generators,
 }
 
@@ -127,7 +144,26 @@ fn generators_in(reader: &mut Reader<'_>) -> Generators {
     }
 }
 
-/// What comes before the upper window.
+/// An open table of stream 3.
+fn table_in(reader: &mut Reader<'_>) -> OpenTable {
+    OpenTable {
+        address: reader.word(),
+        count: reader.word(),
+    }
+}
+
+/// The output streams.
+fn streams_in(reader: &mut Reader<'_>) -> Streams {
+    let screen = reader.truth();
+    let count = reader.byte();
+    let mut tables: ArrayVec<OpenTable, 16> = ArrayVec::new();
+    for _i in 0..count {
+        let _ = tables.try_push(table_in(reader));
+    }
+    Streams::with_tables(screen, tables.as_slice())
+}
+
+/// What comes before the game state.
 pub(crate) fn front_in(reader: &mut Reader<'_>) -> Front
     ensures { is_read result.event ≡ true }
 {
@@ -137,14 +173,20 @@ pub(crate) fn front_in(reader: &mut Reader<'_>) -> Front
     // the instruction that waits is the one at its address
     reader.number();
     store_in(reader);
-    let upper = reader.truth();
     Front {
         limits,
         place,
         event,
+    }
+}
+
+/// What comes before the upper window.
+pub(crate) fn game_front_in(reader: &mut Reader<'_>) -> GameFront {
+    let upper = reader.truth();
+    GameFront {
         view: if upper { View::Upper } else { View::Plain },
         at_line_start: reader.truth(),
-        screen: reader.truth(),
+        streams: streams_in(reader),
         generators: generators_in(reader),
     }
 }
@@ -190,7 +232,7 @@ pub(crate) fn fill_windows(reader: &mut Reader<'_>, windows: &mut Windows) {
 
 /// Gives dynamic memory its bytes.
 #[tactic(auto, using(crate::proofs::Filled::byte_fixed))]
-fn put_bytes(memory: &mut Memory, bytes: &[u8])
+pub(crate) fn put_bytes(memory: &mut Memory, bytes: &[u8])
     requires { length bytes.now < 65536 }
     ensures { fixed_parts memory.new ≡ fixed_parts memory.old }
 {
@@ -199,18 +241,11 @@ fn put_bytes(memory: &mut Memory, bytes: &[u8])
     }
 }
 
-/// Reads dynamic memory.
-#[tactic(auto, using(crate::proofs::Filled::same_file, crate::proofs::Filled::same_undo))]
-pub(crate) fn fill_memory(reader: &mut Reader<'_>, memory: &mut Memory)
-    ensures file { memory.new.file ≡ memory.old.file }
-    ensures undo { memory.new.undo_states ≡ memory.old.undo_states }
-{
-    let count = memory.dynamic().len();
-    put_bytes(memory, reader.take(count));
-}
-
 /// Reads the words of the current frame: its local variables, and its evaluation stack.
-fn fill_frame(reader: &mut Reader<'_>, frames: &mut Frames, locals: u8, words: u16) {
+#[tactic(auto, using(zk_state::proofs::BoundsKept::local_bounds, zk_state::proofs::BoundsKept::pushed_bounds))]
+fn fill_frame(reader: &mut Reader<'_>, frames: &mut Frames, locals: u8, words: u16)
+    ensures { bounds_of frames.new ≡ bounds_of frames.old }
+{
     for k in 0..locals {
         let _ = frames.set_local_at(k, reader.word());
     }
@@ -220,7 +255,10 @@ fn fill_frame(reader: &mut Reader<'_>, frames: &mut Frames, locals: u8, words: u
 }
 
 /// Reads a frame; the first one is there before.
-fn next_frame(reader: &mut Reader<'_>, frames: &mut Frames, is_first: bool) {
+#[tactic(auto, using(zk_state::proofs::BoundsKept::called_bounds))]
+fn next_frame(reader: &mut Reader<'_>, frames: &mut Frames, is_first: bool)
+    ensures { bounds_of frames.new ≡ bounds_of frames.old }
+{
     let pc = reader.number() % 16_777_216;
     let result = store_in(reader);
     let supplied = reader.byte() % 8;
@@ -232,11 +270,58 @@ fn next_frame(reader: &mut Reader<'_>, frames: &mut Frames, is_first: bool) {
     fill_frame(reader, frames, locals, words);
 }
 
-/// Reads all frames.
-pub(crate) fn fill_frames(reader: &mut Reader<'_>, frames: &mut Frames) {
-    let waiting = reader.word();
-    next_frame(reader, frames, true);
-    for _i in 0..waiting {
-        next_frame(reader, frames, false);
+/// Reads all frames, in place of those that there are.
+#[tactic(auto, using(crate::proofs::Filled::first_bounds))]
+pub(crate) fn fill_frames(reader: &mut Reader<'_>, frames: &mut Frames)
+    ensures { bounds_of frames.new ≡ bounds_of frames.old }
+{
+    frames.restart();
+    let count = reader.word();
+    for number in 0..count {
+        next_frame(reader, frames, number == 0);
     }
+}
+
+/// Reads a state to go back to. `memory` and `frames` are room for it.
+#[tactic(auto, using(zk_save::proofs::Wholes::same_of))]
+fn next_state(
+    reader: &mut Reader<'_>,
+    memory: &mut Memory,
+    frames: &mut Frames,
+    undo: &mut Undo,
+) -> Result<(), AllocError>
+    requires { AreOf memory.old frames.old undo.old }
+    ensures story { (memory.new.file ≡ memory.old.file)
+        × (memory.new.undo_states ≡ memory.old.undo_states) }
+    ensures bounds { bounds_of frames.new ≡ bounds_of frames.old }
+    ensures most { undo.new.most ≡ undo.old.most }
+    ensures are_of { AreOf memory.new frames.new undo.new }
+{
+    let size = reader.number() as usize;
+    memory.reset();
+    turn(reader.take(size), memory);
+    fill_frames(reader, frames);
+    let pc = reader.number();
+    undo.put(memory, frames, pc)
+}
+
+/// Reads the states to go back to, the oldest of them first. `memory` and `frames` are room for each.
+pub(crate) fn fill_states(
+    reader: &mut Reader<'_>,
+    memory: &mut Memory,
+    frames: &mut Frames,
+    undo: &mut Undo,
+) -> Result<(), AllocError>
+    requires { AreOf memory.old frames.old undo.old }
+    ensures story { (memory.new.file ≡ memory.old.file)
+        × (memory.new.undo_states ≡ memory.old.undo_states) }
+    ensures bounds { bounds_of frames.new ≡ bounds_of frames.old }
+    ensures most { undo.new.most ≡ undo.old.most }
+    ensures are_of { AreOf memory.new frames.new undo.new }
+{
+    let count = reader.byte();
+    for _i in 0..count {
+        next_state(reader, memory, frames, undo)?;
+    }
+    Ok(())
 }

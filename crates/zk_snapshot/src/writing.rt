@@ -5,12 +5,13 @@ ghost use Rattle.zk_mem.specs.Header.{header_of};
 ghost use Rattle.zk_save.specs.Quetzal.{bytes_2, bytes_4, words_bytes};
 ghost use Rattle.zk_state.specs.Frames.{frames_of};
 ghost use Rattle.std.specs.List.{flat_map};
-ghost use Rattle.zk_snapshot.specs.Snapshots.{bytes_8, truth_byte, store_bytes, state_bytes, story_bytes, limits_bytes, place_bytes, event_bytes, view_byte, window_byte, generators_bytes, row_bytes, rows_bytes, windows_bytes, frame_bytes, frames_bytes, game_bytes, head_bytes};
+ghost use Rattle.zk_snapshot.specs.Snapshots.{bytes_8, truth_byte, store_bytes, state_bytes, story_bytes, limits_bytes, place_bytes, event_bytes, view_byte, window_byte, generators_bytes, row_bytes, rows_bytes, windows_bytes, frame_bytes, frames_bytes, table_bytes, streams_bytes, game_bytes, head_bytes};
 
 use crate::sums::sum_of;
 use std::alloc::AllocError;
 use zk_mem::memory::Memory;
 use zk_state::frames::{FrameView, Frames};
+use zk_step::output::streams::{OpenTable, Streams};
 use zk_step::state::ending::Event;
 use zk_step::state::game_state::{GameState, View};
 use zk_step::state::random::Generators;
@@ -146,7 +147,7 @@ pub(crate) fn put_head(out: &mut Vec<u8>, memory: &Memory) -> Result<(), AllocEr
     ensures { OnOk result (out.new.items ≡ out.old.items ++ head_bytes memory.now.file) }
 {
     out.extend_from_slice(&[90, 75, 83, 78])?;
-    out.push(1)?;
+    out.push(2)?;
     put_story(out, memory)?;
     Ok(())
 }
@@ -273,13 +274,37 @@ fn put_all_frames(out: &mut Vec<u8>, frames: &Frames) -> Result<(), AllocError>
     Ok(())
 }
 
-/// Writes the frames, after how many of them wait.
+/// Writes the frames, after how many they are.
 #[tactic(auto, unfolding(crate::specs::Snapshots::frames_bytes))]
-fn put_frames(out: &mut Vec<u8>, frames: &Frames) -> Result<(), AllocError>
-    ensures { OnOk result (out.new.items ≡ out.old.items ++ frames_bytes frames.now) }
+pub(crate) fn put_frames(out: &mut Vec<u8>, frames: &Frames) -> Result<(), AllocError>
+    ensures { OnOk result
+        (out.new.items ≡ out.old.items ++ frames_bytes (frames_of frames.now)) }
 {
-    put_2(out, frames.depth())?;
+    put_2(out, frames.depth() + 1)?;
     put_all_frames(out, frames)?;
+    Ok(())
+}
+
+/// Writes open tables of stream 3.
+fn put_tables(out: &mut Vec<u8>, tables: &[OpenTable]) -> Result<(), AllocError>
+    ensures { OnOk result (out.new.items ≡ out.old.items ++ flat_map table_bytes tables.now) }
+{
+    for table in tables {
+        put_2(out, table.address)?;
+        put_2(out, table.count)?;
+    }
+    Ok(())
+}
+
+/// Writes the output streams.
+#[tactic(auto, unfolding(crate::specs::Snapshots::streams_bytes))]
+fn put_streams(out: &mut Vec<u8>, streams: &Streams) -> Result<(), AllocError>
+    ensures { OnOk result (out.new.items ≡ out.old.items ++ streams_bytes streams.now) }
+{
+    let tables = streams.tables();
+    out.push(truth_byte(streams.screen()))?;
+    out.push(tables.len() as u8)?;
+    put_tables(out, tables.as_slice())?;
     Ok(())
 }
 
@@ -290,7 +315,7 @@ pub(crate) fn put_game(out: &mut Vec<u8>, game: &GameState) -> Result<(), AllocE
 {
     out.push(view_byte(game.view))?;
     out.push(truth_byte(game.at_line_start))?;
-    out.push(truth_byte(game.streams.screen()))?;
+    put_streams(out, &game.streams)?;
     put_generators(out, game.generators)?;
     put_windows(out, &game.windows)?;
     out.extend_from_slice(game.memory.dynamic())?;

@@ -1,6 +1,7 @@
 -- The parts of a machine that waits, and the machine that is made of them.
-use Rattle.std.specs.Prelude.{[], Option, Some, None}
+use Rattle.std.specs.Prelude.{List, [], Option, Some, None}
 use Rattle.zk_code.specs.declared.instr.Instr.{Instr}
+use Rattle.zk_save.specs.States.{WholeState}
 use Rattle.zk_step.specs.declared.state.ending.Event.{Event}
 use Rattle.zk_step.specs.declared.state.game_state.GameState.{GameState}
 use Rattle.zk_vm.specs.declared.limits.Limits.{Limits}
@@ -18,10 +19,10 @@ abbrev pub asking_of : Option Waiting → Option Asking
 asking_of None = None
 asking_of (Some w) = Some (record { event = w.wait; next = w.instruction.next; store = w.instruction.store })
 
--- a machine that waits, made of its parts: there are no states to go back to
-abbrev pub waiting_with : GameState → Place → Limits → Event → Instr → Session
-waiting_with game place limits event i = record {
-  state = record { game = game; pc = place.pc; steps = place.steps; reads = place.reads; due = []; undo = [] };
+-- a machine that waits, made of its parts
+abbrev pub waiting_with : GameState → Place → Limits → Event → Instr → List WholeState → Session
+waiting_with game place limits event i undo = record {
+  state = record { game = game; pc = place.pc; steps = place.steps; reads = place.reads; due = []; undo = undo };
   limits = limits;
   waiting = Some (record { wait = event; instruction = i });
   stopped = None;

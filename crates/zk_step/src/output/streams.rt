@@ -1,6 +1,6 @@
 // The output streams.
 
-ghost use Rattle.std.specs.Prelude.{◌≡◌, ◌<◌, ◌+◌, ◌^◌, [], Bool, Ok, Err, Some, IfSome, MatchResult, length};
+ghost use Rattle.std.specs.Prelude.{◌≡◌, ◌<◌, ◌≤◌, ◌+◌, ◌^◌, [], Bool, Ok, Err, Some, IfSome, MatchResult, length};
 ghost use Rattle.zk_step.specs.Streams.{OutputStreams, first_streams, with_screen, opened, counted, newest_of, closed};
 
 use arrayvec::ArrayVec;
@@ -45,6 +45,40 @@ impl Streams {
             newest: None,
             below: ArrayVec::new(),
         }
+    }
+
+    /// Stream 1 is on or off, and these tables are open, the newest first.
+    pub fn with_tables(screen: bool, tables: &[OpenTable]) -> Streams
+        requires { length tables.now ≤ 16 }
+        ensures { result ≡ record { screen = screen; tables = tables.now } }
+    {
+        let mut below = ArrayVec::new();
+        if tables.is_empty() {
+            return Streams {
+                screen,
+                newest: None,
+                below,
+            };
+        }
+        let _ = below.try_extend_from_slice(&tables[1..]);
+        Streams {
+            screen,
+            newest: Some(tables[0]),
+            below,
+        }
+    }
+
+    /// The tables that are open, the newest first.
+    pub fn tables(&self) -> ArrayVec<OpenTable, 16>
+        ensures value { result.items ≡ self.now.tables }
+        ensures few { length self.now.tables ≤ 16 }
+    {
+        let mut tables = ArrayVec::new();
+        if let Some(newest) = self.newest {
+            tables.push(newest);
+            let _ = tables.try_extend_from_slice(self.below.as_slice());
+        }
+        tables
     }
 
     /// Whether stream 1 is on.

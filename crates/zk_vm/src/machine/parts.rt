@@ -2,6 +2,7 @@
 
 ghost use Rattle.std.specs.Prelude.{◌≡◌, ◌≤◌, ◌<◌, ◌^◌, true, [], None, Ok, IfOk, IfSome, OnSome};
 ghost use Rattle.zk_code.specs.Reading.{instr_at};
+ghost use Rattle.zk_save.specs.States.{states_in, AreOf};
 ghost use Rattle.zk_state.specs.Frames.{bounds_of};
 ghost use Rattle.zk_vm.specs.Bounds.{AreInRange};
 ghost use Rattle.zk_vm.specs.Parts.{asking_of, place_of, waiting_with};
@@ -92,8 +93,18 @@ impl Machine {
         let _ = &self.limits;
     }
 
-    /// A machine that waits for a line or a character, made of its parts. There are no states to go back to.
-    #[tactic(auto, unfolding(zk_save::specs::States::states_in))]
+    /// The states to go back to. Those of a machine that waits are of its story, and within its bounds.
+    pub fn undo(&self) -> &Undo
+        ensures states { self.now.state.undo
+            ≡ states_in self.now.state.game.memory.file result.now }
+        ensures are_of { OnSome (asking_of self.now.waiting)
+            (AreOf self.now.state.game.memory self.now.state.game.frames result.now) }
+    {
+        &self.undo
+    }
+
+    /// A machine that waits for a line or a character, made of its parts. The states to go back to have to be of its
+    /// story, and within its bounds.
     pub fn of_parts(
         alloc: Global,
         game: GameState,
@@ -101,6 +112,7 @@ impl Machine {
         limits: Limits,
         event: Event,
         instruction: Instr,
+        undo: Undo,
     ) -> Result<Machine, AllocError>
         requires range { AreInRange limits }
         requires read { is_read event ≡ true }
@@ -112,9 +124,11 @@ impl Machine {
         requires fetched { instr_at game.memory place.pc ≡ Ok instruction }
         requires bounds { bounds_of game.frames ≡ (limits.frames, limits.words) }
         requires undo { game.memory.undo_states ≡ limits.undo }
-        ensures { IfOk result (λ m. m ≡ waiting_with game place limits event instruction) }
+        requires most { undo.most ≡ limits.undo }
+        requires are_of { AreOf game.memory game.frames undo }
+        ensures { IfOk result (λ m. m ≡ waiting_with game place limits event instruction
+            (states_in game.memory.file undo)) }
     {
-        let undo = Undo::new(alloc, limits.undo)?;
         let cache = Cache::new(alloc, &game.memory)?;
         let codes = Codes::new(alloc)?;
         Ok(Machine {

@@ -30,6 +30,7 @@ returns-clause-is_of c =
     let back : bytes_in c.in_ok-packed.packed.items (length bytes) ≡ xored bytes file = bytes_back c.in_ok-packed.packed.items bytes file le c.in_ok-packed.ensures.value in
     record {
       dynamic = ap length back ∙ length-xored bytes file le ∙ c.dynamic-dynamic.ensures.len;
+      some = rw c.in_ok-frames.ensures (omega arith);
       frames = rw c.in_ok-frames.ensures c.is_bounded.ensures.frames;
       words = rw c.in_ok-frames.ensures c.is_bounded.ensures.words;
     }
