@@ -30,3 +30,10 @@ whole_name us x y is = take_all x us (omega (arith, is))
 
 pub name_unit : (e : ExtraTable) (a b : Collected) (u : TextUnit) → Collects a b (shown e u) [] → Collects a b (shown_all e (u ∷ [])) []
 name_unit e a b u h = subst (λ (cs : List ℕ). Collects a b cs []) (sym (shown_all-one e u)) h
+
+-- none are left
+pub name_cut : (e : ExtraTable) (a : Collected) (x : ℕ) (us : List TextUnit) → x ≡ 0 → Collects a a (shown_all e (take x us)) []
+name_cut e a x us none = subst (λ (n : ℕ). Collects a a (shown_all e (take n us)) []) (sym none) (name_nothing e a)
+
+pub left_nothing : (x : ℕ) → x ≡ 0 + x
+left_nothing x = omega arith

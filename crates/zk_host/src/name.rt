@@ -56,7 +56,7 @@ impl<'a> Sink for NameSink<'a> {
     ghost use Rattle.std.proofs.Common.{◌∙◌};
     ghost use Rattle.zk_text.specs.Shown.{shown, shown_all};
     ghost use Rattle.zk_host.specs.Collecting.{Collects};
-    ghost use Rattle.zk_host.specs.NameSinks.{left_twice, name_nothing, name_twice, name_late};
+    ghost use Rattle.zk_host.specs.NameSinks.{left_nothing, left_twice, name_nothing, name_twice, name_late};
 
     ghost gave = { λ a b us. (b.name.ghost_name ≡ a.name.ghost_name) × (b.extra.now ≡ a.extra.now)
         × (a.left ≡ length us + b.left)
@@ -74,7 +74,12 @@ impl<'a> Sink for NameSink<'a> {
         Ok(())
     }
 
-    ghost nothing = { λ a. (refl, refl, refl, name_nothing a.extra.now a.name.now) };
+    ghost nothing = { λ a. (
+      refl,
+      refl,
+      left_nothing a.left,
+      name_nothing a.extra.now a.name.now,
+    ) };
 
     ghost twice = { λ a b c s t h k. (
       k.0 ∙ h.0,

@@ -63,6 +63,7 @@ impl Alphabet {
     /// The ZSCII code of a Z-character from 6 to 31 in an alphabet. An own table is read as it
     /// stands in memory; 7 in A2 is a new line, code 13, in every table.
     #[tactic(auto, unfolding(crate::specs::Alphabets::letter_by))]
+    #[inline(always)]
     pub fn letter(self, memory: &Memory, row: Row, character: u8) -> u8
         ensures { result ≡ letter_by memory.now self.table row character }
     {

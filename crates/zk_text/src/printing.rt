@@ -1,9 +1,9 @@
 // The units of a text, given to a sink from any place of the text on.
 
-ghost use Rattle.std.specs.Prelude.{◌≡◌, ◌≤◌, ◌<◌, ◌∷◌, ◌++◌, [], List, ℕ, Bool, false, true, Ok, None, Some, IsOk, IfOk, OnOk, OnErr, drop};
+ghost use Rattle.std.specs.Prelude.{◌≡◌, ◌≤◌, ◌<◌, ◌∷◌, ◌++◌, [], List, ℕ, Bool, false, true, Ok, None, Some, IsOk, IfErr, IfOk, OnOk, OnErr, drop};
 ghost use Rattle.zk_mem.specs.Map.{MemoryMap, code_word_at};
 ghost use Rattle.zk_text.specs.Alphabets.{alphabet_table, letter_of};
-ghost use Rattle.zk_text.specs.Meaning.{Units, abbreviation, meaning, no_abbreviation, text_units, values};
+ghost use Rattle.zk_text.specs.Meaning.{Units, abbreviation, meaning, value, values};
 ghost use Rattle.zk_text.specs.Pieces.{pieces};
 ghost use Rattle.zk_text.specs.Places.{Gives, HasEntered, HasPassed, IsPlace, IsUpTo, Refuses, first_place, left, rest_met, rest_on, rest_read, work_left};
 ghost use Rattle.zk_text.specs.Reading.{held_back};
@@ -64,6 +64,21 @@ impl Place {
     }
 }
 
+/// The ZSCII code of a piece, or the number of the abbreviation that it is.
+#[inline(always)]
+fn code_of(memory: &Memory, alphabet: Alphabet, piece: Piece) -> Result<u16, u16>
+    requires { alphabet.table ≡ alphabet_table memory.now }
+    ensures code { IfOk result (λ code. (expand : ℕ → Units) →
+        value (letter_of memory.now) expand piece ≡ Ok (Unit.Code code ∷ [])) }
+    ensures number { IfErr result (λ number. piece ≡ Piece.Abbreviation number) }
+{
+    match piece {
+        Piece::Letter(row, character) => Ok(alphabet.letter(memory, row, character) as u16),
+        Piece::Code(code) => Ok(code),
+        Piece::Abbreviation(number) => Err(number),
+    }
+}
+
 /// A piece.
 #[inline(always)]
 fn give_piece<S: Sink>(
@@ -78,18 +93,12 @@ fn give_piece<S: Sink>(
     ensures err { OnErr result ((expand : ℕ → Units) (zs : List ℕ) →
         Refuses S.refused sink.old sink.new (values (letter_of memory.now) expand (piece ∷ pieces zs))) }
 {
-    match piece {
-        Piece::Letter(row, character) => {
-            match sink.put(Unit::Code(alphabet.letter(memory, row, character) as u16)) {
-                Ok(()) => Ok(Met::Holds(Pending::Nothing)),
-                Err(fault) => Err(fault),
-            }
-        }
-        Piece::Code(code) => match sink.put(Unit::Code(code)) {
+    match code_of(memory, alphabet, piece) {
+        Ok(code) => match sink.put(Unit::Code(code)) {
             Ok(()) => Ok(Met::Holds(Pending::Nothing)),
             Err(fault) => Err(fault),
         },
-        Piece::Abbreviation(number) => Ok(Met::Names(number)),
+        Err(number) => Ok(Met::Names(number)),
     }
 }
 

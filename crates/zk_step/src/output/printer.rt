@@ -66,6 +66,7 @@ impl<'a, S: Screen> Printer<'a, S> {
     }
 
     /// Shows a character on the streams that are on.
+    #[inline(always)]
     fn show(&mut self, c: char)
         ensures kept { (self.new.screen.ghost_name ≡ self.old.screen.ghost_name)
             × (self.new.extra.now ≡ self.old.extra.now) × (self.new.selected ≡ self.old.selected) }
