@@ -4,7 +4,8 @@
  *
  * Without a file SNAPSHOT the story begins; else it goes on from there, and LINE answers it. What it shows up to the next read
  * goes to standard output, and SNAPSHOT is written anew, with the newest states for the story's UNDO. Once the story has
- * stopped SNAPSHOT is removed, and the status is 3. Nothing is saved, and nothing restored. The status is 1 where a file can't be read or is refused. */
+ * stopped SNAPSHOT is removed, and the status is 3. Nothing is saved, and nothing restored. The status is 1 where a file
+ * can't be read or is refused. */
 #include <stdio.h>
 #include <stdlib.h>
 #include <string.h>

@@ -483,8 +483,8 @@ static void undo_from_snapshots(void) {
 }
 
 /* Says why a snapshot is refused, or that it is opened, where its limits may be these at most. */
-static void open_within(const char *what, const uint8_t *story, size_t length, const uint8_t *kept, size_t size, uint32_t frames,
-                        uint32_t undo) {
+static void open_within(const char *what, const uint8_t *story, size_t length, const uint8_t *kept, size_t size,
+                        uint32_t frames, uint32_t undo) {
     zkit_options options = {sizeof options, 0, 0, 0, 0, 0, 0, 0};
     uint32_t reason = 99;
     zkit_defaults(&options);
