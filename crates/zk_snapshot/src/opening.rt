@@ -38,8 +38,8 @@ pub enum SnapshotError {
     /// The length, the release, the serial number, the checksum or the sum of the story is another.
     #[error("the snapshot is of another story")]
     OtherStory,
-    /// The first 23 bytes are those of a snapshot of this story, and all of them made no machine that has them as
-    /// its snapshot.
+    /// The first 23 bytes are those of a snapshot of this story, and no machine was made that has all of them as its
+    /// snapshot.
     #[error("the snapshot is damaged")]
     Damaged,
     /// There is no memory for the machine.

@@ -1,9 +1,7 @@
 // A machine that waits is kept as bytes.
 
 ghost use Rattle.std.specs.Prelude.{◌≡◌, ◌≤◌, ◌-◌, ◌^◌, ◌++◌, ◌↔◌, IsTrue, IfOk, OnOk, length, min, take};
-ghost use Rattle.zk_save.specs.States.{AreOf};
 ghost use Rattle.zk_state.specs.Frames.{bounds_of};
-ghost use Rattle.zk_vm.specs.Step.{is_read};
 ghost use Rattle.zk_snapshot.specs.Snapshots.{asking_bytes, body_bytes, snapshot_of, snapshot_with, longest_of, HasSnapshot};
 
 use crate::states::{fitting, put_states, room_for};
@@ -11,9 +9,8 @@ use crate::sums::sum_of;
 use crate::writing::{put_4, put_event, put_game, put_head, put_limits, put_place, put_store};
 use std::alloc::{AllocError, Global};
 use zk_state::frames::Frames;
-use zk_step::state::ending::Event;
-use zk_vm::machine::Machine;
 use zk_vm::machine::parts::Asking;
+use zk_vm::machine::{Machine, is_read};
 
 /// Writes what is asked for, if anything is.
 #[tactic(auto, unfolding(crate::specs::Snapshots::asking_bytes))]
@@ -81,16 +78,6 @@ pub(crate) fn whole_snapshot(alloc: Global, machine: &Machine) -> Result<Vec<u8>
 {
     let mut frames = room_for(alloc, &machine.game().frames)?;
     with_states(alloc, machine, &mut frames, machine.undo().len())
-}
-
-/// Whether an event is a read.
-fn is_read(event: Event) -> bool
-    ensures { result ≡ is_read event }
-{
-    match event {
-        Event::Line(_, _) | Event::Char => true,
-        Event::Save | Event::Restore => false,
-    }
 }
 
 /// Whether a machine has a snapshot: it waits for a line or a character.
