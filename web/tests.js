@@ -19,6 +19,7 @@ const VERSIONS = [3, 4, 5, 8];
 const CAP = 64 << 20;
 const PAGE = 65_536;
 const TOO_MUCH_TEXT = 6;
+const UNDO_BYTES = 1 << 20;
 const LONGEST = 512 << 20;
 const NONE = Buffer.alloc(0);
 const LAST_LINE = /^zkit: (refused|fault|limit) \d|^zkit: (read failed|write failed|out of memory)$/;
@@ -246,7 +247,7 @@ function nextByModule(module, story, snapshot, line) {
         awaited = game.turn();
         shown += game.text();
     } while (awaited === "save" ? game.saved(false) : awaited === "restore" ? game.restore(null) : awaited === "room");
-    const takenOfIt = awaited === "stopped" ? null : game.snapshot();
+    const takenOfIt = awaited === "stopped" ? null : game.snapshot(UNDO_BYTES);
     game.close();
     return { shown, snapshot: takenOfIt };
 }
@@ -261,10 +262,16 @@ function nextByLibrary(file, snapshot, line) {
     return { shown: stdout.toString(), snapshot: taken(kept) };
 }
 
+/** The walkthrough of a version; from 5 on each turn is kept, and one is taken back. */
+function linesWithUndo(version) {
+    const lines = example("lighthouse.walkthrough").toString().split("\n");
+    return version < 5 ? lines.filter((line) => line !== "undo") : ["undo on", ...lines];
+}
+
 function snapshots(module) {
-    const lines = example("lighthouse.walkthrough").toString().split("\n").filter((line) => line !== "undo");
     const hasLibrary = fs.existsSync(path.join(FOLDER, "kept"));
     for (const version of VERSIONS) {
+        const lines = linesWithUndo(version);
         const file = path.join(EXAMPLES, `lighthouse.z${version}`);
         const story = fs.readFileSync(file);
         const wanted = run(["play", file], Buffer.from(lines.join("\n"))).shown.toString();

@@ -52,6 +52,8 @@
  * @property {Giving} zkit_restore
  * @property {(game: bigint) => number} zkit_restore_none
  * @property {Copying} zkit_snapshot
+ * @property {(game: bigint, undoBytes: bigint, buffer: bigint, length: bigint, needed: bigint) => number}
+ *     zkit_snapshot_with_undo
  * @property {(game: bigint, window: bigint) => void} zkit_window_of
  * @property {(game: bigint, row: number, buffer: bigint, length: bigint) => bigint} zkit_row
  * @property {(game: bigint, row: number, buffer: bigint, length: bigint) => bigint} zkit_tallest_row
@@ -415,9 +417,13 @@ export class Game {
         return file ? this.given(file, this.calls.zkit_restore) : this.calls.zkit_restore_none(this.at) === DONE;
     }
 
-    /** A snapshot of the play, or null. Take the text first. */
-    snapshot() {
-        return this.copied(this.calls.zkit_snapshot);
+    /**
+     * A snapshot of the play, with as many states to go back to as fit in so many bytes; or null. Take the text first.
+     * @param {number} [undoBytes]
+     */
+    snapshot(undoBytes = 0) {
+        const most = BigInt(whole(undoBytes));
+        return this.copied((game, ...rest) => this.calls.zkit_snapshot_with_undo(game, most, ...rest));
     }
 
     /**
