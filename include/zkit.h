@@ -344,7 +344,7 @@ typedef struct zkit_figures {
 void zkit_status_line(const zkit *game, zkit_figures *figures);
 
 /* Puts the name in the status line of a story of version 3, which is mostly that of a place, at the front of a buffer, as
- * UTF-8, or as much of it as there is room for; answers how many bytes. */
+ * UTF-8, or as much of it as there is room for; answers how many bytes. Of a longer name the first 1,000 characters count. */
 size_t zkit_status_name(const zkit *game, uint8_t *buffer, size_t length);
 
 /* ---- about a story */
