@@ -3,8 +3,8 @@
 
 usage: conformance/hostile.py FOLDER
 
-FOLDER gets a story for each kind of work, each place where text can go and each of the greatest lengths: KIND.PLACE.zV. Each
-shows nothing but that work and ends.
+FOLDER gets a story for each kind of work, each place where text can go and each of the greatest lengths, as
+`letters.upper.z3`. Each does nothing but that work, and ends.
 """
 
 from __future__ import annotations
@@ -13,16 +13,18 @@ import sys
 from pathlib import Path
 
 LENGTHS = {3: 131_072, 4: 262_144, 5: 262_144, 8: 524_288}
-UNIT = {3: 2, 4: 4, 5: 4, 8: 8}
+UNITS = {3: 2, 4: 4, 5: 4, 8: 8}
+
 ABBREVIATIONS = 0x40
 GLOBALS = 0x100
 OBJECTS = 0x2E0
 CODE = 0x400
 TABLE = 0x800
+NESTED = 0xA00
 TEXTS = 0x1000
 STATIC = 0xFFE0
 
-# Where text can go: the bytes of the instructions that see to it.
+# Where text can go, by the instructions that see to it.
 PLACES = {
     "screen": b"",
     "nowhere": bytes.fromhex("f33fffff"),
@@ -30,8 +32,9 @@ PLACES = {
     "upper": bytes.fromhex("ea7f19 eb7f01"),
     "table": bytes.fromhex("f34f03") + TABLE.to_bytes(2, "big"),
 }
-# What the text of an abbreviation is made of: Z-characters that are said over and over.
-TEXTS_OF = {
+
+# What the text of an abbreviation says over and over, in Z-characters.
+SAYINGS = {
     "letters": (6, 7, 8),
     "nulls": (5, 6, 0, 0),
     "lines": (5, 7, 6),
@@ -39,78 +42,98 @@ TEXTS_OF = {
 }
 
 
-def words(characters: tuple[int, ...], count: int) -> bytes:
-    """The words of a text that says Z-characters over and over."""
+def put(data: bytearray, at: int, some: bytes) -> None:
+    """Puts bytes at an address."""
+    data[at:at + len(some)] = some
+
+
+def put_word(data: bytearray, at: int, word: int) -> None:
+    """Puts a word at an address."""
+    put(data, at, word.to_bytes(2, "big"))
+
+
+def text_of(characters: tuple[int, ...], count: int) -> bytes:
+    """A text of so many words that says Z-characters over and over."""
     text = bytearray()
     for i in range(count):
         first, second, third = (characters[(3 * i + k) % len(characters)] for k in range(3))
-        word = first << 10 | second << 5 | third | (0x8000 if i == count - 1 else 0)
-        text += word.to_bytes(2, "big")
+        last = 0x8000 if i == count - 1 else 0
+        text += (last | first << 10 | second << 5 | third).to_bytes(2, "big")
     return bytes(text)
 
 
 def story(version: int, code: bytes) -> bytearray:
-    """A story of the greatest length that runs some code, with nothing else in it."""
+    """A story of the greatest length that runs some code and ends, with nothing else in it."""
     data = bytearray(LENGTHS[version])
     data[0] = version
-    for at, word in ((4, 0xFFFE), (6, CODE), (8, OBJECTS), (10, OBJECTS), (12, GLOBALS), (14, STATIC), (24, ABBREVIATIONS)):
-        data[at : at + 2] = word.to_bytes(2, "big")
-    data[CODE : CODE + len(code)] = code
+    words = {4: 0xFFFE, 6: CODE, 8: OBJECTS, 10: OBJECTS, 12: GLOBALS, 14: STATIC, 24: ABBREVIATIONS}
+    for at, word in words.items():
+        put_word(data, at, word)
+    put(data, CODE, code + b"\xba")
     return data
 
 
-def text_story(version: int, place: str, kind: str) -> bytes:
-    """A story that prints a text of half its length, all of it abbreviations, whose text has the other half."""
+def printing(version: int, place: str, address: int) -> bytes:
+    """Instructions that see to where text goes, and `print_paddr` of the text at an address."""
+    return PLACES[place] + b"\x8d" + (address // UNITS[version]).to_bytes(2, "big")
+
+
+def long_text(version: int, place: str, saying: str) -> bytes:
+    """A text of half the story's length, all of it abbreviations, whose text has the other half."""
     middle = LENGTHS[version] // 2
-    printed = b"\x8d" + (middle // UNIT[version]).to_bytes(2, "big")
-    data = story(version, PLACES[place] + printed + b"\xba")
+    data = story(version, printing(version, place, middle))
     for number in range(96):
-        at = ABBREVIATIONS + 2 * number
-        data[at : at + 2] = (TEXTS // 2).to_bytes(2, "big")
-    data[TEXTS:middle] = words(TEXTS_OF[kind], (middle - TEXTS) // 2)
-    data[middle:] = words((1, 0), (LENGTHS[version] - middle) // 2)
+        put_word(data, ABBREVIATIONS + 2 * number, TEXTS // 2)
+    put(data, TEXTS, text_of(SAYINGS[saying], (middle - TEXTS) // 2))
+    put(data, middle, text_of((1, 0), (LENGTHS[version] - middle) // 2))
     return bytes(data)
 
 
-def check_story(version: int, place: str) -> bytes:
-    """A story that prints a text that names each abbreviation, whose texts are as long as the story and end in one fault."""
-    printed = b"\x8d" + (TABLE // UNIT[version]).to_bytes(2, "big")
-    data = story(version, PLACES[place] + printed + b"\xba")
+def long_check(version: int) -> bytes:
+    """A text of all abbreviations: 95 are as long as the story, and the last names another, so that none is shown."""
+    data = story(version, printing(version, "screen", TABLE))
     names: list[int] = []
     for number in range(96):
-        at = ABBREVIATIONS + 2 * number
-        data[at : at + 2] = ((TEXTS + 2 * number) // 2).to_bytes(2, "big")
+        put_word(data, ABBREVIATIONS + 2 * number, TEXTS // 2 + number)
         names += [number // 32 + 1, number % 32]
-    data[TEXTS:] = words((6, 7, 8), (LENGTHS[version] - TEXTS) // 2)
-    # the last abbreviation names another, so that nothing is shown
-    last = ABBREVIATIONS + 2 * 95
-    data[last : last + 2] = ((TABLE + 0x200) // 2).to_bytes(2, "big")
-    data[TABLE + 0x200 : TABLE + 0x202] = (0x8000 | 1 << 10 | 6 << 5 | 6).to_bytes(2, "big")
-    data[TABLE : TABLE + 128] = words(tuple(names), 64)
+    put_word(data, ABBREVIATIONS + 2 * 95, NESTED // 2)
+    put(data, NESTED, text_of((1, 6, 6), 1))
+    put(data, TEXTS, text_of(SAYINGS["letters"], (LENGTHS[version] - TEXTS) // 2))
+    put(data, TABLE, text_of(tuple(names), 64))
     return bytes(data)
 
 
-def table_story(version: int, place: str) -> bytes:
-    """A story that prints as many and as long rows as there may be."""
-    printed = bytes.fromhex("fe03") + TEXTS.to_bytes(2, "big") + (60_000).to_bytes(2, "big") + (65_535).to_bytes(2, "big")
-    printed = bytes.fromhex("fe00") + printed[2:] + (65_536 - 60_000).to_bytes(2, "big")
-    data = story(version, PLACES[place] + printed + b"\xba")
-    data[TEXTS:STATIC] = b"x" * (STATIC - TEXTS)
+def long_rows(version: int, place: str) -> bytes:
+    """As many and as long rows of `print_table` as there may be, one over the other."""
+    width = 60_000
+    operands = (TEXTS, width, 65_535, 65_536 - width)
+    code = PLACES[place] + bytes.fromhex("fe00") + b"".join(word.to_bytes(2, "big") for word in operands)
+    data = story(version, code)
+    put(data, TEXTS, b"x" * (STATIC - TEXTS))
     return bytes(data)
+
+
+def all_stories() -> dict[str, bytes]:
+    """The stories by their names."""
+    stories: dict[str, bytes] = {}
+    for version in LENGTHS:
+        for place in PLACES:
+            for saying in SAYINGS:
+                stories[f"{saying}.{place}.z{version}"] = long_text(version, place, saying)
+            if version >= 5:
+                stories[f"rows.{place}.z{version}"] = long_rows(version, place)
+        stories[f"check.screen.z{version}"] = long_check(version)
+    return stories
 
 
 def main() -> None:
+    """Writes the stories."""
     if len(sys.argv) != 2:
-        sys.exit("\n".join(str(__doc__).splitlines()[2:3]))
+        sys.exit(str(__doc__).splitlines()[2])
     folder = Path(sys.argv[1])
     folder.mkdir(parents=True, exist_ok=True)
-    for version in LENGTHS:
-        for place in PLACES:
-            for kind in TEXTS_OF:
-                (folder / f"{kind}.{place}.z{version}").write_bytes(text_story(version, place, kind))
-            if version >= 5:
-                (folder / f"table.{place}.z{version}").write_bytes(table_story(version, place))
-        (folder / f"check.screen.z{version}").write_bytes(check_story(version, "screen"))
+    for name, data in all_stories().items():
+        (folder / name).write_bytes(data)
 
 
 if __name__ == "__main__":
