@@ -264,7 +264,7 @@ function nextByLibrary(file, snapshot, line) {
 
 /** The walkthrough of a version; from 5 on each turn is kept, and one is taken back. */
 function linesWithUndo(version) {
-    const lines = example("lighthouse.walkthrough").toString().split("\n");
+    const lines = example("lighthouse.walkthrough").toString().trimEnd().split("\n");
     return version < 5 ? lines.filter((line) => line !== "undo") : ["undo on", ...lines];
 }
 
