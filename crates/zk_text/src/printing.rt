@@ -1,6 +1,6 @@
 // The units of a text, given to a sink from any place of the text on.
 
-ghost use Rattle.std.specs.Prelude.{◌≡◌, ◌≤◌, ◌<◌, ◌∷◌, ◌++◌, [], List, ℕ, Bool, false, true, Ok, None, Some, IsOk, IfErr, IfOk, OnOk, OnErr, drop};
+ghost use Rattle.std.specs.Prelude.{◌≡◌, ◌≤◌, ◌<◌, ◌+◌, ◌∷◌, ◌++◌, [], List, ℕ, Bool, false, true, Ok, None, Some, IsOk, IfErr, IfOk, OnOk, OnErr, drop};
 ghost use Rattle.zk_mem.specs.Map.{MemoryMap, code_word_at};
 ghost use Rattle.zk_text.specs.Alphabets.{alphabet_table, letter_of};
 ghost use Rattle.zk_text.specs.Meaning.{Units, abbreviation, meaning, value, values};
@@ -146,78 +146,18 @@ fn give_character<S: Sink>(
     }
 }
 
-/// The third Z-character of a word.
-#[tactic(auto, unfolding(crate::specs::Words::z_characters), using(crate::proofs::Giving::gives_twice, crate::proofs::Giving::refuses_late))]
+/// A Z-character of a word, by its place from 0 to 2.
+#[tactic(auto, unfolding(crate::specs::Words::z_characters))]
 #[inline(always)]
-fn give_third<S: Sink>(
-    memory: &Memory,
-    alphabet: Alphabet,
-    held: Pending,
-    word: u16,
-    sink: &mut S,
-) -> Result<Read, SinkFault>
-    requires { alphabet.table ≡ alphabet_table memory.now }
-    ensures ok { IfOk result (λ read. (expand : ℕ → Units) (ws : List ℕ) → Gives S.gave sink.old sink.new
-        (meaning memory.now expand (held_back held ++ drop 2 (z_characters (word ∷ ws))))
-        (rest_read memory.now expand word read ws)) }
-    ensures up_to { IfOk result (IsUpTo 2) }
-    ensures err { OnErr result ((expand : ℕ → Units) (ws : List ℕ) → Refuses S.refused sink.old sink.new
-        (meaning memory.now expand (held_back held ++ drop 2 (z_characters (word ∷ ws))))) }
+fn character_at(word: u16, place: u8) -> u8
+    requires { place < 3 }
+    ensures { (ws : List ℕ) → drop place (z_characters (word ∷ ws))
+        ≡ result ∷ drop (place + 1) (z_characters (word ∷ ws)) }
 {
-    match give_character(memory, alphabet, held, (word % 32) as u8, sink) {
-        Ok(Met::Holds(next)) => Ok(Read::Through(next)),
-        Ok(Met::Names(number)) => Ok(Read::UpTo(3, number)),
-        Err(fault) => Err(fault),
-    }
-}
-
-/// The second Z-character of a word, and the third.
-#[tactic(auto, unfolding(crate::specs::Words::z_characters), using(crate::proofs::Giving::gives_twice, crate::proofs::Giving::refuses_late))]
-#[inline(always)]
-fn give_second<S: Sink>(
-    memory: &Memory,
-    alphabet: Alphabet,
-    held: Pending,
-    word: u16,
-    sink: &mut S,
-) -> Result<Read, SinkFault>
-    requires { alphabet.table ≡ alphabet_table memory.now }
-    ensures ok { IfOk result (λ read. (expand : ℕ → Units) (ws : List ℕ) → Gives S.gave sink.old sink.new
-        (meaning memory.now expand (held_back held ++ drop 1 (z_characters (word ∷ ws))))
-        (rest_read memory.now expand word read ws)) }
-    ensures up_to { IfOk result (IsUpTo 1) }
-    ensures err { OnErr result ((expand : ℕ → Units) (ws : List ℕ) → Refuses S.refused sink.old sink.new
-        (meaning memory.now expand (held_back held ++ drop 1 (z_characters (word ∷ ws))))) }
-{
-    match give_character(memory, alphabet, held, (word / 32 % 32) as u8, sink) {
-        Ok(Met::Holds(next)) => give_third(memory, alphabet, next, word, sink),
-        Ok(Met::Names(number)) => Ok(Read::UpTo(2, number)),
-        Err(fault) => Err(fault),
-    }
-}
-
-/// The three Z-characters of a word, up to an abbreviation.
-#[tactic(auto, unfolding(crate::specs::Words::z_characters), using(crate::proofs::Giving::gives_twice, crate::proofs::Giving::refuses_late))]
-#[inline(always)]
-fn give_first<S: Sink>(
-    memory: &Memory,
-    alphabet: Alphabet,
-    held: Pending,
-    word: u16,
-    sink: &mut S,
-) -> Result<Read, SinkFault>
-    requires { alphabet.table ≡ alphabet_table memory.now }
-    ensures ok { IfOk result (λ read. (expand : ℕ → Units) (ws : List ℕ) → Gives S.gave sink.old sink.new
-        (meaning memory.now expand (held_back held ++ drop 0 (z_characters (word ∷ ws))))
-        (rest_read memory.now expand word read ws)) }
-    ensures up_to { IfOk result (IsUpTo 0) }
-    ensures err { OnErr result ((expand : ℕ → Units) (ws : List ℕ) → Refuses S.refused sink.old sink.new
-        (meaning memory.now expand (held_back held ++ drop 0 (z_characters (word ∷ ws))))) }
-{
-    match give_character(memory, alphabet, held, (word / 1024 % 32) as u8, sink) {
-        Ok(Met::Holds(next)) => give_second(memory, alphabet, next, word, sink),
-        Ok(Met::Names(number)) => Ok(Read::UpTo(1, number)),
-        Err(fault) => Err(fault),
+    match place {
+        0 => (word / 1024 % 32) as u8,
+        1 => (word / 32 % 32) as u8,
+        _ => (word % 32) as u8,
     }
 }
 
@@ -227,7 +167,7 @@ fn give_word<S: Sink>(
     memory: &Memory,
     alphabet: Alphabet,
     taken: u8,
-    held: Pending,
+    mut held: Pending,
     word: u16,
     sink: &mut S,
 ) -> Result<Read, SinkFault>
@@ -240,12 +180,14 @@ fn give_word<S: Sink>(
     ensures err { OnErr result ((expand : ℕ → Units) (ws : List ℕ) → Refuses S.refused sink.old sink.new
         (meaning memory.now expand (held_back held ++ drop taken (z_characters (word ∷ ws))))) }
 {
-    match taken {
-        0 => give_first(memory, alphabet, held, word, sink),
-        1 => give_second(memory, alphabet, held, word, sink),
-        2 => give_third(memory, alphabet, held, word, sink),
-        _ => Ok(Read::Through(held)),
+    for place in taken..3 {
+        match give_character(memory, alphabet, held, character_at(word, place), sink) {
+            Ok(Met::Holds(next)) => held = next,
+            Ok(Met::Names(number)) => return Ok(Read::UpTo(place + 1, number)),
+            Err(fault) => return Err(fault),
+        }
     }
+    Ok(Read::Through(held))
 }
 
 impl Place {
@@ -404,4 +346,32 @@ pub(crate) fn print_rest<S: Sink>(
             Err(fault) => return Err(fault),
         }
     }
+}
+
+/// Gives a sink what is still to come of a text, up to so many words of it. Says whether the text goes on, and then stands at
+/// the place where it does.
+pub fn print_part<S: Sink>(
+    memory: &Memory,
+    place: &mut Place,
+    sink: &mut S,
+    most: u32,
+) -> Result<bool, SinkFault>
+    requires stands { IsPlace place.old }
+    requires means { IsOk (left memory.now place.old) }
+    ensures ok { IfOk result (λ on. Gives S.gave sink.old sink.new (left memory.now place.old)
+        (rest_on memory.now on place.new)) }
+    ensures stands { IfOk result (λ on. on ≡ true → IsPlace place.new) }
+    ensures less { IfOk result (λ on. on ≡ true → 0 < most →
+        work_left memory.now place.new < work_left memory.now place.old) }
+    ensures err { OnErr result (Refuses S.refused sink.old sink.new (left memory.now place.old)) }
+{
+    let alphabet = Alphabet::of(memory);
+    for _i in 0..most {
+        match walk_word(memory, alphabet, place, sink) {
+            Ok(true) => {}
+            Ok(false) => return Ok(false),
+            Err(fault) => return Err(fault),
+        }
+    }
+    Ok(true)
 }
