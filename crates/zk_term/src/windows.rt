@@ -236,6 +236,22 @@ impl Windows {
         self.gone_height = 0;
     }
 
+    /// Becomes like another.
+    pub fn copy_from(&mut self, other: &Windows)
+        ensures { self.new ≡ other.now }
+    {
+        self.cells.clear();
+        // there is room, so neither fails
+        let _ = self.cells.extend_from_slice(&other.cells[..other.height as usize * COLUMNS]);
+        self.gone.clear();
+        let _ = self.gone.extend_from_slice(other.gone.as_slice());
+        self.height = other.height;
+        self.row = other.row;
+        self.column = other.column;
+        self.selected = other.selected;
+        self.gone_height = other.gone_height;
+    }
+
     /// Empties the cursor's row from the cursor on (Standard, section 15, erase_line). Where the cursor stands
     /// past the last column or row, nothing is emptied.
     #[tactic(auto, unfolding(crate::specs::Windows::line_erased))]

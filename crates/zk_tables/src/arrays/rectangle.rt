@@ -101,8 +101,8 @@ pub fn give_row<S: Sink>(
     give_bytes(memory, row_address(rectangle, row), rectangle.width, sink)
 }
 
-/// Gives a sink a new line, and then a row.
-fn give_line<S: Sink>(
+/// Gives a sink a new line, and then a row, as `give_row` does.
+pub fn give_line<S: Sink>(
     memory: &Memory,
     rectangle: Rectangle,
     row: u16,
