@@ -4,6 +4,9 @@ pub mod Ends
 pub mod Filling
 pub mod FixedParts
 pub mod GivenCodes
+pub mod GivingBack
+pub mod HalfRows
+pub mod HalfTexts
 pub mod Inside
 pub mod Keys
 pub mod Later

@@ -13,6 +13,7 @@ pub mod ReadingExamples
 pub mod RoutineExamples
 pub mod Restarts
 pub mod Finish
+pub mod Halves
 pub mod Resuming
 pub mod Saving
 pub mod SavingExamples

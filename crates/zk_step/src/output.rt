@@ -2,6 +2,7 @@
 
 pub mod codes;
 pub(crate) mod giving;
+pub mod parts;
 pub mod printer;
 pub mod routing;
 pub mod status;

@@ -152,7 +152,7 @@ fn print_row(windows: &mut Windows, memory: &Memory, rectangle: Rectangle, row: 
 }
 
 /// Prints a row of a rectangle in the upper window, while stream 1 is on.
-fn print_row_if(windows: &mut Windows, memory: &Memory, rectangle: Rectangle, row: u16, on: bool)
+pub(crate) fn print_row_if(windows: &mut Windows, memory: &Memory, rectangle: Rectangle, row: u16, on: bool)
     requires stands { IsOk (rows_of memory.now rectangle) }
     requires within { row < rectangle.height }
     ensures { (codes : List ℕ) → row_at memory.now rectangle row ≡ Ok codes

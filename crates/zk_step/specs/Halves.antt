@@ -1,0 +1,135 @@
+-- Instructions in the middle of what they print: what is still to come of it.
+use Rattle.std.specs.Prelude.{◌≡◌, ◌≤◌, ℕ, zero, suc, Bool, true, false, List, [], ◌∷◌, ◌++◌, drop, take, Option, Some, None, Ok, IsOk}
+use Rattle.zk_mem.specs.Map.{MemoryMap}
+use Rattle.zk_code.specs.declared.instr.Instr.{Instr}
+use Rattle.zk_text.specs.declared.unit.Unit as text
+use Rattle.zk_text.specs.declared.unit.Unit.TheVariants.{Code}
+use Rattle.zk_text.specs.Extra.{ExtraTable, own_characters}
+use Rattle.zk_text.specs.Places.{IsPlace, first_place, left}
+use Rattle.zk_text.specs.Shown.{shown_all}
+use Rattle.zk_tables.specs.Rectangles.{joined_rows, more_rows, rows_of, row_units}
+use Rattle.zk_tables.specs.declared.arrays.rectangle.Rectangle.{Rectangle}
+use Rattle.zk_term.specs.declared.windows.Window.{Window}
+use Rattle.zk_term.specs.declared.windows.Window.TheVariants.{Lower, Upper}
+use Rattle.zk_term.specs.Windows.{Windows}
+use Rattle.zk_step.specs.declared.output.parts.Half.{Half}
+use Rattle.zk_step.specs.declared.output.parts.Rest.{Rest}
+use Rattle.zk_step.specs.declared.output.parts.Rest.TheVariants.{Text, Rows}
+use Rattle.zk_step.specs.declared.output.streams.OpenTable.{OpenTable}
+use Rattle.zk_step.specs.declared.state.ending.Output.{Output}
+use Rattle.zk_step.specs.declared.state.ending.Output.TheVariants as output
+use Rattle.zk_step.specs.declared.state.game_state.GameState.{GameState}
+use Rattle.zk_step.specs.Effects.{effect_of}
+use Rattle.zk_step.specs.Finish.{finished}
+use Rattle.zk_step.specs.Limited.{limited_next}
+use Rattle.zk_step.specs.Printing.{IsPlainEnd, characters_of, rows_or_none, units_of, units_or_none}
+use Rattle.zk_step.specs.Routing.{Texts, ends_line, no_text, printed_if, rows_printed, script_is_on, shown_if, stored_all, upper_printed, with_line_start}
+use Rattle.zk_step.specs.Streams.{newest_of}
+use Rattle.zk_step.specs.Variables.{operands_read}
+
+-- the first characters of a text, on each stream, and the others
+abbrev pub text_first : ℕ → Texts → Texts
+text_first n t = record { screen = take n t.screen; script = take n t.script }
+
+abbrev pub text_later : ℕ → Texts → Texts
+text_later n t = record { screen = drop n t.screen; script = drop n t.script }
+
+-- ---- what is still to come
+
+-- the rows of a rectangle from a row on
+abbrev pub rest_rows : MemoryMap → Rectangle → ℕ → List (List ℕ)
+rest_rows m r row = drop row (rows_or_none (rows_of m r))
+
+-- their units: before each row but the first of all stands a new line
+abbrev pub row_rest : ℕ → List (List ℕ) → List text.Unit
+row_rest zero rows = joined_rows rows
+row_rest (suc row) rows = more_rows rows
+
+-- a row of a rectangle, by its number: before each but the first stands a new line
+abbrev pub row_line : ℕ → List ℕ → List text.Unit
+row_line zero codes = row_units codes
+row_line (suc row) codes = Code 13 ∷ row_units codes
+
+abbrev pub line_end : Bool → List text.Unit
+line_end true = Code 13 ∷ []
+line_end false = []
+
+-- the units that are still to come
+unfoldable pub rest_units : MemoryMap → Rest → List text.Unit
+rest_units m (Text place line) = units_or_none (left m place) ++ line_end line
+rest_units m (Rows r row) = row_rest row (rest_rows m r row)
+
+-- a text from a place on has a meaning; rows can be read
+abbrev pub IsRest : MemoryMap → Rest → Type 0
+IsRest m (Text place line) = IsPlace place × IsOk (left m place)
+IsRest m (Rows r row) = IsOk (rows_of m r) × (row ≤ r.height)
+
+-- the units that come where more is to come, or nothing
+abbrev pub rest_on : MemoryMap → Bool → Rest → List text.Unit
+rest_on m true rest = rest_units m rest
+rest_on m false rest = []
+
+-- a sink was given units, and others are still to come
+pub record GivesSome {S : Type 0} (gave : S → S → List text.Unit → Type 0) (a b : S) (whole rest : List text.Unit) : Type 0 where
+  pub units : List text.Unit
+  pub gives : gave a b units
+  pub is : whole ≡ units ++ rest
+
+-- what an output that may be long begins with; others are shown at once
+abbrev pub whole_of : Output → Option Rest
+whole_of (output.Text a) = Some (Text (first_place a) false)
+whole_of (output.Line a) = Some (Text (first_place a) true)
+whole_of (output.Rows r) = Some (Rows r 0)
+whole_of _ = None
+
+-- ---- its route
+
+-- rows from a row on in the upper window: each but the first of all begins in a column of the next row
+abbrev pub upper_rows : Bool → ExtraTable → ℕ → ℕ → List (List ℕ) → Windows → Windows
+upper_rows on t column (suc row) rows w = rows_printed on t column rows w
+upper_rows on t column zero [] w = w
+upper_rows on t column zero (row ∷ rows) w = rows_printed on t column rows (printed_if on (shown_all t (row_units row)) w)
+
+-- the upper window gets what is still to come
+unfoldable pub upper_rest : Bool → MemoryMap → ℕ → Rest → Windows → Windows
+upper_rest on m column (Text place line) w = printed_if on (shown_all (own_characters m) (rest_units m (Text place line))) w
+upper_rest on m column (Rows r row) w = upper_rows on (own_characters m) column row (rest_rows m r row) w
+
+-- characters for the screen and the transcript, while they are on
+abbrev pub streamed_text : GameState → List ℕ → Texts
+streamed_text w cs = record { screen = shown_if w.streams.screen cs; script = shown_if (script_is_on w.memory) cs }
+
+-- the text of the screen and the transcript that is still to come; tables and the upper window show none
+abbrev pub rest_text_by : Option OpenTable → Window → GameState → List text.Unit → Texts
+rest_text_by None Lower w us = streamed_text w (shown_all (own_characters w.memory) us)
+rest_text_by None Upper w us = no_text
+rest_text_by (Some t) window w us = no_text
+
+abbrev pub rest_text : GameState → Rest → Texts
+rest_text w rest = rest_text_by (newest_of w.streams.tables) w.windows.selected w (rest_units w.memory rest)
+
+-- ---- instructions in the middle
+
+-- What was shown so far and what is still to come make what the instruction prints: for a table, the codes so far; in the
+-- upper window, a copy of it; else the screen's last line, and then the instruction can be finished.
+abbrev pub IsOnWay : Option OpenTable → Window → GameState → Instr → List ℕ → List ℕ → Windows → Half → Type 0
+IsOnWay (Some t) window w i vs codes draft h =
+    codes ++ stored_all (own_characters w.memory) (rest_units w.memory h.rest) ≡ stored_all (own_characters w.memory) (units_of w.memory h.effect.output)
+IsOnWay None Upper w i vs codes draft h =
+    upper_rest w.streams.screen w.memory w.windows.column h.rest draft ≡ upper_printed w.streams.screen w.memory h.effect.output w.windows
+IsOnWay None Lower w i vs codes draft h =
+    (ends_line h.at_line_start (shown_if w.streams.screen (shown_all (own_characters w.memory) (rest_units w.memory h.rest))) ≡ ends_line w.at_line_start (shown_if w.streams.screen (characters_of w.memory h.effect.output)))
+    × ((b : Bool) → IsOk (limited_next (finished (with_line_start b w) i vs h.effect.ending)))
+
+abbrev pub IsUnderWay : GameState → Instr → List ℕ → List ℕ → Windows → Half → Type 0
+IsUnderWay w i vs codes draft h =
+    IsRest w.memory h.rest × IsPlainEnd h.effect.ending × IsOnWay (newest_of w.streams.tables) w.windows.selected w i vs codes draft h
+
+-- An instruction has taken its operands and has made its effect, which prints; a part of that was shown. The game state stands
+-- as the instruction found it, and its operands can be taken again.
+pub record IsHalf (found : GameState) (i : Instr) (codes : List ℕ) (draft : Windows) (h : Half) : Type 0 where
+  pub taken : GameState
+  pub values : List ℕ
+  pub operands : operands_read found i.operands ≡ Ok (taken, values)
+  pub made : effect_of taken i values ≡ Ok (taken, h.effect)
+  pub way : IsUnderWay taken i values codes draft h
