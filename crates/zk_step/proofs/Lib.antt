@@ -6,6 +6,7 @@ pub mod FixedParts
 pub mod GivenCodes
 pub mod GivingBack
 pub mod HalfRows
+pub mod HalfScreens
 pub mod HalfTexts
 pub mod Inside
 pub mod Keys

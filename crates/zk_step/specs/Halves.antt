@@ -108,18 +108,33 @@ rest_text_by (Some t) window w us = no_text
 abbrev pub rest_text : GameState → Rest → Texts
 rest_text w rest = rest_text_by (newest_of w.streams.tables) w.windows.selected w (rest_units w.memory rest)
 
+-- a screen and a transcript got the first characters of a text, and others are still to come
+pub record ShowsSome {S : Type 0} (shows : S → S → List ℕ → List ℕ → Type 0) (a b : S) (whole later : Texts) : Type 0 where
+  pub count : ℕ
+  pub shown : shows a b (text_first count whole).screen (text_first count whole).script
+  pub is : later ≡ text_later count whole
+
 -- ---- instructions in the middle
 
--- What was shown so far and what is still to come make what the instruction prints: for a table, the codes so far; in the
--- upper window, a copy of it; else the screen's last line, and then the instruction can be finished.
+-- What was shown so far and what is still to come make what the instruction prints: the codes for a table, ..
+abbrev pub IsForTable : GameState → List ℕ → Half → Type 0
+IsForTable w codes h = codes ++ stored_all (own_characters w.memory) (rest_units w.memory h.rest) ≡ stored_all (own_characters w.memory) (units_of w.memory h.effect.output)
+
+-- .. a draft of the upper window, ..
+abbrev pub IsForUpper : GameState → Windows → Half → Type 0
+IsForUpper w draft h = upper_rest w.streams.screen w.memory w.windows.column h.rest draft ≡ upper_printed w.streams.screen w.memory h.effect.output w.windows
+
+-- .. and the last line of the screen
+abbrev pub IsForScreen : GameState → Half → Type 0
+IsForScreen w h =
+    ends_line h.at_line_start (shown_if w.streams.screen (shown_all (own_characters w.memory) (rest_units w.memory h.rest)))
+    ≡ ends_line w.at_line_start (shown_if w.streams.screen (characters_of w.memory h.effect.output))
+
+-- what is shown on the screen is shown once nothing can refuse the instruction any more
 abbrev pub IsOnWay : Option OpenTable → Window → GameState → Instr → List ℕ → List ℕ → Windows → Half → Type 0
-IsOnWay (Some t) window w i vs codes draft h =
-    codes ++ stored_all (own_characters w.memory) (rest_units w.memory h.rest) ≡ stored_all (own_characters w.memory) (units_of w.memory h.effect.output)
-IsOnWay None Upper w i vs codes draft h =
-    upper_rest w.streams.screen w.memory w.windows.column h.rest draft ≡ upper_printed w.streams.screen w.memory h.effect.output w.windows
-IsOnWay None Lower w i vs codes draft h =
-    (ends_line h.at_line_start (shown_if w.streams.screen (shown_all (own_characters w.memory) (rest_units w.memory h.rest))) ≡ ends_line w.at_line_start (shown_if w.streams.screen (characters_of w.memory h.effect.output)))
-    × ((b : Bool) → IsOk (limited_next (finished (with_line_start b w) i vs h.effect.ending)))
+IsOnWay (Some t) window w i vs codes draft h = IsForTable w codes h
+IsOnWay None Upper w i vs codes draft h = IsForUpper w draft h
+IsOnWay None Lower w i vs codes draft h = IsForScreen w h × ((b : Bool) → IsOk (limited_next (finished (with_line_start b w) i vs h.effect.ending)))
 
 abbrev pub IsUnderWay : GameState → Instr → List ℕ → List ℕ → Windows → Half → Type 0
 IsUnderWay w i vs codes draft h =

@@ -1,11 +1,12 @@
 // What an instruction prints finds its way.
 
-ghost use Rattle.std.specs.Prelude.{◌≡◌, ◌<◌, List, [], ℕ, true, Some, Ok, Err, IsOk, MatchResult};
+ghost use Rattle.std.specs.Prelude.{◌≡◌, ◌<◌, List, [], ℕ, true, false, Some, Ok, Err, IsOk, IfOk, IfErr, OnErr, MatchResult};
 ghost use Rattle.zk_state.specs.Frames.{bounds_of};
 ghost use Rattle.zk_text.specs.Extra.{own_characters};
 ghost use Rattle.zk_tables.specs.Rectangles.{rows_of, row_at, row_units};
 ghost use Rattle.zk_term.specs.Windows.{printed};
 ghost use Rattle.zk_text.specs.Shown.{shown_all};
+ghost use Rattle.zk_step.specs.Halves.{IsForScreen, IsForTable, IsForUpper, IsRest, IsUnderWay, ShowsSome, rest_on, rest_text, rest_text_by, rest_units, streamed_text};
 ghost use Rattle.zk_step.specs.Limited.{limited_next};
 ghost use Rattle.zk_step.specs.Printed.{Collected};
 ghost use Rattle.zk_step.specs.Printing.{characters_of, units_of, rows_or_none, IsPlainEnd, IsPrintable, IsReady};
@@ -17,6 +18,7 @@ ghost use Rattle.zk_step.specs.Streams.{newest_of};
 use crate::instruction::{Begun, check};
 use crate::output::codes::Codes;
 use crate::output::giving::give_output;
+use crate::output::parts::{Half, collect_part, print_upper_part, show_part};
 use crate::output::printer::{Collector, Printer, Selected, WindowPrinter};
 use crate::output::streams::OpenTable;
 use crate::output::view::{show_status_line, start_line};
@@ -50,6 +52,24 @@ fn collect(memory: &Memory, output: Output, codes: &mut Codes)
     }
 }
 
+/// Stores codes that were collected in the newest table of stream 3. The first that can't be stored decides.
+fn store_codes(game: &mut GameState, table: OpenTable, codes: &Codes) -> Result<(), Fault>
+    requires { newest_of game.old.streams.tables ≡ Some table }
+    ensures value { (all : List ℕ) → Collected codes.now all → MatchResult result
+        (λ _. table_filled game.old table all ≡ Ok game.new)
+        (λ e. table_filled game.old table all ≡ Err e) }
+    ensures bounds { bounds_of game.new.frames ≡ bounds_of game.old.frames }
+{
+    let end = table.address as u32 + 2 + table.count as u32;
+    match put_bytes(&mut game.memory, end, codes.as_slice()) {
+        Ok(()) => {
+            game.streams.count(codes.as_slice().len() as u16);
+            Ok(())
+        }
+        Err(fault) => Err(fault),
+    }
+}
+
 /// Stores what is printed in the newest table of stream 3. All of it is collected before the first code is stored; the
 /// first that can't be stored decides.
 fn fill_table(
@@ -68,14 +88,7 @@ fn fill_table(
     ensures bounds { bounds_of game.new.frames ≡ bounds_of game.old.frames }
 {
     collect(&game.memory, output, codes);
-    let end = table.address as u32 + 2 + table.count as u32;
-    match put_bytes(&mut game.memory, end, codes.as_slice()) {
-        Ok(()) => {
-            game.streams.count(codes.as_slice().len() as u16);
-            Ok(())
-        }
-        Err(fault) => Err(fault),
-    }
+    store_codes(game, table, codes)
 }
 
 /// Whether the transcript is on: it is a bit of Flags 2 (Standard, section 7.4).
@@ -292,4 +305,87 @@ pub(crate) fn route<S: Screen>(
         },
         output => route_text(game, i, begun, output, codes, screen),
     }
+}
+
+/// Collects what is still to come for the newest table of stream 3, a part of it; once all is there, it is stored. Says whether
+/// more is to come.
+fn fill_table_part(
+    game: &mut GameState,
+    table: OpenTable,
+    half: &mut Half,
+    codes: &mut Codes,
+    words: u32,
+) -> Result<bool, Fault>
+    requires stands { IsRest game.old.memory half.old.rest }
+    requires newest { newest_of game.old.streams.tables ≡ Some table }
+    requires way { IsForTable game.old codes.old half.old }
+    ensures on { IfOk result (λ on. on ≡ true → (game.new ≡ game.old) × IsRest game.old.memory half.new.rest
+        × IsForTable game.old codes.new half.new) }
+    ensures off { IfOk result (λ on. on ≡ false → table_filled game.old table
+        (stored_all (own_characters game.old.memory) (units_of game.old.memory half.old.effect.output))
+        ≡ Ok game.new) }
+    ensures err { IfErr result (λ e. table_filled game.old table
+        (stored_all (own_characters game.old.memory) (units_of game.old.memory half.old.effect.output))
+        ≡ Err e) }
+    ensures same { half.new.effect ≡ half.old.effect }
+    ensures bounds { bounds_of game.new.frames ≡ bounds_of game.old.frames }
+{
+    if collect_part(&game.memory, &mut half.rest, codes, words) {
+        return Ok(true);
+    }
+    match store_codes(game, table, codes) {
+        Ok(()) => Ok(false),
+        Err(fault) => Err(fault),
+    }
+}
+
+/// Shows a part of what is still to come on the screen and in the transcript. Says whether more is to come.
+fn show_lower_part<S: Screen>(
+    game: &mut GameState,
+    half: &mut Half,
+    screen: &mut S,
+    words: u32,
+) -> bool
+    requires stands { IsRest game.old.memory half.old.rest }
+    requires way { IsForScreen game.old half.old }
+    ensures on { result ≡ true → (game.new ≡ game.old) × IsRest game.old.memory half.new.rest
+        × IsForScreen game.old half.new }
+    ensures off { result ≡ false → game.new ≡ (streamed game.old.memory game.old
+        (characters_of game.old.memory half.old.effect.output)).0 }
+    ensures text { ShowsSome S.shows screen.old screen.new
+        (streamed_text game.old (shown_all (own_characters game.old.memory) (rest_units game.old.memory half.old.rest)))
+        (streamed_text game.old (shown_all (own_characters game.old.memory)
+        (rest_on game.old.memory result half.new.rest))) }
+    ensures same { half.new.effect ≡ half.old.effect }
+{
+    let selected = Selected {
+        screen: game.streams.screen(),
+        script: is_script_on(&game.memory),
+    };
+    let line = &mut half.at_line_start;
+    let more = show_part(&game.memory, selected, &mut half.rest, line, screen, words);
+    if !more {
+        game.at_line_start = half.at_line_start;
+    }
+    more
+}
+
+/// Prints a part of what is still to come in a draft of the upper window, which takes its place once all is there. Says whether
+/// more is to come.
+fn print_draft_part(game: &mut GameState, half: &mut Half, draft: &mut Windows, words: u32) -> bool
+    requires stands { IsRest game.old.memory half.old.rest }
+    requires way { IsForUpper game.old draft.old half.old }
+    ensures on { result ≡ true → (game.new ≡ game.old) × IsRest game.old.memory half.new.rest
+        × IsForUpper game.old draft.new half.new }
+    ensures off { result ≡ false → game.new ≡ record game.old
+        { windows = upper_printed game.old.streams.screen game.old.memory half.old.effect.output game.old.windows } }
+    ensures same { half.new.effect ≡ half.old.effect }
+{
+    let (_, column) = game.windows.cursor();
+    let on = game.streams.screen();
+    let more = print_upper_part(&game.memory, draft, &mut half.rest, column, on, words);
+    if !more {
+        game.windows.copy_from(draft);
+    }
+    more
 }

@@ -1,35 +1,4 @@
-use Rattle.std.proofs.Common.{◌≡◌, ◌+◌, length, arith, refl, ap}
-use Rattle.zk_text.specs.Extra.{own_characters}
-use Rattle.zk_step.specs.Printing.{units_of}
-use Rattle.zk_step.specs.Routing.{stored_all}
-use Rattle.zk_step.proofs.Filling.{few_stored, all_stored, all_refused}
 use Rattle.zk_step.proofs.output.routing.fill_table.Goals as goal
 
-pub overflow_cast-as_slice : goal.overflow_cast-as_slice
-overflow_cast-as_slice c =
-    let t = c.args.table in
-    let stored = rw c.as_slice.ensures.value at c.in-Ok.ensures in
-    let few = few_stored c.args.game.now.memory c.put_bytes.new.memory t.address t.count c.collect.new.codes (omega arith) stored in
-    let same : length c.as_slice-in-Ok.result.now ≡ length c.collect.new.codes = ap length c.as_slice-in-Ok.ensures.value in
-    omega (arith, few, same)
-
-pub count-requires : goal.count-requires
-count-requires c =
-    let t = c.args.table in
-    let stored = rw c.as_slice.ensures.value at c.in-Ok.ensures in
-    rw (c.requires.newest, c.as_slice-in-Ok.ensures.value) (few_stored c.args.game.now.memory c.put_bytes.new.memory t.address t.count c.collect.new.codes (omega arith) stored)
-
-pub returns-in-Ok-clause-value : goal.returns-in-Ok-clause-value
-returns-in-Ok-clause-value c =
-    let t = c.args.table in
-    let m = c.args.game.now.memory in
-    let stored = rw c.as_slice.ensures.value at c.in-Ok.ensures in
-    let same = all_stored m c.put_bytes.new.memory (t.address + 2 + t.count) c.collect.new.codes (stored_all (own_characters m) (units_of m c.args.output)) c.collect.ensures (omega arith) stored in
-    rw (← same, stored, c.count.ensures, c.as_slice-in-Ok.ensures.value) refl
-
-pub returns-in-Err-clause-value : goal.returns-in-Err-clause-value
-returns-in-Err-clause-value c =
-    let t = c.args.table in
-    let m = c.args.game.now.memory in
-    let refused = rw c.as_slice.ensures.value at c.in-Err.ensures in
-    rw (all_refused m (t.address + 2 + t.count) c.collect.new.codes (stored_all (own_characters m) (units_of m c.args.output)) c.in-Err.fault c.collect.ensures refused) refl
+pub returns-clause-value : goal.returns-clause-value
+returns-clause-value c = c.store_codes.ensures.value _ c.collect.ensures
