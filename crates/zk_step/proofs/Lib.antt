@@ -7,6 +7,7 @@ pub mod GivenCodes
 pub mod GivingBack
 pub mod HalfRows
 pub mod HalfScreens
+pub mod HalfStarts
 pub mod HalfTexts
 pub mod Inside
 pub mod Keys

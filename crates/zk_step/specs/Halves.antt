@@ -1,7 +1,10 @@
 -- Instructions in the middle of what they print: what is still to come of it.
-use Rattle.std.specs.Prelude.{◌≡◌, ◌≤◌, ℕ, zero, suc, Bool, true, false, List, [], ◌∷◌, ◌++◌, drop, take, Option, Some, None, Ok, IsOk}
+use Rattle.std.specs.Prelude.{◌≡◌, ◌≤◌, ℕ, zero, suc, Bool, true, false, List, [], ◌∷◌, ◌++◌, drop, take, Option, Some, None, Ok, IsOk, ◌==◌, if◌then◌else◌}
 use Rattle.zk_mem.specs.Map.{MemoryMap}
 use Rattle.zk_code.specs.declared.instr.Instr.{Instr}
+use Rattle.zk_code.specs.declared.operands.Operand.{Operand}
+use Rattle.zk_code.specs.declared.operands.Operand.TheVariants.{Large, Small, Variable}
+use Rattle.zk_state.specs.Frames.{IsBounded, with_word}
 use Rattle.zk_text.specs.declared.unit.Unit as text
 use Rattle.zk_text.specs.declared.unit.Unit.TheVariants.{Code}
 use Rattle.zk_text.specs.Extra.{ExtraTable, own_characters}
@@ -25,7 +28,7 @@ use Rattle.zk_step.specs.Limited.{limited_next}
 use Rattle.zk_step.specs.Printing.{IsPlainEnd, characters_of, rows_or_none, units_of, units_or_none}
 use Rattle.zk_step.specs.Routing.{Texts, ends_line, no_text, printed_if, rows_printed, script_is_on, shown_if, stored_all, upper_printed, with_line_start}
 use Rattle.zk_step.specs.Streams.{newest_of}
-use Rattle.zk_step.specs.Variables.{operands_read}
+use Rattle.zk_step.specs.Variables.{operands_read, with_frames}
 
 -- the first characters of a text, on each stream, and the others
 abbrev pub text_first : ℕ → Texts → Texts
@@ -139,6 +142,18 @@ IsOnWay None Lower w i vs codes draft h = IsForScreen w h × ((b : Bool) → IsO
 abbrev pub IsUnderWay : GameState → Instr → List ℕ → List ℕ → Windows → Half → Type 0
 IsUnderWay w i vs codes draft h =
     IsRest w.memory h.rest × IsPlainEnd h.effect.ending × IsOnWay (newest_of w.streams.tables) w.windows.selected w i vs codes draft h
+
+-- the word of the evaluation stack that an operand has taken is given back
+abbrev pub given_back : Operand → ℕ → GameState → GameState
+given_back (Large x) v w = w
+given_back (Small x) v w = w
+given_back (Variable n) v w = if n == 0 then with_frames w (with_word w.frames v) else w
+
+-- operands were taken of a game state within its bounds
+pub record HaveTaken (os : List Operand) (taken : GameState) (vs : List ℕ) : Type 0 where
+  pub found : GameState
+  pub bounded : IsBounded found.frames
+  pub operands : operands_read found os ≡ Ok (taken, vs)
 
 -- An instruction has taken its operands and has made its effect, which prints; a part of that was shown. The game state stands
 -- as the instruction found it, and its operands can be taken again.

@@ -6,7 +6,7 @@ ghost use Rattle.zk_text.specs.Extra.{own_characters};
 ghost use Rattle.zk_tables.specs.Rectangles.{rows_of, row_at, row_units};
 ghost use Rattle.zk_term.specs.Windows.{printed};
 ghost use Rattle.zk_text.specs.Shown.{shown_all};
-ghost use Rattle.zk_step.specs.Halves.{IsForScreen, IsForTable, IsForUpper, IsRest, IsUnderWay, ShowsSome, rest_on, rest_text, rest_text_by, rest_units, streamed_text};
+ghost use Rattle.zk_step.specs.Halves.{IsForScreen, IsForTable, IsForUpper, IsRest, IsUnderWay, ShowsSome, rest_on, rest_text, rest_text_by, rest_units, streamed_text, whole_of};
 ghost use Rattle.zk_step.specs.Limited.{limited_next};
 ghost use Rattle.zk_step.specs.Printed.{Collected};
 ghost use Rattle.zk_step.specs.Printing.{characters_of, units_of, rows_or_none, IsPlainEnd, IsPrintable, IsReady};
@@ -18,7 +18,7 @@ ghost use Rattle.zk_step.specs.Streams.{newest_of};
 use crate::instruction::{Begun, check};
 use crate::output::codes::Codes;
 use crate::output::giving::give_output;
-use crate::output::parts::{Half, collect_part, print_upper_part, show_part};
+use crate::output::parts::{Half, Rest, collect_part, print_upper_part, show_part};
 use crate::output::printer::{Collector, Printer, Selected, WindowPrinter};
 use crate::output::streams::OpenTable;
 use crate::output::view::{show_status_line, start_line};
@@ -388,4 +388,85 @@ fn print_draft_part(game: &mut GameState, half: &mut Half, draft: &mut Windows, 
         game.windows.copy_from(draft);
     }
     more
+}
+
+/// A part of what is still to come of what an instruction prints finds its way. Says whether more is to come.
+pub(crate) fn route_part<S: Screen>(
+    game: &mut GameState,
+    i: &Instr,
+    begun: &Begun,
+    half: &mut Half,
+    codes: &mut Codes,
+    draft: &mut Windows,
+    screen: &mut S,
+    words: u32,
+) -> Result<bool, Fault>
+    requires { IsUnderWay game.old i.now begun.now.values codes.old draft.old half.old }
+    ensures on { IfOk result (λ on. on ≡ true → (game.new ≡ game.old)
+        × IsUnderWay game.old i.now begun.now.values codes.new draft.new half.new) }
+    ensures off { IfOk result (λ on. on ≡ false → IsRoutedBy
+        (routed_by (newest_of game.old.streams.tables) game.old.memory game.old half.old.effect.output)
+        game.new i.now begun.now.values half.old.effect.ending) }
+    ensures err { IfErr result (λ e.
+        routed_by (newest_of game.old.streams.tables) game.old.memory game.old half.old.effect.output
+        ≡ Err e) }
+    ensures text { IfOk result (λ on. ShowsSome S.shows screen.old screen.new
+        (rest_text game.old half.old.rest)
+        (rest_text_by (newest_of game.old.streams.tables) game.old.windows.selected game.old
+        (rest_on game.old.memory on half.new.rest))) }
+    ensures nothing { OnErr result (S.shows screen.old screen.new [] []) }
+    ensures same { half.new.effect ≡ half.old.effect }
+    ensures bounds { bounds_of game.new.frames ≡ bounds_of game.old.frames }
+{
+    let (_i, _values) = (i, &begun.values);
+    match game.streams.newest() {
+        Some(table) => fill_table_part(game, table, half, codes, words),
+        None => match game.windows.selected() {
+            Window::Lower => Ok(show_lower_part(game, half, screen, words)),
+            Window::Upper => Ok(print_draft_part(game, half, draft, words)),
+        },
+    }
+}
+
+/// What an instruction prints is ready to be shown in parts, once nothing can refuse the instruction any more where the screen
+/// gets it.
+pub(crate) fn begin_half(
+    game: &GameState,
+    i: &Instr,
+    begun: &Begun,
+    rest: Rest,
+    codes: &mut Codes,
+    draft: &mut Windows,
+) -> Result<Half, Refusal>
+    requires ready { IsReady game.now.memory begun.now.effect.output }
+    requires plain { IsPlainEnd begun.now.effect.ending }
+    requires whole { whole_of begun.now.effect.output ≡ Some rest }
+    ensures ok { IfOk result (λ h. IsUnderWay game.now i.now begun.now.values codes.new draft.new h) }
+    ensures effect { IfOk result (λ h. h.effect ≡ begun.now.effect) }
+    ensures rest { IfOk result (λ h. h.rest ≡ rest) }
+    ensures err { IfErr result (λ e. limited_next (finished_after
+        (routed_by (newest_of game.now.streams.tables) game.now.memory game.now begun.now.effect.output)
+        i.now begun.now.values begun.now.effect.ending) ≡ Err e) }
+{
+    let half = Half {
+        effect: begun.effect,
+        rest,
+        at_line_start: game.at_line_start,
+    };
+    match game.streams.newest() {
+        Some(_) => {
+            codes.clear();
+            Ok(half)
+        }
+        None => match game.windows.selected() {
+            Window::Lower => match check(game, i, begun) {
+                Ok(()) => Ok(half),
+                Err(refusal) => Err(refusal),
+            },
+            Window::Upper => {
+                draft.copy_from(&game.windows);
+                Ok(half)
+            }
+        },
+    }
 }

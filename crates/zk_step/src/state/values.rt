@@ -1,12 +1,13 @@
 // The values of operands.
 
-ghost use Rattle.zk_state.specs.Frames.{bounds_of};
+ghost use Rattle.zk_state.specs.Frames.{IsBounded, bounds_of, within_bounds};
 ghost use Rattle.std.specs.Prelude.{◌≡◌, ◌<◌, ◌≤◌, [], ◌∷◌, ◌++◌, ◌==◌, Ok, Err, drop, take, length, slice_get, slice_index, MatchResult};
+ghost use Rattle.zk_step.specs.Halves.{HaveTaken, given_back};
 ghost use Rattle.zk_step.specs.Values.{first, second, third, fourth, given_or};
 ghost use Rattle.zk_step.specs.Variables.{operand_read, operands_read};
 
 use crate::state::game_state::GameState;
-use crate::state::variables::read_variable;
+use crate::state::variables::{push, read_variable};
 use arrayvec::ArrayVec;
 use std::marker::Model;
 use zk_code::operands::{Operand, Operands};
@@ -141,4 +142,35 @@ pub fn read_operands(game: &mut GameState, operands: &Operands) -> Result<Values
         }
     }
     Ok(values)
+}
+
+/// Gives back the word of the evaluation stack that an operand has taken, if it has.
+#[tactic(auto, unfolding(crate::specs::Variables::variable_written))]
+fn give_back_one(game: &mut GameState, operand: Operand, value: u16)
+    requires { within_bounds (given_back operand value game.old).frames
+        ≡ Ok (given_back operand value game.old).frames }
+    ensures value { game.new ≡ given_back operand value game.old }
+    ensures bounds { bounds_of game.new.frames ≡ bounds_of game.old.frames }
+{
+    match operand {
+        Operand::Variable(0) => match push(game, value) {
+            Ok(()) => {}
+            Err(_) => unreachable!(),
+        },
+        _ => {}
+    }
+}
+
+/// Gives back the words of the evaluation stack that operands have taken, the last first: the game state is as it was before.
+pub(crate) fn give_back(game: &mut GameState, operands: &Operands, values: &Values)
+    requires { HaveTaken operands.now game.old values.now }
+    ensures value { (found : GameState) → IsBounded found.frames
+        → operands_read found operands.now ≡ Ok (game.old, values.now) → game.new ≡ found }
+    ensures bounds { bounds_of game.new.frames ≡ bounds_of game.old.frames }
+{
+    let count = operands.len();
+    for k in 0..count {
+        let place = count - 1 - k;
+        give_back_one(game, operands.as_slice()[place], values.get(place));
+    }
 }

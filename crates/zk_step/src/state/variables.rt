@@ -75,7 +75,7 @@ pub fn read_variable(game: &mut GameState, variable: u8) -> Result<u16, Fault>
 
 /// Pushes a word on the evaluation stack.
 #[tactic(auto, unfolding(crate::specs::Variables::variable_written, zk_state::specs::Frames::pushed), using(zk_state::proofs::BoundsKept::pushed_bounds, crate::proofs::WithinBounds::kept_within, crate::proofs::WithinBounds::kept_refused))]
-fn push(game: &mut GameState, value: u16) -> Result<(), Refusal>
+pub(crate) fn push(game: &mut GameState, value: u16) -> Result<(), Refusal>
     ensures value { MatchResult result
         (λ _. limited (variable_written game.old 0 value) ≡ Ok game.new)
         (λ e. limited (variable_written game.old 0 value) ≡ Err e) }
