@@ -15,6 +15,8 @@ use Rattle.zk_tables.specs.declared.arrays.rectangle.Rectangle.{Rectangle}
 use Rattle.zk_term.specs.declared.windows.Window.{Window}
 use Rattle.zk_term.specs.declared.windows.Window.TheVariants.{Lower, Upper}
 use Rattle.zk_term.specs.Windows.{Windows}
+use Rattle.zk_step.specs.declared.instruction.Progress.{Progress}
+use Rattle.zk_step.specs.declared.instruction.Progress.TheVariants.{Done, Part}
 use Rattle.zk_step.specs.declared.output.parts.Half.{Half}
 use Rattle.zk_step.specs.declared.output.parts.Rest.{Rest}
 use Rattle.zk_step.specs.declared.output.parts.Rest.TheVariants.{Text, Rows}
@@ -24,8 +26,10 @@ use Rattle.zk_step.specs.declared.state.ending.Output.TheVariants as output
 use Rattle.zk_step.specs.declared.state.game_state.GameState.{GameState}
 use Rattle.zk_step.specs.Effects.{effect_of}
 use Rattle.zk_step.specs.Finish.{finished}
-use Rattle.zk_step.specs.Limited.{limited_next}
-use Rattle.zk_step.specs.Printing.{IsPlainEnd, characters_of, rows_or_none, units_of, units_or_none}
+use Rattle.zk_step.specs.Instructions.{carried_out}
+use Rattle.zk_step.specs.Limited.{limited_move, limited_next, text_in}
+use Rattle.zk_step.specs.Silence.{IsQuiet}
+use Rattle.zk_step.specs.Printing.{IsLong, IsPlainEnd, characters_of, rows_or_none, units_of, units_or_none}
 use Rattle.zk_step.specs.Routing.{Texts, ends_line, no_text, printed_if, rows_printed, script_is_on, shown_if, stored_all, upper_printed, with_line_start}
 use Rattle.zk_step.specs.Streams.{newest_of}
 use Rattle.zk_step.specs.Variables.{operands_read, with_frames}
@@ -162,4 +166,27 @@ pub record IsHalf (found : GameState) (i : Instr) (codes : List ℕ) (draft : Wi
   pub values : List ℕ
   pub operands : operands_read found i.operands ≡ Ok (taken, values)
   pub made : effect_of taken i values ≡ Ok (taken, h.effect)
+  pub long : IsLong h.effect.output
   pub way : IsUnderWay taken i values codes draft h
+
+-- ---- how far an instruction has come
+
+-- it was finished, and leads on; or it is in the middle of what it prints, and the game state stands as it found it
+abbrev pub IsCarriedOn : GameState → GameState → Instr → List ℕ → Windows → Progress → Type 0
+IsCarriedOn found new i codes draft (Done n) = limited_move (carried_out found i) ≡ Ok (new, (n, text_in (limited_move (carried_out found i))))
+IsCarriedOn found new i codes draft (Part h) = (new ≡ found) × IsHalf found i codes draft h
+
+-- the text of an instruction that is still to come: all of it, or the rest
+abbrev pub text_due : GameState → Instr → Option Half → Texts
+text_due w i None = text_in (limited_move (carried_out w i))
+text_due w i (Some h) = rest_text w h.rest
+
+-- and what is to come then
+abbrev pub text_then : GameState → Progress → Texts
+text_then w (Done n) = no_text
+text_then w (Part h) = rest_text w h.rest
+
+-- what asks something of the machine has shown nothing
+abbrev pub IsQuietAs : Progress → Texts → Type 0
+IsQuietAs (Done n) text = IsQuiet n text
+IsQuietAs (Part h) text = Unit {0}

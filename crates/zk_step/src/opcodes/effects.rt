@@ -3,7 +3,7 @@
 ghost use Rattle.zk_state.specs.Frames.{bounds_of};
 ghost use Rattle.std.specs.Prelude.{◌≡◌, ◌≢◌, Ok, Err, IfOk, IfErr, MatchResult};
 ghost use Rattle.zk_step.specs.Effects.{effect_by, effect_of, Refuses};
-ghost use Rattle.zk_step.specs.Printing.{IsPrintable};
+ghost use Rattle.zk_step.specs.Printing.{IsLong, IsPrintable};
 
 use crate::input::inputs::reading_effect;
 use crate::opcodes::assignment::push_effect;
@@ -38,6 +38,7 @@ fn effect_by(
         (λ f. effect_by opcode game.old text values.now ≡ Err f) }
     ensures ready { IfOk result
         (λ e. IsPrintable game.old.memory game.new.memory e.output e.ending) }
+    ensures same { IfOk result (λ e. IsLong e.output → game.new ≡ game.old) }
     ensures bounds { bounds_of game.new.frames ≡ bounds_of game.old.frames }
 {
     match opcode {
@@ -80,6 +81,7 @@ pub fn effect(game: &mut GameState, i: &Instr, values: &Values) -> Result<Effect
     ensures err { IfErr result (λ r. Refuses r (effect_of game.old i.now values.now)) }
     ensures ready { IfOk result
         (λ e. IsPrintable game.old.memory game.new.memory e.output e.ending) }
+    ensures same { IfOk result (λ e. IsLong e.output → game.new ≡ game.old) }
     ensures bounds { bounds_of game.new.frames ≡ bounds_of game.old.frames }
 {
     match i.opcode {

@@ -2,7 +2,7 @@
 
 ghost use Rattle.zk_state.specs.Frames.{bounds_of};
 ghost use Rattle.std.specs.Prelude.{◌≡◌, IfOk, Ok, Err, MatchResult};
-ghost use Rattle.zk_step.specs.Printing.{IsPrintable};
+ghost use Rattle.zk_step.specs.Printing.{IsLong, IsPrintable};
 ghost use Rattle.zk_step.specs.Screens.{selected_by, erased_by, erased_line, in_upper, or_first, windows_changed, cursor_stored, status_by, window_effect};
 ghost use Rattle.zk_term.specs.Windows.{cursor_set};
 
@@ -113,6 +113,7 @@ pub fn windows_effect(
         (λ f. window_effect operation game.old values.now ≡ Err f) }
     ensures ready { IfOk result
         (λ e. IsPrintable game.old.memory game.new.memory e.output e.ending) }
+    ensures same { IfOk result (λ e. IsLong e.output → game.new ≡ game.old) }
     ensures bounds { bounds_of game.new.frames ≡ bounds_of game.old.frames }
 {
     let first = values.first();

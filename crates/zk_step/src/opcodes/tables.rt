@@ -2,7 +2,7 @@
 
 ghost use Rattle.zk_state.specs.Frames.{bounds_of};
 ghost use Rattle.std.specs.Prelude.{◌≡◌, ◌<◌, ◌^◌, IfOk, IfErr, Ok, Err, MatchResult};
-ghost use Rattle.zk_step.specs.Printing.{IsPrintable};
+ghost use Rattle.zk_step.specs.Printing.{IsLong, IsPrintable};
 ghost use Rattle.zk_step.specs.Tables.{rectangle_of, scan_answer, table_effect};
 
 use crate::state::ending::{Effect, Ending, Output};
@@ -53,6 +53,7 @@ pub fn tables_effect(
         (λ f. table_effect operation game.old values.now ≡ Err f) }
     ensures ready { IfOk result
         (λ e. IsPrintable game.old.memory game.new.memory e.output e.ending) }
+    ensures same { IfOk result (λ e. IsLong e.output → game.new ≡ game.old) }
     ensures bounds { bounds_of game.new.frames ≡ bounds_of game.old.frames }
 {
     match operation {
