@@ -103,7 +103,7 @@ takes_by : (w t : GameState) (o : Operand) (os : List Operand) (vs : List ℕ) (
 takes_by w t o os vs (Ok p) e h = takes_others w p.0 t o os p.1 vs (operands_read p.0 os) e refl h
 takes_by w t o os vs (Err f) e h = absurd cc
 
-takes_first : (w t : GameState) (o : Operand) (os : List Operand) (vs : List ℕ) → operands_read w (o ∷ os) ≡ Ok (t, vs) → TakesFirst w o os t vs
+pub takes_first : (w t : GameState) (o : Operand) (os : List Operand) (vs : List ℕ) → operands_read w (o ∷ os) ≡ Ok (t, vs) → TakesFirst w o os t vs
 unfolding operands_read
 takes_first w t o os vs h = takes_by w t o os vs (operand_read w o) refl h
 

@@ -5,6 +5,7 @@ pub mod Filling
 pub mod FixedParts
 pub mod GivenCodes
 pub mod GivingBack
+pub mod HalfDues
 pub mod HalfEnds
 pub mod HalfRows
 pub mod HalfScreens
