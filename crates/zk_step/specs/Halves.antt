@@ -176,6 +176,10 @@ abbrev pub IsCarriedOn : GameState → GameState → Instr → List ℕ → Wind
 IsCarriedOn found new i codes draft (Done n) = limited_move (carried_out found i) ≡ Ok (new, (n, text_in (limited_move (carried_out found i))))
 IsCarriedOn found new i codes draft (Part h) = (new ≡ found) × IsHalf found i codes draft h
 
+abbrev pub IsDone : Progress → Type 0
+IsDone (Done n) = Unit {0}
+IsDone (Part h) = ⊥
+
 -- the text of an instruction that is still to come: all of it, or the rest
 abbrev pub text_due : GameState → Instr → Option Half → Texts
 text_due w i None = text_in (limited_move (carried_out w i))

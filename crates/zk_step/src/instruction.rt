@@ -1,11 +1,11 @@
 // An instruction, from its operands to the next address.
 
 ghost use Rattle.zk_state.specs.Frames.{IsBounded, bounds_of};
-ghost use Rattle.std.specs.Prelude.{◌≡◌, ◌≤◌, ◌^◌, [], Bool, Ok, Err, IfOk, IfErr, IfSome, IsOk, OnOk, MatchResult};
+ghost use Rattle.std.specs.Prelude.{◌≡◌, ◌≤◌, ◌^◌, [], Bool, None, Ok, Err, IfOk, IfErr, IfSome, IsOk, OnOk, MatchResult};
 ghost use Rattle.zk_step.specs.declared.state.game_state.GameState.{GameState};
 ghost use Rattle.zk_step.specs.Effects.{effect_of};
 ghost use Rattle.zk_step.specs.Finish.{finished};
-ghost use Rattle.zk_step.specs.Halves.{HaveTaken, IsCarriedOn, IsHalf, IsQuietAs, IsUnderWay, ShowsSome, rest_text, text_due, text_then};
+ghost use Rattle.zk_step.specs.Halves.{HaveTaken, IsCarriedOn, IsDone, IsHalf, IsQuietAs, IsUnderWay, ShowsSome, rest_text, text_due, text_then};
 ghost use Rattle.zk_step.specs.Instructions.{carried_out, HasBegun};
 ghost use Rattle.zk_step.specs.Limited.{limited_next, limited_move, text_in};
 ghost use Rattle.zk_step.specs.Printing.{IsLong, IsPlainEnd, IsPrintable};
@@ -163,7 +163,7 @@ fn go_on<S: Screen>(
     codes: &mut Codes,
     draft: &mut Windows,
     screen: &mut S,
-    words: u32,
+    words: Option<u32>,
 ) -> Result<Progress, Refusal>
     requires near { i.now.next ≤ 2 ^ 20 }
     requires way { IsUnderWay game.old i.now begun.now.values codes.old draft.old half }
@@ -176,6 +176,7 @@ fn go_on<S: Screen>(
         → MatchResult result (λ p. IsCarriedOn found game.new i.now codes.new draft.new p)
         (λ e. limited_move (carried_out found i.now) ≡ Err e) }
     ensures quiet { IfOk result (λ p. (text : Texts) → IsQuietAs p text) }
+    ensures whole { words ≡ None → IfOk result IsDone }
     ensures text { MatchResult result (λ p. ShowsSome S.shows screen.old screen.new
         (rest_text game.old half.rest) (text_then game.old p))
         (λ _. S.shows screen.old screen.new [] []) }
@@ -201,13 +202,14 @@ fn start_part<S: Screen>(
     codes: &mut Codes,
     draft: &mut Windows,
     screen: &mut S,
-    words: u32,
+    words: Option<u32>,
 ) -> Result<Progress, Refusal>
     requires near { i.now.next ≤ 2 ^ 20 }
     requires bounded { IsBounded game.old.frames }
     ensures value { MatchResult result (λ p. IsCarriedOn game.old game.new i.now codes.new draft.new p)
         (λ e. limited_move (carried_out game.old i.now) ≡ Err e) }
     ensures quiet { IfOk result (λ p. IsQuietAs p (text_in (limited_move (carried_out game.old i.now)))) }
+    ensures whole { words ≡ None → IfOk result IsDone }
     ensures text { MatchResult result (λ p. ShowsSome S.shows screen.old screen.new
         (text_in (limited_move (carried_out game.old i.now))) (text_then game.old p))
         (λ _. S.shows screen.old screen.new [] []) }
@@ -230,7 +232,7 @@ fn start_part<S: Screen>(
 }
 
 /// Carries out an instruction as `carry_out` does, but shows a long text, or many rows, in parts: so many words of text, or rows
-/// as long, at most. Where more is to come then, the game state stands as the instruction found it, and the next call goes on
+/// as long, at most; or all, where no number is given. Where more is to come then, the game state stands as the instruction found it, and the next call goes on
 /// from the half that was answered. `draft` is room for an upper window.
 pub fn carry_out_part<S: Screen>(
     game: &mut GameState,
@@ -239,13 +241,14 @@ pub fn carry_out_part<S: Screen>(
     codes: &mut Codes,
     draft: &mut Windows,
     screen: &mut S,
-    words: u32,
+    words: Option<u32>,
 ) -> Result<Progress, Refusal>
     requires near { i.now.next ≤ 2 ^ 20 }
     requires half { IfSome half (IsHalf game.old i.now codes.old draft.old) }
     ensures value { MatchResult result (λ p. IsCarriedOn game.old game.new i.now codes.new draft.new p)
         (λ e. limited_move (carried_out game.old i.now) ≡ Err e) }
     ensures quiet { IfOk result (λ p. IsQuietAs p (text_in (limited_move (carried_out game.old i.now)))) }
+    ensures whole { words ≡ None → IfOk result IsDone }
     ensures text { MatchResult result (λ p. ShowsSome S.shows screen.old screen.new
         (text_due game.old i.now half) (text_then game.old p))
         (λ _. S.shows screen.old screen.new [] []) }

@@ -1,12 +1,12 @@
 // Parts of what an instruction prints: a long text, or many rows, can be shown one part after the other.
 
-ghost use Rattle.std.specs.Prelude.{◌≡◌, ◌≤◌, ◌<◌, ◌++◌, ⊤, true, false, List, ℕ, Ok, Err, IsOk, IfOk, IfErr, OnErr, MatchResult};
+ghost use Rattle.std.specs.Prelude.{◌≡◌, ◌≤◌, ◌<◌, ◌++◌, [], true, false, List, ℕ, None, Ok, Err, IsOk, IfOk, IfErr, OnErr, MatchResult};
 ghost use Rattle.zk_state.specs.Frames.{bounds_of};
 ghost use Rattle.zk_text.specs.declared.unit.Unit.{Unit};
 ghost use Rattle.zk_text.specs.Extra.{own_characters};
 ghost use Rattle.zk_text.specs.Shown.{shown_all};
 ghost use Rattle.zk_term.specs.Windows.{printed};
-ghost use Rattle.zk_text.specs.Places.{IsPlace, left};
+ghost use Rattle.zk_text.specs.Places.{Gives, IsPlace, Refuses, left, rest_on as place_on};
 ghost use Rattle.zk_tables.specs.Rectangles.{rows_of, row_at};
 ghost use Rattle.zk_step.specs.Halves.{GivesSome, IsRest, line_end, rest_on, rest_rows, rest_units, row_line, row_rest, upper_rest, upper_rows, whole_of};
 ghost use Rattle.zk_step.specs.Printed.{Collected, Printed};
@@ -58,13 +58,55 @@ impl Rest {
     }
 }
 
+/// Gives a sink all that is still to come of a text.
+fn give_text_rest<K: Sink>(
+    memory: &Memory,
+    place: &mut Place,
+    sink: &mut K,
+) -> Result<bool, SinkFault>
+    requires stands { IsPlace place.old }
+    requires means { IsOk (left memory.now place.old) }
+    ensures ok { IfOk result (λ on. (on ≡ false)
+        × Gives K.gave sink.old sink.new (left memory.now place.old) (Ok [])) }
+    ensures err { OnErr result (Refuses K.refused sink.old sink.new (left memory.now place.old)) }
+{
+    loop {
+        match print_part(memory, place, sink, u32::MAX) {
+            Ok(true) => {}
+            Ok(false) => return Ok(false),
+            Err(fault) => return Err(fault),
+        }
+    }
+}
+
+/// Gives a sink so many words of a text at most, or all of it. Says whether more is to come.
+fn give_words<K: Sink>(
+    memory: &Memory,
+    place: &mut Place,
+    sink: &mut K,
+    words: Option<u32>,
+) -> Result<bool, SinkFault>
+    requires stands { IsPlace place.old }
+    requires means { IsOk (left memory.now place.old) }
+    ensures ok { IfOk result (λ on. Gives K.gave sink.old sink.new (left memory.now place.old)
+        (place_on memory.now on place.new)) }
+    ensures stands { IfOk result (λ on. on ≡ true → IsPlace place.new) }
+    ensures whole { words ≡ None → IfOk result (λ on. on ≡ false) }
+    ensures err { OnErr result (Refuses K.refused sink.old sink.new (left memory.now place.old)) }
+{
+    match words {
+        Some(most) => print_part(memory, place, sink, most),
+        None => give_text_rest(memory, place, sink),
+    }
+}
+
 /// Gives a sink so many words of a text at most, and after its end a new line, if one follows. Says whether more is to come.
 fn give_text_part<K: Sink>(
     memory: &Memory,
     place: &mut Place,
     line: bool,
     sink: &mut K,
-    words: u32,
+    words: Option<u32>,
 ) -> Result<bool, SinkFault>
     requires stands { IsPlace place.old }
     requires means { IsOk (left memory.now place.old) }
@@ -74,10 +116,11 @@ fn give_text_part<K: Sink>(
     ensures stands { IfOk result (λ on. on ≡ true → IsPlace place.new × IsOk (left memory.now place.new)) }
     ensures off { IfOk result (λ on. on ≡ false → K.gave sink.old sink.new
         (units_or_none (left memory.now place.old) ++ line_end line)) }
+    ensures whole { words ≡ None → IfOk result (λ on. on ≡ false) }
     ensures err { OnErr result (K.refused sink.old sink.new
         (units_or_none (left memory.now place.old) ++ line_end line)) }
 {
-    match print_part(memory, place, sink, words) {
+    match give_words(memory, place, sink, words) {
         Ok(true) => Ok(true),
         Ok(false) => give_line_end(line, sink),
         Err(fault) => Err(fault),
@@ -134,6 +177,7 @@ fn give_some_rows<K: Sink>(
         (row_rest row.new (rest_rows memory.now rectangle row.new))) }
     ensures within { row.new ≤ rectangle.height }
     ensures off { IfOk result (λ on. on ≡ false → row.new ≡ rectangle.height) }
+    ensures whole { 65535 ≤ most → IfOk result (λ on. on ≡ false) }
     ensures err { OnErr result (K.refused sink.old sink.new
         (row_rest row.old (rest_rows memory.now rectangle row.old))) }
 {
@@ -149,24 +193,28 @@ fn give_some_rows<K: Sink>(
     Ok(*row < rectangle.height)
 }
 
-/// How many rows of a rectangle have as many Z-characters as so many words, at least one.
-fn rows_in(words: u32, width: u16) -> u32
-    ensures { ⊤ }
+/// How many rows of a rectangle have as many Z-characters as so many words, at least one; or as many as there may be.
+fn rows_in(words: Option<u32>, width: u16) -> u32
+    ensures { words ≡ None → 65535 ≤ result }
 {
-    (words.saturating_mul(3) / (width as u32 + 1)).max(1)
+    match words {
+        Some(words) => (words.saturating_mul(3) / (width as u32 + 1)).max(1),
+        None => 65_535,
+    }
 }
 
-/// Gives a sink a part of what is still to come: so many words of a text, or rows as long, at most. Says whether more is to come.
+/// Gives a sink a part of what is still to come: so many words of a text, or rows as long, at most, or all. Says whether more is to come.
 fn give_part<K: Sink>(
     memory: &Memory,
     rest: &mut Rest,
     sink: &mut K,
-    words: u32,
+    words: Option<u32>,
 ) -> Result<bool, SinkFault>
     requires { IsRest memory.now rest.old }
     ensures ok { IfOk result (λ on. GivesSome K.gave sink.old sink.new (rest_units memory.now rest.old)
         (rest_on memory.now on rest.new)) }
     ensures stands { IfOk result (λ on. on ≡ true → IsRest memory.now rest.new) }
+    ensures whole { words ≡ None → IfOk result (λ on. on ≡ false) }
     ensures err { OnErr result (K.refused sink.old sink.new (rest_units memory.now rest.old)) }
 {
     match *rest {
@@ -197,13 +245,14 @@ pub(crate) fn show_part<S: Screen>(
     rest: &mut Rest,
     at_line_start: &mut bool,
     screen: &mut S,
-    words: u32,
+    words: Option<u32>,
 ) -> bool
     requires { IsRest memory.now rest.old }
     ensures text { GivesSome
         (λ a b us. Printed S.shows (own_characters memory.now) selected a b at_line_start.old at_line_start.new us)
         screen.old screen.new (rest_units memory.now rest.old) (rest_on memory.now result rest.new) }
     ensures stands { result ≡ true → IsRest memory.now rest.new }
+    ensures whole { words ≡ None → result ≡ false }
 {
     // where neither gets it, the text is not walked
     if !selected.screen && !selected.script {
@@ -226,11 +275,12 @@ pub(crate) fn show_part<S: Screen>(
 }
 
 /// Collects a part of the codes that a table gets, as many as there is room for. Says whether more are to come.
-pub(crate) fn collect_part(memory: &Memory, rest: &mut Rest, codes: &mut Codes, words: u32) -> bool
+pub(crate) fn collect_part(memory: &Memory, rest: &mut Rest, codes: &mut Codes, words: Option<u32>) -> bool
     requires { IsRest memory.now rest.old }
     ensures on { result ≡ true → codes.new ++ stored_all (own_characters memory.now) (rest_units memory.now rest.new)
         ≡ codes.old ++ stored_all (own_characters memory.now) (rest_units memory.now rest.old) }
     ensures stands { result ≡ true → IsRest memory.now rest.new }
+    ensures whole { words ≡ None → result ≡ false }
     ensures off { result ≡ false → Collected codes.new
         (codes.old ++ stored_all (own_characters memory.now) (rest_units memory.now rest.old)) }
 {
@@ -264,6 +314,7 @@ fn print_some_rows(
         ≡ upper_rows on (own_characters memory.now) column row.old (rest_rows memory.now rectangle row.old) windows.old }
     ensures within { row.new ≤ rectangle.height }
     ensures off { result ≡ false → row.new ≡ rectangle.height }
+    ensures whole { 65535 ≤ most → result ≡ false }
 {
     for _i in 0..most {
         if *row >= rectangle.height {
@@ -285,7 +336,7 @@ fn print_text_part(
     windows: &mut Windows,
     place: &mut Place,
     line: bool,
-    words: u32,
+    words: Option<u32>,
 ) -> bool
     requires stands { IsPlace place.old }
     requires means { IsOk (left memory.now place.old) }
@@ -293,6 +344,7 @@ fn print_text_part(
         windows.old windows.new (units_or_none (left memory.now place.old) ++ line_end line)
         (units_or_none (left memory.now place.new) ++ line_end line) }
     ensures stands { result ≡ true → IsPlace place.new × IsOk (left memory.now place.new) }
+    ensures whole { words ≡ None → result ≡ false }
     ensures off { result ≡ false → windows.new ≡ printed (shown_all (own_characters memory.now)
         (units_or_none (left memory.now place.old) ++ line_end line)) windows.old }
 {
@@ -315,7 +367,7 @@ pub(crate) fn print_upper_part(
     rest: &mut Rest,
     column: u8,
     on: bool,
-    words: u32,
+    words: Option<u32>,
 ) -> bool
     requires stands { IsRest memory.now rest.old }
     requires from { 1 ≤ column }
@@ -323,6 +375,7 @@ pub(crate) fn print_upper_part(
     ensures on { result ≡ true → upper_rest on memory.now column rest.new windows.new
         ≡ upper_rest on memory.now column rest.old windows.old }
     ensures stands { result ≡ true → IsRest memory.now rest.new }
+    ensures whole { words ≡ None → result ≡ false }
     ensures off { result ≡ false → windows.new ≡ upper_rest on memory.now column rest.old windows.old }
 {
     match *rest {

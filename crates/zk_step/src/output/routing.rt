@@ -1,6 +1,6 @@
 // What an instruction prints finds its way.
 
-ghost use Rattle.std.specs.Prelude.{◌≡◌, ◌<◌, List, [], ℕ, true, false, Some, Ok, Err, IsOk, IfOk, IfErr, OnErr, MatchResult};
+ghost use Rattle.std.specs.Prelude.{◌≡◌, ◌<◌, List, [], ℕ, true, false, Some, None, Ok, Err, IsOk, IfOk, IfErr, OnErr, MatchResult};
 ghost use Rattle.zk_state.specs.Frames.{bounds_of};
 ghost use Rattle.zk_text.specs.Extra.{own_characters};
 ghost use Rattle.zk_tables.specs.Rectangles.{rows_of, row_at, row_units};
@@ -314,13 +314,14 @@ fn fill_table_part(
     table: OpenTable,
     half: &mut Half,
     codes: &mut Codes,
-    words: u32,
+    words: Option<u32>,
 ) -> Result<bool, Fault>
     requires stands { IsRest game.old.memory half.old.rest }
     requires newest { newest_of game.old.streams.tables ≡ Some table }
     requires way { IsForTable game.old codes.old half.old }
     ensures on { IfOk result (λ on. on ≡ true → (game.new ≡ game.old) × IsRest game.old.memory half.new.rest
         × IsForTable game.old codes.new half.new) }
+    ensures whole { words ≡ None → IfOk result (λ on. on ≡ false) }
     ensures off { IfOk result (λ on. on ≡ false → table_filled game.old table
         (stored_all (own_characters game.old.memory) (units_of game.old.memory half.old.effect.output))
         ≡ Ok game.new) }
@@ -344,12 +345,13 @@ fn show_lower_part<S: Screen>(
     game: &mut GameState,
     half: &mut Half,
     screen: &mut S,
-    words: u32,
+    words: Option<u32>,
 ) -> bool
     requires stands { IsRest game.old.memory half.old.rest }
     requires way { IsForScreen game.old half.old }
     ensures on { result ≡ true → (game.new ≡ game.old) × IsRest game.old.memory half.new.rest
         × IsForScreen game.old half.new }
+    ensures whole { words ≡ None → result ≡ false }
     ensures off { result ≡ false → game.new ≡ (streamed game.old.memory game.old
         (characters_of game.old.memory half.old.effect.output)).0 }
     ensures text { ShowsSome S.shows screen.old screen.new
@@ -372,11 +374,12 @@ fn show_lower_part<S: Screen>(
 
 /// Prints a part of what is still to come in a draft of the upper window, which takes its place once all is there. Says whether
 /// more is to come.
-fn print_draft_part(game: &mut GameState, half: &mut Half, draft: &mut Windows, words: u32) -> bool
+fn print_draft_part(game: &mut GameState, half: &mut Half, draft: &mut Windows, words: Option<u32>) -> bool
     requires stands { IsRest game.old.memory half.old.rest }
     requires way { IsForUpper game.old draft.old half.old }
     ensures on { result ≡ true → (game.new ≡ game.old) × IsRest game.old.memory half.new.rest
         × IsForUpper game.old draft.new half.new }
+    ensures whole { words ≡ None → result ≡ false }
     ensures off { result ≡ false → game.new ≡ record game.old
         { windows = upper_printed game.old.streams.screen game.old.memory half.old.effect.output game.old.windows } }
     ensures same { half.new.effect ≡ half.old.effect }
@@ -399,11 +402,12 @@ pub(crate) fn route_part<S: Screen>(
     codes: &mut Codes,
     draft: &mut Windows,
     screen: &mut S,
-    words: u32,
+    words: Option<u32>,
 ) -> Result<bool, Fault>
     requires { IsUnderWay game.old i.now begun.now.values codes.old draft.old half.old }
     ensures on { IfOk result (λ on. on ≡ true → (game.new ≡ game.old)
         × IsUnderWay game.old i.now begun.now.values codes.new draft.new half.new) }
+    ensures whole { words ≡ None → IfOk result (λ on. on ≡ false) }
     ensures off { IfOk result (λ on. on ≡ false → IsRoutedBy
         (routed_by (newest_of game.old.streams.tables) game.old.memory game.old half.old.effect.output)
         game.new i.now begun.now.values half.old.effect.ending) }

@@ -27,4 +27,5 @@ loop-i-preserved g c =
     record {
       gives = some_twice g.K.Sink.gave g.met.K.Sink.twice c.args.sink.now c.loop-i.sink c.give_next_row.new.sink _ _ _ c.loop-i.invariant.gives (rw r.2 some);
       within = omega (arith, c.if-row-rectangle.false);
+      passed = omega (arith, c.loop-i.invariant.passed);
     }

@@ -30,4 +30,5 @@ loop-i-preserved c =
     record {
       value = step ∙ c.loop-i.invariant.value;
       within = omega (arith, c.if-row-rectangle.false);
+      passed = omega (arith, c.loop-i.invariant.passed);
     }
