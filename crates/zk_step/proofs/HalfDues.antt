@@ -1,5 +1,5 @@
 -- The text of an instruction that is still to come.
-use Rattle.std.proofs.Common.{◌≡◌, ◌∙◌, ◌⊎◌, inl, inr, ℕ, Bool, true, false, List, [], ◌∷◌, Option, Some, None, Result, Ok, Err, IsOk, MatchResult, refl, ap, sym, subst, arith, ◌+◌, length}
+use Rattle.std.proofs.Common.{◌≡◌, ◌∙◌, ◌⊎◌, inl, inr, ℕ, Bool, true, false, List, [], ◌∷◌, Option, Some, None, Result, Ok, Err, IsOk, MatchResult, refl, ap, sym, arith, ◌+◌, length}
 use Rattle.std.proofs.lemmas.List.{drop_all, take_all}
 use Rattle.std.specs.Prelude.{◌==◌, if◌then◌else◌}
 use Rattle.zk_mem.specs.declared.fault.Fault.{Fault}
@@ -29,9 +29,9 @@ use Rattle.zk_step.specs.Halves.{IsOnWay, ShowsSome, given_back, rest_text, rest
 use Rattle.zk_step.specs.Instructions.{HasBegun, carried_out}
 use Rattle.zk_step.specs.Limited.{limited_move, limited_next, text_in}
 use Rattle.zk_step.specs.Printing.{characters_of, units_of}
-use Rattle.zk_step.specs.Routing.{Texts, ends_line, no_text, routed, routed_by, routed_to, shown_if, streamed, stored_all, table_filled, upper_printed, with_line_start}
+use Rattle.zk_step.specs.Routing.{Texts, ends_line, no_text, routed, routed_by, routed_to, shown_if, streamed, stored_all, table_filled, upper_printed}
 use Rattle.zk_step.specs.Streams.{newest_of}
-use Rattle.zk_step.specs.Variables.{operand_read, operands_read, with_frames}
+use Rattle.zk_step.specs.Variables.{operands_read, with_frames}
 use Rattle.zk_step.proofs.GivingBack.{operand_back, takes_first}
 use Rattle.zk_step.proofs.HalfStarts.{whole_units}
 use Rattle.zk_step.proofs.Showing.{refused_text, shown_text}

@@ -1,8 +1,5 @@
 -- An instruction is finished, or in the middle of what it prints.
-use Rattle.std.proofs.Common.{◌≡◌, ◌∙◌, ℕ, Bool, true, false, List, [], Option, Some, None, Result, Ok, Err, refl, ap, sym, subst}
-use Rattle.zk_mem.specs.declared.fault.Fault.{Fault}
-use Rattle.zk_mem.specs.Map.{MemoryMap}
-use Rattle.zk_text.specs.Extra.{own_characters}
+use Rattle.std.proofs.Common.{◌≡◌, ℕ, Bool, true, false, List, [], Option, Some, None, Ok, refl, subst}
 use Rattle.zk_text.specs.Shown.{shown_all}
 use Rattle.zk_code.specs.declared.instr.Instr.{Instr}
 use Rattle.zk_term.specs.declared.windows.Window.{Window}
@@ -11,7 +8,6 @@ use Rattle.zk_step.specs.declared.output.parts.Rest.{Rest}
 use Rattle.zk_step.specs.declared.output.streams.OpenTable.{OpenTable}
 use Rattle.zk_step.specs.declared.state.ending.Effect.{Effect}
 use Rattle.zk_step.specs.declared.state.ending.Ending.{Ending}
-use Rattle.zk_step.specs.declared.state.ending.Ending.TheVariants as ending
 use Rattle.zk_step.specs.declared.state.ending.Next.{Next}
 use Rattle.zk_step.specs.declared.state.ending.Next.TheVariants.{At, Asks}
 use Rattle.zk_step.specs.declared.state.ending.Output.{Output}
@@ -22,7 +18,7 @@ use Rattle.zk_step.specs.Finish.{finished}
 use Rattle.zk_step.specs.Halves.{ShowsSome, rest_on, rest_text_by, whole_of}
 use Rattle.zk_step.specs.Instructions.{HasBegun}
 use Rattle.zk_step.specs.Limited.{limited_next}
-use Rattle.zk_step.specs.Printing.{IsLong, IsPlainEnd, IsPrintable, IsReady}
+use Rattle.zk_step.specs.Printing.{IsLong, IsPlainEnd}
 use Rattle.zk_step.specs.Routing.{Texts, no_text, routed, routed_by, shown_if}
 use Rattle.zk_step.specs.Silence.{IsQuiet}
 use Rattle.zk_step.specs.Streams.{newest_of}

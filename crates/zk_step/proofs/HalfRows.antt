@@ -1,8 +1,8 @@
 -- Parts of a text and of rows in the upper window.
-use Rattle.std.proofs.Common.{◌≡◌, ◌∙◌, ◌≤◌, ◌<◌, ℕ, zero, suc, ◌+◌, Bool, true, false, List, [], ◌∷◌, ◌++◌, drop, length, get_or, Result, Ok, Err, IsOk, refl, ap, sym, arith, add-one}
+use Rattle.std.proofs.Common.{◌≡◌, ◌≤◌, ◌<◌, ℕ, zero, suc, ◌+◌, Bool, List, [], ◌∷◌, drop, length, get_or, IsOk, refl, sym, arith}
 use Rattle.zk_mem.specs.Map.{MemoryMap}
 use Rattle.zk_text.specs.declared.unit.Unit.{Unit}
-use Rattle.zk_text.specs.Extra.{ExtraTable, own_characters}
+use Rattle.zk_text.specs.Extra.{ExtraTable}
 use Rattle.zk_text.specs.Shown.{shown_all}
 use Rattle.zk_text.proofs.ShownLemmas.{shown_all-append}
 use Rattle.zk_tables.specs.Rectangles.{row_units, rows_of}

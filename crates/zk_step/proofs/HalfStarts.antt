@@ -1,11 +1,10 @@
 -- What is still to come at first is all that is printed.
-use Rattle.std.proofs.Common.{◌≡◌, ◌∙◌, ◌≤◌, ℕ, Bool, true, false, List, [], ◌∷◌, ◌++◌, Option, Some, None, Result, Ok, Err, IsOk, refl, ap, sym, subst, arith, append-nil}
+use Rattle.std.proofs.Common.{◌≡◌, ℕ, Bool, true, false, List, [], ◌∷◌, Option, Some, None, IsOk, refl, ap, subst, arith, append-nil}
 use Rattle.zk_mem.specs.Map.{MemoryMap}
 use Rattle.zk_text.specs.declared.unit.Unit.{Unit}
-use Rattle.zk_text.specs.declared.unit.Unit.TheVariants.{Code as CodeUnit}
 use Rattle.zk_text.specs.Extra.{ExtraTable, own_characters}
 use Rattle.zk_text.specs.Meaning.{text_units}
-use Rattle.zk_text.specs.Places.{IsPlace, first_place, left}
+use Rattle.zk_text.specs.Places.{IsPlace, first_place}
 use Rattle.zk_text.specs.Shown.{shown_all}
 use Rattle.zk_text.proofs.WordWalks.{first_left}
 use Rattle.zk_tables.specs.Rectangles.{rows_of}

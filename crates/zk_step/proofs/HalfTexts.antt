@@ -1,13 +1,12 @@
 -- Parts of a text, one after the other.
-use Rattle.std.proofs.Common.{◌≡◌, ◌∙◌, ◌≤◌, ◌<◌, ℕ, zero, suc, ◌+◌, Bool, true, false, List, [], ◌∷◌, ◌++◌, take, drop, length, get_or, Option, Some, None, Result, Ok, Err, IsOk, refl, ap, sym, subst, arith, append_assoc, append-nil, drop-cons, add-one}
+use Rattle.std.proofs.Common.{◌≡◌, ◌∙◌, ◌≤◌, ◌<◌, ℕ, zero, suc, ◌+◌, Bool, true, false, List, [], ◌∷◌, ◌++◌, drop, length, get_or, Ok, Err, IsOk, refl, ap, sym, subst, arith, append_assoc, append-nil, drop-cons, add-one}
 use Rattle.std.proofs.lemmas.List.{drop_all}
 use Rattle.zk_mem.specs.Map.{MemoryMap}
 use Rattle.zk_text.specs.declared.unit.Unit.{Unit}
-use Rattle.zk_text.specs.declared.unit.Unit.TheVariants.{Code}
 use Rattle.zk_text.specs.Extra.{ExtraTable}
 use Rattle.zk_text.specs.Meaning.{Units, joined}
 use Rattle.zk_text.specs.Places.{Gives, Refuses}
-use Rattle.zk_tables.specs.Rectangles.{joined_rows, more_rows, row_units, rows_of}
+use Rattle.zk_tables.specs.Rectangles.{joined_rows, more_rows, rows_of}
 use Rattle.zk_tables.specs.declared.arrays.rectangle.Rectangle.{Rectangle}
 use Rattle.zk_tables.proofs.Rows.{rows_length}
 use Rattle.zk_step.specs.declared.output.parts.Rest.{Rest}

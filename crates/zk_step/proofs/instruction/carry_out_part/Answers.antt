@@ -1,4 +1,3 @@
-use Rattle.std.proofs.Common.{◌≡◌, ◌∙◌, refl, ap, sym, subst, true}
 use Rattle.zk_step.proofs.HalfDues.{ok_weaker, same_rest, shows_then}
 use Rattle.zk_step.proofs.instruction.carry_out_part.Goals as goal
 

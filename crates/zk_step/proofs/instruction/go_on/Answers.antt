@@ -1,4 +1,4 @@
-use Rattle.std.proofs.Common.{◌≡◌, ◌∙◌, refl, ap, sym, subst, true}
+use Rattle.std.proofs.Common.{◌∙◌}
 use Rattle.zk_step.proofs.HalfEnds.{all_shown, has_begun, long_routed, plain_quiet}
 use Rattle.zk_step.proofs.Showing.{told}
 use Rattle.zk_step.proofs.Steps.{carried_ok, finish_refused, route_refused}

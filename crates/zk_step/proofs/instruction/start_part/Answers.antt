@@ -1,7 +1,7 @@
-use Rattle.std.proofs.Common.{◌≡◌, ◌∙◌, refl, ap, sym, subst, true}
+use Rattle.std.proofs.Common.{◌∙◌, refl, sym}
 use Rattle.zk_step.specs.Streams.{newest_of}
 use Rattle.zk_step.proofs.HalfDues.{ok_weaker, shows_all, shows_then, text_whole}
-use Rattle.zk_step.proofs.HalfEnds.{has_begun, long_of, long_routed}
+use Rattle.zk_step.proofs.HalfEnds.{long_of, long_routed}
 use Rattle.zk_step.proofs.Showing.{stopped_there}
 use Rattle.zk_step.proofs.instruction.start_part.Goals as goal
 

@@ -1,7 +1,6 @@
-use Rattle.std.proofs.Common.{◌<◌, [], drop, length, get_or, List, ℕ, arith}
+use Rattle.std.proofs.Common.{◌<◌, [], length, get_or, arith}
 use Rattle.zk_tables.specs.Rectangles.{rows_of}
 use Rattle.zk_tables.proofs.Rows.{rows_length, row_is}
-use Rattle.zk_step.specs.Halves.{GivesSome, row_rest}
 use Rattle.zk_step.proofs.HalfTexts.{row_refused, row_some, some_refused, some_twice}
 use Rattle.zk_step.proofs.UpperRows.{ready_rows}
 use Rattle.zk_step.proofs.output.parts.give_some_rows.Goals as goal

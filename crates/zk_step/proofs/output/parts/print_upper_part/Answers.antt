@@ -1,4 +1,4 @@
-use Rattle.std.proofs.Common.{◌≡◌, ◌∙◌, sym, true}
+use Rattle.std.proofs.Common.{◌∙◌, sym}
 use Rattle.zk_text.specs.Extra.{own_characters}
 use Rattle.zk_step.specs.Halves.{rest_units, upper_rest}
 use Rattle.zk_step.proofs.HalfRows.{units_on, upper_end}

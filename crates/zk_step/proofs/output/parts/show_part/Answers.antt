@@ -1,8 +1,4 @@
-use Rattle.std.proofs.Common.{◌≡◌, Bool, false, refl, rules, subst}
-use Rattle.zk_text.specs.Extra.{own_characters}
-use Rattle.zk_text.specs.Shown.{shown_all}
-use Rattle.zk_step.specs.Halves.{rest_units}
-use Rattle.zk_step.specs.Printed.{Printed}
+use Rattle.std.proofs.Common.{◌≡◌, false, refl, rules}
 use Rattle.zk_step.specs.Routing.{ends_line}
 use Rattle.zk_step.proofs.HalfTexts.{some_all}
 use Rattle.zk_step.proofs.output.parts.show_part.Goals as goal

@@ -1,4 +1,4 @@
-use Rattle.std.proofs.Common.{◌≡◌, ◌∙◌, ◌++◌, [], ap, sym, refl}
+use Rattle.std.proofs.Common.{◌∙◌, ap, sym, refl}
 use Rattle.zk_text.specs.Extra.{own_characters}
 use Rattle.zk_step.specs.Printing.{characters_of}
 use Rattle.zk_step.specs.Routing.{stored_all}

@@ -1,4 +1,4 @@
-use Rattle.std.proofs.Common.{◌≡◌, ◌∙◌, refl}
+use Rattle.std.proofs.Common.{◌∙◌, refl}
 use Rattle.zk_text.specs.Extra.{own_characters}
 use Rattle.zk_step.specs.Halves.{rest_on, rest_units}
 use Rattle.zk_step.proofs.HalfScreens.{line_on, shows_some}

@@ -1,6 +1,6 @@
 use Rattle.std.proofs.Common.{◌≡◌, ap, Bool, false, refl, rules}
 use Rattle.zk_step.specs.Printing.{characters_of}
-use Rattle.zk_step.specs.Routing.{ends_line, shown_if, with_line_start}
+use Rattle.zk_step.specs.Routing.{ends_line, with_line_start}
 use Rattle.zk_step.proofs.output.routing.show_text.Goals as goal
 
 pub returns-then-not-selected-2-clause-state : goal.returns-then-not-selected-2-clause-state

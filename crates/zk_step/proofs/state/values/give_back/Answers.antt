@@ -1,7 +1,5 @@
-use Rattle.std.proofs.Common.{◌≡◌, ◌∙◌, ◌-◌, ◌<◌, ◌+◌, ℕ, suc, length, refl, ap, sym, subst, arith}
-use Rattle.zk_state.specs.Frames.{IsBounded}
-use Rattle.zk_step.specs.declared.state.game_state.GameState.{GameState}
-use Rattle.zk_step.proofs.GivingBack.{after_operands, all_taken, as_many, bounded_fits, gives_back}
+use Rattle.std.proofs.Common.{◌≡◌, ◌∙◌, ◌-◌, ◌+◌, ℕ, suc, length, refl, ap, sym, arith}
+use Rattle.zk_step.proofs.GivingBack.{after_operands, all_taken, bounded_fits, gives_back}
 use Rattle.zk_step.proofs.state.values.give_back.Goals as goal
 
 pub loop-k-init : goal.loop-k-init
