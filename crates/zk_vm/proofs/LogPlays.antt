@@ -19,7 +19,7 @@ use Rattle.zk_vm.specs.declared.stop.Stop.TheVariants.{Memory, Write}
 use Rattle.zk_vm.specs.Answers.{Answer}
 use Rattle.zk_vm.specs.Answers.Answer.{Typed, GameKept, File}
 use Rattle.zk_vm.specs.Halts.{IsLeftAs, event_waited}
-use Rattle.zk_vm.specs.Log.{Entry, IsLeftIn, IsLog, address_in, addresses, answer_in, answers_in, heard_by, read_in, reads_in, scripted, scripted_in, shown, shown_in, stop_told}
+use Rattle.zk_vm.specs.Log.{Entry, IsLeftIn, IsLog, address_in, addresses, answer_in, answers_in, heard_by, parts_of, read_in, reads_in, scripted, scripted_in, shown, shown_in, stop_told}
 use Rattle.zk_vm.specs.Log.Entry.{At, Shown, Scripted, Read, Offered, Asked, Stopped}
 use Rattle.zk_vm.specs.Logged.{Ends, EndsBy, IsLeftFor, IsOfSlot, IsOver, LacksRoom, LacksState, Plays, Ran, RunEnds, RunsOn, Served, Serves, SlotDid, TookOf, Turns, WasNoted, Wrote, WroteFirst}
 use Rattle.zk_vm.specs.Logged.EndsBy.{Itself, NoLine, NoMemory, Unwritten}
@@ -44,12 +44,12 @@ wrote_on a b c l fresh done first rest =
     record { screen = both.0; script = both.1 }
 
 -- how a run ends whose screen has not failed
-pub ends_whole : {S : Type 0} (shows : S → S → List ℕ → List ℕ → Type 0) (full failed : S → Bool) (x y : S) (bound : ℕ) (old to new : Session) (l : List Entry) (answer : Result Event Stop) → IfErr answer (λ stop. new.stopped ≡ Some stop) → (failed y ≡ true → ⊥)
-    → RunEnds shows full failed x y bound old to new l (Err answer) → Ends LacksState false to new answer
-ends_whole shows full failed x y bound old to new l (Ok e) stops works (there, waits) = (refl, there, waits)
-ends_whole shows full failed x y bound old to new l (Err stop) stops works (free, inl h) = (stops, free, inl h)
-ends_whole shows full failed x y bound old to new l (Err stop) stops works (free, inr (inl (e, lacks))) = (stops, free, inr (e, lacks))
-ends_whole shows full failed x y bound old to new l (Err stop) stops works (free, inr (inr (e, on, broken, same))) = absurd (works broken)
+pub ends_whole : {S : Type 0} (shows : S → S → List ℕ → List ℕ → Type 0) (full failed : S → Bool) (x y : S) (bound parts : ℕ) (old to new : Session) (l : List Entry) (answer : Result Event Stop) → IfErr answer (λ stop. new.stopped ≡ Some stop) → (failed y ≡ true → ⊥)
+    → RunEnds shows full failed x y bound parts old to new l (Err answer) → Ends LacksState false to new answer
+ends_whole shows full failed x y bound parts old to new l (Ok e) stops works (there, waits) = (refl, there, waits)
+ends_whole shows full failed x y bound parts old to new l (Err stop) stops works (free, inl h) = (stops, free, inl h)
+ends_whole shows full failed x y bound parts old to new l (Err stop) stops works (free, inr (inl (e, lacks))) = (stops, free, inr (e, lacks))
+ends_whole shows full failed x y bound parts old to new l (Err stop) stops works (free, inr (inr (e, on, broken, same))) = absurd (works broken)
 
 -- no write has failed
 pub ran_whole : {S : Type 0} (shows : S → S → List ℕ → List ℕ → Type 0) (full failed : S → Bool) (Noted : List ℕ → Type 0) (x y : S) (bound : ℕ) (old new : Session) (answer : Result Event Stop) (a b c : Targets) (r : Ran shows full failed Noted x y bound old new (Err answer)) → IfErr answer (λ stop. new.stopped ≡ Some stop) → (failed y ≡ true → b.failed ≡ true)
@@ -64,7 +64,7 @@ ran_whole shows full failed Noted x y bound old new answer a b c r stops broken 
       alone = r.alone;
       got = subst (λ (z : Bool). Wrote (record { screen = a.screen; script = a.script }) (record { screen = c.screen; script = c.script }) z r.log) known (wrote_on a b c r.log fresh done first rest);
       noted = r.noted;
-      ends = rw (either) (ends_whole shows full failed x y bound old r.to new r.log answer stops (λ f. never_cut_off ⊥ b c rest sound (broken f)) r.ends);
+      ends = rw (either) (ends_whole shows full failed x y bound (parts_of r.is.moves) old r.to new r.log answer stops (λ f. never_cut_off ⊥ b c rest sound (broken f)) r.ends);
     }
 
 -- one has failed

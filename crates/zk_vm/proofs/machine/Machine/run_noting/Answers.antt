@@ -1,10 +1,12 @@
-use Rattle.std.proofs.Common.{Ok, arith, ap}
-use Rattle.zk_vm.specs.declared.limits.Limits.{Limits}
-use Rattle.zk_vm.proofs.LogSteps.{any_bound, no_pause}
+use Rattle.std.proofs.Common.{◌∙◌, Ok, arith, refl, sym}
+use Rattle.zk_vm.proofs.LogSteps.{any_bound}
 use Rattle.zk_vm.proofs.machine.Machine.run_noting.Goals as goal
 
 pub unreachable-requires : goal.unreachable-requires
-unreachable-requires g c = no_pause g.S.Screen.shows g.S.Screen.full g.S.Screen.failed (g.P.Places.noted c.args.places.now c.run_for_noting.new.places) _ _ _ _ _ c.requires.endless (omega (arith, c.run_for_noting.ensures.word, ap (λ (l : Limits). l.steps) c.run_for_noting.ensures.limits)) (rw c.in-Ok-None.field-0-is at c.in-Ok-None.ensures.logged)
+unreachable-requires g c =
+    let full = (rw c.in-Ok-None.field-0-is at c.in-Ok-None.ensures.asked) refl (omega (arith, c.run_for_noting.ensures.word)) in
+    let never = sym (c.requires.endless c.run_for_noting.new.screen) ∙ full in
+    absurd cc
 
 pub returns-in-Ok-Some-clause-logged : goal.returns-in-Ok-Some-clause-logged
 returns-in-Ok-Some-clause-logged g c =
