@@ -1,14 +1,14 @@
 -- Parts of a text only divide what a step passes, and what comes from the world determines a log.
-use Rattle.std.proofs.Common.{◌≡◌, ◌∙◌, ◌⊎◌, ◌-◌, inl, inr, ℕ, zero, suc, List, [], ◌∷◌, ◌++◌, append_assoc, append-nil, Option, Some, None, refl, ap, sym}
+use Rattle.std.proofs.Common.{◌≡◌, ◌∙◌, ◌⊎◌, ◌-◌, ◌+◌, inl, inr, ℕ, zero, suc, List, [], ◌∷◌, ◌++◌, append_assoc, append-nil, Option, Some, None, refl, ap, sym, arith}
 use Rattle.std.specs.List.{drop-map}
 use Rattle.std.specs.Prelude.{drop, map, take}
-use Rattle.std.proofs.lemmas.List.{take-map, take-append-drop}
+use Rattle.std.proofs.lemmas.List.{drop-drop, drop-take, take-map, take-take, take-append-drop}
 use Rattle.std.proofs.lemmas.List.Elements.{filter_map-append}
 use Rattle.zk_step.specs.Routing.{Texts}
 use Rattle.zk_vm.specs.declared.stop.Stop.{Stop}
 use Rattle.zk_vm.specs.declared.waiting.Waiting.{Waiting}
 use Rattle.zk_vm.specs.Answers.{Answer}
-use Rattle.zk_vm.specs.Log.{Entry, IsPrefix, Move, OneLog, PartsOnlyDivide, Passed, address_told, answer_in, answers_in, goes_by, moved, moved_by, part_shown, parted, parted_to, parts_by, passed, stepped, stepped_to, text_first, text_later, text_left, told, woven}
+use Rattle.zk_vm.specs.Log.{Entry, IsPrefix, Move, OneLog, PartsJoin, PartsOnlyDivide, Passed, address_told, answer_in, answers_in, goes_by, moved, moved_by, part_shown, parted, parted_to, parts_by, passed, stepped, stepped_to, text_first, text_later, text_left, told, woven}
 use Rattle.zk_vm.specs.Log.Entry.{Scripted, Shown}
 use Rattle.zk_vm.specs.Log.Move.{Gets, Goes, Part}
 use Rattle.zk_vm.specs.Sessions.{Session}
@@ -76,6 +76,54 @@ divided s n = by_divided n s.stopped s.waiting s refl refl
 
 pub parts_only_divide : PartsOnlyDivide
 parts_only_divide s n = let h = divided s n in (h.entries, h.to)
+
+-- ---- two parts
+
+firsts_joined : (n k : ℕ) (t : Texts) → told (text_first n t) ++ told (text_first k (text_later n t)) ≡ told (text_first (n + k) t)
+firsts_joined n k t = rw (take-take n (n + k) t.screen (omega arith), take-take n (n + k) t.script (omega arith), drop-take n k t.screen, drop-take n k t.script) at (told_divided n (text_first (n + k) t))
+
+later_joined : (n k : ℕ) (t : Texts) → text_later k (text_later n t) ≡ text_later (n + k) t
+later_joined n k t = rw (drop-drop k n t.screen, drop-drop k n t.script) refl
+
+part_is : (n k : ℕ) (s : Session) → s.stopped ≡ None → s.waiting ≡ None → s.state.due ≡ [] → s.limits.steps - s.state.steps ≡ k → moved s (Part n) ≡ parted n k s
+part_is n k s runs free silent count = rw (runs, free, silent, count) refl
+
+-- after a part of a step another leads to where both lead as one
+record Joins (k : ℕ) (p q : Passed) : Type 0 where
+  entries : p.entries ++ (moved p.to (Part k)).entries ≡ q.entries
+  to : (moved p.to (Part k)).to ≡ q.to
+
+stays_joined : (k : ℕ) (s : Session) (q : Passed) → moved s (Part k) ≡ q → Joins k (record { entries = []; to = s }) q
+stays_joined k s q is = record { entries = ap (λ (p : Passed). p.entries) is; to = ap (λ (p : Passed). p.to) is }
+
+shown_joined : (n k : ℕ) (s : Session) (text : Texts) → moved (part_shown n s text).to (Part k) ≡ part_shown k (part_shown n s text).to (text_later n text) → Joins k (part_shown n s text) (part_shown (n + k) s text)
+shown_joined n k s text is =
+    let address = address_told s.left s.state.pc in
+    record {
+      entries = ap (λ (q : Passed). (address ++ told (text_first n text)) ++ q.entries) is ∙ append_assoc address (told (text_first n text)) (told (text_first k (text_later n text))) ∙ ap (λ (l : List Entry). address ++ l) (firsts_joined n k text);
+      to = ap (λ (q : Passed). q.to) is ∙ ap (λ (t : Texts). let x : Session = record s { left = Some t } in x) (later_joined n k text);
+    }
+
+parted_joined : (n k : ℕ) (s : Session) (v : Verdict) (t : State) (text : Texts) → ((left : Texts) → moved (record s { left = Some left }) (Part k) ≡ parted_to k (record s { left = Some left }) v t left) → Joins k (parted_to n s v t text) (parted_to (n + k) s v t text)
+parted_joined n k s GoesOn t text also = shown_joined n k s text (also (text_later n text))
+parted_joined n k s (WaitsFor w) t text also = shown_joined n k s text (also (text_later n text))
+parted_joined n k s (StopsBy stop) t text also = record { entries = append-nil (stepped_to s (StopsBy stop) t text).entries; to = refl }
+
+count_joined : (n k i : ℕ) (s : Session) → s.stopped ≡ None → s.waiting ≡ None → s.state.due ≡ [] → s.limits.steps - s.state.steps ≡ i → Joins k (parted n i s) (parted (n + k) i s)
+count_joined n k zero s runs free silent count = record { entries = refl; to = refl }
+count_joined n k (suc i) s runs free silent count = parted_joined n k s (verdict_of s.state (step s.state)) (state_after s.state (step s.state)) (text_left s.left s.state) (λ left. part_is k (suc i) (record s { left = Some left }) runs free silent count)
+
+due_joined : (n k : ℕ) (due : List ℕ) (s : Session) → s.stopped ≡ None → s.waiting ≡ None → s.state.due ≡ due → Joins k (parts_by n due s) (parts_by (n + k) due s)
+due_joined n k [] s runs free silent = count_joined n k (s.limits.steps - s.state.steps) s runs free silent refl
+due_joined n k (c ∷ cs) s runs free silent = stays_joined k s (record { entries = []; to = s }) (rw (runs, free, silent) refl)
+
+by_joined : (n k : ℕ) (x : Option Stop) (y : Option Waiting) (s : Session) → s.stopped ≡ x → s.waiting ≡ y → Joins k (moved_by x y s (Part n)) (moved_by x y s (Part (n + k)))
+by_joined n k None None s runs free = due_joined n k s.state.due s runs free refl
+by_joined n k None (Some w) s runs waits = stays_joined k s (record { entries = []; to = s }) (rw (runs, waits) refl)
+by_joined n k (Some stop) y s stopped waits = stays_joined k s (record { entries = []; to = s }) (rw stopped refl)
+
+pub parts_join : PartsJoin
+parts_join s n k = let h = by_joined n k s.stopped s.waiting s refl refl in (h.entries, h.to)
 
 -- ---- moves without parts
 

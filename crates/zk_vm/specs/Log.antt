@@ -217,6 +217,10 @@ OneLog = (s t u : Session) (l m : List Entry) → IsLog s l t → IsLog s m u �
 abbrev pub PartsOnlyDivide : Type 0
 PartsOnlyDivide = (s : Session) (n : ℕ) → ((moved s (Part n)).entries ++ (moved (moved s (Part n)).to Goes).entries ≡ (moved s Goes).entries) × ((moved (moved s (Part n)).to Goes).to ≡ (moved s Goes).to)
 
+-- two parts, one after the other, are one
+abbrev pub PartsJoin : Type 0
+PartsJoin = (s : Session) (n k : ℕ) → ((moved s (Part n)).entries ++ (moved (moved s (Part n)).to (Part k)).entries ≡ (moved s (Part (n + k))).entries) × ((moved (moved s (Part n)).to (Part k)).to ≡ (moved s (Part (n + k))).to)
+
 -- logs join
 abbrev pub LogsJoin : Type 0
 LogsJoin = (s t u : Session) (l m : List Entry) → IsLog s l t → IsLog t m u → IsLog s (l ++ m) u
