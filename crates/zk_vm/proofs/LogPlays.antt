@@ -19,7 +19,7 @@ use Rattle.zk_vm.specs.declared.stop.Stop.TheVariants.{Memory, Write}
 use Rattle.zk_vm.specs.Answers.{Answer}
 use Rattle.zk_vm.specs.Answers.Answer.{Typed, GameKept, File}
 use Rattle.zk_vm.specs.Halts.{IsLeftAs, event_waited}
-use Rattle.zk_vm.specs.Log.{Entry, IsLeftIn, IsLog, address_in, addresses, answer_in, answers_in, heard_by, parts_of, read_in, reads_in, scripted, scripted_in, shown, shown_in, stop_told}
+use Rattle.zk_vm.specs.Log.{Entry, IsLeftIn, IsLog, address_in, addresses, answer_in, answers_in, heard_by, read_in, reads_in, scripted, scripted_in, shown, shown_in, stop_told}
 use Rattle.zk_vm.specs.Log.Entry.{At, Shown, Scripted, Read, Offered, Asked, Stopped}
 use Rattle.zk_vm.specs.Logged.{Ends, EndsBy, IsLeftFor, IsOfSlot, IsOver, LacksRoom, LacksState, Plays, Ran, RunEnds, RunsOn, Served, Serves, SlotDid, TookOf, Turns, WasNoted, Wrote, WroteFirst}
 use Rattle.zk_vm.specs.Logged.EndsBy.{Itself, NoLine, NoMemory, Unwritten}
@@ -52,9 +52,9 @@ ends_whole shows full failed x y bound parts old to new l (Err stop) stops works
 ends_whole shows full failed x y bound parts old to new l (Err stop) stops works (free, inr (inr (e, on, broken, same))) = absurd (works broken)
 
 -- no write has failed
-pub ran_whole : {S : Type 0} (shows : S → S → List ℕ → List ℕ → Type 0) (full failed : S → Bool) (Noted : List ℕ → Type 0) (x y : S) (bound : ℕ) (old new : Session) (answer : Result Event Stop) (a b c : Targets) (r : Ran shows full failed Noted x y bound old new (Err answer)) → IfErr answer (λ stop. new.stopped ≡ Some stop) → (failed y ≡ true → b.failed ≡ true)
+pub ran_whole : {S : Type 0} (shows : S → S → List ℕ → List ℕ → Type 0) (full failed : S → Bool) (Noted : List ℕ → Type 0) (x y : S) (bound parts : ℕ) (old new : Session) (answer : Result Event Stop) (a b c : Targets) (r : Ran shows full failed Noted x y bound parts old new (Err answer)) → IfErr answer (λ stop. new.stopped ≡ Some stop) → (failed y ≡ true → b.failed ≡ true)
     → Written a b (shown r.log) (scripted r.log) → Written b c [] [] → IsFresh a → IsFinished c → c.failed ≡ false → RunsOn (Wrote (record { screen = a.screen; script = a.script }) (record { screen = c.screen; script = c.script }) c.either) Noted old new answer c.either
-ran_whole shows full failed Noted x y bound old new answer a b c r stops broken first rest fresh done sound =
+ran_whole shows full failed Noted x y bound parts old new answer a b c r stops broken first rest fresh done sound =
     let known = known_failed a b c (record { screen = shown r.log; script = scripted r.log }) fresh first rest in
     let either : c.either ≡ false = sym known ∙ sound in
     record {
@@ -64,13 +64,13 @@ ran_whole shows full failed Noted x y bound old new answer a b c r stops broken 
       alone = r.alone;
       got = subst (λ (z : Bool). Wrote (record { screen = a.screen; script = a.script }) (record { screen = c.screen; script = c.script }) z r.log) known (wrote_on a b c r.log fresh done first rest);
       noted = r.noted;
-      ends = rw (either) (ends_whole shows full failed x y bound (parts_of r.is.moves) old r.to new r.log answer stops (λ f. never_cut_off ⊥ b c rest sound (broken f)) r.ends);
+      ends = rw (either) (ends_whole shows full failed x y bound parts old r.to new r.log answer stops (λ f. never_cut_off ⊥ b c rest sound (broken f)) r.ends);
     }
 
 -- one has failed
-pub ran_part : {S : Type 0} (shows : S → S → List ℕ → List ℕ → Type 0) (full failed : S → Bool) (Noted : List ℕ → Type 0) (x y : S) (bound : ℕ) (old new closed : Session) (answer : Result Event Stop) (a b c : Targets) (r : Ran shows full failed Noted x y bound old new (Err answer))
+pub ran_part : {S : Type 0} (shows : S → S → List ℕ → List ℕ → Type 0) (full failed : S → Bool) (Noted : List ℕ → Type 0) (x y : S) (bound parts : ℕ) (old new closed : Session) (answer : Result Event Stop) (a b c : Targets) (r : Ran shows full failed Noted x y bound parts old new (Err answer))
     → Written a b (shown r.log) (scripted r.log) → Written b c [] [] → IsFresh a → IsFinished c → c.failed ≡ true → closed.stopped ≡ Some Write → closed.waiting ≡ None → RunsOn (Wrote (record { screen = a.screen; script = a.script }) (record { screen = c.screen; script = c.script }) c.either) Noted old closed (Err Write) c.either
-ran_part shows full failed Noted x y bound old new closed answer a b c r first rest fresh done broken stopped free =
+ran_part shows full failed Noted x y bound parts old new closed answer a b c r first rest fresh done broken stopped free =
     let known = known_failed a b c (record { screen = shown r.log; script = scripted r.log }) fresh first rest in
     let either : c.either ≡ true = sym known ∙ broken in
     record {

@@ -14,7 +14,7 @@ use Rattle.zk_vm.specs.declared.waiting.Waiting.{Waiting}
 use Rattle.zk_vm.specs.Answers.Answer.{Typed}
 use Rattle.zk_vm.specs.Going.{GoesAhead, StopsAhead, after_steps, stop_by}
 use Rattle.zk_vm.specs.Halts.{Halt, IsLeftAt, IsStep, StepsTo, event_waited, halt_by}
-use Rattle.zk_vm.specs.Log.{Entry, IsLog, Passed, address_told, addresses, answers_in, goes_by, moved, parts_of, scripted, scripted_in, shown, shown_in, stepped_to, text_left, woven}
+use Rattle.zk_vm.specs.Log.{Entry, IsLog, Passed, address_told, addresses, answers_in, goes_by, moved, scripted, scripted_in, shown, shown_in, stepped_to, text_left, woven}
 use Rattle.zk_vm.specs.Log.Entry.{At, Scripted}
 use Rattle.zk_vm.specs.Log.Move.{Gets, Goes}
 use Rattle.zk_vm.specs.Logged.{AtLast, IsOn, LacksState, Ran, RunEnds, WasNoted}
@@ -235,11 +235,12 @@ module _ {S : Type 0} (shows : S → S → List ℕ → List ℕ → Type 0) (no
       never a b old to l works before after = absurd cc
 
       -- where it ends by a move
-      by_next : (Before Noted : List ℕ → Type 0) (parts : ℕ) (a now b : S) (old s new : Session) (h : Halt) (on : On shows Before parts a now old s) → failed now ≡ false → (next : Next Noted parts a now b old s on.log) → RunEnds shows full failed a b bound (parts_of next.is.is.moves) old (moved s Goes).to new (on.log ++ (moved s Goes).entries) (Err h) → Ran shows full failed Noted a b bound old new (Err h)
+      by_next : (Before Noted : List ℕ → Type 0) (parts : ℕ) (a now b : S) (old s new : Session) (h : Halt) (on : On shows Before parts a now old s) → failed now ≡ false → (next : Next Noted parts a now b old s on.log) → RunEnds shows full failed a b bound parts old (moved s Goes).to new (on.log ++ (moved s Goes).entries) (Err h) → Ran shows full failed Noted a b bound parts old new (Err h)
       by_next Before Noted parts a now b old s new h on works next ends = record {
         log = on.log ++ (moved s Goes).entries;
         to = (moved s Goes).to;
         is = next.is.is;
+        counted = next.is.counted;
         alone = next.alone;
         got = next.got;
         noted = inl next.noted;
@@ -248,7 +249,7 @@ module _ {S : Type 0} (shows : S → S → List ℕ → List ℕ → Type 0) (no
       }
 
       -- at an instruction that is refused after steps in silence
-      pub on_stop : (p q r : P) (parts : ℕ) (a now : S) (old s new : Session) (h : Halt) → On shows (notes p q) parts a now old s → failed now ≡ false → StopsAhead (notes q r) s new h → Ran shows full failed (notes p r) a now bound old new (Err h)
+      pub on_stop : (p q r : P) (parts : ℕ) (a now : S) (old s new : Session) (h : Halt) → On shows (notes p q) parts a now old s → failed now ≡ false → StopsAhead (notes q r) s new h → Ran shows full failed (notes p r) a now bound parts old new (Err h)
       unfolding quiet_on
       on_stop p q r parts a now old s new h on works ahead =
           let places = ahead.addresses in
@@ -267,15 +268,16 @@ module _ {S : Type 0} (shows : S → S → List ℕ → List ℕ → Type 0) (no
 
       -- at a bound, or where no step is left
       pub on_bound : (p q : P) (parts : ℕ) (a now : S) (old s : Session) (r : Result (Unit {0}) Halt) → On shows (notes p q) parts a now old s → failed now ≡ false → (s.state.steps < s.limits.steps → s.state.steps + parts ≡ bound)
-          → MatchResult r (λ _. s.state.steps < s.limits.steps) (λ h. (h ≡ Err (stops.Limit s.state.pc Steps)) × (s.limits.steps ≤ s.state.steps)) → Ran shows full failed (notes p q) a now bound old s r
+          → MatchResult r (λ _. s.state.steps < s.limits.steps) (λ h. (h ≡ Err (stops.Limit s.state.pc Steps)) × (s.limits.steps ≤ s.state.steps)) → Ran shows full failed (notes p q) a now bound parts old s r
       on_bound p q parts a now old s (Ok u) on works at few = record {
         log = on.log;
         to = s;
         is = on.is.is;
+        counted = on.is.counted;
         alone = on.alone;
         got = on.got;
         noted = inl on.noted;
-        ends = (refl, on.on, works, inl (ap (λ (n : ℕ). s.state.steps + n) on.is.counted ∙ at few, few));
+        ends = (refl, on.on, works, inl (at few, few));
         at_once = never a now old s on.log works;
       }
       on_bound p q parts a now old s (Err h) on works at few =
@@ -294,13 +296,13 @@ module _ {S : Type 0} (shows : S → S → List ℕ → List ℕ → Type 0) (no
       ends_so parts a b old s new l (Ok e) (StopsBy stop) t text tells left whole = absurd cc
       ends_so parts a b old s new l (Err x) (StopsBy stop) t text tells left whole = (left, inl cc)
 
-      pub on_end : (p q r : P) (parts : ℕ) (a now b : S) (old s new : Session) (h : Halt) → On shows (notes p q) parts a now old s → s.state.steps < s.limits.steps → failed now ≡ false → notes q r (s.state.pc ∷ []) → IsStep s new (Err h) (λ t. shows now b t.screen t.script) → Ran shows full failed (notes p r) a b bound old new (Err h)
+      pub on_end : (p q r : P) (parts : ℕ) (a now b : S) (old s new : Session) (h : Halt) → On shows (notes p q) parts a now old s → s.state.steps < s.limits.steps → failed now ≡ false → notes q r (s.state.pc ∷ []) → IsStep s new (Err h) (λ t. shows now b t.screen t.script) → Ran shows full failed (notes p r) a b bound parts old new (Err h)
       on_end p q r parts a now b old s new h on room works one (inl made) =
           let is = step_move s on.on on.whole room in
           let all = chain p q r (addresses on.log) (s.state.pc ∷ []) on.noted one in
           let next = step_on (notes p q) (notes p r) parts a now b old s on room made.shown all in
-          by_next (notes p q) (notes p r) parts a now b old s new h on works next (subst (λ (x : Passed). RunEnds shows full failed a b bound (parts_of next.is.is.moves) old x.to new (on.log ++ (moved s Goes).entries) (Err h)) (sym is)
-          (ends_so (parts_of next.is.is.moves) a b old s new (on.log ++ (moved s Goes).entries) h (verdict_of s.state (step s.state)) (state_after s.state (step s.state)) (text_of s.state (step s.state)) made.tells made.left on.whole))
+          by_next (notes p q) (notes p r) parts a now b old s new h on works next (subst (λ (x : Passed). RunEnds shows full failed a b bound parts old x.to new (on.log ++ (moved s Goes).entries) (Err h)) (sym is)
+          (ends_so parts a b old s new (on.log ++ (moved s Goes).entries) h (verdict_of s.state (step s.state)) (state_after s.state (step s.state)) (text_of s.state (step s.state)) made.tells made.left on.whole))
       on_end p q r parts a now b old s new h on room works one (inr (tells, waits, (keeping, got))) =
           let memory : h ≡ Err stops.Memory = cc in
           let lacks : LacksState s new.state = record { on = on.on; few = room; keeping = keeping } in
@@ -308,6 +310,7 @@ module _ {S : Type 0} (shows : S → S → List ℕ → List ℕ → Type 0) (no
             log = on.log;
             to = s;
             is = on.is.is;
+            counted = on.is.counted;
             alone = on.alone;
             got = rw (append-nil (shown on.log), append-nil (scripted on.log)) at (twice a now b (shown on.log) [] (scripted on.log) [] on.got got);
             noted = inr ((new.state, lacks), chain p q r (addresses on.log) (s.state.pc ∷ []) on.noted one);
@@ -353,11 +356,12 @@ module _ {S : Type 0} (shows : S → S → List ℕ → List ℕ → Type 0) (no
           }
 
       -- after which the screen has failed, or is full
-      pub on_failed : (Noted : List ℕ → Type 0) (parts : ℕ) (a now b : S) (old new : Session) → WentOn Noted parts a now b old new → failed now ≡ false → failed b ≡ true → Ran shows full failed Noted a b bound old new (Err (Err stops.Write))
+      pub on_failed : (Noted : List ℕ → Type 0) (parts : ℕ) (a now b : S) (old new : Session) → WentOn Noted parts a now b old new → failed now ≡ false → failed b ≡ true → Ran shows full failed Noted a b bound parts old new (Err (Err stops.Write))
       on_failed Noted parts a now b old new went works broken = record {
         log = went.on.log;
         to = new;
         is = went.on.is.is;
+        counted = went.on.is.counted;
         alone = went.on.alone;
         got = went.on.got;
         noted = inl went.on.noted;
@@ -365,11 +369,12 @@ module _ {S : Type 0} (shows : S → S → List ℕ → List ℕ → Type 0) (no
         at_once = λ before after. went.last failed works after;
       }
 
-      pub on_full : (Noted : List ℕ → Type 0) (parts : ℕ) (a now b : S) (old new : Session) → WentOn Noted parts a now b old new → failed b ≡ false → full now ≡ false → full b ≡ true → Ran shows full failed Noted a b bound old new (Ok tt)
+      pub on_full : (Noted : List ℕ → Type 0) (parts : ℕ) (a now b : S) (old new : Session) → WentOn Noted parts a now b old new → failed b ≡ false → full now ≡ false → full b ≡ true → Ran shows full failed Noted a b bound parts old new (Ok tt)
       on_full Noted parts a now b old new went works before after = record {
         log = went.on.log;
         to = new;
         is = went.on.is.is;
+        counted = went.on.is.counted;
         alone = went.on.alone;
         got = went.on.got;
         noted = inl went.on.noted;
@@ -391,34 +396,36 @@ module _ {S : Type 0} (shows : S → S → List ℕ → List ℕ → Type 0) (no
     noted_on l m to none (inl h) = inl (subst Noted (sym (addresses_both l m [] (addresses m) none refl)) h)
     noted_on l m to none (inr (lacks, h)) = inr (lacks, subst (λ (x : List ℕ). Noted (x ++ to.state.pc ∷ [])) (sym (addresses_both l m [] (addresses m) none refl)) h)
 
-    pub steps_on : (a b c : S) (bound : ℕ) (old new : Session) (answer : Result (Unit {0}) Halt) → Dued a b old → failed b ≡ false → old.stopped ≡ None → Ran shows full failed Noted b c bound (told_due old) new answer → Ran shows full failed Noted a c bound old new answer
-    steps_on a b c bound old new answer d works runs r =
-        let both = with_both 0 (parts_of r.is.moves) (parts_of r.is.moves) old (told_due old) r.to d.log r.log (omega arith) runs d.is (record { is = r.is; counted = refl }) in
+    pub steps_on : (a b c : S) (bound parts : ℕ) (old new : Session) (answer : Result (Unit {0}) Halt) → Dued a b old → failed b ≡ false → old.stopped ≡ None → Ran shows full failed Noted b c bound parts (told_due old) new answer → Ran shows full failed Noted a c bound parts old new answer
+    steps_on a b c bound parts old new answer d works runs r =
+        let both = with_both 0 parts parts old (told_due old) r.to d.log r.log (omega arith) runs d.is (record { is = r.is; counted = r.counted }) in
         record {
           log = d.log ++ r.log;
           to = r.to;
           is = both.is;
+          counted = both.counted;
           alone = answers_both d.log r.log d.alone r.alone;
           got = got_twice a b c d.log r.log d.got r.got;
           noted = noted_on d.log r.log r.to d.nowhere r.noted;
-          ends = subst (λ (n : ℕ). RunEnds shows full failed a c bound n old r.to new (d.log ++ r.log) answer) (sym both.counted) (ends_on a b c bound (parts_of r.is.moves) old (told_due old) r.to new d.log r.log answer d.is.is d.got r.ends);
+          ends = ends_on a b c bound parts old (told_due old) r.to new d.log r.log answer d.is.is d.got r.ends;
           at_once = λ before after. last_on failed a b c old (told_due old) r.to d.log r.log d.is.is d.got (r.at_once works after);
         }
 
     -- where it has not paused, its bound is no matter
-    pub any_bound : (a b : S) (bound bound' : ℕ) (old new : Session) (h : Halt) → Ran shows full failed Noted a b bound old new (Err h) → Ran shows full failed Noted a b bound' old new (Err h)
-    any_bound a b bound bound' old new h r = record { log = r.log; to = r.to; is = r.is; alone = r.alone; got = r.got; noted = r.noted; ends = go h r.ends; at_once = r.at_once }
+    pub any_bound : (a b : S) (bound bound' parts : ℕ) (old new : Session) (h : Halt) → Ran shows full failed Noted a b bound parts old new (Err h) → Ran shows full failed Noted a b bound' parts old new (Err h)
+    any_bound a b bound bound' parts old new h r = record { log = r.log; to = r.to; is = r.is; counted = r.counted; alone = r.alone; got = r.got; noted = r.noted; ends = go h r.ends; at_once = r.at_once }
       where
-        go : (x : Halt) → RunEnds shows full failed a b bound (parts_of r.is.moves) old r.to new r.log (Err x) → RunEnds shows full failed a b bound' (parts_of r.is.moves) old r.to new r.log (Err x)
+        go : (x : Halt) → RunEnds shows full failed a b bound parts old r.to new r.log (Err x) → RunEnds shows full failed a b bound' parts old r.to new r.log (Err x)
         go (Ok event) ends = ends
         go (Err stop) ends = ends
 
     -- its stop is set
-    pub ran_closed : (a b : S) (bound : ℕ) (old mid new : Session) (stop : Stop) → Ran shows full failed Noted a b bound old mid (Err (Err stop)) → new.waiting ≡ mid.waiting → new.state ≡ mid.state → Ran shows full failed Noted a b bound old new (Err (Err stop))
-    ran_closed a b bound old mid new stop r waiting state = record {
+    pub ran_closed : (a b : S) (bound parts : ℕ) (old mid new : Session) (stop : Stop) → Ran shows full failed Noted a b bound parts old mid (Err (Err stop)) → new.waiting ≡ mid.waiting → new.state ≡ mid.state → Ran shows full failed Noted a b bound parts old new (Err (Err stop))
+    ran_closed a b bound parts old mid new stop r waiting state = record {
       log = r.log;
       to = r.to;
       is = r.is;
+      counted = r.counted;
       alone = r.alone;
       got = r.got;
       noted = r.noted;
@@ -426,17 +433,18 @@ module _ {S : Type 0} (shows : S → S → List ℕ → List ℕ → Type 0) (no
       at_once = r.at_once;
     }
       where
-        go : RunEnds shows full failed a b bound (parts_of r.is.moves) old r.to mid r.log (Err (Err stop)) → RunEnds shows full failed a b bound (parts_of r.is.moves) old r.to new r.log (Err (Err stop))
+        go : RunEnds shows full failed a b bound parts old r.to mid r.log (Err (Err stop)) → RunEnds shows full failed a b bound parts old r.to new r.log (Err (Err stop))
         go (free, inl h) = (waiting ∙ free, inl h)
         go (free, inr (inl (e, lacks))) = (waiting ∙ free, inr (inl (e, rw (state) lacks)))
         go (free, inr (inr (e, on, broken, same))) = (waiting ∙ free, inr (inr (e, on, broken, state ∙ same)))
 
     -- it has stopped before
-    pub ran_stopped : (a : S) (bound : ℕ) (s : Session) (stop : Stop) → s.stopped ≡ Some stop → s.waiting ≡ None → Noted [] → Ran shows full failed Noted a a bound s s (Err (Err stop))
+    pub ran_stopped : (a : S) (bound : ℕ) (s : Session) (stop : Stop) → s.stopped ≡ Some stop → s.waiting ≡ None → Noted [] → Ran shows full failed Noted a a bound 0 s s (Err (Err stop))
     ran_stopped a bound s stop e free none = record {
       log = [];
       to = s;
-      is = no_log s;
+      is = (with_none s).is;
+      counted = (with_none s).counted;
       alone = refl;
       got = nothing a;
       noted = inl none;
@@ -448,11 +456,12 @@ module _ {S : Type 0} (shows : S → S → List ℕ → List ℕ → Type 0) (no
     due_on s runs free = record { runs = runs; free = free; silent = refl }
 
     -- the screen has failed at what was due, or is full
-    pub due_failed : (a b : S) (bound : ℕ) (s new : Session) → Dued a b s → s.stopped ≡ None → s.waiting ≡ None → failed b ≡ true → new.waiting ≡ None → new.state ≡ (told_due s).state → Noted [] → Ran shows full failed Noted a b bound s new (Err (Err stops.Write))
+    pub due_failed : (a b : S) (bound : ℕ) (s new : Session) → Dued a b s → s.stopped ≡ None → s.waiting ≡ None → failed b ≡ true → new.waiting ≡ None → new.state ≡ (told_due s).state → Noted [] → Ran shows full failed Noted a b bound 0 s new (Err (Err stops.Write))
     due_failed a b bound s new d runs free broken waits state none = record {
       log = d.log;
       to = told_due s;
       is = d.is.is;
+      counted = d.is.counted;
       alone = d.alone;
       got = d.got;
       noted = inl (subst Noted (sym d.nowhere) none);
@@ -460,11 +469,12 @@ module _ {S : Type 0} (shows : S → S → List ℕ → List ℕ → Type 0) (no
       at_once = λ before after. d.last failed before after;
     }
 
-    pub due_full : (a b : S) (bound : ℕ) (s new : Session) → Dued a b s → s.stopped ≡ None → s.waiting ≡ None → failed b ≡ false → full a ≡ false → full b ≡ true → new ≡ told_due s → Noted [] → Ran shows full failed Noted a b bound s new (Ok tt)
+    pub due_full : (a b : S) (bound : ℕ) (s new : Session) → Dued a b s → s.stopped ≡ None → s.waiting ≡ None → failed b ≡ false → full a ≡ false → full b ≡ true → new ≡ told_due s → Noted [] → Ran shows full failed Noted a b bound 0 s new (Ok tt)
     due_full a b bound s new d runs free works before after there none = record {
       log = d.log;
       to = told_due s;
       is = d.is.is;
+      counted = d.is.counted;
       alone = d.alone;
       got = d.got;
       noted = inl (subst Noted (sym d.nowhere) none);
@@ -480,3 +490,11 @@ waits_so (Some v) event h = (v, (refl, cc))
 
 pub asked_waits : (new to : Session) (e : Event) → (new ≡ to) × (event_waited to.waiting ≡ Some e) → (w : Waiting) × (new.waiting ≡ Some w)
 asked_waits new to e (same, h) = let w = waits_so to.waiting e h in (w.0, ap (λ (s : Session). s.waiting) same ∙ w.1.0)
+
+-- a run whose screen is never full comes to no pause that is further than its limit
+pub no_pause : {S : Type 0} (shows : S → S → List ℕ → List ℕ → Type 0) (full failed : S → Bool) (Noted : List ℕ → Type 0) (a b : S) (bound : ℕ) (old new : Session) → ((x : S) → full x ≡ false) → new.limits.steps ≤ bound → Ran shows full failed Noted a b bound 0 old new (Ok tt) → ⊥
+no_pause {S} shows full failed Noted a b bound old new endless far r = go r.ends
+  where
+    go : RunEnds shows full failed a b bound 0 old r.to new r.log (Ok tt) → ⊥
+    go (there, on, works, inl (at, few)) = let e = ap (λ (s : Session). s.limits.steps) there in absurd (omega (arith, e, at, few, far))
+    go (there, on, works, inr last) = let never = sym (endless b) ∙ last.now in absurd cc

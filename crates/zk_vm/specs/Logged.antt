@@ -63,15 +63,17 @@ RunEnds {S} shows full failed a b bound parts old to new l (Err (Ok event)) = (n
 RunEnds {S} shows full failed a b bound parts old to new l (Err (Err stop)) =
     (new.waiting ≡ None) × ((to.stopped ≡ Some stop) ⊎ (((stop ≡ Memory) × LacksState to new.state) ⊎ ((stop ≡ Write) × IsOn to × (failed b ≡ true) × (new.state ≡ to.state))))
 
--- A machine was run: its screen got what a log shows, and has failed at its last move, if it has.
-pub record Ran {S : Type 0} (shows : S → S → List ℕ → List ℕ → Type 0) (full failed : S → Bool) (Noted : List ℕ → Type 0) (a b : S) (bound : ℕ) (old new : Session) (answer : Result (Unit {0}) Halt) : Type 0 where
+-- A machine was run, and so many parts of texts were shown: its screen got what a log shows, and has failed at its last move,
+-- if it has.
+pub record Ran {S : Type 0} (shows : S → S → List ℕ → List ℕ → Type 0) (full failed : S → Bool) (Noted : List ℕ → Type 0) (a b : S) (bound parts : ℕ) (old new : Session) (answer : Result (Unit {0}) Halt) : Type 0 where
   pub log : List Entry
   pub to : Session
   pub is : IsLog old log to
+  pub counted : parts_of is.moves ≡ parts
   pub alone : answers_in log ≡ []
   pub got : shows a b (shown log) (scripted log)
   pub noted : WasNoted Noted log to
-  pub ends : RunEnds shows full failed a b bound (parts_of is.moves) old to new log answer
+  pub ends : RunEnds shows full failed a b bound parts old to new log answer
   pub at_once : failed a ≡ false → failed b ≡ true → AtLast shows failed a b old to log
 
 -- what a run answers, as its steps tell it

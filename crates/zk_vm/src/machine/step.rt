@@ -35,7 +35,7 @@ impl Machine {
         requires free { self.old.waiting ≡ None }
         requires endless { (a : S) → S.full a ≡ false }
         ensures logged { Ran S.shows S.full S.failed (λ l. Unit {0}) screen.old screen.new
-            self.old.limits.steps self.old self.new (Err result) }
+            self.old.limits.steps 0 self.old self.new (Err result) }
         ensures stops { IfErr result (λ stop. self.new.stopped ≡ Some stop) }
         ensures free { OnErr result (self.new.waiting ≡ None) }
         ensures asks { IfOk result (λ event. event_waited self.new.waiting ≡ Some event) }
@@ -62,7 +62,7 @@ impl Machine {
         requires free { self.old.waiting ≡ None }
         requires room { S.full screen.old ≡ false }
         ensures logged { Ran S.shows S.full S.failed (λ l. Unit {0}) screen.old screen.new
-            (self.old.state.steps + most) self.old self.new (halted result) }
+            (self.old.state.steps + most) 0 self.old self.new (halted result) }
         ensures stops { IfErr result (λ stop. self.new.stopped ≡ Some stop) }
         ensures free { OnErr result (self.new.waiting ≡ None) }
         ensures asks { IfOk result (λ event. event_waited self.new.waiting ≡ event) }
@@ -93,7 +93,7 @@ impl Machine {
         requires free { self.old.waiting ≡ None }
         requires endless { (a : S) → S.full a ≡ false }
         ensures logged { Ran S.shows S.full S.failed (P.noted places.old places.new) screen.old screen.new
-            self.old.limits.steps self.old self.new (Err result) }
+            self.old.limits.steps 0 self.old self.new (Err result) }
         ensures stops { IfErr result (λ stop. self.new.stopped ≡ Some stop) }
         ensures free { OnErr result (self.new.waiting ≡ None) }
         ensures asks { IfOk result (λ event. event_waited self.new.waiting ≡ Some event) }
@@ -124,9 +124,7 @@ impl Machine {
         requires free { self.old.waiting ≡ None }
         requires room { S.full screen.old ≡ false }
         ensures logged { Ran S.shows S.full S.failed (P.noted places.old places.new) screen.old screen.new
-            (self.old.state.steps + most) self.old self.new (halted result) }
-        ensures asked { IfOk result (λ event. event ≡ None
-            → self.old.limits.steps ≤ self.old.state.steps + most → S.full screen.new ≡ true) }
+            (self.old.state.steps + most) 0 self.old self.new (halted result) }
         ensures stops { IfErr result (λ stop. self.new.stopped ≡ Some stop) }
         ensures free { OnErr result (self.new.waiting ≡ None) }
         ensures asks { IfOk result (λ event. event_waited self.new.waiting ≡ event) }
@@ -188,8 +186,7 @@ impl Machine {
         requires works { S.failed screen.old ≡ false }
         requires room { S.full screen.old ≡ false }
         ensures logged { Ran S.shows S.full S.failed (P.noted places.old places.new) screen.old screen.new
-            (self.old.state.steps + most) self.old self.new result }
-        ensures asked { OnOk result (self.old.limits.steps ≤ self.old.state.steps + most → S.full screen.new ≡ true) }
+            (self.old.state.steps + most) 0 self.old self.new result }
         ensures reads { self.new.state.reads ≡ self.old.state.reads }
         ensures more { self.old.state.steps ≤ self.new.state.steps }
         ensures limits { self.new.limits ≡ self.old.limits }
