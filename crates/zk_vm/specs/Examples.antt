@@ -72,11 +72,11 @@ FramesAreLimited =
     (log_of 4 (starts (story_of (0x8f ∷ 0 ∷ 17 ∷ 0xba ∷ 0 ∷ 0x8f ∷ 0 ∷ 17 ∷ [])) (limits_of 2 9 10)) ≡ At 64 ∷ At 69 ∷ Stopped (Limit 69 Frames) ∷ [])
     × (log_of 4 (starts (story_of (0x8f ∷ 0 ∷ 17 ∷ 0xba ∷ 0 ∷ 0xb0 ∷ [])) (limits_of 2 9 10)) ≡ At 64 ∷ At 69 ∷ At 67 ∷ Stopped Quit ∷ [])
 
--- `call_1s` at 64 of the routine at 72, packed address 18, whose `print_ret` at 73 gives 1 to the stack: where no word
--- may be, it shows nothing, and where one may be, it shows "abc" and a new line (section 15, `print_ret`)
+-- `call_1s` at 64 of the routine at 72, packed address 18, whose `print_ret` at 73 gives 1 to the stack
 abbrev pub prints_in_routine : List ℕ
 prints_in_routine = story_of (0x88 ∷ 0 ∷ 18 ∷ 0 ∷ 0xba ∷ 0 ∷ 0 ∷ 0 ∷ 0 ∷ 0xb3 ∷ 0x98 ∷ 0xe8 ∷ [])
 
+-- where no word may be, it shows nothing, and where one may be, it shows "abc" and a new line (section 15, `print_ret`)
 abbrev pub RefusedStepsShowNothing : Type 0
 RefusedStepsShowNothing =
     (log_of 4 (starts prints_in_routine (limits_of 2 0 10)) ≡ At 64 ∷ At 73 ∷ Stopped (Limit 73 Words) ∷ [])
@@ -200,6 +200,7 @@ scripts_once = story_of (0xf3 ∷ 0x7f ∷ 2 ∷ 0xb2 ∷ 0xb5 ∷ 0xc5 ∷ 0xf3
 abbrev pub on_both : ℕ → List Entry
 on_both c = Shown c ∷ Scripted c ∷ []
 
+-- the transcript gets what is shown while it is on
 abbrev pub ScriptsGetText : Type 0
 ScriptsGetText = log_of 6 (starts scripts_once (limits_of 1 1 10)) ≡ At 64 ∷ At 67 ∷ on_both 104 ++ on_both 105 ++ At 70 ∷ At 74 ∷ shows (codes "hi") ++ At 77 ∷ Stopped Quit ∷ []
 

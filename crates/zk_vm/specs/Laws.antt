@@ -101,7 +101,8 @@ last_told None pc = At pc ∷ []
 last_told (Some t) pc = told t
 
 -- how a machine stops by a limit, where some moves have led it: at the step that is one too many, at a step that passes a
--- limit, or at the instruction whose answer does. It shows nothing of that step, and then nothing passes any more.
+-- limit, or at the instruction whose answer does. It shows nothing of that step, but what may be left of its text, and then
+-- nothing passes any more.
 pub record LimitsCut (ms : List Move) (s : Session) : Type 0 where
   pub steps : (more : List Move) → (after ms s).waiting ≡ None → (after ms s).state.due ≡ [] → (after ms s).limits.steps ≤ (after ms s).state.steps
       → passed (ms ++ Goes ∷ more) s ≡ passed ms s ++ Stopped (LimitAt (after ms s).state.pc Steps) ∷ []
