@@ -76,7 +76,7 @@ HasEnded old new answer =
 -- a play has paused after so many steps, or once there is no room for more text
 abbrev pub HasPausedBy : Play → Play → ℕ → Asked → Type 0
 HasPausedBy old new steps why =
-    Ran Collects has_no_room is_lost Unnoted old.text new.text (old.machine.state.steps + steps) old.machine new.machine (Ok tt)
+    Ran Collects has_no_room is_lost Unnoted old.text new.text (old.machine.state.steps + steps) 0 old.machine new.machine (Ok tt)
     × (why ≡ pause_of new)
     × (new ≡ record old { machine = new.machine; text = new.text })
 

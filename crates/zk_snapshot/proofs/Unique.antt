@@ -8,6 +8,7 @@ use Rattle.zk_mem.specs.Header.{header_of}
 use Rattle.zk_mem.specs.declared.fault.Fault.{Fault}
 use Rattle.zk_code.specs.declared.instr.Instr.{Instr}
 use Rattle.zk_code.specs.Reading.{instr_at}
+use Rattle.zk_step.specs.Routing.{Texts}
 use Rattle.zk_vm.specs.declared.stop.Stop.{Stop}
 use Rattle.zk_mem.specs.Map.{MemoryMap, IsOfFile}
 use Rattle.zk_save.specs.Quetzal.{bytes_2, bytes_4}
@@ -341,13 +342,13 @@ same_waiting (Some w) (Some v) m n p q h e f same there =
     joined : (e f : Event) (i j : Instr) → e ≡ f → i ≡ j → made e i ≡ made f j
     joined e f i j h k = ap (λ (z : Event). made z i) h ∙ ap (λ (z : Instr). made f z) k
 
-abbrev whole_of : GameState → Place → List ℕ → List WholeState → Limits → Option Waiting → Option Stop → Session
-whole_of g p d u l w s = record { state = record { game = g; pc = p.pc; steps = p.steps; reads = p.reads; due = d; undo = u }; limits = l; waiting = w; stopped = s }
+abbrev whole_of : GameState → Place → List ℕ → List WholeState → Limits → Option Waiting → Option Stop → Option Texts → Session
+whole_of g p d u l w s left = record { state = record { game = g; pc = p.pc; steps = p.steps; reads = p.reads; due = d; undo = u }; limits = l; waiting = w; stopped = s; left = left }
 
-plays_joined : (g k : GameState) (p q : Place) (d e : List ℕ) (u x : List WholeState) (l m : Limits) (w v : Option Waiting) (s t : Option Stop) → g ≡ k → p ≡ q → d ≡ e → u ≡ x → l ≡ m → w ≡ v → s ≡ t → whole_of g p d u l w s ≡ whole_of k q e x m v t
-plays_joined g k p q d e u x l m w v s t e1 e2 e3 e4 e5 e6 e7 =
-    ap (λ (y : GameState). whole_of y p d u l w s) e1 ∙ ap (λ (y : Place). whole_of k y d u l w s) e2 ∙ ap (λ (y : List ℕ). whole_of k q y u l w s) e3 ∙ ap (λ (y : List WholeState). whole_of k q e y l w s) e4
-    ∙ ap (λ (y : Limits). whole_of k q e x y w s) e5 ∙ ap (λ (y : Option Waiting). whole_of k q e x m y s) e6 ∙ ap (λ (y : Option Stop). whole_of k q e x m v y) e7
+plays_joined : (g k : GameState) (p q : Place) (d e : List ℕ) (u x : List WholeState) (l m : Limits) (w v : Option Waiting) (s t : Option Stop) (a b : Option Texts) → g ≡ k → p ≡ q → d ≡ e → u ≡ x → l ≡ m → w ≡ v → s ≡ t → a ≡ b → whole_of g p d u l w s a ≡ whole_of k q e x m v t b
+plays_joined g k p q d e u x l m w v s t a b e1 e2 e3 e4 e5 e6 e7 e8 =
+    ap (λ (y : GameState). whole_of y p d u l w s a) e1 ∙ ap (λ (y : Place). whole_of k y d u l w s a) e2 ∙ ap (λ (y : List ℕ). whole_of k q y u l w s a) e3 ∙ ap (λ (y : List WholeState). whole_of k q e y l w s a) e4
+    ∙ ap (λ (y : Limits). whole_of k q e x y w s a) e5 ∙ ap (λ (y : Option Waiting). whole_of k q e x m y s a) e6 ∙ ap (λ (y : Option Stop). whole_of k q e x m v y a) e7 ∙ ap (λ (y : Option Texts). whole_of k q e x m v t y) e8
 
 same_play : (us vs : List WholeState) (a b : Session) → IsKept a → IsKept b → a.state.game.memory.file ≡ b.state.game.memory.file → All (HasBytes a.state.game.memory.static_base) us → All (HasBytes b.state.game.memory.static_base) vs → snapshot_with us a ≡ snapshot_with vs b → with_kept us a ≡ with_kept vs b
 unfolding snapshot_with
@@ -374,7 +375,7 @@ same_play us vs a b is also file sized also_sized h =
     let base : b.state.game.memory.static_base ≡ a.state.game.memory.static_base = ap (λ (g : GameState). g.memory.static_base) (sym game.0) in
     let others = rw base at also_sized in
     let states = same_states a.state.game.memory.file a.state.game.memory.static_base us vs is.within sized others (game.1 ∙ ap (λ (f : List ℕ). states_bytes f vs) (sym file)) in
-    plays_joined (without_gone a.state.game) (without_gone b.state.game) (place_of a) (place_of b) a.state.due b.state.due us vs a.limits b.limits a.waiting b.waiting a.stopped b.stopped game.0 place (is.due ∙ sym also.due) states limits waiting (is.stopped ∙ sym also.stopped)
+    plays_joined (without_gone a.state.game) (without_gone b.state.game) (place_of a) (place_of b) a.state.due b.state.due us vs a.limits b.limits a.waiting b.waiting a.stopped b.stopped a.left b.left game.0 place (is.due ∙ sym also.due) states limits waiting (is.stopped ∙ sym also.stopped) (is.left ∙ sym also.left)
   where
     pair : Limits → ℕ × ℕ
     pair l = (l.frames, l.words)

@@ -32,6 +32,7 @@ pub record IsKept (s : Session) : Type 0 where
   pub sized : All (λ (w : WholeState). length w.dynamic ≡ s.state.game.memory.static_base) s.state.undo
   pub due : s.state.due ≡ []
   pub stopped : s.stopped ≡ None
+  pub left : s.left ≡ None
   pub fetched : IfSome s.waiting (λ w. instr_at s.state.game.memory s.state.pc ≡ Ok w.instruction)
 
 -- two machines that have the same snapshot, each with some of its newest states, are the same, but for what it does not keep

@@ -35,10 +35,10 @@ use Rattle.zk_vm.specs.declared.stop.Stop.TheVariants.{Fault as FaultAt, Limit a
 use Rattle.zk_vm.specs.declared.waiting.Waiting.{Waiting}
 use Rattle.zk_vm.specs.Answers.{Answer, answered, file_of}
 use Rattle.zk_vm.specs.Inside.{CleanStays, CleanStopsRead, IsInside, IsKeptInside, IsRead, NoneLeaves, StaysClean, StopsRead, found_by_variable, goes_by_variable, is_loaded, is_restore, leaves, leaves_by, loads_file}
-use Rattle.zk_vm.specs.Log.{Move, after, goes_by, moved, moved_by, stepped, stepped_to}
-use Rattle.zk_vm.specs.Log.Move.{Gets, Goes}
+use Rattle.zk_vm.specs.Log.{Move, after, goes_by, moved, moved_by, parted, parted_to, parts_by, stepped, stepped_to, text_left}
+use Rattle.zk_vm.specs.Log.Move.{Gets, Goes, Part}
 use Rattle.zk_vm.specs.Sessions.{Session, begun, resumed}
-use Rattle.zk_vm.specs.Step.{State, Step, Verdict, goes_by as goes_within, is_past_reads, saved_pc, state_after, step, text_of, verdict_of}
+use Rattle.zk_vm.specs.Step.{State, Step, Verdict, goes_by as goes_within, is_past_reads, saved_pc, state_after, step, verdict_of}
 use Rattle.zk_vm.specs.Step.Step.{Goes as GoesTo, Waits, Quits, Faults, Exceeds}
 use Rattle.zk_vm.specs.Step.Verdict.{GoesOn, WaitsFor, StopsBy}
 use Rattle.zk_vm.proofs.FrameLimits.{no_fault}
@@ -223,7 +223,20 @@ module _ (P : ℕ → Type 0) where
 
   steps_read : (n : ℕ) (s : Session) → IsReadBy s.stopped → IsRead P s.state → IsReadBy (stepped n s).to.stopped
   steps_read zero s h read = tt
-  steps_read (suc n) s h read = to_read s (verdict_of s.state (step s.state)) (state_after s.state (step s.state)) (text_of s.state (step s.state)) h (step_read s.state (step s.state) read)
+  steps_read (suc n) s h read = to_read s (verdict_of s.state (step s.state)) (state_after s.state (step s.state)) (text_left s.left s.state) h (step_read s.state (step s.state) read)
+
+  parted_read : (n : ℕ) (s : Session) (v : Verdict) (t : State) (text : Texts) → IsReadBy s.stopped → IsReadOn v → IsReadBy (parted_to n s v t text).to.stopped
+  parted_read n s GoesOn t text h on = h
+  parted_read n s (WaitsFor w) t text h on = h
+  parted_read n s (StopsBy stop) t text h on = on
+
+  part_read : (n k : ℕ) (s : Session) → IsReadBy s.stopped → IsRead P s.state → IsReadBy (parted n k s).to.stopped
+  part_read n zero s h read = tt
+  part_read n (suc k) s h read = parted_read n s (verdict_of s.state (step s.state)) (state_after s.state (step s.state)) (text_left s.left s.state) h (step_read s.state (step s.state) read)
+
+  parts_read : (n : ℕ) (due : List ℕ) (s : Session) → IsReadBy s.stopped → IsRead P s.state → IsReadBy (parts_by n due s).to.stopped
+  parts_read n [] s h read = part_read n (s.limits.steps - s.state.steps) s h read
+  parts_read n (c ∷ cs) s h read = h
 
   due_read : (due : List ℕ) (s : Session) → IsReadBy s.stopped → IsRead P s.state → IsReadBy (goes_by due s).to.stopped
   due_read [] s h read = steps_read (s.limits.steps - s.state.steps) s h read
@@ -237,8 +250,10 @@ module _ (P : ℕ → Type 0) where
   module _ (later : (s : State) (w : Waiting) (a : Answer) (f : Fault) → answered s w a ≡ Faults f → is_of_reading f ≡ false) where
     moved_read : (x : Option Stop) (y : Option Waiting) (s : Session) (n : Move) → IsReadBy s.stopped → (x ≡ None → IsRead P s.state) → IsReadBy (moved_by x y s n).to.stopped
     moved_read None None s Goes h read = due_read s.state.due s h (read refl)
+    moved_read None None s (Part n) h read = parts_read n s.state.due s h (read refl)
     moved_read None None s (Gets a) h read = h
     moved_read None (Some w) s Goes h read = h
+    moved_read None (Some w) s (Part n) h read = h
     moved_read None (Some w) s (Gets a) h read =
         let x = answered s.state w a in
         resumed_read s (verdict_of s.state x) (state_after s.state x) h (step_read s.state x (λ inside f faults. later s.state w a f faults))

@@ -1,18 +1,18 @@
 -- Machines that stop by a limit, after some moves.
-use Rattle.std.proofs.Common.{◌≡◌, ◌∙◌, ◌-◌, ℕ, suc, [], ◌∷◌, Some, None, refl, ap, arith}
+use Rattle.std.proofs.Common.{◌≡◌, ◌∙◌, ◌-◌, ℕ, suc, List, [], ◌∷◌, ◌++◌, Option, Some, None, refl, ap, arith}
 use Rattle.zk_state.specs.declared.refusal.Limit.{Limit}
 use Rattle.zk_state.specs.declared.refusal.Limit.TheVariants.{Steps}
-use Rattle.zk_step.specs.Routing.{no_text}
+use Rattle.zk_step.specs.Routing.{Texts, no_text}
 use Rattle.zk_vm.specs.declared.stop.Stop.{Stop}
 use Rattle.zk_vm.specs.declared.stop.Stop.TheVariants.{Limit as LimitAt}
 use Rattle.zk_vm.specs.declared.waiting.Waiting.{Waiting}
 use Rattle.zk_vm.specs.Answers.{Answer, answered}
-use Rattle.zk_vm.specs.Laws.{LimitsCutRuns, Passes}
+use Rattle.zk_vm.specs.Laws.{LimitsCutRuns, Passes, last_told}
 use Rattle.zk_vm.specs.Sessions.{Session, resumed, with_stop}
 use Rattle.zk_vm.specs.Step.{State, Step, Verdict, state_after, step, text_of, verdict_of}
 use Rattle.zk_vm.specs.Step.Step.{Goes as GoesTo, Waits, Quits, Faults, Exceeds}
 use Rattle.zk_vm.specs.Step.Verdict.{StopsBy}
-use Rattle.zk_vm.specs.Log.{Entry, Passed, after, heard_by, moved_by, stepped, stepped_to, stop_told}
+use Rattle.zk_vm.specs.Log.{Entry, Passed, address_told, after, heard_by, moved_by, stepped, stepped_to, stop_told, text_left, told, woven}
 use Rattle.zk_vm.specs.Log.Entry.{At, Stopped}
 use Rattle.zk_vm.specs.Log.Move.{Gets, Goes}
 use Rattle.zk_vm.proofs.Moves.{moved_gets, moved_steps, passed_last, passed_on}
@@ -26,10 +26,17 @@ passes_stops l s (Faults f) h = absurd h
 passes_stops l s (Exceeds m) h = rw h (refl, refl)
 
 -- a step that does
-step_stops : (s : Session) (n : ℕ) (l : Limit) → Passes l s.state (step s.state) → stepped (suc n) s ≡ stepped_to s (StopsBy (LimitAt s.state.pc l)) (state_after s.state (step s.state)) no_text
+stops_told : (left : Option Texts) (s : State) (l : List Entry) → text_of s (step s) ≡ no_text → address_told left s.pc ++ (told (text_left left s) ++ l) ≡ last_told left s.pc ++ l
+unfolding woven
+stops_told None s l e = ap (λ (t : Texts). At s.pc ∷ told t ++ l) e
+stops_told (Some t) s l e = refl
+
+step_stops : (s : Session) (n : ℕ) (l : Limit) → Passes l s.state (step s.state)
+    → (stepped (suc n) s).entries ≡ last_told s.left s.state.pc ++ Stopped (LimitAt s.state.pc l) ∷ [] × ((stepped (suc n) s).to.stopped ≡ Some (LimitAt s.state.pc l))
 step_stops s n l h =
     let stops = passes_stops l s.state (step s.state) h in
-    ap (λ (v : Verdict). stepped_to s v (state_after s.state (step s.state)) (text_of s.state (step s.state))) stops.0 ∙ ap (stepped_to s (StopsBy (LimitAt s.state.pc l)) (state_after s.state (step s.state))) stops.1
+    let is : stepped (suc n) s ≡ stepped_to s (StopsBy (LimitAt s.state.pc l)) (state_after s.state (step s.state)) (text_left s.left s.state) = ap (λ (v : Verdict). stepped_to s v (state_after s.state (step s.state)) (text_left s.left s.state)) stops.0 in
+    (ap (λ (p : Passed). p.entries) is ∙ stops_told s.left s.state (Stopped (LimitAt s.state.pc l) ∷ []) stops.1, ap (λ (p : Passed). p.to.stopped) is)
 
 -- an answer that does
 abbrev stopped_at : Session → Entry → Stop → Passed
@@ -50,8 +57,8 @@ limits_cut_runs ms s runs = record {
       let t = after ms s in
       let stop = LimitAt t.state.pc l in
       let n : ℕ = t.limits.steps - t.state.steps - 1 in
-      let there = moved_steps t (suc n) runs free silent (omega (arith, few)) ∙ step_stops t n l passes in
-      passed_on ms (Goes ∷ more) s (At t.state.pc ∷ Stopped stop ∷ []) (passed_last Goes more t (stepped_to t (StopsBy stop) (state_after t.state (step t.state)) no_text) stop there refl);
+      let there = step_stops t n l passes in
+      passed_on ms (Goes ∷ more) s (last_told t.left t.state.pc ++ Stopped stop ∷ []) (passed_last Goes more t (stepped (suc n) t) stop (moved_steps t (suc n) runs free silent (omega (arith, few))) there.1 ∙ there.0);
   answer = λ a more w l waits passes.
       let t = after ms s in
       let stop = LimitAt t.state.pc l in

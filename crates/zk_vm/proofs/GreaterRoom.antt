@@ -28,9 +28,9 @@ use Rattle.zk_vm.specs.declared.stop.Stop.TheVariants.{Limit as LimitAt}
 use Rattle.zk_vm.specs.declared.waiting.Waiting.{Waiting}
 use Rattle.zk_vm.specs.Answers.{Answer, answered, answered_by, answer_settled, codes_of, file_of, first_code, is_kept, limit_of, none_restored, restored_from, restored_to, transcribed, truth_word}
 use Rattle.zk_vm.specs.Laws.{FrameLimitsOnlyCut, IsNoFrameStop, session_in, state_in}
-use Rattle.zk_vm.specs.Log.{Entry, Move, Passed, after, goes_by, heard_by, moved, moved_by, passed, stepped, stepped_to, stop_told}
+use Rattle.zk_vm.specs.Log.{Entry, Move, Passed, after, goes_by, heard_by, moved, moved_by, parted, parted_to, parts_by, passed, stepped, stepped_to, stop_told, text_left}
 use Rattle.zk_vm.specs.Log.Entry.{Asked, Offered}
-use Rattle.zk_vm.specs.Log.Move.{Gets, Goes}
+use Rattle.zk_vm.specs.Log.Move.{Gets, Goes, Part}
 use Rattle.zk_vm.specs.Sessions.{Session, given_to, resumed}
 use Rattle.zk_vm.specs.Plays.{image_by, refusal_of, refused_in}
 use Rattle.zk_vm.specs.Step.{State, Step, Verdict, goes_to, step, verdict_of, state_after, text_of}
@@ -194,13 +194,48 @@ step_free s GoesOn t text own = tt
 step_free s (WaitsFor w) t text own = tt
 step_free s (StopsBy stop) t text own = own stop refl
 
+-- what is still to come of a text is the same
+left_same : (f m : ℕ) (left : Option Texts) (s : State) → text_of (state_in f m s) (step_in f m (step s)) ≡ text_of s (step s) → text_left left (state_in f m s) ≡ text_left left s
+left_same f m None s e = ap (text_of (state_in f m s)) (step_same f m s) ∙ e
+left_same f m (Some t) s e = refl
+
+-- so is what is made of a step
+made_same : (f m : ℕ) (s : Session) → most_f s.state ≤ f → most_w s.state ≤ m → IsNoFrameVerdict (verdict_of s.state (step s.state)) → (made : Verdict → State → Texts → Passed)
+    → made (verdict_of (state_in f m s.state) (step (state_in f m s.state))) (state_after (state_in f m s.state) (step (state_in f m s.state))) (text_left s.left (state_in f m s.state))
+    ≡ made (verdict_of s.state (step s.state)) (state_in f m (state_after s.state (step s.state))) (text_left s.left s.state)
+made_same f m s few short free made =
+    let x = step s.state in
+    let parts = verdict_same f m s.state x (goes_bounds s.state x f m (step_bounds s.state) few short) free in
+    let text = left_same f m s.left s.state parts.1 in
+    rw (text, step_same f m s.state, parts.0, parts.2) refl
+
 steps_same : (f m n : ℕ) (s : Session) → most_f s.state ≤ f → most_w s.state ≤ m → OwnStop (stepped n s).to → stepped n (session_in f m s) ≡ passed_in f m (stepped n s)
 steps_same f m zero s few short own = refl
 steps_same f m (suc n) s few short own =
     let x = step s.state in
-    let free = step_free s (verdict_of s.state x) (state_after s.state x) (text_of s.state x) own in
-    let parts = verdict_same f m s.state x (goes_bounds s.state x f m (step_bounds s.state) few short) free in
-    rw (step_same f m s.state, parts.0, parts.1, parts.2) (to_same f m s (verdict_of s.state x) (state_after s.state x) (text_of s.state x))
+    let free = step_free s (verdict_of s.state x) (state_after s.state x) (text_left s.left s.state) own in
+    made_same f m s few short free (λ v t text. stepped_to (session_in f m s) v t text) ∙ to_same f m s (verdict_of s.state x) (state_after s.state x) (text_left s.left s.state)
+
+parted_free : (n : ℕ) (s : Session) (v : Verdict) (t : State) (text : Texts) → OwnStop (parted_to n s v t text).to → IsNoFrameVerdict v
+parted_free n s GoesOn t text own = tt
+parted_free n s (WaitsFor w) t text own = tt
+parted_free n s (StopsBy stop) t text own = own stop refl
+
+parted_same : (f m n : ℕ) (s : Session) (v : Verdict) (t : State) (text : Texts) → parted_to n (session_in f m s) v (state_in f m t) text ≡ passed_in f m (parted_to n s v t text)
+parted_same f m n s GoesOn t text = refl
+parted_same f m n s (WaitsFor w) t text = refl
+parted_same f m n s (StopsBy stop) t text = refl
+
+part_same : (f m n k : ℕ) (s : Session) → most_f s.state ≤ f → most_w s.state ≤ m → OwnStop (parted n k s).to → parted n k (session_in f m s) ≡ passed_in f m (parted n k s)
+part_same f m n zero s few short own = refl
+part_same f m n (suc k) s few short own =
+    let x = step s.state in
+    let free = parted_free n s (verdict_of s.state x) (state_after s.state x) (text_left s.left s.state) own in
+    made_same f m s few short free (λ v t text. parted_to n (session_in f m s) v t text) ∙ parted_same f m n s (verdict_of s.state x) (state_after s.state x) (text_left s.left s.state)
+
+parts_same : (f m n : ℕ) (due : List ℕ) (s : Session) → most_f s.state ≤ f → most_w s.state ≤ m → OwnStop (parts_by n due s).to → parts_by n due (session_in f m s) ≡ passed_in f m (parts_by n due s)
+parts_same f m n [] s few short own = part_same f m n (s.limits.steps - s.state.steps) s few short own
+parts_same f m n (c ∷ cs) s few short own = refl
 
 due_same : (f m : ℕ) (due : List ℕ) (s : Session) → most_f s.state ≤ f → most_w s.state ≤ m → OwnStop (goes_by due s).to → goes_by due (session_in f m s) ≡ passed_in f m (goes_by due s)
 due_same f m [] s few short own = steps_same f m (s.limits.steps - s.state.steps) s few short own
@@ -265,8 +300,10 @@ gets_same f m s w a few short own =
 
 by_same : (f m : ℕ) (x : Option Stop) (y : Option Waiting) (s : Session) (n : Move) → most_f s.state ≤ f → most_w s.state ≤ m → OwnStop (moved_by x y s n).to → moved_by x y (session_in f m s) n ≡ passed_in f m (moved_by x y s n)
 by_same f m None None s Goes few short own = due_same f m s.state.due s few short own
+by_same f m None None s (Part n) few short own = parts_same f m n s.state.due s few short own
 by_same f m None None s (Gets a) few short own = refl
 by_same f m None (Some w) s Goes few short own = refl
+by_same f m None (Some w) s (Part n) few short own = refl
 by_same f m None (Some w) s (Gets a) few short own = gets_same f m s w a few short own
 by_same f m (Some stop) y s n few short own = refl
 
@@ -282,7 +319,20 @@ to_bounds s (StopsBy stop) t text h = h
 
 steps_bounds : (n : ℕ) (s : Session) → SameBounds s.state (stepped n s).to.state
 steps_bounds zero s = (refl, refl)
-steps_bounds (suc n) s = to_bounds s (verdict_of s.state (step s.state)) (state_after s.state (step s.state)) (text_of s.state (step s.state)) (step_bounds s.state)
+steps_bounds (suc n) s = to_bounds s (verdict_of s.state (step s.state)) (state_after s.state (step s.state)) (text_left s.left s.state) (step_bounds s.state)
+
+parted_bounds : (n : ℕ) (s : Session) (v : Verdict) (t : State) (text : Texts) → SameBounds s.state t → SameBounds s.state (parted_to n s v t text).to.state
+parted_bounds n s GoesOn t text h = (refl, refl)
+parted_bounds n s (WaitsFor w) t text h = (refl, refl)
+parted_bounds n s (StopsBy stop) t text h = h
+
+part_bounds : (n k : ℕ) (s : Session) → SameBounds s.state (parted n k s).to.state
+part_bounds n zero s = (refl, refl)
+part_bounds n (suc k) s = parted_bounds n s (verdict_of s.state (step s.state)) (state_after s.state (step s.state)) (text_left s.left s.state) (step_bounds s.state)
+
+parts_bounds : (n : ℕ) (due : List ℕ) (s : Session) → SameBounds s.state (parts_by n due s).to.state
+parts_bounds n [] s = part_bounds n (s.limits.steps - s.state.steps) s
+parts_bounds n (c ∷ cs) s = (refl, refl)
 
 due_bounds : (due : List ℕ) (s : Session) → SameBounds s.state (goes_by due s).to.state
 due_bounds [] s = steps_bounds (s.limits.steps - s.state.steps) s
@@ -298,8 +348,10 @@ given_bounds s w a = resumed_bounds s (verdict_of s.state (answered s.state w a)
 
 by_bounds : (x : Option Stop) (y : Option Waiting) (s : Session) (n : Move) → SameBounds s.state (moved_by x y s n).to.state
 by_bounds None None s Goes = due_bounds s.state.due s
+by_bounds None None s (Part n) = parts_bounds n s.state.due s
 by_bounds None None s (Gets a) = (refl, refl)
 by_bounds None (Some w) s Goes = (refl, refl)
+by_bounds None (Some w) s (Part n) = (refl, refl)
 by_bounds None (Some w) s (Gets a) = given_bounds s w a
 by_bounds (Some stop) y s n = (refl, refl)
 

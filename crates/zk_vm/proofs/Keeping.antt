@@ -27,7 +27,7 @@ use Rattle.zk_vm.proofs.Sounds.{running, same_most, back_fixed, story_stays, sou
 
 -- the machine that contracts see
 abbrev pub seen : Inside → Session
-seen m = record { state = state_seen m; limits = m.limits; waiting = m.waiting; stopped = m.stopped }
+seen m = record { state = state_seen m; limits = m.limits; waiting = m.waiting; stopped = m.stopped; left = None }
 
 -- a machine after an instruction that was finished
 abbrev pub behind : Inside → GameState → ℕ → ℕ → Option Stop → UndoStates → Inside

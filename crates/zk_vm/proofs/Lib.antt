@@ -22,6 +22,7 @@ pub mod CleanRuns
 pub mod Loaded
 pub mod StepFaults
 pub mod Logs
+pub mod Dividing
 pub mod LogPlays
 pub mod LogSteps
 pub mod LogLimits

@@ -8,10 +8,10 @@ use Rattle.zk_vm.specs.declared.waiting.Waiting.{Waiting}
 use Rattle.zk_vm.specs.Answers.{answered}
 use Rattle.zk_vm.specs.Laws.{IsNoStepStop, StepLimitOnlyCuts, with_more_steps}
 use Rattle.zk_vm.specs.Sessions.{Session, resumed}
-use Rattle.zk_vm.specs.Step.{State, Verdict, step, state_after, text_of, verdict_of}
+use Rattle.zk_vm.specs.Step.{State, Verdict, step, state_after, verdict_of}
 use Rattle.zk_vm.specs.Step.Verdict.{GoesOn, WaitsFor, StopsBy}
-use Rattle.zk_vm.specs.Log.{Entry, Move, Passed, after, goes_by, heard_by, moved, moved_by, passed, stepped, stepped_to, stop_told}
-use Rattle.zk_vm.specs.Log.Move.{Gets, Goes}
+use Rattle.zk_vm.specs.Log.{Entry, Move, Passed, after, goes_by, heard_by, moved, moved_by, parted, parted_to, parts_by, passed, stepped, stepped_to, stop_told, text_left}
+use Rattle.zk_vm.specs.Log.Move.{Gets, Goes, Part}
 use Rattle.zk_vm.proofs.Logs.{passed_stopped}
 
 abbrev OwnStop : Session → Type 0
@@ -28,7 +28,17 @@ to_more k s (StopsBy stop) t text = refl
 
 step_more : (k n : ℕ) (s : Session) → OwnStop (stepped n s).to → stepped (n + k) (with_more_steps k s) ≡ more_passed k (stepped n s)
 step_more k zero s own = absurd (own (Limit s.state.pc Steps) refl)
-step_more k (suc n) s own = let e : suc n + k ≡ suc (n + k) = omega arith in rw e (to_more k s (verdict_of s.state (step s.state)) (state_after s.state (step s.state)) (text_of s.state (step s.state)))
+step_more k (suc n) s own = let e : suc n + k ≡ suc (n + k) = omega arith in rw e (to_more k s (verdict_of s.state (step s.state)) (state_after s.state (step s.state)) (text_left s.left s.state))
+
+parted_more : (k i : ℕ) (s : Session) (v : Verdict) (t : State) (text : Texts) → parted_to i (with_more_steps k s) v t text ≡ more_passed k (parted_to i s v t text)
+unfolding more_passed
+parted_more k i s GoesOn t text = refl
+parted_more k i s (WaitsFor w) t text = refl
+parted_more k i s (StopsBy stop) t text = refl
+
+part_more : (k i n : ℕ) (s : Session) → OwnStop (parted i n s).to → parted i (n + k) (with_more_steps k s) ≡ more_passed k (parted i n s)
+part_more k i zero s own = absurd (own (Limit s.state.pc Steps) refl)
+part_more k i (suc n) s own = let e : suc n + k ≡ suc (n + k) = omega arith in rw e (parted_more k i s (verdict_of s.state (step s.state)) (state_after s.state (step s.state)) (text_left s.left s.state))
 
 goes_more : (k : ℕ) (due : List ℕ) (s : Session) (n : ℕ) → s.limits.steps - s.state.steps ≡ n → OwnStop (goes_by due s).to → goes_by due (with_more_steps k s) ≡ more_passed k (goes_by due s)
 unfolding more_passed
@@ -37,6 +47,14 @@ goes_more k [] s (suc n) e own =
     let more : s.limits.steps + k - s.state.steps ≡ s.limits.steps - s.state.steps + k = omega (arith, e) in
     ap (λ (m : ℕ). stepped m (with_more_steps k s)) more ∙ step_more k (s.limits.steps - s.state.steps) s own
 goes_more k (c ∷ cs) s n e own = refl
+
+parts_more : (k i : ℕ) (due : List ℕ) (s : Session) (n : ℕ) → s.limits.steps - s.state.steps ≡ n → OwnStop (parts_by i due s).to → parts_by i due (with_more_steps k s) ≡ more_passed k (parts_by i due s)
+unfolding more_passed
+parts_more k i [] s zero e own = absurd ((rw e at own) (Limit s.state.pc Steps) refl)
+parts_more k i [] s (suc n) e own =
+    let more : s.limits.steps + k - s.state.steps ≡ s.limits.steps - s.state.steps + k = omega (arith, e) in
+    ap (λ (m : ℕ). parted i m (with_more_steps k s)) more ∙ part_more k i (s.limits.steps - s.state.steps) s own
+parts_more k i (c ∷ cs) s n e own = refl
 
 given_more : (k : ℕ) (s : Session) (e : Entry) (v : Verdict) (t : State) → s.stopped ≡ None
     → ◌≡◌ {A = Passed} (record { entries = e ∷ stop_told (resumed (with_more_steps k s) v t).stopped; to = resumed (with_more_steps k s) v t }) (more_passed k (record { entries = e ∷ stop_told (resumed s v t).stopped; to = resumed s v t }))
@@ -48,8 +66,10 @@ given_more k s e (StopsBy stop) t runs = refl
 by_more : (k : ℕ) (x : Option Stop) (y : Option Waiting) (s : Session) (m : Move) → s.stopped ≡ x → OwnStop (moved_by x y s m).to → moved_by x y (with_more_steps k s) m ≡ more_passed k (moved_by x y s m)
 unfolding more_passed
 by_more k None None s Goes e own = goes_more k s.state.due s (s.limits.steps - s.state.steps) refl own
+by_more k None None s (Part i) e own = parts_more k i s.state.due s (s.limits.steps - s.state.steps) refl own
 by_more k None None s (Gets a) e own = refl
 by_more k None (Some w) s Goes e own = refl
+by_more k None (Some w) s (Part i) e own = refl
 by_more k None (Some w) s (Gets a) e own = given_more k s (heard_by s w.wait a) (verdict_of s.state (answered s.state w a)) (state_after s.state (answered s.state w a)) e
 by_more k (Some stop) y s m e own = refl
 

@@ -44,17 +44,17 @@ wrote_on a b c l fresh done first rest =
     record { screen = both.0; script = both.1 }
 
 -- how a run ends whose screen has not failed
-pub ends_whole : {S : Type 0} (shows : S → S → List ℕ → List ℕ → Type 0) (full failed : S → Bool) (x y : S) (bound : ℕ) (old to new : Session) (l : List Entry) (answer : Result Event Stop) → IfErr answer (λ stop. new.stopped ≡ Some stop) → (failed y ≡ true → ⊥)
-    → RunEnds shows full failed x y bound old to new l (Err answer) → Ends LacksState false to new answer
-ends_whole shows full failed x y bound old to new l (Ok e) stops works (there, waits) = (refl, there, waits)
-ends_whole shows full failed x y bound old to new l (Err stop) stops works (free, inl h) = (stops, free, inl h)
-ends_whole shows full failed x y bound old to new l (Err stop) stops works (free, inr (inl (e, lacks))) = (stops, free, inr (e, lacks))
-ends_whole shows full failed x y bound old to new l (Err stop) stops works (free, inr (inr (e, on, broken, same))) = absurd (works broken)
+pub ends_whole : {S : Type 0} (shows : S → S → List ℕ → List ℕ → Type 0) (full failed : S → Bool) (x y : S) (bound parts : ℕ) (old to new : Session) (l : List Entry) (answer : Result Event Stop) → IfErr answer (λ stop. new.stopped ≡ Some stop) → (failed y ≡ true → ⊥)
+    → RunEnds shows full failed x y bound parts old to new l (Err answer) → Ends LacksState false to new answer
+ends_whole shows full failed x y bound parts old to new l (Ok e) stops works (there, waits) = (refl, there, waits)
+ends_whole shows full failed x y bound parts old to new l (Err stop) stops works (free, inl h) = (stops, free, inl h)
+ends_whole shows full failed x y bound parts old to new l (Err stop) stops works (free, inr (inl (e, lacks))) = (stops, free, inr (e, lacks))
+ends_whole shows full failed x y bound parts old to new l (Err stop) stops works (free, inr (inr (e, on, broken, same))) = absurd (works broken)
 
 -- no write has failed
-pub ran_whole : {S : Type 0} (shows : S → S → List ℕ → List ℕ → Type 0) (full failed : S → Bool) (Noted : List ℕ → Type 0) (x y : S) (bound : ℕ) (old new : Session) (answer : Result Event Stop) (a b c : Targets) (r : Ran shows full failed Noted x y bound old new (Err answer)) → IfErr answer (λ stop. new.stopped ≡ Some stop) → (failed y ≡ true → b.failed ≡ true)
+pub ran_whole : {S : Type 0} (shows : S → S → List ℕ → List ℕ → Type 0) (full failed : S → Bool) (Noted : List ℕ → Type 0) (x y : S) (bound parts : ℕ) (old new : Session) (answer : Result Event Stop) (a b c : Targets) (r : Ran shows full failed Noted x y bound parts old new (Err answer)) → IfErr answer (λ stop. new.stopped ≡ Some stop) → (failed y ≡ true → b.failed ≡ true)
     → Written a b (shown r.log) (scripted r.log) → Written b c [] [] → IsFresh a → IsFinished c → c.failed ≡ false → RunsOn (Wrote (record { screen = a.screen; script = a.script }) (record { screen = c.screen; script = c.script }) c.either) Noted old new answer c.either
-ran_whole shows full failed Noted x y bound old new answer a b c r stops broken first rest fresh done sound =
+ran_whole shows full failed Noted x y bound parts old new answer a b c r stops broken first rest fresh done sound =
     let known = known_failed a b c (record { screen = shown r.log; script = scripted r.log }) fresh first rest in
     let either : c.either ≡ false = sym known ∙ sound in
     record {
@@ -64,13 +64,13 @@ ran_whole shows full failed Noted x y bound old new answer a b c r stops broken 
       alone = r.alone;
       got = subst (λ (z : Bool). Wrote (record { screen = a.screen; script = a.script }) (record { screen = c.screen; script = c.script }) z r.log) known (wrote_on a b c r.log fresh done first rest);
       noted = r.noted;
-      ends = rw (either) (ends_whole shows full failed x y bound old r.to new r.log answer stops (λ f. never_cut_off ⊥ b c rest sound (broken f)) r.ends);
+      ends = rw (either) (ends_whole shows full failed x y bound parts old r.to new r.log answer stops (λ f. never_cut_off ⊥ b c rest sound (broken f)) r.ends);
     }
 
 -- one has failed
-pub ran_part : {S : Type 0} (shows : S → S → List ℕ → List ℕ → Type 0) (full failed : S → Bool) (Noted : List ℕ → Type 0) (x y : S) (bound : ℕ) (old new closed : Session) (answer : Result Event Stop) (a b c : Targets) (r : Ran shows full failed Noted x y bound old new (Err answer))
+pub ran_part : {S : Type 0} (shows : S → S → List ℕ → List ℕ → Type 0) (full failed : S → Bool) (Noted : List ℕ → Type 0) (x y : S) (bound parts : ℕ) (old new closed : Session) (answer : Result Event Stop) (a b c : Targets) (r : Ran shows full failed Noted x y bound parts old new (Err answer))
     → Written a b (shown r.log) (scripted r.log) → Written b c [] [] → IsFresh a → IsFinished c → c.failed ≡ true → closed.stopped ≡ Some Write → closed.waiting ≡ None → RunsOn (Wrote (record { screen = a.screen; script = a.script }) (record { screen = c.screen; script = c.script }) c.either) Noted old closed (Err Write) c.either
-ran_part shows full failed Noted x y bound old new closed answer a b c r first rest fresh done broken stopped free =
+ran_part shows full failed Noted x y bound parts old new closed answer a b c r first rest fresh done broken stopped free =
     let known = known_failed a b c (record { screen = shown r.log; script = scripted r.log }) fresh first rest in
     let either : c.either ≡ true = sym known ∙ broken in
     record {

@@ -1,5 +1,5 @@
--- Logs join, what comes from the world determines them, and what one move adds to them.
-use Rattle.std.proofs.Common.{◌≡◌, ◌∙◌, ◌⊎◌, ◌-◌, ◌+◌, inl, inr, ℕ, List, [], ◌∷◌, ◌++◌, append_assoc, append-nil, Option, Some, None, Result, Ok, Err, refl, ap, sym, subst}
+-- Logs join, what comes from the world determines those of whole steps, and what one move adds to a log.
+use Rattle.std.proofs.Common.{◌≡◌, ◌∙◌, ◌⊎◌, ◌-◌, ◌+◌, inl, inr, ℕ, List, [], ◌∷◌, ◌++◌, append_assoc, append-nil, Option, Some, None, Result, Ok, Err, refl, ap, sym, subst, arith}
 use Rattle.std.specs.List.{cons_option}
 use Rattle.std.specs.Prelude.{map}
 use Rattle.std.proofs.lemmas.List.Elements.{filter_map-append}
@@ -13,14 +13,13 @@ use Rattle.zk_vm.specs.declared.stop.Stop.{Stop}
 use Rattle.zk_vm.specs.declared.waiting.Waiting.{Waiting}
 use Rattle.zk_vm.specs.Answers.{Answer, answered, answered_by, codes_of, is_kept, file_of}
 use Rattle.zk_vm.specs.Sessions.{Session, given, given_to, resumed}
-use Rattle.zk_vm.specs.Step.{State, Step, Verdict, goes_by as goes_within, step, state_after, verdict_of}
+use Rattle.zk_vm.specs.Step.{State, Step, Verdict, goes_by as goes_within, state_after, verdict_of}
 use Rattle.zk_vm.specs.Step.Step.{Goes as GoesTo, Waits, Quits, Faults, Exceeds}
 use Rattle.zk_vm.specs.Step.Verdict.{GoesOn, WaitsFor, StopsBy}
-use Rattle.zk_vm.specs.Log.{Entry, Move, Passed, IsLeftIn, IsLog, IsPrefix, LogsJoin, OneLog, address_in, addresses, after, answer_in, answers_in, goes_by, heard_by, moved, moved_by, passed, scripted, scripted_in, shown, shown_in, stepped, stepped_to, stop_told, told}
+use Rattle.zk_vm.specs.Log.{Entry, Move, Passed, IsLeftIn, IsLog, IsPrefix, LogsJoin, address_in, address_told, addresses, after, answer_in, answers_in, goes_by, heard_by, moved, moved_by, parts_of, passed, scripted, scripted_in, shown, shown_in, stepped, stepped_to, stop_told, told, woven}
 use Rattle.zk_vm.specs.Log.Entry.{At, Shown, Scripted, Stopped}
-use Rattle.zk_vm.specs.Log.Move.{Goes, Gets}
+use Rattle.zk_vm.specs.Log.Move.{Goes, Gets, Part}
 use Rattle.zk_vm.proofs.AnswerSteps.{NoWait, answered_free}
-use Rattle.zk_vm.proofs.FrameLimits.{counts, goes_on_to}
 
 -- ---- one after the other
 
@@ -82,6 +81,40 @@ pub log_of_move : (s : Session) (m : Move) → IsLog s (moved s m).entries (move
 unfolding passed after
 log_of_move s m = record { moves = m ∷ []; is = sym (append-nil (moved s m).entries); left = left_here (moved s m).to (moved s m).to.stopped refl }
 
+-- ---- logs with so many parts of texts
+
+pub record LogWith (parts : ℕ) (s : Session) (l : List Entry) (t : Session) : Type 0 where
+  pub is : IsLog s l t
+  pub counted : parts_of is.moves ≡ parts
+
+parts_both : (ms ns : List Move) → parts_of (ms ++ ns) ≡ parts_of ms + parts_of ns
+unfolding parts_of
+parts_both [] ns = omega arith
+parts_both (Goes ∷ ms) ns = parts_both ms ns
+parts_both (Part n ∷ ms) ns = let rest = parts_both ms ns in omega (arith, rest)
+parts_both (Gets a ∷ ms) ns = parts_both ms ns
+
+joined_parts : (s t u : Session) (l m : List Entry) (a : IsLog s l t) (b : IsLog t m u) (x : Option Stop) (e : (after a.moves s).stopped ≡ x) (left : IsLeftIn t (after a.moves s) x) → t.stopped ≡ None → parts_of (joined s t u l m a b x e left).moves ≡ parts_of a.moves + parts_of b.moves
+unfolding joined
+joined_parts s t u l m a b None e left runs = parts_both a.moves b.moves
+joined_parts s t u l m a b (Some stop) e left runs = let never = sym runs ∙ left.0 in absurd cc
+
+-- they join where the machine between them runs
+pub with_both : (i j n : ℕ) (s t u : Session) (l m : List Entry) → i + j ≡ n → t.stopped ≡ None → LogWith i s l t → LogWith j t m u → LogWith n s (l ++ m) u
+unfolding logs_join
+with_both i j n s t u l m sum runs a b = record {
+  is = logs_join s t u l m a.is b.is;
+  counted = joined_parts s t u l m a.is b.is (after a.is.moves s).stopped refl a.is.left runs ∙ omega (arith, a.counted, b.counted, sum);
+}
+
+pub with_none : (s : Session) → LogWith 0 s [] s
+unfolding no_log parts_of
+with_none s = record { is = no_log s; counted = refl }
+
+pub with_step : (s : Session) → LogWith 0 s (moved s Goes).entries (moved s Goes).to
+unfolding log_of_move parts_of
+with_step s = record { is = log_of_move s Goes; counted = refl }
+
 waits_as : (t u : Session) (x : Option Stop) → IsLeftIn t u x → t.waiting ≡ u.waiting
 waits_as t u None left = ap (λ (s : Session). s.waiting) left
 waits_as t u (Some stop) left = left.1
@@ -91,10 +124,10 @@ stays_free s t stop l e log = waits_as t (after log.moves s) (after log.moves s)
 
 -- ---- one log
 
-abbrev Agree : List Entry → List Entry → Type 0
+abbrev pub Agree : List Entry → List Entry → Type 0
 Agree p q = answers_in p ≡ answers_in q → IsPrefix p q ⊎ IsPrefix q p
 
-prefix_on : (x : Entry) (p q : List Entry) → IsPrefix p q ⊎ IsPrefix q p → IsPrefix (x ∷ p) (x ∷ q) ⊎ IsPrefix (x ∷ q) (x ∷ p)
+pub prefix_on : (x : Entry) (p q : List Entry) → IsPrefix p q ⊎ IsPrefix q p → IsPrefix (x ∷ p) (x ∷ q) ⊎ IsPrefix (x ∷ q) (x ∷ p)
 prefix_on x p q (inl h) = inl (record { rest = h.rest; whole = ap (λ (l : List Entry). x ∷ l) h.whole })
 prefix_on x p q (inr h) = inr (record { rest = h.rest; whole = ap (λ (l : List Entry). x ∷ l) h.whole })
 
@@ -135,31 +168,42 @@ got_agree s w a b ms ns rest e =
     = rw (← same, ← there) (agree_both (moved_by None (Some w) s (Gets a)).entries (passed ms (given_to (Some w) s a)) (passed ns (given_to (Some w) s a)) (rest (given_to (Some w) s a))) in
     both e
 
-heads_agree : (x : Option Stop) (y : Option Waiting) (s : Session) (m n : Move) (ms ns : List Move) → ((t : Session) → Agree (passed ms t) (passed ns t))
-    → Agree (passed ms s) ((moved_by x y s n).entries ++ passed ns (moved_by x y s n).to) → Agree ((moved_by x y s m).entries ++ passed ms (moved_by x y s m).to) (passed ns s)
-    → Agree ((moved_by x y s m).entries ++ passed ms (moved_by x y s m).to) ((moved_by x y s n).entries ++ passed ns (moved_by x y s n).to)
-heads_agree None None s Goes Goes ms ns both first second = agree_both (goes_by s.state.due s).entries _ _ (both (goes_by s.state.due s).to)
-heads_agree None None s Goes (Gets b) ms ns both first second = second
-heads_agree None None s (Gets a) n ms ns both first second = first
-heads_agree None (Some w) s Goes n ms ns both first second = first
-heads_agree None (Some w) s (Gets a) Goes ms ns both first second = second
-heads_agree None (Some w) s (Gets a) (Gets b) ms ns both first second = got_agree s w a b ms ns both
+-- a move that shows no part of a text: a machine goes on, or gets an answer
+abbrev pub plain_move : Option Answer → Move
+plain_move None = Goes
+plain_move (Some a) = Gets a
+
+abbrev pub plainly : List (Option Answer) → Session → List Entry
+plainly ms s = passed (map plain_move ms) s
+
+heads_agree : (x : Option Stop) (y : Option Waiting) (s : Session) (m n : Option Answer) (ms ns : List (Option Answer)) → ((t : Session) → Agree (plainly ms t) (plainly ns t))
+    → Agree (plainly ms s) ((moved_by x y s (plain_move n)).entries ++ plainly ns (moved_by x y s (plain_move n)).to) → Agree ((moved_by x y s (plain_move m)).entries ++ plainly ms (moved_by x y s (plain_move m)).to) (plainly ns s)
+    → Agree ((moved_by x y s (plain_move m)).entries ++ plainly ms (moved_by x y s (plain_move m)).to) ((moved_by x y s (plain_move n)).entries ++ plainly ns (moved_by x y s (plain_move n)).to)
+heads_agree None None s None None ms ns both first second = agree_both (goes_by s.state.due s).entries _ _ (both (goes_by s.state.due s).to)
+heads_agree None None s None (Some b) ms ns both first second = second
+heads_agree None None s (Some a) n ms ns both first second = first
+heads_agree None (Some w) s None n ms ns both first second = first
+heads_agree None (Some w) s (Some a) None ms ns both first second = second
+heads_agree None (Some w) s (Some a) (Some b) ms ns both first second = got_agree s w a b (map plain_move ms) (map plain_move ns) both
 heads_agree (Some stop) y s m n ms ns both first second = first
 
-one_more : (m : Move) (ms : List Move) → ((ns : List Move) (s : Session) → Agree (passed ms s) (passed ns s)) → (ns : List Move) (s : Session) → Agree (passed (m ∷ ms) s) (passed ns s)
+one_more : (m : Option Answer) (ms : List (Option Answer)) → ((ns : List (Option Answer)) (s : Session) → Agree (plainly ms s) (plainly ns s)) → (ns : List (Option Answer)) (s : Session) → Agree (plainly (m ∷ ms) s) (plainly ns s)
 unfolding passed
-one_more m ms rest [] s = λ e. inr (record { rest = passed (m ∷ ms) s; whole = refl })
+one_more m ms rest [] s = λ e. inr (record { rest = plainly (m ∷ ms) s; whole = refl })
 one_more m ms rest (n ∷ ns) s = heads_agree s.stopped s.waiting s m n ms ns (rest ns) (rest (n ∷ ns) s) (one_more m ms rest ns s)
 
-all_agree : (ms ns : List Move) (s : Session) → Agree (passed ms s) (passed ns s)
+pub plain_agree : (ms ns : List (Option Answer)) (s : Session) → Agree (plainly ms s) (plainly ns s)
 unfolding passed
-all_agree [] ns s = λ e. inl (record { rest = passed ns s; whole = refl })
-all_agree (m ∷ ms) ns s = one_more m ms (all_agree ms) ns s
-
-pub one_log : OneLog
-one_log s t u l m a b e = rw (a.is, b.is) (all_agree a.moves b.moves s (rw (a.is, b.is) at e))
+plain_agree [] ns s = λ e. inl (record { rest = plainly ns s; whole = refl })
+plain_agree (m ∷ ms) ns s = one_more m ms (plain_agree ms) ns s
 
 -- ---- what a log shows
+
+-- one device alone gets its characters as they are
+pub woven_alone : (l : List Entry) → woven l [] ≡ l
+unfolding woven
+woven_alone [] = refl
+woven_alone (x ∷ l) = refl
 
 -- a log shows a text, and has no answer
 pub record Says (l : List Entry) (t : Texts) : Type 0 where
@@ -177,16 +221,18 @@ says_both l m t u a b = record {
   alone = answers_both l m a.alone b.alone;
 }
 
-says_screen : (cs : List ℕ) → Says (map Shown cs) (record { screen = cs; script = [] })
-says_screen [] = record { screen = refl; script = refl; alone = refl }
-says_screen (c ∷ cs) = let rest = says_screen cs in record { screen = ap (λ (l : List ℕ). c ∷ l) rest.screen; script = rest.script; alone = rest.alone }
-
 pub says_script : (cs : List ℕ) → Says (map Scripted cs) (on_script cs)
 says_script [] = record { screen = refl; script = refl; alone = refl }
 says_script (c ∷ cs) = let rest = says_script cs in record { screen = rest.screen; script = ap (λ (l : List ℕ). c ∷ l) rest.script; alone = rest.alone }
 
+says_woven : (cs ds : List ℕ) → Says (woven (map Shown cs) (map Scripted ds)) (record { screen = cs; script = ds })
+unfolding woven
+says_woven [] ds = says_script ds
+says_woven (c ∷ cs) [] = let rest = rw (woven_alone (map Shown cs)) at (says_woven cs []) in record { screen = ap (λ (l : List ℕ). c ∷ l) rest.screen; script = rest.script; alone = rest.alone }
+says_woven (c ∷ cs) (d ∷ ds) = let rest = says_woven cs ds in record { screen = ap (λ (l : List ℕ). c ∷ l) rest.screen; script = ap (λ (l : List ℕ). d ∷ l) rest.script; alone = rest.alone }
+
 pub says_told : (t : Texts) → Says (told t) t
-says_told t = rw (append-nil t.screen) at (says_both (map Shown t.screen) (map Scripted t.script) (record { screen = t.screen; script = [] }) (on_script t.script) (says_screen t.screen) (says_script t.script))
+says_told t = says_woven t.screen t.script
 
 pub says_at : (pc : ℕ) (l : List Entry) (t : Texts) → Says l t → Says (At pc ∷ l) t
 says_at pc l t h = record { screen = h.screen; script = h.script; alone = h.alone }
@@ -200,30 +246,36 @@ says_nothing = record { screen = refl; script = refl; alone = refl }
 pub addresses_both : (l m : List Entry) (a b : List ℕ) → addresses l ≡ a → addresses m ≡ b → addresses (l ++ m) ≡ a ++ b
 addresses_both l m a b e f = rw (filter_map-append address_in l m, e, f) refl
 
-screen_nowhere : (cs : List ℕ) → addresses (map Shown cs) ≡ []
-screen_nowhere [] = refl
-screen_nowhere (c ∷ cs) = screen_nowhere cs
-
 pub script_nowhere : (cs : List ℕ) → addresses (map Scripted cs) ≡ []
 script_nowhere [] = refl
 script_nowhere (c ∷ cs) = script_nowhere cs
 
+woven_nowhere : (cs ds : List ℕ) → addresses (woven (map Shown cs) (map Scripted ds)) ≡ []
+unfolding woven
+woven_nowhere [] ds = script_nowhere ds
+woven_nowhere (c ∷ cs) [] = rw (woven_alone (map Shown cs)) at (woven_nowhere cs [])
+woven_nowhere (c ∷ cs) (d ∷ ds) = woven_nowhere cs ds
+
 pub told_nowhere : (t : Texts) → addresses (told t) ≡ []
-told_nowhere t = addresses_both (map Shown t.screen) (map Scripted t.script) [] [] (screen_nowhere t.screen) (script_nowhere t.script)
+told_nowhere t = woven_nowhere t.screen t.script
 
 -- ---- a step
 
-pub says_step : (s : Session) (v : Verdict) (t : State) (text : Texts) → Says (stepped_to s v t text).entries text
-says_step s GoesOn t text = says_at s.state.pc (told text) text (says_told text)
-says_step s (WaitsFor w) t text = says_at s.state.pc (told text) text (says_told text)
-says_step s (StopsBy stop) t text =
-    says_at s.state.pc (told text ++ Stopped stop ∷ []) text (rw (append-nil text.screen, append-nil text.script) at (says_both (told text) (Stopped stop ∷ []) text no_text (says_told text) (says_stop stop)))
+says_address : (left : Option Texts) (pc : ℕ) (l : List Entry) (t : Texts) → Says l t → Says (address_told left pc ++ l) t
+says_address None pc l t h = says_at pc l t h
+says_address (Some u) pc l t h = h
 
--- it stands at one address
-pub step_stands : (s : Session) (v : Verdict) (t : State) (text : Texts) → addresses (stepped_to s v t text).entries ≡ s.state.pc ∷ []
-step_stands s GoesOn t text = ap (λ (l : List ℕ). s.state.pc ∷ l) (told_nowhere text)
-step_stands s (WaitsFor w) t text = ap (λ (l : List ℕ). s.state.pc ∷ l) (told_nowhere text)
-step_stands s (StopsBy stop) t text = ap (λ (l : List ℕ). s.state.pc ∷ l) (addresses_both (told text) (Stopped stop ∷ []) [] [] (told_nowhere text) refl)
+pub says_step : (s : Session) (v : Verdict) (t : State) (text : Texts) → Says (stepped_to s v t text).entries text
+says_step s GoesOn t text = says_address s.left s.state.pc (told text) text (says_told text)
+says_step s (WaitsFor w) t text = says_address s.left s.state.pc (told text) text (says_told text)
+says_step s (StopsBy stop) t text =
+    says_address s.left s.state.pc (told text ++ Stopped stop ∷ []) text (rw (append-nil text.screen, append-nil text.script) at (says_both (told text) (Stopped stop ∷ []) text no_text (says_told text) (says_stop stop)))
+
+-- it stands at one address, unless that was told before
+pub step_stands : (s : Session) (v : Verdict) (t : State) (text : Texts) → addresses (stepped_to s v t text).entries ≡ addresses (address_told s.left s.state.pc)
+step_stands s GoesOn t text = rw (append-nil (addresses (address_told s.left s.state.pc))) at (addresses_both (address_told s.left s.state.pc) (told text) _ [] refl (told_nowhere text))
+step_stands s (WaitsFor w) t text = rw (append-nil (addresses (address_told s.left s.state.pc))) at (addresses_both (address_told s.left s.state.pc) (told text) _ [] refl (told_nowhere text))
+step_stands s (StopsBy stop) t text = rw (append-nil (addresses (address_told s.left s.state.pc))) at (addresses_both (address_told s.left s.state.pc) (told text ++ Stopped stop ∷ []) _ [] refl (addresses_both (told text) (Stopped stop ∷ []) [] [] (told_nowhere text) refl))
 
 pub move_is : (n : ℕ) (s : Session) → s.stopped ≡ None → s.waiting ≡ None → s.state.due ≡ [] → s.limits.steps - s.state.steps ≡ n → moved s Goes ≡ stepped n s
 move_is n s runs free silent count = rw (runs, free, silent, count) refl

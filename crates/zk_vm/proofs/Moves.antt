@@ -5,17 +5,17 @@ use Rattle.zk_state.specs.declared.refusal.Limit.TheVariants.{Reads}
 use Rattle.zk_state.specs.declared.refusal.Refusal.{Refusal}
 use Rattle.zk_state.specs.declared.refusal.Refusal.TheVariants as refusal
 use Rattle.zk_state.specs.Frames.{FrameList, within_bounds}
-use Rattle.zk_step.specs.Routing.{Texts, no_text}
+use Rattle.zk_step.specs.Routing.{Texts}
 use Rattle.zk_vm.specs.declared.stop.Stop.{Stop}
 use Rattle.zk_vm.specs.declared.stop.Stop.TheVariants.{Limit}
 use Rattle.zk_vm.specs.declared.waiting.Waiting.{Waiting}
 use Rattle.zk_vm.specs.Answers.{Answer, answered}
 use Rattle.zk_vm.specs.Sessions.{Session, resumed}
-use Rattle.zk_vm.specs.Step.{State, Step, goes_by as goes_within, is_past_reads, state_after, step, text_of, text_within, verdict_of}
+use Rattle.zk_vm.specs.Step.{State, Step, Verdict, goes_by as goes_within, is_past_reads, state_after, step, verdict_of}
 use Rattle.zk_vm.specs.Step.Step.{Goes as GoesTo, Waits, Quits, Faults, Exceeds}
-use Rattle.zk_vm.specs.Step.Verdict.{WaitsFor, StopsBy}
-use Rattle.zk_vm.specs.Log.{Entry, Move, Passed, after, goes_by, moved, moved_by, passed, stepped, stepped_to}
-use Rattle.zk_vm.specs.Log.Move.{Gets, Goes}
+use Rattle.zk_vm.specs.Step.Verdict.{GoesOn, WaitsFor, StopsBy}
+use Rattle.zk_vm.specs.Log.{Entry, Move, Passed, after, goes_by, moved, moved_by, parted, parted_to, parts_by, passed, stepped, stepped_to, text_left}
+use Rattle.zk_vm.specs.Log.Move.{Gets, Goes, Part}
 use Rattle.zk_vm.proofs.Logs.{passed_stopped}
 
 -- ---- one after the other
@@ -56,34 +56,49 @@ moved_gets s w a runs waits = ap (λ (x : Option Stop). moved_by x s.waiting s (
 
 -- ---- what a move keeps
 
--- it is kept where the transcript gets what was due, where a step goes on or waits, and where an answer leads on
+-- it is kept where the transcript gets what was due, where a part of a text is shown, where a step goes on or waits, and where
+-- an answer leads on
 pub record IsKeptBy (K : Session → Type 0) (s : Session) (m : Move) : Type 0 where
   pub silent : s.waiting ≡ None → K (record s { state = record s.state { due = [] } })
-  pub goes : (t : State) (text : Texts) (u : FrameList) → s.stopped ≡ None → s.waiting ≡ None → s.state.due ≡ [] → m ≡ Goes → s.state.steps < s.limits.steps → step s.state ≡ GoesTo t text → within_bounds t.game.frames ≡ Ok u → K (record s { state = t })
+  pub part : (left : Option Texts) → K (record s { left = left })
+  pub goes : (t : State) (text : Texts) (u : FrameList) → s.stopped ≡ None → s.waiting ≡ None → s.state.due ≡ [] → m ≡ Goes → s.state.steps < s.limits.steps → step s.state ≡ GoesTo t text → within_bounds t.game.frames ≡ Ok u → K (record s { state = t; left = None })
   pub waits : (t : State) (w : Waiting) (text : Texts) → s.stopped ≡ None → s.waiting ≡ None → s.state.due ≡ [] → m ≡ Goes → s.state.steps < s.limits.steps → step s.state ≡ Waits t w text → is_past_reads s.state.reads w.wait ≡ false
-      → K (record s { state = t; waiting = Some w })
+      → K (record s { state = t; waiting = Some w; left = None })
   pub gets : (w : Waiting) (a : Answer) (t : State) (text : Texts) (u : FrameList) → s.stopped ≡ None → s.waiting ≡ Some w → m ≡ Gets a → answered s.state w a ≡ GoesTo t text → within_bounds t.game.frames ≡ Ok u → K (record s { state = t; waiting = None })
 
 module _ (K : Session → Type 0) (s : Session) (k : K s) where
   steps_kept : (h : IsKeptBy K s Goes) (n : ℕ) → s.stopped ≡ None → s.waiting ≡ None → s.state.due ≡ [] → s.limits.steps - s.state.steps ≡ n → (stepped n s).to.stopped ≡ None → K (stepped n s).to
   steps_kept h zero runs free silent left on = absurd cc
-  steps_kept h (suc n) runs free silent left on = by (step s.state) refl on
+  steps_kept h (suc n) runs free silent left on = by (step s.state) (text_left s.left s.state) refl on
     where
-      goes : (t : State) (text : Texts) (r : Result FrameList Refusal) → step s.state ≡ GoesTo t text → within_bounds t.game.frames ≡ r → (stepped_to s (goes_within s.state.pc r) t (text_within r text)).to.stopped ≡ None → K (stepped_to s (goes_within s.state.pc r) t (text_within r text)).to
-      goes t text (Ok u) e i o = h.goes t text u runs free silent refl (omega (arith, left)) e i
-      goes t text (Err (refusal.Limit l)) e i o = absurd cc
-      goes t text (Err (refusal.Fault f)) e i o = absurd cc
+      goes : (t : State) (text shown : Texts) (r : Result FrameList Refusal) → step s.state ≡ GoesTo t text → within_bounds t.game.frames ≡ r → (stepped_to s (goes_within s.state.pc r) t shown).to.stopped ≡ None → K (stepped_to s (goes_within s.state.pc r) t shown).to
+      goes t text shown (Ok u) e i o = h.goes t text u runs free silent refl (omega (arith, left)) e i
+      goes t text shown (Err (refusal.Limit l)) e i o = absurd cc
+      goes t text shown (Err (refusal.Fault f)) e i o = absurd cc
 
-      waits : (t : State) (w : Waiting) (text : Texts) (b : Bool) → step s.state ≡ Waits t w text → is_past_reads s.state.reads w.wait ≡ b → (stepped_to s (if b then StopsBy (Limit s.state.pc Reads) else WaitsFor w) t (if b then no_text else text)).to.stopped ≡ None → K (stepped_to s (if b then StopsBy (Limit s.state.pc Reads) else WaitsFor w) t (if b then no_text else text)).to
-      waits t w text true e i o = absurd cc
-      waits t w text false e i o = h.waits t w text runs free silent refl (omega (arith, left)) e i
+      waits : (t : State) (w : Waiting) (text shown : Texts) (b : Bool) → step s.state ≡ Waits t w text → is_past_reads s.state.reads w.wait ≡ b → (stepped_to s (if b then StopsBy (Limit s.state.pc Reads) else WaitsFor w) t shown).to.stopped ≡ None → K (stepped_to s (if b then StopsBy (Limit s.state.pc Reads) else WaitsFor w) t shown).to
+      waits t w text shown true e i o = absurd cc
+      waits t w text shown false e i o = h.waits t w text runs free silent refl (omega (arith, left)) e i
 
-      by : (x : Step) → step s.state ≡ x → (stepped_to s (verdict_of s.state x) (state_after s.state x) (text_of s.state x)).to.stopped ≡ None → K (stepped_to s (verdict_of s.state x) (state_after s.state x) (text_of s.state x)).to
-      by (GoesTo t text) e o = goes t text (within_bounds t.game.frames) e refl o
-      by (Waits t w text) e o = waits t w text (is_past_reads s.state.reads w.wait) e refl o
-      by Quits e o = absurd cc
-      by (Faults f) e o = absurd cc
-      by (Exceeds l) e o = absurd cc
+      by : (x : Step) (shown : Texts) → step s.state ≡ x → (stepped_to s (verdict_of s.state x) (state_after s.state x) shown).to.stopped ≡ None → K (stepped_to s (verdict_of s.state x) (state_after s.state x) shown).to
+      by (GoesTo t text) shown e o = goes t text shown (within_bounds t.game.frames) e refl o
+      by (Waits t w text) shown e o = waits t w text shown (is_past_reads s.state.reads w.wait) e refl o
+      by Quits shown e o = absurd cc
+      by (Faults f) shown e o = absurd cc
+      by (Exceeds l) shown e o = absurd cc
+
+  parted_kept : (n : ℕ) (h : IsKeptBy K s (Part n)) (v : Verdict) (t : State) (text : Texts) → (parted_to n s v t text).to.stopped ≡ None → K (parted_to n s v t text).to
+  parted_kept n h GoesOn t text on = h.part _
+  parted_kept n h (WaitsFor w) t text on = h.part _
+  parted_kept n h (StopsBy stop) t text on = absurd cc
+
+  count_kept : (n k : ℕ) (h : IsKeptBy K s (Part n)) → (parted n k s).to.stopped ≡ None → K (parted n k s).to
+  count_kept n zero h on = absurd cc
+  count_kept n (suc k) h on = parted_kept n h (verdict_of s.state (step s.state)) (state_after s.state (step s.state)) (text_left s.left s.state) on
+
+  parts_kept : (n : ℕ) (h : IsKeptBy K s (Part n)) (due : List ℕ) → (parts_by n due s).to.stopped ≡ None → K (parts_by n due s).to
+  parts_kept n h [] on = count_kept n (s.limits.steps - s.state.steps) h on
+  parts_kept n h (c ∷ cs) on = k
 
   answer_kept : (w : Waiting) (a : Answer) (h : IsKeptBy K s (Gets a)) (x : Step) → s.stopped ≡ None → s.waiting ≡ Some w → answered s.state w a ≡ x → (resumed s (verdict_of s.state x) (state_after s.state x)).stopped ≡ None → K (resumed s (verdict_of s.state x) (state_after s.state x))
   answer_kept w a h (GoesTo t text) runs there e on = go (within_bounds t.game.frames) refl on
@@ -107,8 +122,10 @@ module _ (K : Session → Type 0) (s : Session) (k : K s) where
 
   by_kept : (m : Move) (h : IsKeptBy K s m) (x : Option Stop) (y : Option Waiting) → s.stopped ≡ x → s.waiting ≡ y → (moved_by x y s m).to.stopped ≡ None → K (moved_by x y s m).to
   by_kept Goes h None None runs free on = goes_kept h s.state.due runs free refl on
+  by_kept (Part n) h None None runs free on = parts_kept n h s.state.due on
   by_kept (Gets a) h None None runs free on = k
   by_kept Goes h None (Some w) runs there on = k
+  by_kept (Part n) h None (Some w) runs there on = k
   by_kept (Gets a) h None (Some w) runs there on = answer_kept w a h (answered s.state w a) runs there refl on
   by_kept m h (Some stop) y e there on = k
 

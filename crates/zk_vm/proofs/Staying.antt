@@ -286,6 +286,7 @@ module _ (m : MemoryMap) (P : ℕ → Type 0) where
       → ((w : Waiting) (a : Answer) → s.stopped ≡ None → s.waiting ≡ Some w → n ≡ Gets a → FilesInto s.state w a) → RunsInside s → IsKeptBy RunsInside s n
   each_inside s n knows files h = record {
     silent = λ free. record { state = record { memory = h.state.memory; story = h.state.story; pc = h.state.pc; returns = h.state.returns; undo = h.state.undo }; waits = h.waits };
+    part = λ left. record { state = h.state; waits = h.waits };
     goes = λ t text u runs free silent is few e inside. record { state = subst StepsInto e (step_inside s.state h.state (λ i d. knows i runs free silent is d)); waits = h.waits };
     waits = λ t w text runs free silent is few e fits.
         let there = subst StepsInto e (step_inside s.state h.state (λ i d. knows i runs free silent is d)) in

@@ -102,21 +102,21 @@ may x w s e h = subst (λ (y : Option Waiting). MayAnswer y s) e h
 pair : {a b c d : ℕ} → a ≡ b → c ≡ d → ◌≡◌ {A = ℕ × ℕ} (a, c) (b, d)
 pair e k = cc
 
-goes_keeps : (s : Session) (t : State) (text : Texts) (u : FrameList) → KeepsLimits s → s.waiting ≡ None → s.state.steps < s.limits.steps → step s.state ≡ Goes t text → within_bounds t.game.frames ≡ Ok u → KeepsLimits (record s { state = t })
+goes_keeps : (s : Session) (t : State) (text : Texts) (u : FrameList) → KeepsLimits s → s.waiting ≡ None → s.state.steps < s.limits.steps → step s.state ≡ Goes t text → within_bounds t.game.frames ≡ Ok u → KeepsLimits (record s { state = t; left = None })
 goes_keeps s t text u k alone few e inside =
     let next = after_goes s.limits s.state t text u e k.bounds k.most (omega (arith, few)) k.within.reads k.within.undo inside in
-    record { bounds = next.1; most = next.2; within = next.0; waits = free s.waiting (record s { state = t }) alone }
+    record { bounds = next.1; most = next.2; within = next.0; waits = free s.waiting (record s { state = t; left = None }) alone }
 
-waits_keeps : (s : Session) (t : State) (w : Waiting) (text : Texts) → KeepsLimits s → s.state.steps < s.limits.steps → step s.state ≡ Waits t w text → is_past_reads s.state.reads w.wait ≡ false → KeepsLimits (record s { state = t; waiting = Some w })
+waits_keeps : (s : Session) (t : State) (w : Waiting) (text : Texts) → KeepsLimits s → s.state.steps < s.limits.steps → step s.state ≡ Waits t w text → is_past_reads s.state.reads w.wait ≡ false → KeepsLimits (record s { state = t; waiting = Some w; left = None })
 waits_keeps s t w text k few e fits =
     let so = step_waits s.state t w text e in
-    let here : KeepsLimits (record s { state = record s.state { game = so.game }; waiting = Some w }) = record {
+    let here : KeepsLimits (record s { state = record s.state { game = so.game }; waiting = Some w; left = None }) = record {
       bounds = so.pops.bounds ∙ k.bounds;
       most = ap (λ (m : MemoryMap). m.undo_states) so.pops.memory ∙ k.most;
       within = record { frames = omega (arith, so.pops.frames, k.within.frames); words = omega (arith, so.pops.words, k.within.words); steps = k.within.steps; reads = k.within.reads; undo = k.within.undo };
       waits = (fits, few);
     } in
-    subst (λ (u : State). KeepsLimits (record s { state = u; waiting = Some w })) (sym so.same) here
+    subst (λ (u : State). KeepsLimits (record s { state = u; waiting = Some w; left = None })) (sym so.same) here
 
 gets_keeps : (s : Session) (w : Waiting) (a : Answer) (t : State) (text : Texts) (u : FrameList) → KeepsLimits s → s.waiting ≡ Some w → answered s.state w a ≡ Goes t text → within_bounds t.game.frames ≡ Ok u → KeepsLimits (record s { state = t; waiting = None })
 unfolding bounds_of
@@ -142,9 +142,14 @@ gets_keeps s w a t text u k there e inside =
       waits = tt;
     }
 
+may_still : (x : Option Waiting) (s : Session) (left : Option Texts) → MayAnswer x s → MayAnswer x (record s { left = left })
+may_still None s left h = tt
+may_still (Some w) s left h = h
+
 each_keeps : (s : Session) (m : Move) → KeepsLimits s → IsKeptBy KeepsLimits s m
 each_keeps s m k = record {
   silent = λ alone. record { bounds = k.bounds; most = k.most; within = record { frames = k.within.frames; words = k.within.words; steps = k.within.steps; reads = k.within.reads; undo = k.within.undo }; waits = free s.waiting (record s { state = record s.state { due = [] } }) alone };
+  part = λ left. record { bounds = k.bounds; most = k.most; within = k.within; waits = may_still s.waiting s left k.waits };
   goes = λ t text u runs alone silent is few e inside. goes_keeps s t text u k alone few e inside;
   waits = λ t w text runs alone silent is few e fits. waits_keeps s t w text k few e fits;
   gets = λ w a t text u runs there is e inside. gets_keeps s w a t text u k there e inside;

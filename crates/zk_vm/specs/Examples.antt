@@ -13,9 +13,9 @@ use Rattle.zk_vm.specs.Bounds.{AreInRange}
 use Rattle.zk_vm.specs.Calls.{locals_and_return}
 use Rattle.zk_vm.specs.Halts.{event_waited}
 use Rattle.zk_vm.specs.Inside.{NoneLeaves, leaves}
-use Rattle.zk_vm.specs.Log.{Entry, Move, addresses, after, answers_in, moved, passed, reads_in, scripted, shown}
+use Rattle.zk_vm.specs.Log.{Entry, Move, addresses, after, answers_in, moved, parts_of, passed, reads_in, scripted, shown, told}
 use Rattle.zk_vm.specs.Log.Entry.{Asked, At, Offered, Read, Scripted, Shown, Stopped}
-use Rattle.zk_vm.specs.Log.Move.{Gets, Goes}
+use Rattle.zk_vm.specs.Log.Move.{Gets, Goes, Part}
 use Rattle.zk_vm.specs.Sessions.{Session, begun, with_stop}
 use Rattle.zk_vm.specs.Plays.{codes_read}
 
@@ -72,13 +72,15 @@ FramesAreLimited =
     (log_of 4 (starts (story_of (0x8f ∷ 0 ∷ 17 ∷ 0xba ∷ 0 ∷ 0x8f ∷ 0 ∷ 17 ∷ [])) (limits_of 2 9 10)) ≡ At 64 ∷ At 69 ∷ Stopped (Limit 69 Frames) ∷ [])
     × (log_of 4 (starts (story_of (0x8f ∷ 0 ∷ 17 ∷ 0xba ∷ 0 ∷ 0xb0 ∷ [])) (limits_of 2 9 10)) ≡ At 64 ∷ At 69 ∷ At 67 ∷ Stopped Quit ∷ [])
 
--- `call_1s` at 64 of the routine at 72, packed address 18, whose `print_ret` at 73 gives 1 to the stack: where no word
--- may be, it shows nothing, and where one may be, it shows "abc" and a new line (section 15, `print_ret`)
+-- `call_1s` at 64 of the routine at 72, packed address 18, whose `print_ret` at 73 gives 1 to the stack
+abbrev pub prints_in_routine : List ℕ
+prints_in_routine = story_of (0x88 ∷ 0 ∷ 18 ∷ 0 ∷ 0xba ∷ 0 ∷ 0 ∷ 0 ∷ 0 ∷ 0xb3 ∷ 0x98 ∷ 0xe8 ∷ [])
+
+-- where no word may be, it shows nothing, and where one may be, it shows "abc" and a new line (section 15, `print_ret`)
 abbrev pub RefusedStepsShowNothing : Type 0
 RefusedStepsShowNothing =
-    (log_of 4 (starts (story_of (0x88 ∷ 0 ∷ 18 ∷ 0 ∷ 0xba ∷ 0 ∷ 0 ∷ 0 ∷ 0 ∷ 0xb3 ∷ 0x98 ∷ 0xe8 ∷ [])) (limits_of 2 0 10)) ≡ At 64 ∷ At 73 ∷ Stopped (Limit 73 Words) ∷ [])
-    × (log_of 4 (starts (story_of (0x88 ∷ 0 ∷ 18 ∷ 0 ∷ 0xba ∷ 0 ∷ 0 ∷ 0 ∷ 0 ∷ 0xb3 ∷ 0x98 ∷ 0xe8 ∷ [])) (limits_of 2 1 10))
-    ≡ At 64 ∷ At 73 ∷ shows (codes "abc" ++ 10 ∷ []) ++ At 68 ∷ Stopped Quit ∷ [])
+    (log_of 4 (starts prints_in_routine (limits_of 2 0 10)) ≡ At 64 ∷ At 73 ∷ Stopped (Limit 73 Words) ∷ [])
+    × (log_of 4 (starts prints_in_routine (limits_of 2 1 10)) ≡ At 64 ∷ At 73 ∷ shows (codes "abc" ++ 10 ∷ []) ++ At 68 ∷ Stopped Quit ∷ [])
 
 -- `jl` of 1 and 2 at 64 branches on true over the `quit` at 68 to the text at 69, and not on false (section 4.7)
 abbrev pub BranchesLead : Type 0
@@ -191,10 +193,16 @@ NoViewPastTheMostReads =
     passed (replicate 5 Goes ++ types (codes "x")) (after_reads 16777216 (begun shows_a_row 1 (limits_of 1 1 10) Upper)) ≡ At 64 ∷ At 67 ∷ At 70 ∷ At 73 ∷ At 76 ∷ Stopped (Limit 76 Reads) ∷ []
 
 -- at 64 `output_stream` 2, at 67 `print` of "hi", at 70 `output_stream` -2, at 74 `print` of "hi", at 77 `quit`
+abbrev pub scripts_once : List ℕ
+scripts_once = story_of (0xf3 ∷ 0x7f ∷ 2 ∷ 0xb2 ∷ 0xb5 ∷ 0xc5 ∷ 0xf3 ∷ 0x3f ∷ 0xff ∷ 0xfe ∷ 0xb2 ∷ 0xb5 ∷ 0xc5 ∷ 0xba ∷ [])
+
+-- a character on the screen, and then the same in the transcript
+abbrev pub on_both : ℕ → List Entry
+on_both c = Shown c ∷ Scripted c ∷ []
+
+-- the transcript gets what is shown while it is on
 abbrev pub ScriptsGetText : Type 0
-ScriptsGetText =
-    log_of 6 (starts (story_of (0xf3 ∷ 0x7f ∷ 2 ∷ 0xb2 ∷ 0xb5 ∷ 0xc5 ∷ 0xf3 ∷ 0x3f ∷ 0xff ∷ 0xfe ∷ 0xb2 ∷ 0xb5 ∷ 0xc5 ∷ 0xba ∷ [])) (limits_of 1 1 10))
-    ≡ At 64 ∷ At 67 ∷ shows (codes "hi") ++ map Scripted (codes "hi") ++ At 70 ∷ At 74 ∷ shows (codes "hi") ++ At 77 ∷ Stopped Quit ∷ []
+ScriptsGetText = log_of 6 (starts scripts_once (limits_of 1 1 10)) ≡ At 64 ∷ At 67 ∷ on_both 104 ++ on_both 105 ++ At 70 ∷ At 74 ∷ shows (codes "hi") ++ At 77 ∷ Stopped Quit ∷ []
 
 -- a machine whose transcript is still to get a line
 abbrev pub with_due : List ℕ → Session → Session
@@ -205,6 +213,62 @@ abbrev pub DueTextComesFirst : Type 0
 DueTextComesFirst =
     (moved (with_due (codes "go") (starts prints_and_quits (limits_of 1 0 10))) Goes ≡ record { entries = map Scripted (codes "go"); to = starts prints_and_quits (limits_of 1 0 10) })
     × (log_of 2 (with_due (codes "go") (starts prints_and_quits (limits_of 1 0 10))) ≡ map Scripted (codes "go") ++ At 64 ∷ shows (codes "abc"))
+
+-- ---- parts of a text
+
+-- each character of the screen is followed by one of the transcript, and what one of them has more comes last
+abbrev pub DevicesTakeTurns : Type 0
+DevicesTakeTurns =
+    (told (record { screen = 97 ∷ 98 ∷ []; script = 99 ∷ 100 ∷ [] }) ≡ Shown 97 ∷ Scripted 99 ∷ Shown 98 ∷ Scripted 100 ∷ [])
+    × (told (record { screen = 97 ∷ 98 ∷ []; script = 99 ∷ [] }) ≡ Shown 97 ∷ Scripted 99 ∷ Shown 98 ∷ [])
+    × (told (record { screen = 97 ∷ []; script = 99 ∷ 100 ∷ [] }) ≡ Shown 97 ∷ Scripted 99 ∷ Scripted 100 ∷ [])
+
+-- a machine at the first `print` of "hi", where the transcript is on
+abbrev pub at_print : Session
+at_print = after (Goes ∷ []) (starts scripts_once (limits_of 1 1 10))
+
+-- the address of the instruction is told once, before the first part, also before an empty one; then each part is shown, and
+-- the rest with the step; past the end there is no more
+abbrev pub PartsAreShown : Type 0
+PartsAreShown =
+    (passed (Part 1 ∷ []) at_print ≡ At 67 ∷ on_both 104)
+    × (passed (Part 1 ∷ Goes ∷ Goes ∷ []) at_print ≡ At 67 ∷ on_both 104 ++ on_both 105 ++ At 70 ∷ [])
+    × (passed (Goes ∷ []) (after (Part 1 ∷ []) at_print) ≡ on_both 105)
+    × (passed (Part 1 ∷ Part 1 ∷ []) at_print ≡ At 67 ∷ on_both 104 ++ on_both 105)
+    × (passed (Part 5 ∷ []) at_print ≡ At 67 ∷ on_both 104 ++ on_both 105)
+    × (passed (Part 5 ∷ Part 1 ∷ Goes ∷ Goes ∷ []) at_print ≡ At 67 ∷ on_both 104 ++ on_both 105 ++ At 70 ∷ [])
+    × (passed (Part 0 ∷ []) at_print ≡ At 67 ∷ [])
+    × (passed (Part 0 ∷ Part 0 ∷ Part 1 ∷ []) at_print ≡ At 67 ∷ on_both 104)
+    × (passed (Part 2 ∷ Goes ∷ []) (starts prints_and_quits (limits_of 1 0 10)) ≡ At 64 ∷ shows (codes "abc"))
+    × (passed (Part 2 ∷ []) (starts prints_and_quits (limits_of 1 0 10)) ≡ At 64 ∷ shows (codes "ab"))
+
+-- until its step is made a machine stays at the instruction
+abbrev pub PartsMakeNoStep : Type 0
+PartsMakeNoStep =
+    ((after (Part 1 ∷ []) at_print).state.pc ≡ 67)
+    × ((after (Part 1 ∷ []) at_print).state.steps ≡ 1)
+    × ((after (Part 1 ∷ []) at_print).left ≡ Some (record { screen = 105 ∷ []; script = 105 ∷ [] }))
+    × ((after (Part 1 ∷ Goes ∷ []) at_print).state.pc ≡ 70)
+    × ((after (Part 1 ∷ Goes ∷ []) at_print).state.steps ≡ 2)
+    × ((after (Part 1 ∷ Goes ∷ []) at_print).left ≡ None)
+    × (parts_of (Goes ∷ Part 3 ∷ Gets (Typed []) ∷ Part 0 ∷ []) ≡ 2)
+
+-- a part of the row before a read is shown, and then the rest
+abbrev pub ReadsHaveParts : Type 0
+ReadsHaveParts =
+    passed (replicate 4 Goes ++ Part 2 ∷ Goes ∷ types (codes "x")) (begun shows_a_row 1 (limits_of 1 1 10) Upper)
+    ≡ At 64 ∷ At 67 ∷ At 70 ∷ At 73 ∷ At 76 ∷ shows (codes "| hi" ++ 10 ∷ []) ++ Read None (codes "x") ∷ At 80 ∷ Stopped Quit ∷ []
+
+-- a machine that waits or has stopped, or whose transcript is still to get something, shows none; where no step is left, and at
+-- a step that stops, it stops
+abbrev pub OthersHaveNoParts : Type 0
+OthersHaveNoParts =
+    StaysAt (after (Goes ∷ []) (starts echoes (limits_of 1 1 10))) (Part 1)
+    × StaysAt (with_stop (starts prints_and_quits (limits_of 1 0 10)) Quit) (Part 1)
+    × StaysAt (with_due (codes "go") (starts prints_and_quits (limits_of 1 0 10))) (Part 1)
+    × (passed (Goes ∷ Part 1 ∷ Goes ∷ []) (starts prints_and_quits (limits_of 1 0 1)) ≡ At 64 ∷ shows (codes "abc") ++ Stopped (Limit 67 Steps) ∷ [])
+    × (passed (Goes ∷ Part 1 ∷ Goes ∷ []) (starts prints_and_quits (limits_of 1 0 10)) ≡ At 64 ∷ shows (codes "abc") ++ At 67 ∷ Stopped Quit ∷ [])
+    × (passed (Goes ∷ Part 1 ∷ Goes ∷ []) (starts prints_in_routine (limits_of 2 0 10)) ≡ At 64 ∷ At 73 ∷ Stopped (Limit 73 Words) ∷ [])
 
 -- ---- moves that leave a clean set
 

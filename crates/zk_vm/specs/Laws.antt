@@ -6,13 +6,14 @@ use Rattle.zk_state.specs.declared.refusal.Refusal.TheVariants as refusal
 use Rattle.zk_state.specs.Frames.{bounds_of, frames_of, total_of, within_bounds}
 use Rattle.zk_step.specs.declared.state.game_state.View.{View}
 use Rattle.zk_step.specs.Laws.{rebounded}
+use Rattle.zk_step.specs.Routing.{Texts}
 use Rattle.zk_vm.specs.declared.limits.Limits.{Limits}
 use Rattle.zk_vm.specs.declared.stop.Stop.{Stop}
 use Rattle.zk_vm.specs.declared.stop.Stop.TheVariants.{Limit as LimitAt}
 use Rattle.zk_vm.specs.declared.waiting.Waiting.{Waiting}
 use Rattle.zk_vm.specs.Answers.{Answer, answered}
 use Rattle.zk_vm.specs.Bounds.{AreInRange}
-use Rattle.zk_vm.specs.Log.{Move, after, heard_by, passed}
+use Rattle.zk_vm.specs.Log.{Entry, Move, after, heard_by, passed, told}
 use Rattle.zk_vm.specs.Log.Entry.{At, Stopped}
 use Rattle.zk_vm.specs.Log.Move.{Gets, Goes}
 use Rattle.zk_vm.specs.Sessions.{Session, begun}
@@ -94,14 +95,20 @@ Passes l old (Waits s waiting text) = (l ≡ Reads) × (is_past_reads old.reads 
 Passes l old (Exceeds limit) = l ≡ limit
 Passes l old _ = ⊥
 
+-- the last that is told of an instruction that stops: its address, or what is left of its text
+abbrev pub last_told : Option Texts → ℕ → List Entry
+last_told None pc = At pc ∷ []
+last_told (Some t) pc = told t
+
 -- how a machine stops by a limit, where some moves have led it: at the step that is one too many, at a step that passes a
--- limit, or at the instruction whose answer does. It shows nothing of that step, and then nothing passes any more.
+-- limit, or at the instruction whose answer does. It shows nothing of that step, but what may be left of its text, and then
+-- nothing passes any more.
 pub record LimitsCut (ms : List Move) (s : Session) : Type 0 where
   pub steps : (more : List Move) → (after ms s).waiting ≡ None → (after ms s).state.due ≡ [] → (after ms s).limits.steps ≤ (after ms s).state.steps
       → passed (ms ++ Goes ∷ more) s ≡ passed ms s ++ Stopped (LimitAt (after ms s).state.pc Steps) ∷ []
   pub step : (more : List Move) (l : Limit) → (after ms s).waiting ≡ None → (after ms s).state.due ≡ [] → (after ms s).state.steps < (after ms s).limits.steps
       → Passes l (after ms s).state (step (after ms s).state)
-      → passed (ms ++ Goes ∷ more) s ≡ passed ms s ++ At (after ms s).state.pc ∷ Stopped (LimitAt (after ms s).state.pc l) ∷ []
+      → passed (ms ++ Goes ∷ more) s ≡ passed ms s ++ (last_told (after ms s).left (after ms s).state.pc ++ Stopped (LimitAt (after ms s).state.pc l) ∷ [])
   pub answer : (a : Answer) (more : List Move) (w : Waiting) (l : Limit) → (after ms s).waiting ≡ Some w
       → Passes l (after ms s).state (answered (after ms s).state w a)
       → passed (ms ++ Gets a ∷ more) s ≡ passed ms s ++ heard_by (after ms s) w.wait a ∷ Stopped (LimitAt (after ms s).state.pc l) ∷ []

@@ -1,5 +1,5 @@
 -- The log of a machine: what passes between it and its world, in order.
-use Rattle.std.specs.Prelude.{◌≡◌, ◌⊎◌, ◌-◌, ◌++◌, ℕ, zero, suc, Bool, List, [], ◌∷◌, filter_map, map, Option, Some, None}
+use Rattle.std.specs.Prelude.{◌≡◌, ◌⊎◌, ◌-◌, ◌+◌, ◌++◌, ℕ, zero, suc, Bool, List, [], ◌∷◌, drop, filter_map, map, take, Option, Some, None}
 use Rattle.zk_text.specs.Extra.{ExtraTable, own_characters}
 use Rattle.zk_state.specs.declared.refusal.Limit.TheVariants.{Steps}
 use Rattle.zk_save.specs.declared.restore.RestoreError.{RestoreError}
@@ -29,9 +29,15 @@ pub data Entry : Type 0 where
   Asked : (file : Option (List ℕ)) (refusal : Option RestoreError) → Entry
   Stopped : (stop : Stop) → Entry
 
--- the entries of a step's text: of two devices, which gets its part first nobody sees within a step
+-- devices get characters one after the other: the screen's is followed by the transcript's
+unfoldable pub woven : List Entry → List Entry → List Entry
+woven [] ys = ys
+woven (x ∷ xs) [] = x ∷ xs
+woven (x ∷ xs) (y ∷ ys) = x ∷ y ∷ woven xs ys
+
+-- the entries of a text
 abbrev pub told : Texts → List Entry
-told t = map Shown t.screen ++ map Scripted t.script
+told t = woven (map Shown t.screen) (map Scripted t.script)
 
 -- the entry of an answer, by what the machine waits for
 abbrev pub heard_by : Session → Event → Answer → Entry
@@ -44,12 +50,39 @@ abbrev pub stop_told : Option Stop → List Entry
 stop_told None = []
 stop_told (Some stop) = Stopped stop ∷ []
 
+-- ---- parts of a text
+
+-- the first characters of a text, of each device, and the others
+abbrev pub text_first : ℕ → Texts → Texts
+text_first n t = record { screen = take n t.screen; script = take n t.script }
+
+abbrev pub text_later : ℕ → Texts → Texts
+text_later n t = record { screen = drop n t.screen; script = drop n t.script }
+
+-- what is still to come of the text of the next step: all of it, unless a part was shown
+abbrev pub text_left : Option Texts → State → Texts
+text_left None s = text_of s (step s)
+text_left (Some t) s = t
+
+-- an instruction's address is told before the first part of its text
+abbrev pub address_told : Option Texts → ℕ → List Entry
+address_told None pc = At pc ∷ []
+address_told (Some t) pc = []
+
 -- ---- moves
 
--- a machine goes on by itself, or gets an answer
+-- a machine goes on by itself, shows some characters of each device of the text of its next step, or gets an answer
 pub data Move : Type 0 where
   Goes : Move
+  Part : (n : ℕ) → Move
   Gets : (a : Answer) → Move
+
+-- how many of some moves show a part of a text
+unfoldable pub parts_of : List Move → ℕ
+parts_of [] = 0
+parts_of (Goes ∷ ms) = parts_of ms
+parts_of (Part n ∷ ms) = parts_of ms + 1
+parts_of (Gets a ∷ ms) = parts_of ms
 
 -- what passes at a move, and the machine after it
 pub record Passed : Type 0 where
@@ -59,23 +92,45 @@ pub record Passed : Type 0 where
 -- A step was made, at a byte address: the run goes on, waits or stops. It stops by itself, by a fault, or by a limit that the
 -- state after it would pass, on frames, words or reads (`verdict_of`); where it stops so, it shows nothing (`text_of`).
 abbrev pub stepped_to : Session → Verdict → State → Texts → Passed
-stepped_to s GoesOn t text = record { entries = At s.state.pc ∷ told text; to = record s { state = t } }
-stepped_to s (WaitsFor w) t text = record { entries = At s.state.pc ∷ told text; to = record s { state = t; waiting = Some w } }
-stepped_to s (StopsBy stop) t text = record { entries = At s.state.pc ∷ told text ++ Stopped stop ∷ []; to = with_stop (record s { state = t }) stop }
+stepped_to s GoesOn t text = record { entries = address_told s.left s.state.pc ++ told text; to = record s { state = t; left = None } }
+stepped_to s (WaitsFor w) t text = record { entries = address_told s.left s.state.pc ++ told text; to = record s { state = t; waiting = Some w; left = None } }
+stepped_to s (StopsBy stop) t text = record { entries = address_told s.left s.state.pc ++ (told text ++ Stopped stop ∷ []); to = with_stop (record s { state = t }) stop }
 
 -- a step is made, where the limit on instructions leaves one
 abbrev pub stepped : ℕ → Session → Passed
 stepped zero s = record { entries = Stopped (LimitAt s.state.pc Steps) ∷ []; to = with_stop s (LimitAt s.state.pc Steps) }
-stepped (suc left) s = stepped_to s (verdict_of s.state (step s.state)) (state_after s.state (step s.state)) (text_of s.state (step s.state))
+stepped (suc left) s = stepped_to s (verdict_of s.state (step s.state)) (state_after s.state (step s.state)) (text_left s.left s.state)
 
 -- before it the transcript gets what it is still to get
 abbrev pub goes_by : List ℕ → Session → Passed
 goes_by [] s = stepped (s.limits.steps - s.state.steps) s
 goes_by (c ∷ cs) s = record { entries = map Scripted (c ∷ cs); to = record s { state = record s.state { due = [] } } }
 
--- a machine that runs goes on, one that waits takes an answer, and else it stays as it is: each list of moves is one
+-- a part of a text is shown, and the rest is left; the state is still that before the step
+abbrev pub part_shown : ℕ → Session → Texts → Passed
+part_shown n s text = record { entries = address_told s.left s.state.pc ++ told (text_first n text); to = record s { left = Some (text_later n text) } }
+
+-- a step that stops has no parts: it is made
+abbrev pub parted_to : ℕ → Session → Verdict → State → Texts → Passed
+parted_to n s GoesOn t text = part_shown n s text
+parted_to n s (WaitsFor w) t text = part_shown n s text
+parted_to n s (StopsBy stop) t text = stepped_to s (StopsBy stop) t text
+
+-- a part of its text is shown, where the limit on instructions leaves a step
+abbrev pub parted : ℕ → ℕ → Session → Passed
+parted n zero s = stepped zero s
+parted n (suc left) s = parted_to n s (verdict_of s.state (step s.state)) (state_after s.state (step s.state)) (text_left s.left s.state)
+
+-- none is shown before the transcript has got all
+abbrev pub parts_by : ℕ → List ℕ → Session → Passed
+parts_by n [] s = parted n (s.limits.steps - s.state.steps) s
+parts_by n (c ∷ cs) s = record { entries = []; to = s }
+
+-- a machine that runs goes on or shows a part, one that waits takes an answer, and else it stays as it is: each list of moves
+-- is one
 abbrev pub moved_by : Option Stop → Option Waiting → Session → Move → Passed
 moved_by None None s Goes = goes_by s.state.due s
+moved_by None None s (Part n) = parts_by n s.state.due s
 moved_by None (Some w) s (Gets a) = record { entries = heard_by s w.wait a ∷ stop_told (given_to (Some w) s a).stopped; to = given_to (Some w) s a }
 moved_by stopped waiting s m = record { entries = []; to = s }
 
@@ -157,6 +212,14 @@ reads_in l = filter_map read_in (answers_in l)
 -- two logs of a machine that got the same from its world are each a first part of the other, or one is
 abbrev pub OneLog : Type 0
 OneLog = (s t u : Session) (l m : List Entry) → IsLog s l t → IsLog s m u → answers_in l ≡ answers_in m → IsPrefix l m ⊎ IsPrefix m l
+
+-- a part of a text, and then the rest of its step, are what the step is alone: the same passes, and the same machine is left
+abbrev pub PartsOnlyDivide : Type 0
+PartsOnlyDivide = (s : Session) (n : ℕ) → ((moved s (Part n)).entries ++ (moved (moved s (Part n)).to Goes).entries ≡ (moved s Goes).entries) × ((moved (moved s (Part n)).to Goes).to ≡ (moved s Goes).to)
+
+-- two parts, one after the other, are one
+abbrev pub PartsJoin : Type 0
+PartsJoin = (s : Session) (n k : ℕ) → ((moved s (Part n)).entries ++ (moved (moved s (Part n)).to (Part k)).entries ≡ (moved s (Part (n + k))).entries) × ((moved (moved s (Part n)).to (Part k)).to ≡ (moved s (Part (n + k))).to)
 
 -- logs join
 abbrev pub LogsJoin : Type 0

@@ -1,5 +1,5 @@
 -- What calls promise of a machine's log: each device had its part of it, and the machine is left where it leads.
-use Rattle.std.specs.Prelude.{◌≡◌, ◌⊎◌, ◌<◌, ◌++◌, ℕ, Bool, true, false, List, [], ◌∷◌, IfSome, Option, Some, None, Result, Ok, Err}
+use Rattle.std.specs.Prelude.{◌≡◌, ◌⊎◌, ◌<◌, ◌+◌, ◌++◌, ℕ, Bool, true, false, List, [], ◌∷◌, IfSome, Option, Some, None, Result, Ok, Err}
 use Rattle.std.specs.List.{AllByRecursion}
 use Rattle.zk_text.specs.Extra.{ExtraTable, is_input_code}
 use Rattle.zk_term.specs.declared.lines.InputEnd.{InputEnd}
@@ -9,7 +9,7 @@ use Rattle.zk_step.specs.declared.state.ending.Event.{Event}
 use Rattle.zk_vm.specs.declared.stop.Stop.{Stop}
 use Rattle.zk_vm.specs.declared.stop.Stop.TheVariants.{Memory, Write}
 use Rattle.zk_vm.specs.Halts.{Halt, IsKeeping, event_waited}
-use Rattle.zk_vm.specs.Log.{Entry, IsLog, Move, addresses, answers_in, moved, reads_in, scripted, shown, stop_told}
+use Rattle.zk_vm.specs.Log.{Entry, IsLog, Move, addresses, answers_in, moved, parts_of, reads_in, scripted, shown, stop_told}
 use Rattle.zk_vm.specs.Log.Entry.{Offered, Asked}
 use Rattle.zk_vm.specs.Sessions.{Session}
 use Rattle.zk_vm.specs.Plays.{AsksForFile, AsksForLine, FoundNoLine, IsHeard, IsTold, SlotTells, SourceTells, Taken, TookLines, stop_behind}
@@ -53,24 +53,27 @@ pub record AtLast {S : Type 0} (shows : S → S → List ℕ → List ℕ → Ty
   pub gets : shows between b (shown (moved mid move).entries) (scripted (moved mid move).entries)
   pub now : holds b ≡ true
 
--- how a run is left that has come to a session: it has paused at a bound, or since its screen is full; it waits; or it has
--- stopped there; or there is no memory for a state; or its screen has failed
-abbrev pub RunEnds : {S : Type 0} → (S → S → List ℕ → List ℕ → Type 0) → (S → Bool) → (S → Bool) → S → S → ℕ → Session → Session → Session → List Entry → Result (Unit {0}) Halt → Type 0
-RunEnds {S} shows full failed a b bound old to new l (Ok u) =
-    (new ≡ to) × IsOn to × (failed b ≡ false) × (((to.state.steps ≡ bound) × (bound < to.limits.steps)) ⊎ AtLast shows full a b old to l)
-RunEnds {S} shows full failed a b bound old to new l (Err (Ok event)) = (new ≡ to) × (event_waited to.waiting ≡ Some event)
-RunEnds {S} shows full failed a b bound old to new l (Err (Err stop)) =
+-- how a run is left that has come to a session: it has paused, once its steps and the parts of texts that it has shown reach a
+-- bound, or since its screen is full; it waits; or it has stopped there; or there is no memory for a state; or its screen has
+-- failed
+abbrev pub RunEnds : {S : Type 0} → (S → S → List ℕ → List ℕ → Type 0) → (S → Bool) → (S → Bool) → S → S → ℕ → ℕ → Session → Session → Session → List Entry → Result (Unit {0}) Halt → Type 0
+RunEnds {S} shows full failed a b bound parts old to new l (Ok u) =
+    (new ≡ to) × IsOn to × (failed b ≡ false) × (((to.state.steps + parts ≡ bound) × (to.state.steps < to.limits.steps)) ⊎ AtLast shows full a b old to l)
+RunEnds {S} shows full failed a b bound parts old to new l (Err (Ok event)) = (new ≡ to) × (event_waited to.waiting ≡ Some event)
+RunEnds {S} shows full failed a b bound parts old to new l (Err (Err stop)) =
     (new.waiting ≡ None) × ((to.stopped ≡ Some stop) ⊎ (((stop ≡ Memory) × LacksState to new.state) ⊎ ((stop ≡ Write) × IsOn to × (failed b ≡ true) × (new.state ≡ to.state))))
 
--- A machine was run: its screen got what a log shows, and has failed at its last move, if it has.
-pub record Ran {S : Type 0} (shows : S → S → List ℕ → List ℕ → Type 0) (full failed : S → Bool) (Noted : List ℕ → Type 0) (a b : S) (bound : ℕ) (old new : Session) (answer : Result (Unit {0}) Halt) : Type 0 where
+-- A machine was run, and so many parts of texts were shown: its screen got what a log shows, and has failed at its last move,
+-- if it has.
+pub record Ran {S : Type 0} (shows : S → S → List ℕ → List ℕ → Type 0) (full failed : S → Bool) (Noted : List ℕ → Type 0) (a b : S) (bound parts : ℕ) (old new : Session) (answer : Result (Unit {0}) Halt) : Type 0 where
   pub log : List Entry
   pub to : Session
   pub is : IsLog old log to
+  pub counted : parts_of is.moves ≡ parts
   pub alone : answers_in log ≡ []
   pub got : shows a b (shown log) (scripted log)
   pub noted : WasNoted Noted log to
-  pub ends : RunEnds shows full failed a b bound old to new log answer
+  pub ends : RunEnds shows full failed a b bound parts old to new log answer
   pub at_once : failed a ≡ false → failed b ≡ true → AtLast shows failed a b old to log
 
 -- what a run answers, as its steps tell it

@@ -26,4 +26,5 @@ waiting_with game place limits event i undo = record {
   limits = limits;
   waiting = Some (record { wait = event; instruction = i });
   stopped = None;
+  left = None;
 }

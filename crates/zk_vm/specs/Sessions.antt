@@ -6,6 +6,7 @@ use Rattle.zk_state.specs.Frames.{first_frames}
 use Rattle.zk_term.specs.Windows.{first_windows, forgotten}
 use Rattle.zk_step.specs.declared.state.game_state.View.{View}
 use Rattle.zk_step.specs.declared.state.game_state.GameState.{GameState}
+use Rattle.zk_step.specs.Routing.{Texts}
 use Rattle.zk_step.specs.Streams.{first_streams}
 use Rattle.zk_vm.specs.declared.limits.Limits.{Limits}
 use Rattle.zk_vm.specs.declared.stop.Stop.{Stop}
@@ -14,12 +15,14 @@ use Rattle.zk_vm.specs.Step.{State, Verdict, verdict_of, state_after}
 use Rattle.zk_vm.specs.Step.Verdict.{GoesOn, WaitsFor, StopsBy}
 use Rattle.zk_vm.specs.Answers.{Answer, answered}
 
--- a machine: the state of play, its limits, what it waits for, if it does, and why it has stopped, if it has
+-- a machine: the state of play, its limits, what it waits for, if it does, why it has stopped, if it has, and what is still
+-- to come of the text of the instruction at its program counter, where a part of it was shown
 pub record Session : Type 0 where
   pub state : State
   pub limits : Limits
   pub waiting : Option Waiting
   pub stopped : Option Stop
+  pub left : Option Texts
 
 -- the game state that a story begins with, with a seed of its random numbers
 abbrev pub first_game : List ℕ → ℕ → Limits → View → GameState
@@ -47,11 +50,12 @@ begun story seed limits view = record {
   limits = limits;
   waiting = None;
   stopped = None;
+  left = None;
 }
 
--- a machine with a stop waits for nothing
+-- a machine with a stop waits for nothing, and has no text to show
 abbrev pub with_stop : Session → Stop → Session
-with_stop s stop = record s { waiting = None; stopped = Some stop }
+with_stop s stop = record s { waiting = None; stopped = Some stop; left = None }
 
 -- a machine whose screen has forgotten the grid that is gone
 abbrev pub with_grid_forgotten : Session → Session

@@ -2,7 +2,7 @@
 
 ghost use Rattle.zk_vm.specs.Inside.{CleanStays, CleanStopsRead};
 ghost use Rattle.zk_vm.specs.Laws.{FrameLimitsOnlyCut, LimitsCutRuns, RunsStayWithin, StepLimitOnlyCuts};
-ghost use Rattle.zk_vm.specs.Log.{LogsJoin, OneLog};
+ghost use Rattle.zk_vm.specs.Log.{LogsJoin, OneLog, PartsJoin, PartsOnlyDivide};
 
 /// Every state that a run passes, whatever answers it gets, has no more frames, words, steps, reads and states to go back
 /// to than its limits say.
@@ -36,6 +36,16 @@ pub fn clean_stays()
 /// Where runs stay clean in a set of addresses, none stops at an address of it by a fault of reading the instruction there.
 pub fn clean_stops_read()
     ensures { CleanStopsRead }
+{}
+
+/// A part of the text of a step, and then the rest of it, are what the step is alone.
+pub fn parts_only_divide()
+    ensures { PartsOnlyDivide }
+{}
+
+/// Two parts of a text that follow one another are one.
+pub fn parts_join()
+    ensures { PartsJoin }
 {}
 
 /// Logs of a machine that follow one another are a log of it.

@@ -57,7 +57,7 @@ pub struct Machine {
 }
 
 impl Model for Machine {
-    ghost use Rattle.std.specs.Prelude.{◌≤◌, ◌≡◌};
+    ghost use Rattle.std.specs.Prelude.{◌≤◌, ◌≡◌, None};
     ghost use Rattle.zk_state.specs.Frames.{bounds_of};
     ghost use Rattle.zk_save.specs.States.{states_in, AreOf};
     ghost use Rattle.zk_vm.specs.Halts.{CanAnswer, WhileRunning};
@@ -71,7 +71,7 @@ impl Model for Machine {
     ghost coded = { Prim.hlevel (coded.codes, play.the_row.coded) };
 
     ghost view = { λ m. record
-        { state = state_seen m; limits = m.limits; waiting = m.waiting; stopped = m.stopped } };
+        { state = state_seen m; limits = m.limits; waiting = m.waiting; stopped = m.stopped; left = None } };
 
     ghost invariant = { IsSound };
 }

@@ -79,12 +79,14 @@ impl Machine {
     }
 
     /// The bounds of the frames are those of the limits. A machine that waits has no stop, nothing is due to its
-    /// transcript, and its memory tells the story of as many states to go back to as the limits say.
+    /// transcript, no text is still to come, and its memory tells the story of as many states to go back to as the limits
+    /// say.
     pub fn is_whole(&self)
         ensures bounds { bounds_of self.now.state.game.frames
             ≡ (self.now.limits.frames, self.now.limits.words) }
         ensures runs { OnSome (asking_of self.now.waiting) (self.now.stopped ≡ None) }
         ensures due { OnSome (asking_of self.now.waiting) (self.now.state.due ≡ []) }
+        ensures shown { OnSome (asking_of self.now.waiting) (self.now.left ≡ None) }
         ensures fetched { IfSome self.now.waiting
             (λ w. instr_at self.now.state.game.memory self.now.state.pc ≡ Ok w.instruction) }
         ensures undo { OnSome (asking_of self.now.waiting)

@@ -35,7 +35,7 @@ impl Machine {
         requires free { self.old.waiting ≡ None }
         requires endless { (a : S) → S.full a ≡ false }
         ensures logged { Ran S.shows S.full S.failed (λ l. Unit {0}) screen.old screen.new
-            self.old.limits.steps self.old self.new (Err result) }
+            self.old.limits.steps 0 self.old self.new (Err result) }
         ensures stops { IfErr result (λ stop. self.new.stopped ≡ Some stop) }
         ensures free { OnErr result (self.new.waiting ≡ None) }
         ensures asks { IfOk result (λ event. event_waited self.new.waiting ≡ Some event) }
@@ -62,7 +62,7 @@ impl Machine {
         requires free { self.old.waiting ≡ None }
         requires room { S.full screen.old ≡ false }
         ensures logged { Ran S.shows S.full S.failed (λ l. Unit {0}) screen.old screen.new
-            (self.old.state.steps + most) self.old self.new (halted result) }
+            (self.old.state.steps + most) 0 self.old self.new (halted result) }
         ensures stops { IfErr result (λ stop. self.new.stopped ≡ Some stop) }
         ensures free { OnErr result (self.new.waiting ≡ None) }
         ensures asks { IfOk result (λ event. event_waited self.new.waiting ≡ event) }
@@ -93,7 +93,7 @@ impl Machine {
         requires free { self.old.waiting ≡ None }
         requires endless { (a : S) → S.full a ≡ false }
         ensures logged { Ran S.shows S.full S.failed (P.noted places.old places.new) screen.old screen.new
-            self.old.limits.steps self.old self.new (Err result) }
+            self.old.limits.steps 0 self.old self.new (Err result) }
         ensures stops { IfErr result (λ stop. self.new.stopped ≡ Some stop) }
         ensures free { OnErr result (self.new.waiting ≡ None) }
         ensures asks { IfOk result (λ event. event_waited self.new.waiting ≡ Some event) }
@@ -124,7 +124,7 @@ impl Machine {
         requires free { self.old.waiting ≡ None }
         requires room { S.full screen.old ≡ false }
         ensures logged { Ran S.shows S.full S.failed (P.noted places.old places.new) screen.old screen.new
-            (self.old.state.steps + most) self.old self.new (halted result) }
+            (self.old.state.steps + most) 0 self.old self.new (halted result) }
         ensures stops { IfErr result (λ stop. self.new.stopped ≡ Some stop) }
         ensures free { OnErr result (self.new.waiting ≡ None) }
         ensures asks { IfOk result (λ event. event_waited self.new.waiting ≡ event) }
@@ -155,8 +155,7 @@ impl Machine {
             self.is_within();
             return Ok(None);
         }
-        let bound = self.steps.saturating_add(most).min(self.limits.steps);
-        match self.steps_to_pause(screen, places, bound) {
+        match self.steps_to_pause(screen, places, most) {
             Ok(()) => {
                 self.is_within();
                 Ok(None)
@@ -174,26 +173,25 @@ impl Machine {
     }
 
     /// Steps up to an event or a stop, `Write` after the step at which the screen fails; or up to a pause, once so many steps
-    /// were made in all, and after the step at which the screen comes to ask for it. Where they stand is noted.
+    /// were made, and after the step at which the screen comes to ask for it. Where they stand is noted.
     fn steps_to_pause<S: Screen, P: Places>(
         &mut self,
         screen: &mut S,
         places: &mut P,
-        bound: u32,
+        most: u32,
     ) -> Result<(), Halt>
         requires free { self.old.waiting ≡ None }
         requires runs { self.old.stopped ≡ None }
         requires silent { self.old.state.due ≡ [] }
         requires works { S.failed screen.old ≡ false }
         requires room { S.full screen.old ≡ false }
-        requires from { self.old.state.steps ≤ bound }
-        requires to { bound ≤ self.old.limits.steps }
-        ensures logged { Ran S.shows S.full S.failed (P.noted places.old places.new) screen.old screen.new bound self.old
-            self.new result }
+        ensures logged { Ran S.shows S.full S.failed (P.noted places.old places.new) screen.old screen.new
+            (self.old.state.steps + most) 0 self.old self.new result }
         ensures reads { self.new.state.reads ≡ self.old.state.reads }
         ensures more { self.old.state.steps ≤ self.new.state.steps }
         ensures limits { self.new.limits ≡ self.old.limits }
     {
+        let bound = self.steps.saturating_add(most).min(self.limits.steps);
         for _i in self.steps..bound {
             match self.go_ahead(places, bound) {
                 Ok(()) => {}

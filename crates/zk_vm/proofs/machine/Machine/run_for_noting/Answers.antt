@@ -1,6 +1,5 @@
-use Rattle.std.proofs.Common.{◌∙◌, ℕ, List, Some, ap, sym, arith}
+use Rattle.std.proofs.Common.{◌∙◌, ℕ, List, Some, ap, sym}
 use Rattle.zk_vm.specs.declared.stop.Stop.TheVariants.{Write}
-use Rattle.zk_vm.specs.declared.limits.Limits.{Limits}
 use Rattle.zk_vm.specs.Sessions.{Session}
 use Rattle.zk_vm.specs.Halts.{event_waited}
 use Rattle.zk_vm.specs.Sound.{state_seen}
@@ -45,10 +44,7 @@ returns-in-Ok-clause-logged g c =
     let first = rw c.as_slice.ensures.value at c.script_all.ensures in
     let due = due_got g.S.Screen.shows g.met.S.Screen.nothing g.met.S.Screen.twice _ _ (seen c.self.inside) c.in_default.is free first in
     let works = sym c.has_failed.ensures ∙ c.if-has_failed.false in
-    let steps = ap (λ (m : Session). m.state.steps) c.self-2.view_is in
-    let limits = ap (λ (m : Session). m.limits.steps) c.self-2.view_is in
-    let same = ap (λ (l : Limits). l.steps) c.in-Ok.ensures.limits in
-    let ran = steps_on g.S.Screen.shows g.met.S.Screen.nothing g.met.S.Screen.twice g.S.Screen.full g.S.Screen.failed (g.P.Places.noted c.args.places.now c.steps_to_pause.new.places) _ _ _ _ _ (seen c.self.inside) c.steps_to_pause.new.self _ due works (omega (arith, same, limits)) (λ few. omega (arith, few)) (rw c.clear.ensures at c.in-Ok.ensures.logged) in
+    let ran = steps_on g.S.Screen.shows g.met.S.Screen.nothing g.met.S.Screen.twice g.S.Screen.full g.S.Screen.failed (g.P.Places.noted c.args.places.now c.steps_to_pause.new.places) _ _ _ _ _ (seen c.self.inside) c.steps_to_pause.new.self _ due works c.in_default.is (rw c.clear.ensures at c.in-Ok.ensures.logged) in
     rw (← c.self.view_is) ran
 
 pub returns-in-Err-Ok-clause-logged : goal.returns-in-Err-Ok-clause-logged
@@ -57,10 +53,7 @@ returns-in-Err-Ok-clause-logged g c =
     let first = rw c.as_slice.ensures.value at c.script_all.ensures in
     let due = due_got g.S.Screen.shows g.met.S.Screen.nothing g.met.S.Screen.twice _ _ (seen c.self.inside) c.in_default.is free first in
     let works = sym c.has_failed.ensures ∙ c.if-has_failed.false in
-    let steps = ap (λ (m : Session). m.state.steps) c.self-2.view_is in
-    let limits = ap (λ (m : Session). m.limits.steps) c.self-2.view_is in
-    let same = ap (λ (l : Limits). l.steps) c.in-Err-Ok.ensures.limits in
-    let ran = steps_on g.S.Screen.shows g.met.S.Screen.nothing g.met.S.Screen.twice g.S.Screen.full g.S.Screen.failed (g.P.Places.noted c.args.places.now c.steps_to_pause.new.places) _ _ _ _ _ (seen c.self.inside) c.steps_to_pause.new.self _ due works (omega (arith, same, limits)) (λ few. omega (arith, few)) (rw (c.clear.ensures, c.in-Err-Ok.field-0-is) at c.in-Err-Ok.ensures.logged) in
+    let ran = steps_on g.S.Screen.shows g.met.S.Screen.nothing g.met.S.Screen.twice g.S.Screen.full g.S.Screen.failed (g.P.Places.noted c.args.places.now c.steps_to_pause.new.places) _ _ _ _ _ (seen c.self.inside) c.steps_to_pause.new.self _ due works c.in_default.is (rw (c.clear.ensures, c.in-Err-Ok.field-0-is) at c.in-Err-Ok.ensures.logged) in
     rw (← c.self.view_is) ran
 
 pub returns-in-Err-Err-clause-logged : goal.returns-in-Err-Err-clause-logged
@@ -69,11 +62,8 @@ returns-in-Err-Err-clause-logged g c =
     let first = rw c.as_slice.ensures.value at c.script_all.ensures in
     let due = due_got g.S.Screen.shows g.met.S.Screen.nothing g.met.S.Screen.twice _ _ (seen c.self.inside) c.in_default.is free first in
     let works = sym c.has_failed.ensures ∙ c.if-has_failed.false in
-    let steps = ap (λ (m : Session). m.state.steps) c.self-2.view_is in
-    let limits = ap (λ (m : Session). m.limits.steps) c.self-2.view_is in
-    let same = ap (λ (l : Limits). l.steps) c.in-Err-Err.ensures.limits in
-    let ran = steps_on g.S.Screen.shows g.met.S.Screen.nothing g.met.S.Screen.twice g.S.Screen.full g.S.Screen.failed (g.P.Places.noted c.args.places.now c.steps_to_pause.new.places) _ _ _ _ _ (seen c.self.inside) c.steps_to_pause.new.self _ due works (omega (arith, same, limits)) (λ few. omega (arith, few)) (rw (c.clear.ensures, c.in-Err-Err.field-0-is) at c.in-Err-Err.ensures.logged) in
-    rw (← c.self.view_is) (ran_closed g.S.Screen.shows g.met.S.Screen.nothing g.met.S.Screen.twice g.S.Screen.full g.S.Screen.failed (g.P.Places.noted c.args.places.now c.steps_to_pause.new.places) _ _ _ (seen c.self.inside) c.steps_to_pause.new.self _ c.in-Err-Err.stop ran (ap (λ (m : Session). m.waiting) c.self-2.view_is) (ap (λ (m : Session). m.state) c.self-2.view_is))
+    let ran = steps_on g.S.Screen.shows g.met.S.Screen.nothing g.met.S.Screen.twice g.S.Screen.full g.S.Screen.failed (g.P.Places.noted c.args.places.now c.steps_to_pause.new.places) _ _ _ _ _ (seen c.self.inside) c.steps_to_pause.new.self _ due works c.in_default.is (rw (c.clear.ensures, c.in-Err-Err.field-0-is) at c.in-Err-Err.ensures.logged) in
+    rw (← c.self.view_is) (ran_closed g.S.Screen.shows g.met.S.Screen.nothing g.met.S.Screen.twice g.S.Screen.full g.S.Screen.failed (g.P.Places.noted c.args.places.now c.steps_to_pause.new.places) _ _ _ _ (seen c.self.inside) c.steps_to_pause.new.self _ c.in-Err-Err.stop ran (ap (λ (m : Session). m.waiting) c.self-2.view_is) (ap (λ (m : Session). m.state) c.self-2.view_is))
 
 pub returns-in-Ok-clause-asks : goal.returns-in-Ok-clause-asks
 returns-in-Ok-clause-asks g c = let ends = c.in-Ok.ensures.logged.ends in ap (λ (m : Session). event_waited m.waiting) ends.0 ∙ ap event_waited ends.1.free

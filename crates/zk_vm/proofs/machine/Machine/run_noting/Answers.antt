@@ -8,4 +8,4 @@ unreachable-requires g c = no_pause g.S.Screen.shows g.S.Screen.full g.S.Screen.
 
 pub returns-in-Ok-Some-clause-logged : goal.returns-in-Ok-Some-clause-logged
 returns-in-Ok-Some-clause-logged g c =
-    any_bound g.S.Screen.shows g.met.S.Screen.nothing g.met.S.Screen.twice g.S.Screen.full g.S.Screen.failed (g.P.Places.noted c.args.places.now c.run_for_noting.new.places) _ _ _ _ _ _ (Ok c.in-Ok-Some.event) (rw c.in-Ok-Some.field-0-is at c.in-Ok-Some.ensures.logged)
+    any_bound g.S.Screen.shows g.met.S.Screen.nothing g.met.S.Screen.twice g.S.Screen.full g.S.Screen.failed (g.P.Places.noted c.args.places.now c.run_for_noting.new.places) _ _ _ _ _ _ _ (Ok c.in-Ok-Some.event) (rw c.in-Ok-Some.field-0-is at c.in-Ok-Some.ensures.logged)

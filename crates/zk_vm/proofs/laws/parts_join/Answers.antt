@@ -1,0 +1,5 @@
+use Rattle.zk_vm.proofs.Dividing.{parts_join}
+use Rattle.zk_vm.proofs.laws.parts_join.Goals as goal
+
+pub returns : goal.returns
+returns c = parts_join
