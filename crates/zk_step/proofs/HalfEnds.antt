@@ -55,7 +55,6 @@ long_of (Code c) x e = absurd cc
 long_of (Character c) x e = absurd cc
 long_of (Number n) x e = absurd cc
 
-
 -- what ends plainly asks nothing
 pub plain_quiet : (w v : GameState) (i : Instr) (vs : List ℕ) (e : Ending) (n : Next) (text : Texts) → IsPlainEnd e → limited_next (finished w i vs e) ≡ Ok (v, n) → IsQuiet n text
 plain_quiet w v i vs e (At pc) text plain h = tt

@@ -242,7 +242,9 @@ impl Windows {
     {
         self.cells.clear();
         // there is room, so neither fails
-        let _ = self.cells.extend_from_slice(&other.cells[..other.height as usize * COLUMNS]);
+        let _ = self
+            .cells
+            .extend_from_slice(&other.cells[..other.height as usize * COLUMNS]);
         self.gone.clear();
         let _ = self.gone.extend_from_slice(other.gone.as_slice());
         self.height = other.height;

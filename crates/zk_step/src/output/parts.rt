@@ -152,9 +152,9 @@ fn give_next_row<K: Sink>(
     requires within { row < rectangle.height }
     ensures { MatchResult result
         (λ _. (codes : List ℕ) → row_at memory.now rectangle row ≡ Ok codes
-            → K.gave sink.old sink.new (row_line row codes))
+        → K.gave sink.old sink.new (row_line row codes))
         (λ _. (codes : List ℕ) (more : List Unit) → row_at memory.now rectangle row ≡ Ok codes
-            → K.refused sink.old sink.new (row_line row codes ++ more)) }
+        → K.refused sink.old sink.new (row_line row codes ++ more)) }
 {
     match row {
         0 => give_row(memory, rectangle, 0, sink),
@@ -275,7 +275,12 @@ pub(crate) fn show_part<S: Screen>(
 }
 
 /// Collects a part of the codes that a table gets, as many as there is room for. Says whether more are to come.
-pub(crate) fn collect_part(memory: &Memory, rest: &mut Rest, codes: &mut Codes, words: Option<u32>) -> bool
+pub(crate) fn collect_part(
+    memory: &Memory,
+    rest: &mut Rest,
+    codes: &mut Codes,
+    words: Option<u32>,
+) -> bool
     requires { IsRest memory.now rest.old }
     ensures on { result ≡ true → codes.new ++ stored_all (own_characters memory.now) (rest_units memory.now rest.new)
         ≡ codes.old ++ stored_all (own_characters memory.now) (rest_units memory.now rest.old) }

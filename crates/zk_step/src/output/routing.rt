@@ -165,7 +165,13 @@ fn print_row(windows: &mut Windows, memory: &Memory, rectangle: Rectangle, row: 
 }
 
 /// Prints a row of a rectangle in the upper window, while stream 1 is on.
-pub(crate) fn print_row_if(windows: &mut Windows, memory: &Memory, rectangle: Rectangle, row: u16, on: bool)
+pub(crate) fn print_row_if(
+    windows: &mut Windows,
+    memory: &Memory,
+    rectangle: Rectangle,
+    row: u16,
+    on: bool,
+)
     requires stands { IsOk (rows_of memory.now rectangle) }
     requires within { row < rectangle.height }
     ensures { (codes : List ℕ) → row_at memory.now rectangle row ≡ Ok codes
@@ -374,7 +380,12 @@ fn show_lower_part<S: Screen>(
 
 /// Prints a part of what is still to come in a draft of the upper window, which takes its place once all is there. Says whether
 /// more is to come.
-fn print_draft_part(game: &mut GameState, half: &mut Half, draft: &mut Windows, words: Option<u32>) -> bool
+fn print_draft_part(
+    game: &mut GameState,
+    half: &mut Half,
+    draft: &mut Windows,
+    words: Option<u32>,
+) -> bool
     requires stands { IsRest game.old.memory half.old.rest }
     requires way { IsForUpper game.old draft.old half.old }
     ensures on { result ≡ true → (game.new ≡ game.old) × IsRest game.old.memory half.new.rest

@@ -12,15 +12,17 @@ give_back-requires g c =
 pub returns-in-Ok-true-clause-value : goal.returns-in-Ok-true-clause-value
 returns-in-Ok-true-clause-value g c = λ found bounded taken made.
     let on = c.in-Ok-true.ensures.on c.in-Ok-true.field-0-test in
-    let effect = c.in-Ok-true.ensures.same ∙ c.requires.effect in
-    (c.give_back.ensures.value found bounded (rw on.0 taken), record {
-      taken = c.args.game.now;
-      values = c.args.begun.now.values;
-      operands = taken;
-      made = rw effect made;
-      long = rw effect c.requires.long;
-      way = on.1;
-    })
+    let effect = c.in-Ok-true.ensures.same ∙ c.requires.effect in (
+      c.give_back.ensures.value found bounded (rw on.0 taken),
+      record {
+        taken = c.args.game.now;
+        values = c.args.begun.now.values;
+        operands = taken;
+        made = rw effect made;
+        long = rw effect c.requires.long;
+        way = on.1;
+      },
+    )
 
 pub returns-in-Ok-clause-value : goal.returns-in-Ok-clause-value
 returns-in-Ok-clause-value g c = λ found bounded taken made.
