@@ -35,7 +35,7 @@ use Rattle.zk_vm.specs.declared.stop.Stop.TheVariants.{Fault as FaultAt, Limit a
 use Rattle.zk_vm.specs.declared.waiting.Waiting.{Waiting}
 use Rattle.zk_vm.specs.Answers.{Answer, answered, file_of}
 use Rattle.zk_vm.specs.Inside.{CleanStays, CleanStopsRead, IsInside, IsKeptInside, IsRead, NoneLeaves, StaysClean, StopsRead, found_by_variable, goes_by_variable, is_loaded, is_restore, leaves, leaves_by, loads_file}
-use Rattle.zk_vm.specs.Log.{Move, after, goes_by, moved, moved_by, parted, parted_to, parts_by, stepped, stepped_to, text_left}
+use Rattle.zk_vm.specs.Log.{Move, after, goes_by, is_silent, moved, moved_by, parted, parted_to, parts_by, stepped, stepped_to, text_left, text_shown}
 use Rattle.zk_vm.specs.Log.Move.{Gets, Goes, Part}
 use Rattle.zk_vm.specs.Sessions.{Session, begun, resumed}
 use Rattle.zk_vm.specs.Step.{State, Step, Verdict, goes_by as goes_within, is_past_reads, saved_pc, state_after, step, verdict_of}
@@ -225,14 +225,15 @@ module _ (P : ℕ → Type 0) where
   steps_read zero s h read = tt
   steps_read (suc n) s h read = to_read s (verdict_of s.state (step s.state)) (state_after s.state (step s.state)) (text_left s.left s.state) h (step_read s.state (step s.state) read)
 
-  parted_read : (n : ℕ) (s : Session) (v : Verdict) (t : State) (text : Texts) → IsReadBy s.stopped → IsReadOn v → IsReadBy (parted_to n s v t text).to.stopped
-  parted_read n s GoesOn t text h on = h
-  parted_read n s (WaitsFor w) t text h on = h
-  parted_read n s (StopsBy stop) t text h on = on
+  parted_read : (silent : Bool) (n : ℕ) (s : Session) (v : Verdict) (t : State) (text : Texts) → IsReadBy s.stopped → IsReadOn v → IsReadBy (parted_to silent n s v t text).to.stopped
+  parted_read true n s v t text h on = h
+  parted_read false n s GoesOn t text h on = h
+  parted_read false n s (WaitsFor w) t text h on = h
+  parted_read false n s (StopsBy stop) t text h on = on
 
   part_read : (n k : ℕ) (s : Session) → IsReadBy s.stopped → IsRead P s.state → IsReadBy (parted n k s).to.stopped
   part_read n zero s h read = tt
-  part_read n (suc k) s h read = parted_read n s (verdict_of s.state (step s.state)) (state_after s.state (step s.state)) (text_left s.left s.state) h (step_read s.state (step s.state) read)
+  part_read n (suc k) s h read = parted_read (is_silent (text_shown (step s.state))) n s (verdict_of s.state (step s.state)) (state_after s.state (step s.state)) (text_left s.left s.state) h (step_read s.state (step s.state) read)
 
   parts_read : (n : ℕ) (due : List ℕ) (s : Session) → IsReadBy s.stopped → IsRead P s.state → IsReadBy (parts_by n due s).to.stopped
   parts_read n [] s h read = part_read n (s.limits.steps - s.state.steps) s h read

@@ -1,5 +1,5 @@
 -- Parts of a text only divide what a step passes, and what comes from the world determines a log.
-use Rattle.std.proofs.Common.{◌≡◌, ◌∙◌, ◌⊎◌, ◌-◌, ◌+◌, inl, inr, ℕ, zero, suc, List, [], ◌∷◌, ◌++◌, append_assoc, append-nil, Option, Some, None, refl, ap, sym, arith}
+use Rattle.std.proofs.Common.{◌≡◌, ◌∙◌, ◌⊎◌, ◌-◌, ◌+◌, inl, inr, ℕ, zero, suc, Bool, true, false, List, [], ◌∷◌, ◌++◌, append_assoc, append-nil, Option, Some, None, refl, ap, sym, arith}
 use Rattle.std.specs.List.{drop-map}
 use Rattle.std.specs.Prelude.{drop, map, take}
 use Rattle.std.proofs.lemmas.List.{drop-drop, drop-take, take-map, take-take, take-append-drop}
@@ -8,8 +8,8 @@ use Rattle.zk_step.specs.Routing.{Texts}
 use Rattle.zk_vm.specs.declared.stop.Stop.{Stop}
 use Rattle.zk_vm.specs.declared.waiting.Waiting.{Waiting}
 use Rattle.zk_vm.specs.Answers.{Answer}
-use Rattle.zk_vm.specs.Log.{Entry, IsPrefix, Move, OneLog, PartsJoin, PartsOnlyDivide, Passed, address_told, answer_in, answers_in, goes_by, moved, moved_by, part_shown, parted, parted_to, parts_by, passed, stepped, stepped_to, text_first, text_later, text_left, told, woven}
-use Rattle.zk_vm.specs.Log.Entry.{Scripted, Shown}
+use Rattle.zk_vm.specs.Log.{Entry, IsPrefix, Move, OneLog, PartsJoin, PartsOnlyDivide, Passed, address_told, answer_in, answers_in, goes_by, is_silent, moved, moved_by, part_shown, parted, parted_to, parts_by, passed, stepped, stepped_to, text_first, text_later, text_left, text_shown, told, woven}
+use Rattle.zk_vm.specs.Log.Entry.{Scripted, Shown, Stopped}
 use Rattle.zk_vm.specs.Log.Move.{Gets, Goes, Part}
 use Rattle.zk_vm.specs.Sessions.{Session}
 use Rattle.zk_vm.specs.Step.{State, Verdict, state_after, step, verdict_of}
@@ -51,16 +51,32 @@ shown_divided n s p all is rest =
       to = ap (λ (q : Passed). q.to) rest ∙ ap (λ (q : Passed). q.to) (sym is);
     }
 
-part_divided : (n : ℕ) (s : Session) (v : Verdict) (t : State) → moved s Goes ≡ stepped_to s v t (text_left s.left s.state) → ((left : Option Texts) → moved (record s { left = left }) Goes ≡ stepped_to (record s { left = left }) v t (text_left left s.state)) → Divides s (parted_to n s v t (text_left s.left s.state))
-part_divided n s GoesOn t is also = shown_divided n s (stepped_to s GoesOn t (text_left s.left s.state)) refl is (also (Some (text_later n (text_left s.left s.state))))
-part_divided n s (WaitsFor w) t is also = shown_divided n s (stepped_to s (WaitsFor w) t (text_left s.left s.state)) refl is (also (Some (text_later n (text_left s.left s.state))))
-part_divided n s (StopsBy stop) t is also =
+-- so is one of a step that stops
+stop_divided : (n : ℕ) (s : Session) (stop : Stop) (t : State) → moved s Goes ≡ stepped_to s (StopsBy stop) t (text_left s.left s.state)
+    → moved (record s { left = Some (text_later n (text_left s.left s.state)) }) Goes ≡ stepped_to (record s { left = Some (text_later n (text_left s.left s.state)) }) (StopsBy stop) t (text_later n (text_left s.left s.state)) → Divides s (part_shown n s (text_left s.left s.state))
+stop_divided n s stop t is rest =
+    let text = text_left s.left s.state in
+    let address = address_told s.left s.state.pc in
+    let end = Stopped stop ∷ [] in
+    record {
+      entries = ap (λ (q : Passed). (address ++ told (text_first n text)) ++ q.entries) rest ∙ append_assoc address (told (text_first n text)) (told (text_later n text) ++ end)
+          ∙ ap (λ (l : List Entry). address ++ l) (sym (append_assoc (told (text_first n text)) (told (text_later n text)) end) ∙ ap (λ (l : List Entry). l ++ end) (told_divided n text)) ∙ ap (λ (q : Passed). q.entries) (sym is);
+      to = ap (λ (q : Passed). q.to) rest ∙ ap (λ (q : Passed). q.to) (sym is);
+    }
+
+part_divided : (silent : Bool) (n : ℕ) (s : Session) (v : Verdict) (t : State) → moved s Goes ≡ stepped_to s v t (text_left s.left s.state) → ((left : Option Texts) → moved (record s { left = left }) Goes ≡ stepped_to (record s { left = left }) v t (text_left left s.state)) → Divides s (parted_to silent n s v t (text_left s.left s.state))
+part_divided true n s GoesOn t is also = shown_divided n s (stepped_to s GoesOn t (text_left s.left s.state)) refl is (also (Some (text_later n (text_left s.left s.state))))
+part_divided true n s (WaitsFor w) t is also = shown_divided n s (stepped_to s (WaitsFor w) t (text_left s.left s.state)) refl is (also (Some (text_later n (text_left s.left s.state))))
+part_divided true n s (StopsBy stop) t is also = stop_divided n s stop t is (also (Some (text_later n (text_left s.left s.state))))
+part_divided false n s GoesOn t is also = shown_divided n s (stepped_to s GoesOn t (text_left s.left s.state)) refl is (also (Some (text_later n (text_left s.left s.state))))
+part_divided false n s (WaitsFor w) t is also = shown_divided n s (stepped_to s (WaitsFor w) t (text_left s.left s.state)) refl is (also (Some (text_later n (text_left s.left s.state))))
+part_divided false n s (StopsBy stop) t is also =
     let p = stepped_to s (StopsBy stop) t (text_left s.left s.state) in
     record { entries = append-nil p.entries ∙ ap (λ (q : Passed). q.entries) (sym is); to = ap (λ (q : Passed). q.to) (sym is) }
 
 count_divided : (n k : ℕ) (s : Session) → s.stopped ≡ None → s.waiting ≡ None → s.state.due ≡ [] → s.limits.steps - s.state.steps ≡ k → Divides s (parted n k s)
 count_divided n zero s runs free silent count = let is = move_is zero s runs free silent count in record { entries = ap (λ (p : Passed). p.entries) (sym is); to = ap (λ (p : Passed). p.to) (sym is) }
-count_divided n (suc k) s runs free silent count = part_divided n s (verdict_of s.state (step s.state)) (state_after s.state (step s.state)) (move_is (suc k) s runs free silent count) (λ left. move_is (suc k) (record s { left = left }) runs free silent count)
+count_divided n (suc k) s runs free silent count = part_divided (is_silent (text_shown (step s.state))) n s (verdict_of s.state (step s.state)) (state_after s.state (step s.state)) (move_is (suc k) s runs free silent count) (λ left. move_is (suc k) (record s { left = left }) runs free silent count)
 
 due_divided : (n : ℕ) (due : List ℕ) (s : Session) → s.stopped ≡ None → s.waiting ≡ None → s.state.due ≡ due → Divides s (parts_by n due s)
 due_divided n [] s runs free silent = count_divided n (s.limits.steps - s.state.steps) s runs free silent refl
@@ -104,14 +120,15 @@ shown_joined n k s text is =
       to = ap (λ (q : Passed). q.to) is ∙ ap (λ (t : Texts). let x : Session = record s { left = Some t } in x) (later_joined n k text);
     }
 
-parted_joined : (n k : ℕ) (s : Session) (v : Verdict) (t : State) (text : Texts) → ((left : Texts) → moved (record s { left = Some left }) (Part k) ≡ parted_to k (record s { left = Some left }) v t left) → Joins k (parted_to n s v t text) (parted_to (n + k) s v t text)
-parted_joined n k s GoesOn t text also = shown_joined n k s text (also (text_later n text))
-parted_joined n k s (WaitsFor w) t text also = shown_joined n k s text (also (text_later n text))
-parted_joined n k s (StopsBy stop) t text also = record { entries = append-nil (stepped_to s (StopsBy stop) t text).entries; to = refl }
+parted_joined : (silent : Bool) (n k : ℕ) (s : Session) (v : Verdict) (t : State) (text : Texts) → ((left : Texts) → moved (record s { left = Some left }) (Part k) ≡ parted_to silent k (record s { left = Some left }) v t left) → Joins k (parted_to silent n s v t text) (parted_to silent (n + k) s v t text)
+parted_joined true n k s v t text also = shown_joined n k s text (also (text_later n text))
+parted_joined false n k s GoesOn t text also = shown_joined n k s text (also (text_later n text))
+parted_joined false n k s (WaitsFor w) t text also = shown_joined n k s text (also (text_later n text))
+parted_joined false n k s (StopsBy stop) t text also = record { entries = append-nil (stepped_to s (StopsBy stop) t text).entries; to = refl }
 
 count_joined : (n k i : ℕ) (s : Session) → s.stopped ≡ None → s.waiting ≡ None → s.state.due ≡ [] → s.limits.steps - s.state.steps ≡ i → Joins k (parted n i s) (parted (n + k) i s)
 count_joined n k zero s runs free silent count = record { entries = refl; to = refl }
-count_joined n k (suc i) s runs free silent count = parted_joined n k s (verdict_of s.state (step s.state)) (state_after s.state (step s.state)) (text_left s.left s.state) (λ left. part_is k (suc i) (record s { left = Some left }) runs free silent count)
+count_joined n k (suc i) s runs free silent count = parted_joined (is_silent (text_shown (step s.state))) n k s (verdict_of s.state (step s.state)) (state_after s.state (step s.state)) (text_left s.left s.state) (λ left. part_is k (suc i) (record s { left = Some left }) runs free silent count)
 
 due_joined : (n k : ℕ) (due : List ℕ) (s : Session) → s.stopped ≡ None → s.waiting ≡ None → s.state.due ≡ due → Joins k (parts_by n due s) (parts_by (n + k) due s)
 due_joined n k [] s runs free silent = count_joined n k (s.limits.steps - s.state.steps) s runs free silent refl

@@ -1,5 +1,6 @@
 -- Machines under greater limits on frames and words.
-use Rattle.std.specs.Prelude.{if◌then◌else◌}
+use Rattle.std.specs.Prelude.{if◌then◌else◌, ◌==◌, ◌&&◌}
+use Rattle.std.proofs.lemmas.Bool.Decides.{nat_tests}
 use Rattle.std.proofs.Common.{Bool, true, false, length, nat_lt, ◌≡◌, ◌∙◌, ◌≤◌, ◌-◌, ℕ, zero, suc, List, [], ◌∷◌, ◌++◌, Option, Some, None, Result, Ok, Err, refl, ap, sym, arith}
 use Rattle.zk_mem.specs.declared.fault.Fault.{Fault}
 use Rattle.zk_mem.specs.Map.{MemoryMap}
@@ -21,19 +22,19 @@ use Rattle.zk_step.specs.Inputs.{character_answered, line_answered, result_answe
 use Rattle.zk_step.specs.Laws.{moved_in, rebounded}
 use Rattle.zk_step.specs.Restarts.{windows_closed}
 use Rattle.zk_step.specs.Resuming.{resumed as back}
-use Rattle.zk_step.specs.Routing.{Texts}
+use Rattle.zk_step.specs.Routing.{Texts, no_text}
 use Rattle.zk_step.proofs.Sweep.{answers_see_no_bounds}
 use Rattle.zk_vm.specs.declared.stop.Stop.{Stop}
 use Rattle.zk_vm.specs.declared.stop.Stop.TheVariants.{Limit as LimitAt}
 use Rattle.zk_vm.specs.declared.waiting.Waiting.{Waiting}
 use Rattle.zk_vm.specs.Answers.{Answer, answered, answered_by, answer_settled, codes_of, file_of, first_code, is_kept, limit_of, none_restored, restored_from, restored_to, transcribed, truth_word}
 use Rattle.zk_vm.specs.Laws.{FrameLimitsOnlyCut, IsNoFrameStop, session_in, state_in}
-use Rattle.zk_vm.specs.Log.{Entry, Move, Passed, after, goes_by, heard_by, moved, moved_by, parted, parted_to, parts_by, passed, stepped, stepped_to, stop_told, text_left}
+use Rattle.zk_vm.specs.Log.{Entry, Move, Passed, after, goes_by, heard_by, is_silent, moved, moved_by, parted, parted_to, parts_by, passed, stepped, stepped_to, stop_told, text_left, text_shown}
 use Rattle.zk_vm.specs.Log.Entry.{Asked, Offered}
 use Rattle.zk_vm.specs.Log.Move.{Gets, Goes, Part}
 use Rattle.zk_vm.specs.Sessions.{Session, given_to, resumed}
 use Rattle.zk_vm.specs.Plays.{image_by, refusal_of, refused_in}
-use Rattle.zk_vm.specs.Step.{State, Step, Verdict, goes_to, step, verdict_of, state_after, text_of}
+use Rattle.zk_vm.specs.Step.{State, Step, Verdict, goes_to, is_past_reads, step, verdict_of, state_after, text_of, text_within}
 use Rattle.zk_vm.specs.Step.Step.{Goes as GoesTo, Waits, Quits, Faults, Exceeds}
 use Rattle.zk_vm.specs.Step.Verdict.{GoesOn, WaitsFor, StopsBy}
 use Rattle.zk_vm.proofs.FrameLimits.{IsNoFrameVerdict, by_limit, frames_same, goes_to_same, no_fault, over_is, step_by_same, step_in, step_same, verdict_same, within_more}
@@ -216,22 +217,68 @@ steps_same f m (suc n) s few short own =
     let free = step_free s (verdict_of s.state x) (state_after s.state x) (text_left s.left s.state) own in
     made_same f m s few short free (λ v t text. stepped_to (session_in f m s) v t text) ∙ to_same f m s (verdict_of s.state x) (state_after s.state x) (text_left s.left s.state)
 
-parted_free : (n : ℕ) (s : Session) (v : Verdict) (t : State) (text : Texts) → OwnStop (parted_to n s v t text).to → IsNoFrameVerdict v
+parted_free : (n : ℕ) (s : Session) (v : Verdict) (t : State) (text : Texts) → OwnStop (parted_to false n s v t text).to → IsNoFrameVerdict v
 parted_free n s GoesOn t text own = tt
 parted_free n s (WaitsFor w) t text own = tt
 parted_free n s (StopsBy stop) t text own = own stop refl
 
-parted_same : (f m n : ℕ) (s : Session) (v : Verdict) (t : State) (text : Texts) → parted_to n (session_in f m s) v (state_in f m t) text ≡ passed_in f m (parted_to n s v t text)
+parted_same : (f m n : ℕ) (s : Session) (v : Verdict) (t : State) (text : Texts) → parted_to false n (session_in f m s) v (state_in f m t) text ≡ passed_in f m (parted_to false n s v t text)
 parted_same f m n s GoesOn t text = refl
 parted_same f m n s (WaitsFor w) t text = refl
 parted_same f m n s (StopsBy stop) t text = refl
 
+-- what a step shows whatever the limits are
+shown_same : (f m : ℕ) (x : Step) → text_shown (step_in f m x) ≡ text_shown x
+unfolding step_in
+shown_same f m (GoesTo t text) = refl
+shown_same f m (Waits t waiting text) = refl
+shown_same f m Quits = refl
+shown_same f m (Faults e) = refl
+shown_same f m (Exceeds l) = refl
+
+empty_list : (l : List ℕ) → (length l == 0) ≡ true → l ≡ []
+empty_list [] h = refl
+empty_list (x ∷ l) h = absurd (grind (arith, nat_tests, h))
+
+silent_is : (t : Texts) (b c : Bool) → (length t.screen == 0) ≡ b → (length t.script == 0) ≡ c → (b && c) ≡ true → t ≡ no_text
+silent_is t true true e h k = rw (empty_list t.screen e, empty_list t.script h) refl
+silent_is t true false e h k = absurd cc
+silent_is t false c e h k = absurd cc
+
+silent_none : (t : Texts) → is_silent t ≡ true → t ≡ no_text
+silent_none t h = silent_is t (length t.screen == 0) (length t.script == 0) refl refl h
+
+within_silent : (r : Result FrameList Refusal) (t : Texts) → t ≡ no_text → text_within r t ≡ no_text
+within_silent (Ok s) t h = h
+within_silent (Err e) t h = refl
+
+waits_silent : (b : Bool) (t : Texts) → t ≡ no_text → (if b then no_text else t) ≡ no_text
+waits_silent true t h = refl
+waits_silent false t h = h
+
+text_silent : (s : State) (x : Step) → is_silent (text_shown x) ≡ true → text_of s x ≡ no_text
+text_silent s (GoesTo t text) h = within_silent (within_bounds t.game.frames) text (silent_none text h)
+text_silent s (Waits t w text) h = waits_silent (is_past_reads s.reads w.wait) text (silent_none text h)
+text_silent s Quits h = refl
+text_silent s (Faults e) h = refl
+text_silent s (Exceeds l) h = refl
+
+part_silent : (f m n k : ℕ) (s : Session) (b : Bool) → is_silent (text_shown (step s.state)) ≡ b → most_f s.state ≤ f → most_w s.state ≤ m → OwnStop (parted n (suc k) s).to → parted n (suc k) (session_in f m s) ≡ passed_in f m (parted n (suc k) s)
+part_silent f m n k s true e few short own =
+    let x = step s.state in
+    let shown : is_silent (text_shown (step_in f m x)) ≡ true = ap is_silent (shown_same f m x) ∙ e in
+    let text = left_same f m s.left s.state (text_silent (state_in f m s.state) (step_in f m x) shown ∙ sym (text_silent s.state x e)) in
+    let there : is_silent (text_shown (step (state_in f m s.state))) ≡ true = ap (λ (y : Step). is_silent (text_shown y)) (step_same f m s.state) ∙ shown in
+    rw (there, e, text) refl
+part_silent f m n k s false e few short own =
+    let x = step s.state in
+    let there : is_silent (text_shown (step (state_in f m s.state))) ≡ false = ap (λ (y : Step). is_silent (text_shown y)) (step_same f m s.state) ∙ ap is_silent (shown_same f m x) ∙ e in
+    let free = parted_free n s (verdict_of s.state x) (state_after s.state x) (text_left s.left s.state) (rw e at own) in
+    rw (there, e) (made_same f m s few short free (λ v t text. parted_to false n (session_in f m s) v t text) ∙ parted_same f m n s (verdict_of s.state x) (state_after s.state x) (text_left s.left s.state))
+
 part_same : (f m n k : ℕ) (s : Session) → most_f s.state ≤ f → most_w s.state ≤ m → OwnStop (parted n k s).to → parted n k (session_in f m s) ≡ passed_in f m (parted n k s)
 part_same f m n zero s few short own = refl
-part_same f m n (suc k) s few short own =
-    let x = step s.state in
-    let free = parted_free n s (verdict_of s.state x) (state_after s.state x) (text_left s.left s.state) own in
-    made_same f m s few short free (λ v t text. parted_to n (session_in f m s) v t text) ∙ parted_same f m n s (verdict_of s.state x) (state_after s.state x) (text_left s.left s.state)
+part_same f m n (suc k) s few short own = part_silent f m n k s (is_silent (text_shown (step s.state))) refl few short own
 
 parts_same : (f m n : ℕ) (due : List ℕ) (s : Session) → most_f s.state ≤ f → most_w s.state ≤ m → OwnStop (parts_by n due s).to → parts_by n due (session_in f m s) ≡ passed_in f m (parts_by n due s)
 parts_same f m n [] s few short own = part_same f m n (s.limits.steps - s.state.steps) s few short own
@@ -321,14 +368,15 @@ steps_bounds : (n : ℕ) (s : Session) → SameBounds s.state (stepped n s).to.s
 steps_bounds zero s = (refl, refl)
 steps_bounds (suc n) s = to_bounds s (verdict_of s.state (step s.state)) (state_after s.state (step s.state)) (text_left s.left s.state) (step_bounds s.state)
 
-parted_bounds : (n : ℕ) (s : Session) (v : Verdict) (t : State) (text : Texts) → SameBounds s.state t → SameBounds s.state (parted_to n s v t text).to.state
-parted_bounds n s GoesOn t text h = (refl, refl)
-parted_bounds n s (WaitsFor w) t text h = (refl, refl)
-parted_bounds n s (StopsBy stop) t text h = h
+parted_bounds : (silent : Bool) (n : ℕ) (s : Session) (v : Verdict) (t : State) (text : Texts) → SameBounds s.state t → SameBounds s.state (parted_to silent n s v t text).to.state
+parted_bounds true n s v t text h = (refl, refl)
+parted_bounds false n s GoesOn t text h = (refl, refl)
+parted_bounds false n s (WaitsFor w) t text h = (refl, refl)
+parted_bounds false n s (StopsBy stop) t text h = h
 
 part_bounds : (n k : ℕ) (s : Session) → SameBounds s.state (parted n k s).to.state
 part_bounds n zero s = (refl, refl)
-part_bounds n (suc k) s = parted_bounds n s (verdict_of s.state (step s.state)) (state_after s.state (step s.state)) (text_left s.left s.state) (step_bounds s.state)
+part_bounds n (suc k) s = parted_bounds (is_silent (text_shown (step s.state))) n s (verdict_of s.state (step s.state)) (state_after s.state (step s.state)) (text_left s.left s.state) (step_bounds s.state)
 
 parts_bounds : (n : ℕ) (due : List ℕ) (s : Session) → SameBounds s.state (parts_by n due s).to.state
 parts_bounds n [] s = part_bounds n (s.limits.steps - s.state.steps) s

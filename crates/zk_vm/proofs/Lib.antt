@@ -10,6 +10,8 @@ pub mod Sounds
 pub mod AnswerSteps
 pub mod GreaterRoom
 pub mod Turns
+pub mod Pauses
+pub mod PausedRuns
 pub mod Playing
 pub mod RunningOn
 pub mod Transcripts

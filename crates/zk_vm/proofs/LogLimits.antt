@@ -1,5 +1,5 @@
 -- A greater limit on steps changes no log that does not end by it.
-use Rattle.std.proofs.Common.{◌≡◌, ◌∙◌, ◌-◌, ◌+◌, ℕ, zero, suc, List, [], ◌∷◌, ◌++◌, Option, Some, None, refl, ap, arith}
+use Rattle.std.proofs.Common.{◌≡◌, ◌∙◌, ◌-◌, ◌+◌, ℕ, zero, suc, Bool, true, false, List, [], ◌∷◌, ◌++◌, Option, Some, None, refl, ap, arith}
 use Rattle.zk_state.specs.declared.refusal.Limit.TheVariants.{Steps}
 use Rattle.zk_step.specs.Routing.{Texts}
 use Rattle.zk_vm.specs.declared.stop.Stop.{Stop}
@@ -10,7 +10,7 @@ use Rattle.zk_vm.specs.Laws.{IsNoStepStop, StepLimitOnlyCuts, with_more_steps}
 use Rattle.zk_vm.specs.Sessions.{Session, resumed}
 use Rattle.zk_vm.specs.Step.{State, Verdict, step, state_after, verdict_of}
 use Rattle.zk_vm.specs.Step.Verdict.{GoesOn, WaitsFor, StopsBy}
-use Rattle.zk_vm.specs.Log.{Entry, Move, Passed, after, goes_by, heard_by, moved, moved_by, parted, parted_to, parts_by, passed, stepped, stepped_to, stop_told, text_left}
+use Rattle.zk_vm.specs.Log.{Entry, Move, Passed, after, goes_by, heard_by, is_silent, moved, moved_by, parted, parted_to, parts_by, passed, stepped, stepped_to, stop_told, text_left, text_shown}
 use Rattle.zk_vm.specs.Log.Move.{Gets, Goes, Part}
 use Rattle.zk_vm.proofs.Logs.{passed_stopped}
 
@@ -30,15 +30,16 @@ step_more : (k n : ℕ) (s : Session) → OwnStop (stepped n s).to → stepped (
 step_more k zero s own = absurd (own (Limit s.state.pc Steps) refl)
 step_more k (suc n) s own = let e : suc n + k ≡ suc (n + k) = omega arith in rw e (to_more k s (verdict_of s.state (step s.state)) (state_after s.state (step s.state)) (text_left s.left s.state))
 
-parted_more : (k i : ℕ) (s : Session) (v : Verdict) (t : State) (text : Texts) → parted_to i (with_more_steps k s) v t text ≡ more_passed k (parted_to i s v t text)
+parted_more : (silent : Bool) (k i : ℕ) (s : Session) (v : Verdict) (t : State) (text : Texts) → parted_to silent i (with_more_steps k s) v t text ≡ more_passed k (parted_to silent i s v t text)
 unfolding more_passed
-parted_more k i s GoesOn t text = refl
-parted_more k i s (WaitsFor w) t text = refl
-parted_more k i s (StopsBy stop) t text = refl
+parted_more true k i s v t text = refl
+parted_more false k i s GoesOn t text = refl
+parted_more false k i s (WaitsFor w) t text = refl
+parted_more false k i s (StopsBy stop) t text = refl
 
 part_more : (k i n : ℕ) (s : Session) → OwnStop (parted i n s).to → parted i (n + k) (with_more_steps k s) ≡ more_passed k (parted i n s)
 part_more k i zero s own = absurd (own (Limit s.state.pc Steps) refl)
-part_more k i (suc n) s own = let e : suc n + k ≡ suc (n + k) = omega arith in rw e (parted_more k i s (verdict_of s.state (step s.state)) (state_after s.state (step s.state)) (text_left s.left s.state))
+part_more k i (suc n) s own = let e : suc n + k ≡ suc (n + k) = omega arith in rw e (parted_more (is_silent (text_shown (step s.state))) k i s (verdict_of s.state (step s.state)) (state_after s.state (step s.state)) (text_left s.left s.state))
 
 goes_more : (k : ℕ) (due : List ℕ) (s : Session) (n : ℕ) → s.limits.steps - s.state.steps ≡ n → OwnStop (goes_by due s).to → goes_by due (with_more_steps k s) ≡ more_passed k (goes_by due s)
 unfolding more_passed

@@ -261,7 +261,7 @@ told_nowhere t = woven_nowhere t.screen t.script
 
 -- ---- a step
 
-says_address : (left : Option Texts) (pc : ℕ) (l : List Entry) (t : Texts) → Says l t → Says (address_told left pc ++ l) t
+pub says_address : (left : Option Texts) (pc : ℕ) (l : List Entry) (t : Texts) → Says l t → Says (address_told left pc ++ l) t
 says_address None pc l t h = says_at pc l t h
 says_address (Some u) pc l t h = h
 

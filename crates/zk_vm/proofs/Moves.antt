@@ -14,7 +14,7 @@ use Rattle.zk_vm.specs.Sessions.{Session, resumed}
 use Rattle.zk_vm.specs.Step.{State, Step, Verdict, goes_by as goes_within, is_past_reads, state_after, step, verdict_of}
 use Rattle.zk_vm.specs.Step.Step.{Goes as GoesTo, Waits, Quits, Faults, Exceeds}
 use Rattle.zk_vm.specs.Step.Verdict.{GoesOn, WaitsFor, StopsBy}
-use Rattle.zk_vm.specs.Log.{Entry, Move, Passed, after, goes_by, moved, moved_by, parted, parted_to, parts_by, passed, stepped, stepped_to, text_left}
+use Rattle.zk_vm.specs.Log.{Entry, Move, Passed, after, goes_by, is_silent, moved, moved_by, parted, parted_to, parts_by, passed, stepped, stepped_to, text_left, text_shown}
 use Rattle.zk_vm.specs.Log.Move.{Gets, Goes, Part}
 use Rattle.zk_vm.proofs.Logs.{passed_stopped}
 
@@ -87,14 +87,15 @@ module _ (K : Session → Type 0) (s : Session) (k : K s) where
       by (Faults f) shown e o = absurd cc
       by (Exceeds l) shown e o = absurd cc
 
-  parted_kept : (n : ℕ) (h : IsKeptBy K s (Part n)) (v : Verdict) (t : State) (text : Texts) → (parted_to n s v t text).to.stopped ≡ None → K (parted_to n s v t text).to
-  parted_kept n h GoesOn t text on = h.part _
-  parted_kept n h (WaitsFor w) t text on = h.part _
-  parted_kept n h (StopsBy stop) t text on = absurd cc
+  parted_kept : (silent : Bool) (n : ℕ) (h : IsKeptBy K s (Part n)) (v : Verdict) (t : State) (text : Texts) → (parted_to silent n s v t text).to.stopped ≡ None → K (parted_to silent n s v t text).to
+  parted_kept true n h v t text on = h.part _
+  parted_kept false n h GoesOn t text on = h.part _
+  parted_kept false n h (WaitsFor w) t text on = h.part _
+  parted_kept false n h (StopsBy stop) t text on = absurd cc
 
   count_kept : (n k : ℕ) (h : IsKeptBy K s (Part n)) → (parted n k s).to.stopped ≡ None → K (parted n k s).to
   count_kept n zero h on = absurd cc
-  count_kept n (suc k) h on = parted_kept n h (verdict_of s.state (step s.state)) (state_after s.state (step s.state)) (text_left s.left s.state) on
+  count_kept n (suc k) h on = parted_kept (is_silent (text_shown (step s.state))) n h (verdict_of s.state (step s.state)) (state_after s.state (step s.state)) (text_left s.left s.state) on
 
   parts_kept : (n : ℕ) (h : IsKeptBy K s (Part n)) (due : List ℕ) → (parts_by n due s).to.stopped ≡ None → K (parts_by n due s).to
   parts_kept n h [] on = count_kept n (s.limits.steps - s.state.steps) h on

@@ -8,6 +8,7 @@ pub mod Log
 pub mod Logged
 pub mod Sessions
 pub mod Parts
+pub mod Pausing
 pub mod Sound
 pub mod Plays
 pub mod Step

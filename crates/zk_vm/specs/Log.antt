@@ -1,18 +1,19 @@
 -- The log of a machine: what passes between it and its world, in order.
-use Rattle.std.specs.Prelude.{◌≡◌, ◌⊎◌, ◌-◌, ◌+◌, ◌++◌, ℕ, zero, suc, Bool, List, [], ◌∷◌, drop, filter_map, map, take, Option, Some, None}
+use Rattle.std.specs.Prelude.{◌≡◌, ◌⊎◌, ◌-◌, ◌+◌, ◌++◌, ◌==◌, ◌&&◌, ℕ, zero, suc, Bool, true, false, List, [], ◌∷◌, drop, filter_map, length, map, take, Option, Some, None}
 use Rattle.zk_text.specs.Extra.{ExtraTable, own_characters}
 use Rattle.zk_state.specs.declared.refusal.Limit.TheVariants.{Steps}
 use Rattle.zk_save.specs.declared.restore.RestoreError.{RestoreError}
 use Rattle.zk_step.specs.declared.state.ending.Event.{Event}
 use Rattle.zk_step.specs.declared.state.ending.Event.TheVariants.{Line, Char, Save, Restore}
-use Rattle.zk_step.specs.Routing.{Texts}
+use Rattle.zk_step.specs.Routing.{Texts, no_text}
 use Rattle.zk_vm.specs.declared.stop.Stop.{Stop}
 use Rattle.zk_vm.specs.declared.stop.Stop.TheVariants.{Limit as LimitAt}
 use Rattle.zk_vm.specs.declared.waiting.Waiting.{Waiting}
 use Rattle.zk_vm.specs.Answers.{Answer, codes_of, is_kept, file_of}
 use Rattle.zk_vm.specs.Sessions.{Session, given_to, with_stop}
 use Rattle.zk_vm.specs.Plays.{image_of, refusal_of}
-use Rattle.zk_vm.specs.Step.{State, Verdict, step, verdict_of, state_after, text_of}
+use Rattle.zk_vm.specs.Step.{State, Step, Verdict, step, verdict_of, state_after, text_of}
+use Rattle.zk_vm.specs.Step.Step.{Goes as GoesTo, Waits, Quits, Faults, Exceeds}
 use Rattle.zk_vm.specs.Step.Verdict.{GoesOn, WaitsFor, StopsBy}
 
 -- ---- entries
@@ -64,6 +65,18 @@ abbrev pub text_left : Option Texts → State → Texts
 text_left None s = text_of s (step s)
 text_left (Some t) s = t
 
+-- the text of a step, whatever the limits are
+abbrev pub text_shown : Step → Texts
+text_shown (GoesTo s text) = text
+text_shown (Waits s waiting text) = text
+text_shown Quits = no_text
+text_shown (Faults f) = no_text
+text_shown (Exceeds l) = no_text
+
+-- a text that shows nothing
+abbrev pub is_silent : Texts → Bool
+is_silent t = (length t.screen == 0) && (length t.script == 0)
+
 -- an instruction's address is told before the first part of its text
 abbrev pub address_told : Option Texts → ℕ → List Entry
 address_told None pc = At pc ∷ []
@@ -110,16 +123,17 @@ goes_by (c ∷ cs) s = record { entries = map Scripted (c ∷ cs); to = record s
 abbrev pub part_shown : ℕ → Session → Texts → Passed
 part_shown n s text = record { entries = address_told s.left s.state.pc ++ told (text_first n text); to = record s { left = Some (text_later n text) } }
 
--- a step that stops has no parts: it is made
-abbrev pub parted_to : ℕ → Session → Verdict → State → Texts → Passed
-parted_to n s GoesOn t text = part_shown n s text
-parted_to n s (WaitsFor w) t text = part_shown n s text
-parted_to n s (StopsBy stop) t text = stepped_to s (StopsBy stop) t text
+-- a step that stops has no parts: it is made, unless whatever the limits are nothing would be shown of it
+abbrev pub parted_to : Bool → ℕ → Session → Verdict → State → Texts → Passed
+parted_to true n s v t text = part_shown n s text
+parted_to false n s GoesOn t text = part_shown n s text
+parted_to false n s (WaitsFor w) t text = part_shown n s text
+parted_to false n s (StopsBy stop) t text = stepped_to s (StopsBy stop) t text
 
 -- a part of its text is shown, where the limit on instructions leaves a step
 abbrev pub parted : ℕ → ℕ → Session → Passed
 parted n zero s = stepped zero s
-parted n (suc left) s = parted_to n s (verdict_of s.state (step s.state)) (state_after s.state (step s.state)) (text_left s.left s.state)
+parted n (suc left) s = parted_to (is_silent (text_shown (step s.state))) n s (verdict_of s.state (step s.state)) (state_after s.state (step s.state)) (text_left s.left s.state)
 
 -- none is shown before the transcript has got all
 abbrev pub parts_by : ℕ → List ℕ → Session → Passed

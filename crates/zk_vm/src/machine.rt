@@ -12,6 +12,7 @@ ghost use Rattle.zk_vm.specs.Step.{is_read};
 mod answers;
 pub mod calls;
 pub mod parts;
+pub mod pausing;
 mod step;
 
 use crate::limits::Limits;

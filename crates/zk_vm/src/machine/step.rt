@@ -216,7 +216,7 @@ impl Machine {
     }
 
     /// Pauses, unless no step is left.
-    fn pause(&self) -> Result<(), Halt>
+    pub(crate) fn pause(&self) -> Result<(), Halt>
         ensures { MatchResult result (λ _. self.now.state.steps < self.now.limits.steps)
             (λ halt. (halt ≡ Err (Stop.Limit self.now.state.pc Limit.Steps))
             × (self.now.limits.steps ≤ self.now.state.steps)) }
@@ -230,7 +230,7 @@ impl Machine {
 
     /// Makes the steps that show nothing and go on in the story, as many as there may be up to a bound, by instructions that
     /// are kept.
-    fn go_ahead<P: Places>(&mut self, places: &mut P, bound: u32) -> Result<(), Halt>
+    pub(crate) fn go_ahead<P: Places>(&mut self, places: &mut P, bound: u32) -> Result<(), Halt>
         requires free { self.old.waiting ≡ None }
         requires runs { self.old.stopped ≡ None }
         requires from { self.old.state.steps ≤ bound }
@@ -300,7 +300,7 @@ impl Machine {
     }
 
     /// Does what an instruction asks for.
-    fn meet<S: Screen>(&mut self, request: Request, i: Instr, screen: &mut S) -> Result<(), Halt>
+    pub(crate) fn meet<S: Screen>(&mut self, request: Request, i: Instr, screen: &mut S) -> Result<(), Halt>
         requires room { self.old.state.steps < self.old.limits.steps }
         requires free { self.old.waiting ≡ None }
         requires runs { self.old.stopped ≡ None }

@@ -1,0 +1,82 @@
+-- A machine in the middle of an instruction's text, as contracts see it.
+use Rattle.std.specs.Prelude.{◌≡◌, ◌<◌, ℕ, Bool, true, false, List, [], ◌∷◌, IfSome, Option, Some, None, Result, Ok, Err}
+use Rattle.zk_code.specs.declared.instr.Instr.{Instr}
+use Rattle.zk_code.specs.Reading.{instr_at}
+use Rattle.zk_term.specs.Windows.{Windows}
+use Rattle.zk_step.specs.declared.output.parts.Half.{Half}
+use Rattle.zk_step.specs.declared.state.game_state.GameState.{GameState}
+use Rattle.zk_step.specs.Halves.{IsHalf, ShowsSome, rest_text, text_due}
+use Rattle.zk_step.specs.Routing.{Texts}
+use Rattle.zk_vm.specs.declared.machine.pausing.PausingMachine.TheInside.{Inside}
+use Rattle.zk_vm.specs.Halts.{Halt, IsStep}
+use Rattle.zk_vm.specs.Log.{Entry, IsLog, Move, answers_in, moved, parts_of, scripted, shown}
+use Rattle.zk_vm.specs.Logged.{IsOn}
+use Rattle.zk_vm.specs.Sessions.{Session}
+
+-- what is still to come of a text of which a part was shown
+abbrev pub left_of : GameState → Option Half → Option Texts
+left_of w None = None
+left_of w (Some h) = Some (rest_text w h.rest)
+
+abbrev pub with_left : Session → Option Half → Session
+with_left s half = record s { left = left_of s.state.game half }
+
+abbrev pub pausing_seen : Inside → Session
+pausing_seen p = with_left p.machine p.half
+
+-- the instruction at the program counter of a machine that goes on is in the middle of its text
+pub record StandsHalf (s : Session) (codes : List ℕ) (draft : Windows) (h : Half) : Type 0 where
+  pub on : IsOn s
+  pub room : s.state.steps < s.limits.steps
+  pub instruction : Instr
+  pub fetched : instr_at s.state.game.memory s.state.pc ≡ Ok instruction
+  pub half : IsHalf s.state.game instruction codes draft h
+
+pub record IsPausing (p : Inside) : Type 0 where
+  pub whole : p.machine.left ≡ None
+  pub half : IfSome p.half (StandsHalf p.machine p.codes p.draft)
+
+-- a part of an instruction's text was shown: the machine stands as before
+pub record IsCut {S : Type 0} (shows : S → S → List ℕ → List ℕ → Type 0) (a b : S) (old new : Session) (i : Instr) (before : Option Half) (codes : List ℕ) (draft : Windows) (h : Half) : Type 0 where
+  pub same : new ≡ old
+  pub half : IsHalf old.state.game i codes draft h
+  pub shown : ShowsSome shows a b (text_due old.state.game i before) (rest_text old.state.game h.rest)
+
+-- the text of a step, or the rest of it
+abbrev pub due_of : GameState → Option Half → Texts → Texts
+due_of w None t = t
+due_of w (Some h) t = rest_text w h.rest
+
+abbrev pub GotDue : {S : Type 0} → (S → S → List ℕ → List ℕ → Type 0) → S → S → GameState → Option Half → Texts → Type 0
+GotDue {S} shows a b w half t = shows a b (due_of w half t).screen (due_of w half t).script
+
+-- the step was made, and the text that was still to come was shown
+abbrev pub IsMade : {S : Type 0} → (S → S → List ℕ → List ℕ → Type 0) → S → S → Session → Session → Option Half → Result (Option Half) Halt → Type 0
+IsMade {S} shows a b old new half (Ok (Some h)) = Unit {0}
+IsMade {S} shows a b old new half (Ok None) = IsStep old new (Ok tt) (GotDue shows a b old.state.game half)
+IsMade {S} shows a b old new half (Err h) = IsStep old new (Err h) (GotDue shows a b old.state.game half)
+
+-- ---- how a machine goes on
+
+-- a step was made, or a part of its text was shown
+abbrev pub parts_in : Bool → ℕ
+parts_in true = 0
+parts_in false = 1
+
+-- a machine went on, and a screen got what passed
+pub record WentOn {S : Type 0} (shows : S → S → List ℕ → List ℕ → Type 0) (parts : ℕ) (a b : S) (s t : Session) : Type 0 where
+  pub log : List Entry
+  pub is : IsLog s log t
+  pub counted : parts_of is.moves ≡ parts
+  pub alone : answers_in log ≡ []
+  pub got : shows a b (shown log) (scripted log)
+  pub on : IsOn t
+
+-- it did so by a move
+pub record GoneBy {S : Type 0} (shows : S → S → List ℕ → List ℕ → Type 0) (parts : ℕ) (a b : S) (s t : Session) : Type 0 where
+  pub move : Move
+  pub counted : parts_of (move ∷ []) ≡ parts
+  pub there : t ≡ (moved s move).to
+  pub alone : answers_in (moved s move).entries ≡ []
+  pub got : shows a b (shown (moved s move).entries) (scripted (moved s move).entries)
+  pub on : IsOn t

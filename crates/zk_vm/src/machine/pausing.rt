@@ -1,0 +1,327 @@
+// A machine that pauses in the middle of an instruction's text.
+
+ghost use Rattle.std.specs.Prelude.{◌≡◌, ◌≤◌, ◌<◌, ◌+◌, ◌^◌, true, false, [], ℕ, Some, None, Ok, Err, IfErr, IfOk, IfSome, OnOk, OnErr, OnSome};
+ghost use Rattle.std.specs.List.{AllByRecursion};
+ghost use Rattle.std.specs.Prelude.{length, option_copied};
+ghost use Rattle.zk_code.specs.Reading.{instr_at};
+ghost use Rattle.zk_step.specs.Halves.{IsHalf, ShowsSome, rest_text, text_due};
+ghost use Rattle.zk_step.specs.Routing.{Texts};
+ghost use Rattle.zk_vm.specs.Answers.{undone};
+ghost use Rattle.zk_vm.specs.Answers.Answer.{Typed};
+ghost use Rattle.zk_vm.specs.Halts.{IsLeftAs, IsLine, IsStep, IsUndone, event_waited};
+ghost use Rattle.zk_vm.specs.Logged.{Ran, halted};
+ghost use Rattle.zk_vm.specs.Pausing.{GoneBy, IsCut, IsMade, WentOn, parts_in};
+ghost use Rattle.zk_vm.specs.Plays.{AsksForLine};
+ghost use Rattle.zk_vm.specs.Sessions.{given, with_grid_forgotten, with_stop};
+ghost use Rattle.zk_vm.specs.Step.{is_read};
+
+use crate::machine::{Machine, stop_at};
+use crate::stop::Stop;
+use crate::transcript::script_all;
+use crate::waiting::Halt;
+use std::alloc::{AllocError, Global};
+use std::marker::Model;
+use zk_code::decode::decode;
+use zk_code::instr::Instr;
+use zk_fast::places::Unnoted;
+use zk_step::instruction::{Progress, carry_out_part};
+use zk_step::output::codes::Codes;
+use zk_step::output::parts::Half;
+use zk_step::state::ending::{Event, Next};
+use zk_term::screen::Screen;
+use zk_term::windows::Windows;
+
+/// So many words of text are shown at once, and count as an instruction: some thousand Z-characters.
+const WORDS: u32 = 334;
+
+/// A machine that shows a long text, or many rows, in parts: a run may end in their middle, and the next one goes on from there.
+/// Contracts see of it the state before the instruction, and what is still to come of its text.
+#[derive(Drop)]
+pub struct PausingMachine {
+    machine: Machine,
+    half: Option<Half>,
+    // room for what a table of stream 3 gets, and for an upper window
+    codes: Codes,
+    draft: Windows,
+}
+
+impl Model for PausingMachine {
+    ghost use Rattle.std.specs.Coded as coded;
+    ghost use Rattle.zk_step.specs.contracts.state.game_state.GameState as play;
+    ghost use Rattle.zk_vm.specs.Pausing.{pausing_seen, IsPausing};
+    ghost use Rattle.zk_vm.specs.Sessions.{Session};
+
+    ghost Value = { Session };
+
+    ghost coded = { Prim.hlevel (coded.codes, play.the_row.coded) };
+
+    ghost view = { pausing_seen };
+
+    ghost invariant = { IsPausing };
+}
+
+impl Machine {
+    /// A machine has no text left to show.
+    #[inline(always)]
+    fn is_told(&self)
+        ensures { self.now.left ≡ None }
+    {
+        let _ = &self.limits;
+    }
+
+    /// Carries out an instruction that was fetched from the machine's program counter, or a part of it: then the machine stands
+    /// as before.
+    fn advance_part<S: Screen>(
+        &mut self,
+        i: Instr,
+        half: Option<Half>,
+        codes: &mut Codes,
+        draft: &mut Windows,
+        screen: &mut S,
+    ) -> Result<Option<Half>, Halt>
+        requires room { self.old.state.steps < self.old.limits.steps }
+        requires free { self.old.waiting ≡ None }
+        requires runs { self.old.stopped ≡ None }
+        requires silent { self.old.state.due ≡ [] }
+        requires near { i.next ≤ 2 ^ 20 }
+        requires inside { self.old.state.pc < i.next }
+        requires fetched { instr_at self.old.state.game.memory self.old.state.pc ≡ Ok i }
+        requires half { IfSome half (IsHalf self.old.state.game i codes.old draft.old) }
+        ensures part { IfOk result (λ p. IfSome p (IsCut S.shows screen.old screen.new self.old self.new
+            i half codes.new draft.new)) }
+        ensures step { IsMade S.shows screen.old screen.new self.old self.new half result }
+        ensures silent { OnOk result (self.new.state.due ≡ self.old.state.due) }
+        ensures counted { IfOk result (λ p. p ≡ None → self.new.state.steps ≡ self.old.state.steps + 1) }
+        ensures reads { self.new.state.reads ≡ self.old.state.reads }
+        ensures more { self.old.state.steps ≤ self.new.state.steps }
+        ensures limits { self.new.limits ≡ self.old.limits }
+    {
+        match carry_out_part(&mut self.game, &i, half, codes, draft, screen, Some(WORDS)) {
+            Ok(Progress::Part(half)) => Ok(Some(half)),
+            Ok(Progress::Done(Next::At(pc))) => {
+                self.pc = pc;
+                self.steps += 1;
+                Ok(None)
+            }
+            Ok(Progress::Done(Next::Asks(request))) => match self.meet(request, i, screen) {
+                Ok(()) => Ok(None),
+                Err(halt) => Err(halt),
+            },
+            Err(refusal) => {
+                let stop = stop_at(self.pc, refusal);
+                self.stopped = Some(stop);
+                Err(Err(stop))
+            }
+        }
+    }
+}
+
+impl PausingMachine {
+    /// A machine, which pauses then. It has no text left to show.
+    pub fn of(alloc: Global, machine: Machine) -> Result<PausingMachine, AllocError>
+        ensures { IfOk result (λ p. p ≡ machine) }
+    {
+        machine.is_told();
+        let codes = Codes::new(alloc)?;
+        let draft = Windows::new(alloc)?;
+        Ok(PausingMachine {
+            machine,
+            half: None,
+            codes,
+            draft,
+        })
+    }
+
+    /// The machine, without what is left of a text.
+    pub fn machine(&self) -> &Machine
+        ensures value { result.now ≡ record self.now { left = None } }
+        ensures whole { OnSome (event_waited self.now.waiting) (self.now.left ≡ None) }
+    {
+        &self.machine
+    }
+
+    /// Makes the steps that show nothing and go on in the story, as many as there may be up to a bound, unless there is a text to
+    /// show.
+    fn go_ahead<S: Screen>(&mut self, screen: &S, bound: u32) -> Result<(), Halt>
+        requires free { self.old.waiting ≡ None }
+        requires runs { self.old.stopped ≡ None }
+        requires silent { self.old.state.due ≡ [] }
+        requires from { self.old.state.steps ≤ bound }
+        requires to { bound ≤ self.old.limits.steps }
+        requires works { S.failed screen.now ≡ false }
+        ensures on { OnOk result (WentOn S.shows 0 screen.now screen.now self.old self.new) }
+        ensures ends { IfErr result (λ h. Ran S.shows S.full S.failed (λ l. Unit {0}) screen.now screen.now 0 0
+            self.old self.new (Err h)) }
+        ensures reads { self.new.state.reads ≡ self.old.state.reads }
+        ensures more { self.old.state.steps ≤ self.new.state.steps }
+        ensures few { OnOk result (self.new.state.steps ≤ bound) }
+        ensures limits { self.new.limits ≡ self.old.limits }
+    {
+        if self.half.is_some() {
+            return Ok(());
+        }
+        self.machine.is_told();
+        match self.machine.go_ahead(&mut Unnoted, bound) {
+            Ok(()) => {
+                self.machine.is_told();
+                Ok(())
+            }
+            Err(halt) => {
+                self.machine.is_told();
+                Err(halt)
+            }
+        }
+    }
+
+    /// One step, or a part of one. Says whether the step was made.
+    fn step<S: Screen>(&mut self, screen: &mut S) -> Result<bool, Halt>
+        requires room { self.old.state.steps < self.old.limits.steps }
+        requires free { self.old.waiting ≡ None }
+        requires runs { self.old.stopped ≡ None }
+        requires silent { self.old.state.due ≡ [] }
+        requires works { S.failed screen.old ≡ false }
+        ensures on { IfOk result (λ made. GoneBy S.shows (parts_in made) screen.old screen.new self.old self.new) }
+        ensures ends { IfErr result (λ h. Ran S.shows S.full S.failed (λ l. Unit {0}) screen.old screen.new 0 0
+            self.old self.new (Err h)) }
+        ensures counted { IfOk result (λ made. self.new.state.steps + parts_in made ≡ self.old.state.steps + 1) }
+        ensures reads { self.new.state.reads ≡ self.old.state.reads }
+        ensures more { self.old.state.steps ≤ self.new.state.steps }
+        ensures limits { self.new.limits ≡ self.old.limits }
+    {
+        self.machine.is_told();
+        match decode(&self.machine.game.memory, self.machine.pc) {
+            Ok(i) => self.advance(i, screen),
+            Err(fault) => {
+                self.half = None;
+                let stop = Stop::Fault(self.machine.pc, fault);
+                self.machine.stopped = Some(stop);
+                Err(Err(stop))
+            }
+        }
+    }
+
+    /// Carries out an instruction that was fetched from the program counter, or a part of it.
+    fn advance<S: Screen>(&mut self, i: Instr, screen: &mut S) -> Result<bool, Halt>
+        requires room { self.old.state.steps < self.old.limits.steps }
+        requires free { self.old.waiting ≡ None }
+        requires runs { self.old.stopped ≡ None }
+        requires silent { self.old.state.due ≡ [] }
+        requires works { S.failed screen.old ≡ false }
+        requires near { i.next ≤ 2 ^ 20 }
+        requires inside { self.old.state.pc < i.next }
+        requires fetched { instr_at self.old.state.game.memory self.old.state.pc ≡ Ok i }
+        ensures on { IfOk result (λ made. GoneBy S.shows (parts_in made) screen.old screen.new self.old self.new) }
+        ensures ends { IfErr result (λ h. Ran S.shows S.full S.failed (λ l. Unit {0}) screen.old screen.new 0 0
+            self.old self.new (Err h)) }
+        ensures counted { IfOk result (λ made. self.new.state.steps + parts_in made ≡ self.old.state.steps + 1) }
+        ensures reads { self.new.state.reads ≡ self.old.state.reads }
+        ensures more { self.old.state.steps ≤ self.new.state.steps }
+        ensures limits { self.new.limits ≡ self.old.limits }
+    {
+        self.machine.is_told();
+        match self.machine.advance_part(i, self.half, &mut self.codes, &mut self.draft, screen) {
+            Ok(Some(half)) => {
+                self.half = Some(half);
+                Ok(false)
+            }
+            Ok(None) => {
+                self.half = None;
+                self.machine.is_told();
+                Ok(true)
+            }
+            Err(halt) => {
+                self.half = None;
+                self.machine.is_told();
+                Err(halt)
+            }
+        }
+    }
+
+    /// Steps up to an event or a stop, `Write` after the step or part of one at which the screen fails; or up to a pause, once so
+    /// many steps and parts were made, and after the one at which the screen comes to ask for it.
+    fn steps_in_parts<S: Screen>(&mut self, screen: &mut S, most: u32) -> Result<(), Halt>
+        requires free { self.old.waiting ≡ None }
+        requires runs { self.old.stopped ≡ None }
+        requires silent { self.old.state.due ≡ [] }
+        requires works { S.failed screen.old ≡ false }
+        requires room { S.full screen.old ≡ false }
+        ensures logged { (parts : ℕ) × Ran S.shows S.full S.failed (λ l. Unit {0}) screen.old screen.new
+            (self.old.state.steps + most) parts self.old self.new result }
+        ensures reads { self.new.state.reads ≡ self.old.state.reads }
+        ensures more { self.old.state.steps ≤ self.new.state.steps }
+        ensures limits { self.new.limits ≡ self.old.limits }
+    {
+        self.machine.is_within();
+        let end = self.machine.steps as u64 + most as u64;
+        let mut parts: u32 = 0;
+        for _i in 0..most {
+            let bound = (end - parts as u64).min(self.machine.limits.steps as u64) as u32;
+            match self.go_ahead(screen, bound) {
+                Ok(()) => {}
+                Err(halt) => return Err(halt),
+            }
+            if self.machine.steps >= bound {
+                return self.machine.pause();
+            }
+            match self.step(screen) {
+                Ok(true) => {}
+                Ok(false) => parts += 1,
+                Err(halt) => return Err(halt),
+            }
+            if screen.has_failed() {
+                return Err(Err(Stop::Write));
+            }
+            if screen.is_full() {
+                return Ok(());
+            }
+        }
+        self.machine.pause()
+    }
+
+    /// Runs the story up to the next event, a read or a saved game, or its stop, and answers the same stop from then on until
+    /// `close` sets another; or up to a pause, where it answers none, and goes on from there when it is run again. It pauses once
+    /// so many instructions were carried out, of which a long text counts one for each part that was shown of it, and after one
+    /// at which the screen comes to ask for it. Nothing of an instruction that faults is shown. Where there is no memory for a
+    /// state that `save_undo` keeps, the stop is `Memory`, and the states that were kept stand. Where the screen fails, the stop
+    /// is `Write`, right after what it showed. The machine is not waiting, and the screen does not ask for a pause.
+    pub fn run_for<S: Screen>(&mut self, screen: &mut S, most: u32) -> Result<Option<Event>, Stop>
+        requires free { self.old.waiting ≡ None }
+        requires room { S.full screen.old ≡ false }
+        ensures logged { (parts : ℕ) × Ran S.shows S.full S.failed (λ l. Unit {0}) screen.old screen.new
+            (self.old.state.steps + most) parts self.old self.new (halted result) }
+        ensures stops { IfErr result (λ stop. self.new.stopped ≡ Some stop) }
+        ensures free { OnErr result (self.new.waiting ≡ None) }
+        ensures asks { IfOk result (λ event. event_waited self.new.waiting ≡ event) }
+        ensures reads { IfOk result (λ asked. IfSome asked
+            (λ event. is_read event ≡ true → self.new.state.reads < 16777216)) }
+        ensures same_reads { OnOk result (self.new.state.reads ≡ self.old.state.reads) }
+        ensures more { OnOk result (self.old.state.steps ≤ self.new.state.steps) }
+        ensures steps { IfOk result
+            (λ asked. OnSome asked (self.new.state.steps < self.new.limits.steps)) }
+        ensures runs { OnOk result (self.new.stopped ≡ None) }
+        ensures limits { self.new.limits ≡ self.old.limits }
+    {
+        if let Some(stop) = self.machine.stopped {
+            return Err(stop);
+        }
+        script_all(screen, self.machine.due.as_slice());
+        self.machine.due.clear();
+        if screen.has_failed() {
+            self.half = None;
+            self.machine.stopped = Some(Stop::Write);
+            return Err(Stop::Write);
+        }
+        if screen.is_full() {
+            return Ok(None);
+        }
+        match self.steps_in_parts(screen, most) {
+            Ok(()) => Ok(None),
+            Err(Ok(event)) => Ok(Some(event)),
+            Err(Err(stop)) => {
+                self.half = None;
+                self.machine.stopped = Some(stop);
+                Err(stop)
+            }
+        }
+    }
+}
