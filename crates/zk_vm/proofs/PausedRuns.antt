@@ -22,9 +22,10 @@ use Rattle.zk_vm.specs.declared.stop.Stop.{Stop}
 use Rattle.zk_vm.specs.declared.stop.Stop.TheVariants as stops
 use Rattle.zk_vm.specs.declared.waiting.Waiting.{Waiting}
 use Rattle.zk_vm.specs.Going.{GoesAhead, IsAhead, StopsAhead}
-use Rattle.zk_vm.specs.Halts.{Halt, IsLeftAt, IsStep, StepsTo, halt_by}
-use Rattle.zk_vm.specs.Log.{Entry, IsLog, Move, Passed, address_told, answers_in, is_silent, moved, parted, parted_to, part_shown, parts_of, scripted, scripted_in, shown, shown_in, stepped_to, text_first, text_later, text_left, text_shown, told}
-use Rattle.zk_vm.specs.Log.Move.{Goes, Part}
+use Rattle.zk_vm.specs.Answers.Answer.{Typed}
+use Rattle.zk_vm.specs.Halts.{Halt, IsKeeping, IsLeftAt, IsStep, StepsTo, halt_by}
+use Rattle.zk_vm.specs.Log.{Entry, IsLeftIn, IsLog, Move, Passed, address_told, after, answers_in, is_silent, moved, parted, parted_to, part_shown, parts_of, passed, scripted, scripted_in, shown, shown_in, stepped_to, text_first, text_later, text_left, text_shown, told}
+use Rattle.zk_vm.specs.Log.Move.{Gets, Goes, Part}
 use Rattle.zk_vm.specs.Logged.{AtLast, IsOn, LacksState, Ran, RunEnds}
 use Rattle.zk_vm.specs.Pausing.{GoneBy, GotDue, IsCut, StandsHalf, WentOn, due_of, left_of, with_left}
 use Rattle.zk_vm.specs.Sessions.{Session}
@@ -139,3 +140,193 @@ module _ {S : Type 0} (shows : S → S → List ℕ → List ℕ → Type 0) (no
         got = says_got a b (moved u (Part n)).entries (text_first n text) says (subst (λ (x : Texts). shows a b (text_first n x).screen (text_first n x).script) same cut.shown.shown);
         on = record { runs = ap (λ (m : Session). m.stopped) cut.same ∙ on.runs; free = ap (λ (m : Session). m.waiting) cut.same ∙ on.free; silent = ap (λ (m : Session). m.state.due) cut.same ∙ on.silent };
       }
+
+  -- ---- the ends
+
+  module _ (full failed : S → Bool) where
+    -- what holds of the screen since a move
+    since : (holds : S → Bool) (a b : S) (u : Session) (m : Move) → shows a b (shown (moved u m).entries) (scripted (moved u m).entries) → holds a ≡ false → holds b ≡ true → AtLast shows holds a b u (moved u m).to (moved u m).entries
+    since holds a b u m gets before after = record { first = []; mid = u; before = no_log u; between = a; got = nothing a; not = before; move = m; whole = refl; there = refl; gets = gets; now = after }
+
+    ends_so : (bound : ℕ) (a b : S) (s new : Session) (half : Option Half) (l : List Entry) (h : Halt) (v : Verdict) (t : State) (text : Texts) → Err h ≡ halt_by v → IsLeftAt s new v t → RunEnds shows full failed a b bound 0 (with_left s half) (stepped_to (with_left s half) v t text).to (with_left new None) l (Err h)
+    ends_so bound a b s new half l h GoesOn t text tells left = absurd cc
+    ends_so bound a b s new half l (Ok e) (WaitsFor w) t text tells left = (ap (λ (m : Session). with_left m None) left, cc)
+    ends_so bound a b s new half l (Err stop) (WaitsFor w) t text tells left = absurd cc
+    ends_so bound a b s new half l (Ok e) (StopsBy stop) t text tells left = absurd cc
+    ends_so bound a b s new half l (Err x) (StopsBy stop) t text tells left = (left, inl cc)
+
+    lacks_text : (a b : S) (s new : Session) (half : Option Half) (codes : List ℕ) (draft : Windows) → IfSome half (StandsHalf s codes draft) → IsKeeping s.state new.state → GotDue shows a b s.state.game half no_text → shows a b [] []
+    lacks_text a b s new None codes draft stands keeping got = got
+    lacks_text a b s new (Some h) codes draft stands keeping got =
+        let same = same_instr (instr_at s.state.game.memory s.state.pc) keeping.instruction stands.instruction keeping.fetched stands.fetched in
+        absurd (never_keeps s.state.game stands.instruction codes draft h stands.half (subst (λ (i : Instr). i.opcode ≡ Saving SaveUndo) same keeping.keeps))
+
+    silent_since : (holds : S → Bool) (a b : S) (u : Session) → IsOn u → shows a b [] [] → holds a ≡ false → holds b ≡ true → AtLast shows holds a b u u []
+    silent_since holds a b u on gets before after =
+        let none : moved u (Gets (Typed [])) ≡ record { entries = []; to = u } = rw (on.runs, on.free) refl in
+        let gets_none : shows a b (shown (moved u (Gets (Typed []))).entries) (scripted (moved u (Gets (Typed []))).entries) = subst (λ (p : Passed). shows a b (shown p.entries) (scripted p.entries)) (sym none) gets in
+        subst (λ (p : Passed). AtLast shows holds a b u p.to p.entries) none (since holds a b u (Gets (Typed [])) gets_none before after)
+
+    -- where a machine does not go on
+    pub ended_on : (bound : ℕ) (a b : S) (s new : Session) (half : Option Half) (codes : List ℕ) (draft : Windows) (h : Halt) → IfSome half (StandsHalf s codes draft) → IsOn s → s.state.steps < s.limits.steps → failed a ≡ false → IsStep s new (Err h) (GotDue shows a b s.state.game half)
+        → Ran shows full failed (λ l. Unit {0}) a b bound 0 (with_left s half) (with_left new None) (Err h)
+    ended_on bound a b s new half codes draft h stands on room works (inl made) =
+        let u = with_left s half in
+        let v = verdict_of s.state (step s.state) in
+        let t = state_after s.state (step s.state) in
+        let text = text_left (left_of s.state.game half) s.state in
+        let is = goes_is s half on room in
+        let says = subst (λ (p : Passed). Says p.entries text) (sym is) (says_step u v t text) in
+        let got = says_got a b (moved u Goes).entries text says (subst (λ (x : Texts). shows a b x.screen x.script) (due_left s.state.game half s.state refl) made.shown) in
+        record {
+          log = (moved u Goes).entries;
+          to = (moved u Goes).to;
+          is = (with_step u).is;
+          counted = (with_step u).counted;
+          alone = says.alone;
+          got = got;
+          noted = inl tt;
+          ends = subst (λ (p : Passed). RunEnds shows full failed a b bound 0 u p.to (with_left new None) (moved u Goes).entries (Err h)) (sym is) (ends_so bound a b s new half (moved u Goes).entries h v t text made.tells made.left);
+          at_once = λ before after. since failed a b u Goes got before after;
+        }
+    ended_on bound a b s new half codes draft h stands on room works (inr (tells, waits, (keeping, got))) =
+        let u = with_left s half in
+        let memory : h ≡ Err stops.Memory = cc in
+        let lacks : LacksState u new.state = record { on = record { runs = on.runs; free = on.free; silent = on.silent }; few = room; keeping = keeping } in
+        let none = lacks_text a b s new half codes draft stands keeping got in
+        record {
+          log = [];
+          to = u;
+          is = (with_none u).is;
+          counted = (with_none u).counted;
+          alone = refl;
+          got = none;
+          noted = inl tt;
+          ends = rw memory (waits, inr (inl (refl, lacks)));
+          at_once = λ before after. silent_since failed a b u (record { runs = on.runs; free = on.free; silent = on.silent }) none before after;
+        }
+
+    -- where no instruction can be fetched
+    pub fault_on : (bound : ℕ) (a : S) (s new : Session) (half : Option Half) (codes : List ℕ) (draft : Windows) (f : Fault) (h : Halt) → IfSome half (StandsHalf s codes draft) → instr_at s.state.game.memory s.state.pc ≡ Err f → IsOn s → s.state.steps < s.limits.steps → failed a ≡ false
+        → IsStep s new (Err h) (λ t. shows a a t.screen t.script) → Ran shows full failed (λ l. Unit {0}) a a bound 0 (with_left s half) (with_left new None) (Err h)
+    fault_on bound a s new None codes draft f h stands fault on room works step = ended_on bound a a s new None codes draft h stands on room works step
+    fault_on bound a s new (Some x) codes draft f h stands fault on room works step = let both = sym stands.fetched ∙ fault in absurd cc
+
+  -- ---- steps that are made in silence
+
+  pub went_ahead : (Noted : List ℕ → Type 0) (a : S) (s mid : Session) → IsOn s → s.left ≡ None → GoesAhead Noted s mid → mid.state.steps ≤ mid.limits.steps → WentOn shows 0 a a (with_left s None) (with_left mid None)
+  went_ahead Noted a s mid on whole ahead few =
+      let start = on_start shows nothing twice {P = Unit {0}} (λ p q l. Unit {0}) (λ p q r x y h k. tt) tt a s on whole tt in
+      let there = on_ahead shows nothing twice {P = Unit {0}} (λ p q l. Unit {0}) (λ p q r x y h k. tt) tt tt tt 0 a a s s mid start (record { addresses = ahead.addresses; goes = ahead.goes; there = ahead.there; noted = tt }) few in
+      let went : WentOn shows 0 a a s mid = record { log = there.log; is = there.is.is; counted = there.is.counted; alone = there.alone; got = there.got; on = there.on } in
+      subst (λ (u : Session). WentOn shows 0 a a u (with_left mid None)) (sym (told_same s whole)) (subst (λ (u : Session). WentOn shows 0 a a s u) (sym (told_same mid there.whole)) went)
+
+  pub stop_ahead : (full failed : S → Bool) (bound : ℕ) (Noted : List ℕ → Type 0) (a : S) (s new : Session) (h : Halt) → IsOn s → s.left ≡ None → new.left ≡ None → failed a ≡ false → StopsAhead Noted s new h → Ran shows full failed (λ l. Unit {0}) a a bound 0 (with_left s None) (with_left new None) (Err h)
+  stop_ahead full failed bound Noted a s new h on whole none works stops =
+      let start = on_start shows nothing twice {P = Unit {0}} (λ p q l. Unit {0}) (λ p q r x y h k. tt) tt a s on whole tt in
+      let ran = on_stop shows nothing twice {P = Unit {0}} (λ p q l. Unit {0}) (λ p q r x y h k. tt) full failed bound tt tt tt 0 a a s s new h start works
+      (record { addresses = stops.addresses; end = stops.end; pc = stops.pc; goes = stops.goes; few = stops.few; refusal = stops.refusal; refused = stops.refused; noted = tt; tells = stops.tells; free = stops.free }) in
+      subst (λ (u : Session). Ran shows full failed (λ l. Unit {0}) a a bound 0 u (with_left new None) (Err h)) (sym (told_same s whole)) (subst (λ (u : Session). Ran shows full failed (λ l. Unit {0}) a a bound 0 s u (Err h)) (sym (told_same new none)) ran)
+
+  -- ---- one after the other
+
+  left_here : (t s : Session) (m : Move) → t ≡ (moved s m).to → t.stopped ≡ None → IsLeftIn t (moved s m).to (moved s m).to.stopped
+  left_here t s m there runs = subst (IsLeftIn t (moved s m).to) (sym runs ∙ ap (λ (x : Session). x.stopped) there) there
+
+  pub went_one : (parts : ℕ) (a b : S) (s t : Session) → GoneBy shows parts a b s t → WentOn shows parts a b s t
+  unfolding passed after
+  went_one parts a b s t one = record {
+    log = (moved s one.move).entries;
+    is = record { moves = one.move ∷ []; is = sym (append-nil (moved s one.move).entries); left = left_here t s one.move one.there one.on.runs };
+    counted = one.counted;
+    alone = one.alone;
+    got = one.got;
+    on = one.on;
+  }
+
+  pub went_none : (a : S) (s : Session) → IsOn s → WentOn shows 0 a a s s
+  went_none a s on = record { log = []; is = (with_none s).is; counted = (with_none s).counted; alone = refl; got = nothing a; on = on }
+
+  pub went_both : (i j n : ℕ) (a b c : S) (s t u : Session) → i + j ≡ n → WentOn shows i a b s t → WentOn shows j b c t u → WentOn shows n a c s u
+  went_both i j n a b c s t u sum x y =
+      let both = with_both i j n s t u x.log y.log sum x.on.runs (record { is = x.is; counted = x.counted }) (record { is = y.is; counted = y.counted }) in
+      record { log = x.log ++ y.log; is = both.is; counted = both.counted; alone = answers_both x.log y.log x.alone y.alone; got = got_twice a b c x.log y.log x.got y.got; on = y.on }
+
+  -- ---- runs
+
+  module _ (full failed : S → Bool) where
+    -- what came to hold at a move came to hold at the last one
+    last_after : (holds : S → Bool) (i : ℕ) (a b c : S) (old s t : Session) (parts : ℕ) (x : WentOn shows i a b old s) (one : GoneBy shows parts b c s t) → holds b ≡ false → holds c ≡ true → AtLast shows holds a c old t (x.log ++ (moved s one.move).entries)
+    last_after holds i a b c old s t parts x one before after = record { first = x.log; mid = s; before = x.is; between = b; got = x.got; not = before; move = one.move; whole = refl; there = one.there; gets = one.got; now = after }
+
+    never : (a b : S) (old to : Session) (l : List Entry) → failed b ≡ false → failed a ≡ false → failed b ≡ true → AtLast shows failed a b old to l
+    never a b old to l works before after = absurd cc
+
+    -- after a move the screen has failed, or is full
+    pub ran_failed : (bound i j n : ℕ) (a b c : S) (old s t : Session) → i + j ≡ n → WentOn shows i a b old s → GoneBy shows j b c s t → failed b ≡ false → failed c ≡ true → Ran shows full failed (λ l. Unit {0}) a c bound n old t (Err (Err stops.Write))
+    unfolding went_both went_one
+    ran_failed bound i j n a b c old s t sum x one works broken =
+        let all = went_both i j n a b c old s t sum x (went_one j b c s t one) in
+        record { log = all.log; to = t; is = all.is; counted = all.counted; alone = all.alone; got = all.got; noted = inl tt; ends = (one.on.free, inr (inr (refl, one.on, broken, refl))); at_once = λ before after. last_after failed i a b c old s t j x one works after }
+
+    pub ran_full : (bound i j n : ℕ) (a b c : S) (old s t : Session) → i + j ≡ n → WentOn shows i a b old s → GoneBy shows j b c s t → failed c ≡ false → full b ≡ false → full c ≡ true → Ran shows full failed (λ l. Unit {0}) a c bound n old t (Ok tt)
+    unfolding went_both went_one
+    ran_full bound i j n a b c old s t sum x one works before after =
+        let all = went_both i j n a b c old s t sum x (went_one j b c s t one) in
+        record { log = all.log; to = t; is = all.is; counted = all.counted; alone = all.alone; got = all.got; noted = inl tt; ends = (refl, one.on, works, inr (last_after full i a b c old s t j x one before after)); at_once = never a c old t all.log works }
+
+    -- at the bound, or where no step is left
+    pub ran_bound : (bound i : ℕ) (a b : S) (old s : Session) (r : Result (Unit {0}) Halt) → WentOn shows i a b old s → failed b ≡ false → (s.state.steps < s.limits.steps → s.state.steps + i ≡ bound)
+        → MatchResult r (λ _. s.state.steps < s.limits.steps) (λ h. (h ≡ Err (stops.Limit s.state.pc Steps)) × (s.limits.steps ≤ s.state.steps)) → Ran shows full failed (λ l. Unit {0}) a b bound i old s r
+    ran_bound bound i a b old s (Ok u) x works at few = record { log = x.log; to = s; is = x.is; counted = x.counted; alone = x.alone; got = x.got; noted = inl tt; ends = (refl, x.on, works, inl (at few, few)); at_once = never a b old s x.log works }
+    ran_bound bound i a b old s (Err h) x works at few =
+        let is = move_is zero s x.on.runs x.on.free x.on.silent (omega (arith, few.1)) in
+        let says = subst (λ (p : Passed). Says p.entries no_text) (sym is) (says_stop (stops.Limit s.state.pc Steps)) in
+        let stopped : (moved s Goes).to.stopped ≡ Some (stops.Limit s.state.pc Steps) = ap (λ (p : Passed). p.to.stopped) is in
+        let both = with_both i 0 i old s (moved s Goes).to x.log (moved s Goes).entries (omega arith) x.on.runs (record { is = x.is; counted = x.counted }) (with_step s) in
+        record {
+          log = x.log ++ (moved s Goes).entries;
+          to = (moved s Goes).to;
+          is = both.is;
+          counted = both.counted;
+          alone = answers_both x.log (moved s Goes).entries x.alone says.alone;
+          got = got_twice a b b x.log (moved s Goes).entries x.got (says_got b b (moved s Goes).entries no_text says (nothing b));
+          noted = inl tt;
+          ends = rw (few.0) (x.on.free, inl stopped);
+          at_once = never a b old (moved s Goes).to (x.log ++ (moved s Goes).entries) works;
+        }
+
+    -- a run that does not go on, after others
+    pub ran_after : (bound bound' i j n : ℕ) (a b c : S) (old s new : Session) (h : Halt) → i + j ≡ n → WentOn shows i a b old s → failed b ≡ false → Ran shows full failed (λ l. Unit {0}) b c bound' j s new (Err h) → Ran shows full failed (λ l. Unit {0}) a c bound n old new (Err h)
+    ran_after bound bound' i j n a b c old s new h sum x works r =
+        let both = with_both i j n old s r.to x.log r.log sum x.on.runs (record { is = x.is; counted = x.counted }) (record { is = r.is; counted = r.counted }) in
+        record {
+          log = x.log ++ r.log;
+          to = r.to;
+          is = both.is;
+          counted = both.counted;
+          alone = answers_both x.log r.log x.alone r.alone;
+          got = got_twice a b c x.log r.log x.got r.got;
+          noted = inl tt;
+          ends = ends_after h r.ends;
+          at_once = λ before after. since_both x.log r.log (r.at_once works after);
+        }
+      where
+        ends_after : (y : Halt) → RunEnds shows full failed b c bound' j s r.to new r.log (Err y) → RunEnds shows full failed a c bound n old r.to new (x.log ++ r.log) (Err y)
+        ends_after (Ok event) ends = ends
+        ends_after (Err stop) ends = ends
+
+        since_both : (l m : List Entry) → AtLast shows failed b c s r.to m → AtLast shows failed a c old r.to (x.log ++ m)
+        since_both l m y = record {
+          first = x.log ++ y.first;
+          mid = y.mid;
+          before = logs_join old s y.mid x.log y.first x.is y.before;
+          between = y.between;
+          got = got_twice a b y.between x.log y.first x.got y.got;
+          not = y.not;
+          move = y.move;
+          whole = ap (λ (k : List Entry). x.log ++ k) y.whole ∙ sym (append_assoc x.log y.first (moved y.mid y.move).entries);
+          there = y.there;
+          gets = y.gets;
+          now = y.now;
+        }
