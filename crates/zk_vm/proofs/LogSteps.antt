@@ -18,15 +18,12 @@ use Rattle.zk_vm.specs.Log.{Entry, IsLog, Passed, address_told, addresses, answe
 use Rattle.zk_vm.specs.Log.Entry.{At, Scripted}
 use Rattle.zk_vm.specs.Log.Move.{Gets, Goes}
 use Rattle.zk_vm.specs.Logged.{AtLast, IsOn, LacksState, Ran, RunEnds, WasNoted}
+use Rattle.zk_vm.specs.Pausing.{told_due}
 use Rattle.zk_vm.specs.Sessions.{Session}
 use Rattle.zk_vm.specs.Step.{State, Verdict, step, state_after, text_of, verdict_of}
 use Rattle.zk_vm.specs.Step.Verdict.{GoesOn, WaitsFor, StopsBy}
 use Rattle.zk_vm.proofs.Ahead.{more_behind, none_behind, refused_step, silent_step}
 use Rattle.zk_vm.proofs.Logs.{LogWith, Says, addresses_both, answers_both, logs_join, move_is, no_log, says_nothing, says_script, says_step, says_stop, script_nowhere, step_stands, with_both, with_none, with_step}
-
--- a machine whose transcript got what it was still to get
-abbrev pub told_due : Session → Session
-told_due s = record s { state = record s.state { due = [] } }
 
 step_move : (s : Session) → IsOn s → s.left ≡ None → s.state.steps < s.limits.steps → moved s Goes ≡ stepped_to s (verdict_of s.state (step s.state)) (state_after s.state (step s.state)) (text_of s.state (step s.state))
 step_move s on whole room =

@@ -33,16 +33,13 @@ use Rattle.zk_vm.specs.Step.{State, Verdict, step, state_after, text_of, verdict
 use Rattle.zk_vm.specs.Step.Verdict.{GoesOn, WaitsFor, StopsBy}
 use Rattle.zk_vm.proofs.Logs.{LogWith, Says, answers_both, log_of_move, logs_join, move_is, no_log, says_address, says_step, says_stop, says_told, with_both, with_none, with_step}
 use Rattle.zk_vm.proofs.LogSteps.{On, on_ahead, on_start, on_stop}
-use Rattle.zk_vm.proofs.Pauses.{ShowsHalf, shows_half}
+use Rattle.zk_vm.proofs.Pauses.{ShowsHalf, same_instr, shows_half}
 
 -- ---- sessions
 
 -- a machine with no text left
 pub told_same : (s : Session) → s.left ≡ None → with_left s None ≡ s
 told_same s whole = ap (λ (left : Option Texts). let x : Session = record s { left = left } in x) (sym whole)
-
-same_instr : (r : Result Instr Fault) (i j : Instr) → r ≡ Ok i → r ≡ Ok j → i ≡ j
-same_instr r i j h k = let both : ◌≡◌ {A = Result Instr Fault} (Ok i) (Ok j) = sym h ∙ k in cc
 
 -- an instruction in the middle of its text keeps no state
 never_keeps : (found : GameState) (i : Instr) (codes : List ℕ) (draft : Windows) (h : Half) → IsHalf found i codes draft h → i.opcode ≡ Saving SaveUndo → ⊥
@@ -205,12 +202,6 @@ module _ {S : Type 0} (shows : S → S → List ℕ → List ℕ → Type 0) (no
           ends = rw memory (waits, inr (inl (refl, lacks)));
           at_once = λ before after. silent_since failed a b u (record { runs = on.runs; free = on.free; silent = on.silent }) none before after;
         }
-
-    -- where no instruction can be fetched
-    pub fault_on : (bound : ℕ) (a : S) (s new : Session) (half : Option Half) (codes : List ℕ) (draft : Windows) (f : Fault) (h : Halt) → IfSome half (StandsHalf s codes draft) → instr_at s.state.game.memory s.state.pc ≡ Err f → IsOn s → s.state.steps < s.limits.steps → failed a ≡ false
-        → IsStep s new (Err h) (λ t. shows a a t.screen t.script) → Ran shows full failed (λ l. Unit {0}) a a bound 0 (with_left s half) (with_left new None) (Err h)
-    fault_on bound a s new None codes draft f h stands fault on room works step = ended_on bound a a s new None codes draft h stands on room works step
-    fault_on bound a s new (Some x) codes draft f h stands fault on room works step = let both = sym stands.fetched ∙ fault in absurd cc
 
   -- ---- steps that are made in silence
 

@@ -34,16 +34,17 @@ use Rattle.zk_step.proofs.HalfEnds.{has_begun, long_routed}
 use Rattle.zk_step.proofs.Steps.{carried_ok}
 use Rattle.zk_step.proofs.WithinBounds.{move_is}
 use Rattle.zk_vm.specs.declared.machine.Machine.TheInside.{Inside}
+use Rattle.zk_vm.specs.declared.stop.Stop.TheVariants as stop
 use Rattle.zk_vm.specs.Going.{LacksMemory, Settles, stop_by}
 use Rattle.zk_vm.specs.Halts.{Halt, IsStep}
 use Rattle.zk_vm.specs.Log.{is_silent, text_shown}
-use Rattle.zk_vm.specs.Pausing.{GotDue}
+use Rattle.zk_vm.specs.Pausing.{GotDue, StandsHalf}
 use Rattle.zk_vm.specs.Sessions.{Session}
 use Rattle.zk_vm.specs.Sound.{state_seen}
 use Rattle.zk_vm.specs.Step.{State, Step, Verdict, asked, goes_by, settled, step, text_of, text_within, verdict_of}
 use Rattle.zk_vm.specs.Step.Step.{Goes as GoesTo, Faults}
 use Rattle.zk_vm.specs.Step.Verdict.{GoesOn}
-use Rattle.zk_vm.proofs.Advancing.{fetched_is, stepped_asked, stepped_err, stepped_on}
+use Rattle.zk_vm.proofs.Advancing.{fetched_is, stepped_asked, stepped_err, stepped_fault, stepped_on}
 use Rattle.zk_vm.proofs.Keeping.{seen}
 
 -- ---- its parts
@@ -196,3 +197,18 @@ pub made_err : {S : Type 0} (shows : S → S → List ℕ → List ℕ → Type 
 made_err {S} shows a b m new i None codes draft e answer half h told tells free text = stepped_err shows a b m new i e answer h told tells free (rw told text)
 made_err {S} shows a b m new i (Some y) codes draft e answer half h told tells free text =
     stepped_err (λ (u v : S) (cs ds : List ℕ). shows a b (rest_text m.game y.rest).screen (rest_text m.game y.rest).script) a b m new i e answer h told tells free (rw (refused_rest m.game i codes draft y e half told) text)
+
+-- ---- the instruction at the program counter
+
+pub same_instr : (r : Result Instr Fault) (i j : Instr) → r ≡ Ok i → r ≡ Ok j → i ≡ j
+same_instr r i j h k = let both : ◌≡◌ {A = Result Instr Fault} (Ok i) (Ok j) = sym h ∙ k in cc
+
+pub half_there : (s : Session) (i : Instr) (half : Option Half) (codes : List ℕ) (draft : Windows) → instr_at s.state.game.memory s.state.pc ≡ Ok i → IfSome half (StandsHalf s codes draft) → IfSome half (IsHalf s.state.game i codes draft)
+half_there s i None codes draft fetched stands = stands
+half_there s i (Some h) codes draft fetched stands =
+    subst (λ (j : Instr). IsHalf s.state.game j codes draft h) (same_instr (instr_at s.state.game.memory s.state.pc) stands.instruction i stands.fetched fetched) stands.half
+
+pub made_fault : {S : Type 0} (shows : S → S → List ℕ → List ℕ → Type 0) (a : S) (m : Inside) (new : Session) (half : Option Half) (codes : List ℕ) (draft : Windows) (f : Fault) (answer : Result (Unit {0}) Halt) → IfSome half (StandsHalf (seen m) codes draft) → instr_at m.game.memory m.pc ≡ Err f
+    → answer ≡ Err (Err (stop.Fault m.pc f)) → new.waiting ≡ None → shows a a [] [] → IsStep (seen m) new answer (GotDue shows a a m.game half)
+made_fault {S} shows a m new None codes draft f answer stands fault tells free none = stepped_fault shows a m new f answer fault tells free none
+made_fault {S} shows a m new (Some h) codes draft f answer stands fault tells free none = let both = sym stands.fetched ∙ fault in absurd cc

@@ -42,6 +42,16 @@ pub record IsCut {S : Type 0} (shows : S → S → List ℕ → List ℕ → Typ
   pub half : IsHalf old.state.game i codes draft h
   pub shown : ShowsSome shows a b (text_due old.state.game i before) (rest_text old.state.game h.rest)
 
+-- so it was of the instruction at the program counter
+pub record IsCutAt {S : Type 0} (shows : S → S → List ℕ → List ℕ → Type 0) (a b : S) (old new : Session) (before : Option Half) (codes : List ℕ) (draft : Windows) (h : Half) : Type 0 where
+  pub instruction : Instr
+  pub fetched : instr_at old.state.game.memory old.state.pc ≡ Ok instruction
+  pub cut : IsCut shows a b old new instruction before codes draft h
+
+-- a machine whose transcript got what it was still to get
+abbrev pub told_due : Session → Session
+told_due s = record s { state = record s.state { due = [] } }
+
 -- the text of a step, or the rest of it
 abbrev pub due_of : GameState → Option Half → Texts → Texts
 due_of w None t = t

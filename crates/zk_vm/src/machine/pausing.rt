@@ -10,7 +10,7 @@ ghost use Rattle.zk_vm.specs.Answers.{undone};
 ghost use Rattle.zk_vm.specs.Answers.Answer.{Typed};
 ghost use Rattle.zk_vm.specs.Halts.{IsLeftAs, IsLine, IsStep, IsUndone, event_waited};
 ghost use Rattle.zk_vm.specs.Logged.{Ran, halted};
-ghost use Rattle.zk_vm.specs.Pausing.{GoneBy, IsCut, IsMade, WentOn, parts_in};
+ghost use Rattle.zk_vm.specs.Pausing.{GoneBy, IsCut, IsCutAt, IsMade, StandsHalf, WentOn, parts_in, told_due};
 ghost use Rattle.zk_vm.specs.Plays.{AsksForLine};
 ghost use Rattle.zk_vm.specs.Sessions.{given, with_grid_forgotten, with_stop};
 ghost use Rattle.zk_vm.specs.Step.{is_read};
@@ -114,6 +114,62 @@ impl Machine {
             }
         }
     }
+
+    /// Carries out the instruction at the machine's program counter, or a part of it: then the machine stands as before.
+    fn step_part<S: Screen>(
+        &mut self,
+        half: Option<Half>,
+        codes: &mut Codes,
+        draft: &mut Windows,
+        screen: &mut S,
+    ) -> Result<Option<Half>, Halt>
+        requires room { self.old.state.steps < self.old.limits.steps }
+        requires free { self.old.waiting ≡ None }
+        requires runs { self.old.stopped ≡ None }
+        requires silent { self.old.state.due ≡ [] }
+        requires half { IfSome half (StandsHalf self.old codes.old draft.old) }
+        ensures part { IfOk result (λ p. IfSome p (IsCutAt S.shows screen.old screen.new self.old self.new
+            half codes.new draft.new)) }
+        ensures step { IsMade S.shows screen.old screen.new self.old self.new half result }
+        ensures silent { OnOk result (self.new.state.due ≡ self.old.state.due) }
+        ensures counted { IfOk result (λ p. p ≡ None → self.new.state.steps ≡ self.old.state.steps + 1) }
+        ensures reads { self.new.state.reads ≡ self.old.state.reads }
+        ensures more { self.old.state.steps ≤ self.new.state.steps }
+        ensures limits { self.new.limits ≡ self.old.limits }
+    {
+        match decode(&self.game.memory, self.pc) {
+            Ok(i) => self.advance_part(i, half, codes, draft, screen),
+            Err(fault) => {
+                let stop = Stop::Fault(self.pc, fault);
+                self.stopped = Some(stop);
+                Err(Err(stop))
+            }
+        }
+    }
+
+    /// How many steps were made since the last read was answered.
+    fn steps_made(&self) -> u32
+        ensures value { result ≡ self.now.state.steps }
+        ensures within { self.now.state.steps ≤ self.now.limits.steps }
+    {
+        self.steps
+    }
+
+    /// Why the machine has stopped, if it has.
+    fn stop(&self) -> Option<Stop>
+        ensures { result ≡ self.now.stopped }
+    {
+        self.stopped
+    }
+
+    /// The transcript gets what it is still to get.
+    fn get_due<S: Screen>(&mut self, screen: &mut S)
+        ensures due { self.new ≡ told_due self.old }
+        ensures shown { S.shows screen.old screen.new [] self.old.state.due }
+    {
+        script_all(screen, self.due.as_slice());
+        self.due.clear();
+    }
 }
 
 impl PausingMachine {
@@ -157,20 +213,19 @@ impl PausingMachine {
         ensures few { OnOk result (self.new.state.steps ≤ bound) }
         ensures limits { self.new.limits ≡ self.old.limits }
     {
-        if self.half.is_some() {
+        let None = self.half else {
             return Ok(());
-        }
+        };
         self.machine.is_told();
         match self.machine.go_ahead(&mut Unnoted, bound) {
-            Ok(()) => {
-                self.machine.is_told();
-                Ok(())
-            }
+            Ok(()) => {}
             Err(halt) => {
                 self.machine.is_told();
-                Err(halt)
+                return Err(halt);
             }
         }
+        self.machine.is_told();
+        Ok(())
     }
 
     /// One step, or a part of one. Says whether the step was made.
@@ -189,37 +244,7 @@ impl PausingMachine {
         ensures limits { self.new.limits ≡ self.old.limits }
     {
         self.machine.is_told();
-        match decode(&self.machine.game.memory, self.machine.pc) {
-            Ok(i) => self.advance(i, screen),
-            Err(fault) => {
-                self.half = None;
-                let stop = Stop::Fault(self.machine.pc, fault);
-                self.machine.stopped = Some(stop);
-                Err(Err(stop))
-            }
-        }
-    }
-
-    /// Carries out an instruction that was fetched from the program counter, or a part of it.
-    fn advance<S: Screen>(&mut self, i: Instr, screen: &mut S) -> Result<bool, Halt>
-        requires room { self.old.state.steps < self.old.limits.steps }
-        requires free { self.old.waiting ≡ None }
-        requires runs { self.old.stopped ≡ None }
-        requires silent { self.old.state.due ≡ [] }
-        requires works { S.failed screen.old ≡ false }
-        requires near { i.next ≤ 2 ^ 20 }
-        requires inside { self.old.state.pc < i.next }
-        requires fetched { instr_at self.old.state.game.memory self.old.state.pc ≡ Ok i }
-        ensures on { IfOk result (λ made. GoneBy S.shows (parts_in made) screen.old screen.new self.old self.new) }
-        ensures ends { IfErr result (λ h. Ran S.shows S.full S.failed (λ l. Unit {0}) screen.old screen.new 0 0
-            self.old self.new (Err h)) }
-        ensures counted { IfOk result (λ made. self.new.state.steps + parts_in made ≡ self.old.state.steps + 1) }
-        ensures reads { self.new.state.reads ≡ self.old.state.reads }
-        ensures more { self.old.state.steps ≤ self.new.state.steps }
-        ensures limits { self.new.limits ≡ self.old.limits }
-    {
-        self.machine.is_told();
-        match self.machine.advance_part(i, self.half, &mut self.codes, &mut self.draft, screen) {
+        match self.machine.step_part(self.half, &mut self.codes, &mut self.draft, screen) {
             Ok(Some(half)) => {
                 self.half = Some(half);
                 Ok(false)
@@ -251,16 +276,16 @@ impl PausingMachine {
         ensures more { self.old.state.steps ≤ self.new.state.steps }
         ensures limits { self.new.limits ≡ self.old.limits }
     {
-        self.machine.is_within();
-        let end = self.machine.steps as u64 + most as u64;
+        let end = self.machine.steps_made() as u64 + most as u64;
         let mut parts: u32 = 0;
         for _i in 0..most {
-            let bound = (end - parts as u64).min(self.machine.limits.steps as u64) as u32;
+            let limit = self.machine.limits().steps as u64;
+            let bound = (end - parts as u64).min(limit) as u32;
             match self.go_ahead(screen, bound) {
                 Ok(()) => {}
                 Err(halt) => return Err(halt),
             }
-            if self.machine.steps >= bound {
+            if self.machine.steps_made() >= bound {
                 return self.machine.pause();
             }
             match self.step(screen) {
@@ -301,14 +326,12 @@ impl PausingMachine {
         ensures runs { OnOk result (self.new.stopped ≡ None) }
         ensures limits { self.new.limits ≡ self.old.limits }
     {
-        if let Some(stop) = self.machine.stopped {
+        if let Some(stop) = self.machine.stop() {
             return Err(stop);
         }
-        script_all(screen, self.machine.due.as_slice());
-        self.machine.due.clear();
+        self.get_due(screen);
         if screen.has_failed() {
-            self.half = None;
-            self.machine.stopped = Some(Stop::Write);
+            self.close(Stop::Write);
             return Err(Stop::Write);
         }
         if screen.is_full() {
@@ -318,10 +341,27 @@ impl PausingMachine {
             Ok(()) => Ok(None),
             Err(Ok(event)) => Ok(Some(event)),
             Err(Err(stop)) => {
-                self.half = None;
-                self.machine.stopped = Some(stop);
+                self.close(stop);
                 Err(stop)
             }
         }
+    }
+
+    /// Ends the machine with a stop, in place of one that it may have. It waits for nothing, and shows nothing more.
+    pub fn close(&mut self, stop: Stop)
+        ensures { self.new ≡ with_stop self.old stop }
+    {
+        self.half = None;
+        self.machine.close(stop);
+    }
+
+    /// The transcript gets what it is still to get.
+    fn get_due<S: Screen>(&mut self, screen: &mut S)
+        requires free { self.old.waiting ≡ None }
+        requires runs { self.old.stopped ≡ None }
+        ensures due { self.new ≡ told_due self.old }
+        ensures shown { S.shows screen.old screen.new [] self.old.state.due }
+    {
+        self.machine.get_due(screen);
     }
 }
