@@ -1,5 +1,5 @@
 -- A machine in the middle of an instruction's text, as contracts see it.
-use Rattle.std.specs.Prelude.{◌≡◌, ◌<◌, ℕ, Bool, true, false, List, [], ◌∷◌, IfSome, Option, Some, None, Result, Ok, Err}
+use Rattle.std.specs.Prelude.{◌≡◌, ◌<◌, ℕ, List, [], ◌∷◌, IfSome, Option, Some, None, Result, Ok, Err}
 use Rattle.zk_code.specs.declared.instr.Instr.{Instr}
 use Rattle.zk_code.specs.Reading.{instr_at}
 use Rattle.zk_term.specs.Windows.{Windows}
@@ -67,11 +67,6 @@ IsMade {S} shows a b old new half (Ok None) = IsStep old new (Ok tt) (GotDue sho
 IsMade {S} shows a b old new half (Err h) = IsStep old new (Err h) (GotDue shows a b old.state.game half)
 
 -- ---- how a machine goes on
-
--- a step was made, or a part of its text was shown
-abbrev pub parts_in : Bool → ℕ
-parts_in true = 0
-parts_in false = 1
 
 -- a machine went on, and a screen got what passed
 pub record WentOn {S : Type 0} (shows : S → S → List ℕ → List ℕ → Type 0) (parts : ℕ) (a b : S) (s t : Session) : Type 0 where

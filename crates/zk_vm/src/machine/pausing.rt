@@ -10,7 +10,7 @@ ghost use Rattle.zk_vm.specs.Answers.{undone};
 ghost use Rattle.zk_vm.specs.Answers.Answer.{Typed};
 ghost use Rattle.zk_vm.specs.Halts.{IsLeftAs, IsLine, IsStep, IsUndone, event_waited};
 ghost use Rattle.zk_vm.specs.Logged.{Ran, halted};
-ghost use Rattle.zk_vm.specs.Pausing.{GoneBy, IsCut, IsCutAt, IsMade, StandsHalf, WentOn, parts_in, told_due};
+ghost use Rattle.zk_vm.specs.Pausing.{GoneBy, IsCut, IsCutAt, IsMade, StandsHalf, WentOn, told_due};
 ghost use Rattle.zk_vm.specs.Plays.{AsksForLine};
 ghost use Rattle.zk_vm.specs.Sessions.{given, with_grid_forgotten, with_stop};
 ghost use Rattle.zk_vm.specs.Step.{is_read};
@@ -228,17 +228,17 @@ impl PausingMachine {
         Ok(())
     }
 
-    /// One step, or a part of one. Says whether the step was made.
-    fn step<S: Screen>(&mut self, screen: &mut S) -> Result<bool, Halt>
+    /// One step, or a part of one. Says how many parts were shown.
+    fn step<S: Screen>(&mut self, screen: &mut S) -> Result<u32, Halt>
         requires room { self.old.state.steps < self.old.limits.steps }
         requires free { self.old.waiting ≡ None }
         requires runs { self.old.stopped ≡ None }
         requires silent { self.old.state.due ≡ [] }
         requires works { S.failed screen.old ≡ false }
-        ensures on { IfOk result (λ made. GoneBy S.shows (parts_in made) screen.old screen.new self.old self.new) }
+        ensures on { IfOk result (λ parts. GoneBy S.shows parts screen.old screen.new self.old self.new) }
         ensures ends { IfErr result (λ h. Ran S.shows S.full S.failed (λ l. Unit {0}) screen.old screen.new 0 0
             self.old self.new (Err h)) }
-        ensures counted { IfOk result (λ made. self.new.state.steps + parts_in made ≡ self.old.state.steps + 1) }
+        ensures counted { IfOk result (λ parts. self.new.state.steps + parts ≡ self.old.state.steps + 1) }
         ensures reads { self.new.state.reads ≡ self.old.state.reads }
         ensures more { self.old.state.steps ≤ self.new.state.steps }
         ensures limits { self.new.limits ≡ self.old.limits }
@@ -247,12 +247,12 @@ impl PausingMachine {
         match self.machine.step_part(self.half, &mut self.codes, &mut self.draft, screen) {
             Ok(Some(half)) => {
                 self.half = Some(half);
-                Ok(false)
+                Ok(1)
             }
             Ok(None) => {
                 self.half = None;
                 self.machine.is_told();
-                Ok(true)
+                Ok(0)
             }
             Err(halt) => {
                 self.half = None;
@@ -289,8 +289,7 @@ impl PausingMachine {
                 return self.machine.pause();
             }
             match self.step(screen) {
-                Ok(true) => {}
-                Ok(false) => parts += 1,
+                Ok(shown) => parts += shown,
                 Err(halt) => return Err(halt),
             }
             if screen.has_failed() {
