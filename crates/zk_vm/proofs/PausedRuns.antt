@@ -1,6 +1,7 @@
 -- The log of a run that pauses in texts.
-use Rattle.std.proofs.Common.{◌≡◌, ◌∙◌, ◌<◌, ◌≤◌, ◌-◌, ◌+◌, ◌⊎◌, inl, inr, ℕ, zero, suc, Bool, true, false, List, [], ◌∷◌, ◌++◌, IfSome, append_assoc, append-nil, Option, Some, None, Result, Ok, Err, refl, ap, sym, subst, arith}
+use Rattle.std.proofs.Common.{◌≡◌, ◌∙◌, ◌<◌, ◌≤◌, ◌-◌, ◌+◌, ◌⊎◌, inl, inr, ℕ, zero, suc, Bool, true, false, List, [], ◌∷◌, ◌++◌, IfSome, append_assoc, append-nil, Option, Some, None, Result, Ok, Err, refl, ap, sym, subst, arith, nat_le}
 use Rattle.std.specs.Prelude.{MatchResult}
+use Rattle.std.proofs.lemmas.Bool.Decides.{nat_tests}
 use Rattle.std.proofs.lemmas.List.Elements.{filter_map-append}
 use Rattle.zk_mem.specs.declared.fault.Fault.{Fault}
 use Rattle.zk_code.specs.declared.instr.Instr.{Instr}
@@ -23,16 +24,16 @@ use Rattle.zk_vm.specs.declared.stop.Stop.TheVariants as stops
 use Rattle.zk_vm.specs.declared.waiting.Waiting.{Waiting}
 use Rattle.zk_vm.specs.Going.{GoesAhead, IsAhead, StopsAhead}
 use Rattle.zk_vm.specs.Answers.Answer.{Typed}
-use Rattle.zk_vm.specs.Halts.{Halt, IsKeeping, IsLeftAt, IsStep, StepsTo, halt_by}
+use Rattle.zk_vm.specs.Halts.{CanAnswer, Halt, IsAnswerable, IsKeeping, IsLeftAt, IsStep, StepsTo, event_waited, halt_by}
 use Rattle.zk_vm.specs.Log.{Entry, IsLeftIn, IsLog, Move, Passed, address_told, after, answers_in, is_silent, moved, parted, parted_to, part_shown, parts_of, passed, scripted, scripted_in, shown, shown_in, stepped_to, text_first, text_later, text_left, text_shown, told}
 use Rattle.zk_vm.specs.Log.Move.{Gets, Goes, Part}
 use Rattle.zk_vm.specs.Logged.{AtLast, IsOn, LacksState, Ran, RunEnds}
 use Rattle.zk_vm.specs.Pausing.{GoneBy, GotDue, IsCut, StandsHalf, WentOn, due_of, left_of, with_left}
 use Rattle.zk_vm.specs.Sessions.{Session}
-use Rattle.zk_vm.specs.Step.{State, Verdict, step, state_after, text_of, verdict_of}
+use Rattle.zk_vm.specs.Step.{State, Verdict, is_past_reads, is_read, most_reads, step, state_after, text_of, verdict_of}
 use Rattle.zk_vm.specs.Step.Verdict.{GoesOn, WaitsFor, StopsBy}
 use Rattle.zk_vm.proofs.Logs.{LogWith, Says, answers_both, log_of_move, logs_join, move_is, no_log, says_address, says_step, says_stop, says_told, with_both, with_none, with_step}
-use Rattle.zk_vm.proofs.LogSteps.{On, on_ahead, on_start, on_stop}
+use Rattle.zk_vm.proofs.LogSteps.{On, on_ahead, on_start, on_stop, waits_so}
 use Rattle.zk_vm.proofs.Pauses.{ShowsHalf, same_instr, shows_half}
 
 -- ---- sessions
@@ -321,3 +322,23 @@ module _ {S : Type 0} (shows : S → S → List ℕ → List ℕ → Type 0) (no
           gets = y.gets;
           now = y.now;
         }
+
+-- ---- an event
+
+few_reads : (n : ℕ) (e : Event) → is_read e ≡ true → is_past_reads n e ≡ false → n < 16777216
+few_reads n e read h =
+    let few : nat_le most_reads n ≡ false = rw read at h in
+    grind (arith, nat_tests, few)
+
+pub record Awaited (s : Session) (e : Event) : Type 0 where
+  pub reads : is_read e ≡ true → s.state.reads < 16777216
+  pub steps : s.state.steps < s.limits.steps
+  pub runs : s.stopped ≡ None
+
+-- a machine that waits for an event
+pub awaits_so : (s t : Session) (e : Event) → CanAnswer s.state s.limits s.stopped s.waiting → (s ≡ t) × (event_waited t.waiting ≡ Some e) → Awaited s e
+awaits_so s t e can (same, event) =
+    let w = waits_so t.waiting e event in
+    let there : s.waiting ≡ Some w.0 = ap (λ (m : Session). m.waiting) same ∙ w.1.0 in
+    let now : IsAnswerable s.state s.limits s.stopped w.0 = subst (CanAnswer s.state s.limits s.stopped) there can in
+    record { reads = λ read. few_reads s.state.reads e read (rw w.1.1 at now.reads); steps = now.steps; runs = now.runs }

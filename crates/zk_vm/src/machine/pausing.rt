@@ -8,7 +8,7 @@ ghost use Rattle.zk_step.specs.Halves.{IsHalf, ShowsSome, rest_text, text_due};
 ghost use Rattle.zk_step.specs.Routing.{Texts};
 ghost use Rattle.zk_vm.specs.Answers.{undone};
 ghost use Rattle.zk_vm.specs.Answers.Answer.{Typed};
-ghost use Rattle.zk_vm.specs.Halts.{IsLeftAs, IsLine, IsStep, IsUndone, event_waited};
+ghost use Rattle.zk_vm.specs.Halts.{CanAnswer, IsLeftAs, IsLine, IsStep, IsUndone, event_waited};
 ghost use Rattle.zk_vm.specs.Logged.{Ran, halted};
 ghost use Rattle.zk_vm.specs.Pausing.{GoneBy, IsCut, IsCutAt, IsMade, StandsHalf, WentOn, told_due};
 ghost use Rattle.zk_vm.specs.Plays.{AsksForLine};
@@ -153,6 +153,13 @@ impl Machine {
         ensures within { self.now.state.steps ≤ self.now.limits.steps }
     {
         self.steps
+    }
+
+    /// A machine that waits can be answered.
+    fn is_answerable(&self)
+        ensures { CanAnswer self.now.state self.now.limits self.now.stopped self.now.waiting }
+    {
+        let _ = &self.waiting;
     }
 
     /// Why the machine has stopped, if it has.
@@ -338,7 +345,10 @@ impl PausingMachine {
         }
         match self.steps_in_parts(screen, most) {
             Ok(()) => Ok(None),
-            Err(Ok(event)) => Ok(Some(event)),
+            Err(Ok(event)) => {
+                self.machine.is_answerable();
+                Ok(Some(event))
+            }
             Err(Err(stop)) => {
                 self.close(stop);
                 Err(stop)
