@@ -8,7 +8,8 @@ use Rattle.zk_step.specs.Routing.{Texts}
 use Rattle.zk_vm.specs.declared.stop.Stop.{Stop}
 use Rattle.zk_vm.specs.declared.waiting.Waiting.{Waiting}
 use Rattle.zk_vm.specs.Answers.{Answer}
-use Rattle.zk_vm.specs.Log.{Entry, IsPrefix, Move, OneLog, PartsJoin, PartsOnlyDivide, Passed, address_told, answer_in, answers_in, goes_by, is_silent, moved, moved_by, part_shown, parted, parted_to, parts_by, passed, stepped, stepped_to, text_first, text_later, text_left, text_shown, told, woven}
+use Rattle.zk_step.specs.Halves.{text_first, text_later}
+use Rattle.zk_vm.specs.Log.{Entry, IsPrefix, Move, OneLog, PartsJoin, PartsOnlyDivide, Passed, address_told, answer_in, answers_in, goes_by, is_silent, moved, moved_by, part_shown, parted, parted_to, parts_by, passed, stepped, stepped_to, text_left, text_shown, told, woven}
 use Rattle.zk_vm.specs.Log.Entry.{Scripted, Shown, Stopped}
 use Rattle.zk_vm.specs.Log.Move.{Gets, Goes, Part}
 use Rattle.zk_vm.specs.Sessions.{Session}

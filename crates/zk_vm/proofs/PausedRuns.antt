@@ -3,7 +3,6 @@ use Rattle.std.proofs.Common.{◌≡◌, ◌∙◌, ◌<◌, ◌≤◌, ◌-◌,
 use Rattle.std.specs.Prelude.{MatchResult}
 use Rattle.std.proofs.lemmas.Bool.Decides.{nat_tests}
 use Rattle.std.proofs.lemmas.List.Elements.{filter_map-append}
-use Rattle.zk_mem.specs.declared.fault.Fault.{Fault}
 use Rattle.zk_code.specs.declared.instr.Instr.{Instr}
 use Rattle.zk_code.specs.declared.opcode.Opcode.TheVariants.{Saving}
 use Rattle.zk_code.specs.declared.opcode.Saving.TheVariants.{SaveUndo}
@@ -15,25 +14,23 @@ use Rattle.zk_step.specs.declared.state.ending.Effect.{Effect}
 use Rattle.zk_step.specs.declared.state.ending.Event.{Event}
 use Rattle.zk_step.specs.declared.state.game_state.GameState.{GameState}
 use Rattle.zk_step.specs.Effects.{effect_of}
-use Rattle.zk_step.specs.Halves.{IsHalf, rest_text, text_due}
+use Rattle.zk_step.specs.Halves.{IsHalf, rest_text, text_due, text_first, text_later}
 use Rattle.zk_step.specs.Printing.{IsLong}
 use Rattle.zk_step.specs.Routing.{Texts, no_text}
 use Rattle.zk_step.specs.Saving.{saving}
-use Rattle.zk_vm.specs.declared.stop.Stop.{Stop}
 use Rattle.zk_vm.specs.declared.stop.Stop.TheVariants as stops
-use Rattle.zk_vm.specs.declared.waiting.Waiting.{Waiting}
-use Rattle.zk_vm.specs.Going.{GoesAhead, IsAhead, StopsAhead}
+use Rattle.zk_vm.specs.Going.{GoesAhead, StopsAhead}
 use Rattle.zk_vm.specs.Answers.Answer.{Typed}
 use Rattle.zk_vm.specs.Halts.{CanAnswer, Halt, IsAnswerable, IsKeeping, IsLeftAt, IsStep, StepsTo, event_waited, halt_by}
-use Rattle.zk_vm.specs.Log.{Entry, IsLeftIn, IsLog, Move, Passed, address_told, after, answers_in, is_silent, moved, parted, parted_to, part_shown, parts_of, passed, scripted, scripted_in, shown, shown_in, stepped_to, text_first, text_later, text_left, text_shown, told}
+use Rattle.zk_vm.specs.Log.{Entry, IsLeftIn, Move, Passed, after, is_silent, moved, parted, parted_to, part_shown, parts_of, passed, scripted, scripted_in, shown, shown_in, stepped_to, text_left, text_shown, told}
 use Rattle.zk_vm.specs.Log.Move.{Gets, Goes, Part}
 use Rattle.zk_vm.specs.Logged.{AtLast, IsOn, LacksState, Ran, RunEnds}
 use Rattle.zk_vm.specs.Pausing.{GoneBy, GotDue, IsCut, StandsHalf, WentOn, due_of, left_of, with_left}
 use Rattle.zk_vm.specs.Sessions.{Session}
 use Rattle.zk_vm.specs.Step.{State, Verdict, is_past_reads, is_read, most_reads, step, state_after, text_of, verdict_of}
 use Rattle.zk_vm.specs.Step.Verdict.{GoesOn, WaitsFor, StopsBy}
-use Rattle.zk_vm.proofs.Logs.{LogWith, Says, answers_both, log_of_move, logs_join, move_is, no_log, says_address, says_step, says_stop, says_told, with_both, with_none, with_step}
-use Rattle.zk_vm.proofs.LogSteps.{On, on_ahead, on_start, on_stop, waits_so}
+use Rattle.zk_vm.proofs.Logs.{Says, answers_both, logs_join, move_is, no_log, says_address, says_step, says_stop, says_told, with_both, with_none, with_step}
+use Rattle.zk_vm.proofs.LogSteps.{on_ahead, on_start, on_stop, waits_so}
 use Rattle.zk_vm.proofs.Pauses.{ShowsHalf, same_instr, shows_half}
 
 -- ---- sessions

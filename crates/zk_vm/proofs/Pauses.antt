@@ -1,5 +1,5 @@
 -- An instruction in the middle of its text, as a step.
-use Rattle.std.proofs.Common.{◌≡◌, ◌∙◌, ◌⊎◌, inl, inr, ℕ, Bool, true, false, List, [], Option, Some, None, Result, Ok, Err, IsOk, IfSome, ◌+◌, ◌++◌, take, drop, append-nil, refl, ap, sym, subst}
+use Rattle.std.proofs.Common.{◌≡◌, ◌∙◌, ◌⊎◌, inl, inr, ℕ, true, List, [], Option, Some, None, Result, Ok, Err, IsOk, IfSome, ◌+◌, ◌++◌, take, drop, append-nil, refl, ap, sym, subst}
 use Rattle.std.proofs.lemmas.List.{take-append-drop}
 use Rattle.zk_mem.specs.declared.fault.Fault.{Fault}
 use Rattle.zk_mem.specs.Results.{◌>>=◌}
@@ -25,8 +25,8 @@ use Rattle.zk_step.specs.Finish.{finished}
 use Rattle.zk_step.specs.Halves.{IsHalf, IsOnWay, ShowsSome, rest_text, rest_text_by, rest_units, text_due}
 use Rattle.zk_step.specs.Instructions.{HasBegun, carried_out}
 use Rattle.zk_step.specs.Limited.{kept, limited_move, limited_next, text_in}
-use Rattle.zk_step.specs.Printing.{IsLong, IsPlainEnd, characters_of, units_of}
-use Rattle.zk_step.specs.Routing.{Texts, no_text, ends_line, routed, routed_by, routed_to, shown_if, stored_all, streamed, table_filled, with_line_start}
+use Rattle.zk_step.specs.Printing.{IsPlainEnd, characters_of, units_of}
+use Rattle.zk_step.specs.Routing.{Texts, no_text, ends_line, routed, routed_by, routed_to, shown_if, stored_all, streamed, table_filled}
 use Rattle.zk_step.specs.Streams.{newest_of}
 use Rattle.zk_step.proofs.Ends.{ends_as}
 use Rattle.zk_step.proofs.HalfDues.{same_rest}
@@ -41,7 +41,7 @@ use Rattle.zk_vm.specs.Log.{is_silent, text_shown}
 use Rattle.zk_vm.specs.Pausing.{GotDue, StandsHalf}
 use Rattle.zk_vm.specs.Sessions.{Session}
 use Rattle.zk_vm.specs.Sound.{state_seen}
-use Rattle.zk_vm.specs.Step.{State, Step, Verdict, asked, goes_by, settled, step, text_of, text_within, verdict_of}
+use Rattle.zk_vm.specs.Step.{State, asked, goes_by, settled, step, text_of, text_within, verdict_of}
 use Rattle.zk_vm.specs.Step.Step.{Goes as GoesTo, Faults}
 use Rattle.zk_vm.specs.Step.Verdict.{GoesOn}
 use Rattle.zk_vm.proofs.Advancing.{fetched_is, stepped_asked, stepped_err, stepped_fault, stepped_on}

@@ -1,10 +1,11 @@
 -- The log of a machine: what passes between it and its world, in order.
-use Rattle.std.specs.Prelude.{◌≡◌, ◌⊎◌, ◌-◌, ◌+◌, ◌++◌, ◌==◌, ◌&&◌, ℕ, zero, suc, Bool, true, false, List, [], ◌∷◌, drop, filter_map, length, map, take, Option, Some, None}
+use Rattle.std.specs.Prelude.{◌≡◌, ◌⊎◌, ◌-◌, ◌+◌, ◌++◌, ◌==◌, ◌&&◌, ℕ, zero, suc, Bool, true, false, List, [], ◌∷◌, filter_map, length, map, Option, Some, None}
 use Rattle.zk_text.specs.Extra.{ExtraTable, own_characters}
 use Rattle.zk_state.specs.declared.refusal.Limit.TheVariants.{Steps}
 use Rattle.zk_save.specs.declared.restore.RestoreError.{RestoreError}
 use Rattle.zk_step.specs.declared.state.ending.Event.{Event}
 use Rattle.zk_step.specs.declared.state.ending.Event.TheVariants.{Line, Char, Save, Restore}
+use Rattle.zk_step.specs.Halves.{text_first, text_later}
 use Rattle.zk_step.specs.Routing.{Texts, no_text}
 use Rattle.zk_vm.specs.declared.stop.Stop.{Stop}
 use Rattle.zk_vm.specs.declared.stop.Stop.TheVariants.{Limit as LimitAt}
@@ -52,13 +53,6 @@ stop_told None = []
 stop_told (Some stop) = Stopped stop ∷ []
 
 -- ---- parts of a text
-
--- the first characters of a text, of each device, and the others
-abbrev pub text_first : ℕ → Texts → Texts
-text_first n t = record { screen = take n t.screen; script = take n t.script }
-
-abbrev pub text_later : ℕ → Texts → Texts
-text_later n t = record { screen = drop n t.screen; script = drop n t.script }
 
 -- what is still to come of the text of the next step: all of it, unless a part was shown
 abbrev pub text_left : Option Texts → State → Texts

@@ -1,13 +1,14 @@
 // A machine that pauses in the middle of an instruction's text.
 
-ghost use Rattle.std.specs.Prelude.{◌≡◌, ◌≤◌, ◌<◌, ◌+◌, ◌^◌, true, false, [], ℕ, Some, None, Ok, Err, IfErr, IfOk, IfSome, OnOk, OnErr, OnSome};
+ghost use Rattle.std.specs.Prelude.{◌≡◌, ◌≤◌, ◌<◌, ◌+◌, ◌^◌, ◌⊎◌, true, false, [], ◌∷◌, ℕ, Some, None, Ok, Err, IfErr, IfOk, IfSome, OnOk, OnErr, OnSome};
 ghost use Rattle.std.specs.List.{AllByRecursion};
 ghost use Rattle.std.specs.Prelude.{length, option_copied};
 ghost use Rattle.zk_code.specs.Reading.{instr_at};
 ghost use Rattle.zk_step.specs.Halves.{IsHalf, ShowsSome, rest_text, text_due};
 ghost use Rattle.zk_step.specs.Routing.{Texts};
 ghost use Rattle.zk_vm.specs.Answers.{undone};
-ghost use Rattle.zk_vm.specs.Answers.Answer.{Typed};
+ghost use Rattle.zk_text.specs.Extra.{is_input_code};
+ghost use Rattle.zk_vm.specs.Answers.Answer.{Typed, GameKept, File};
 ghost use Rattle.zk_vm.specs.Halts.{CanAnswer, IsLeftAs, IsLine, IsStep, IsUndone, event_waited};
 ghost use Rattle.zk_vm.specs.Logged.{Ran, halted};
 ghost use Rattle.zk_vm.specs.Pausing.{GoneBy, IsCut, IsCutAt, IsMade, StandsHalf, WentOn, told_due};
@@ -251,7 +252,10 @@ impl PausingMachine {
         ensures limits { self.new.limits ≡ self.old.limits }
     {
         self.machine.is_told();
-        match self.machine.step_part(self.half, &mut self.codes, &mut self.draft, screen) {
+        match self
+            .machine
+            .step_part(self.half, &mut self.codes, &mut self.draft, screen)
+        {
             Ok(Some(half)) => {
                 self.half = Some(half);
                 Ok(1)
@@ -372,5 +376,79 @@ impl PausingMachine {
         ensures shown { S.shows screen.old screen.new [] self.old.state.due }
     {
         self.machine.get_due(screen);
+    }
+
+    /// Answers a read by the codes of a line, as `Machine::answer_line`.
+    pub fn answer_line(&mut self, codes: &[u8])
+        requires waits { IsLine (event_waited self.old.waiting) }
+        requires few { length codes.now ≤ 255 }
+        requires typed { AllByRecursion (λ c. is_input_code c ≡ true) codes.now }
+        ensures left { IsLeftAs self.new (given self.old (Typed codes.now))
+            (given self.old (Typed codes.now)).stopped }
+    {
+        self.half = None;
+        self.machine.is_told();
+        self.machine.answer_line(codes);
+        self.machine.is_told();
+    }
+
+    /// Answers a read by the code of a character, as `Machine::answer_char`.
+    pub fn answer_char(&mut self, code: u8)
+        requires waits { event_waited self.old.waiting ≡ Some Event.Char }
+        requires typed { (code ≡ 13) ⊎ (is_input_code code ≡ true) }
+        ensures left { IsLeftAs self.new (given self.old (Typed (code ∷ [])))
+            (given self.old (Typed (code ∷ []))).stopped }
+    {
+        self.half = None;
+        self.machine.is_told();
+        self.machine.answer_char(code);
+        self.machine.is_told();
+    }
+
+    /// Answers whether a saved game is kept, as `Machine::answer_save`.
+    pub fn answer_save(&mut self, kept: bool)
+        requires waits { event_waited self.old.waiting ≡ Some Event.Save }
+        ensures left { IsLeftAs self.new (given self.old (GameKept kept))
+            (given self.old (GameKept kept)).stopped }
+    {
+        self.half = None;
+        self.machine.is_told();
+        self.machine.answer_save(kept);
+        self.machine.is_told();
+    }
+
+    /// Answers by a saved game, or by none, as `Machine::answer_restore`.
+    pub fn answer_restore(&mut self, file: Option<&[u8]>)
+        requires waits { event_waited self.old.waiting ≡ Some Event.Restore }
+        ensures left { IsLeftAs self.new (given self.old (File (option_copied file.entry)))
+            (given self.old (File (option_copied file.entry))).stopped }
+    {
+        self.half = None;
+        self.machine.is_told();
+        self.machine.answer_restore(file);
+        self.machine.is_told();
+    }
+
+    /// Goes back to the newest state that is kept, as `Machine::go_back`.
+    pub fn go_back(&mut self) -> bool
+        requires waits { AsksForLine self.old }
+        ensures undone { IsUndone self.old self.new result (undone self.old.state) }
+    {
+        self.half = None;
+        self.machine.is_told();
+        let done = self.machine.go_back();
+        self.machine.is_told();
+        done
+    }
+
+    /// Forgets the grid of the upper window that is gone, as `Machine::forget_grid`. The machine waits.
+    pub fn forget_grid(&mut self)
+        requires { self.old.waiting ≡ None → ⊥ }
+        ensures { self.new ≡ with_grid_forgotten self.old }
+    {
+        self.half = None;
+        self.machine.is_told();
+        self.machine.forget_grid();
+        self.machine.is_told();
     }
 }

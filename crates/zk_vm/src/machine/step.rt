@@ -55,35 +55,6 @@ impl Machine {
         }
     }
 
-    /// Runs the story as `run` does, but pauses after so many instructions, and after a step at which the screen comes to ask
-    /// for it: then it answers none, and goes on from there when it is run again. It is not waiting, and the screen does not
-    /// ask for a pause.
-    pub fn run_for<S: Screen>(&mut self, screen: &mut S, most: u32) -> Result<Option<Event>, Stop>
-        requires free { self.old.waiting ≡ None }
-        requires room { S.full screen.old ≡ false }
-        ensures logged { Ran S.shows S.full S.failed (λ l. Unit {0}) screen.old screen.new
-            (self.old.state.steps + most) 0 self.old self.new (halted result) }
-        ensures stops { IfErr result (λ stop. self.new.stopped ≡ Some stop) }
-        ensures free { OnErr result (self.new.waiting ≡ None) }
-        ensures asks { IfOk result (λ event. event_waited self.new.waiting ≡ event) }
-        ensures reads { IfOk result (λ asked. IfSome asked
-            (λ event. is_read event ≡ true → self.new.state.reads < 16777216)) }
-        ensures same_reads { OnOk result (self.new.state.reads ≡ self.old.state.reads) }
-        ensures more { OnOk result (self.old.state.steps ≤ self.new.state.steps) }
-        ensures steps { IfOk result
-            (λ asked. OnSome asked (self.new.state.steps < self.new.limits.steps)) }
-        ensures runs { OnOk result (self.new.stopped ≡ None) }
-        ensures word { self.old.limits.steps < 2 ^ 32 }
-        ensures limits { self.new.limits ≡ self.old.limits }
-        ensures frames { IsBounded self.new.state.game.frames }
-        ensures within { IsWithin self.new.limits self.new.state }
-    {
-        match self.run_for_noting(screen, &mut Unnoted, most) {
-            Ok(asked) => Ok(asked),
-            Err(stop) => Err(stop),
-        }
-    }
-
     /// Runs the story as `run` does, and notes where the instructions stand that it carries out.
     pub fn run_noting<S: Screen, P: Places>(
         &mut self,
@@ -114,8 +85,10 @@ impl Machine {
         }
     }
 
-    /// Runs the story as `run_for` does, and notes where the instructions stand that it carries out.
-    pub fn run_for_noting<S: Screen, P: Places>(
+    /// Runs the story as `run` does, but pauses after so many instructions, and after a step at which the screen comes to ask
+    /// for it: then it answers none. Notes where the instructions stand that it carries out. It is not waiting, and the screen
+    /// does not ask for a pause.
+    fn run_for_noting<S: Screen, P: Places>(
         &mut self,
         screen: &mut S,
         places: &mut P,
@@ -300,7 +273,12 @@ impl Machine {
     }
 
     /// Does what an instruction asks for.
-    pub(crate) fn meet<S: Screen>(&mut self, request: Request, i: Instr, screen: &mut S) -> Result<(), Halt>
+    pub(crate) fn meet<S: Screen>(
+        &mut self,
+        request: Request,
+        i: Instr,
+        screen: &mut S,
+    ) -> Result<(), Halt>
         requires room { self.old.state.steps < self.old.limits.steps }
         requires free { self.old.waiting ≡ None }
         requires runs { self.old.stopped ≡ None }

@@ -1,5 +1,4 @@
-use Rattle.std.proofs.Common.{◌≡◌, ◌≤◌, ◌+◌, ◌∙◌, Option, Some, None, refl, arith, ap}
-use Rattle.zk_step.specs.declared.output.parts.Half.{Half}
+use Rattle.std.proofs.Common.{◌≤◌, ◌+◌, refl, arith}
 use Rattle.zk_vm.proofs.Advancing.{sound_moved, still_there}
 use Rattle.zk_vm.proofs.Pauses.{made_asked, made_at, made_err}
 use Rattle.zk_vm.proofs.machine.Machine.advance_part.Goals as goal

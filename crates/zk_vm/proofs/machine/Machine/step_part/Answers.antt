@@ -1,6 +1,6 @@
 use Rattle.std.proofs.Common.{refl, sym}
 use Rattle.zk_code.proofs.Longer.{ends_inside}
-use Rattle.zk_vm.proofs.Pauses.{half_there, made_fault}
+use Rattle.zk_vm.proofs.Pauses.{made_fault}
 use Rattle.zk_vm.proofs.machine.Machine.step_part.Goals as goal
 
 pub advance_part-requires-clause-inside : goal.advance_part-requires-clause-inside

@@ -1,7 +1,6 @@
-use Rattle.std.proofs.Common.{◌≡◌, ◌∙◌, ◌≤◌, None, ap, sym, arith}
+use Rattle.std.proofs.Common.{◌≤◌, ap, arith}
 use Rattle.zk_vm.specs.declared.limits.Limits.{Limits}
 use Rattle.zk_vm.specs.Logged.{IsOn}
-use Rattle.zk_vm.specs.Sessions.{Session}
 use Rattle.zk_vm.proofs.PausedRuns.{stop_ahead, went_ahead, went_none}
 use Rattle.zk_vm.proofs.machine.pausing.PausingMachine.go_ahead.Goals as goal
 

@@ -1,6 +1,5 @@
-use Rattle.std.proofs.Common.{◌≡◌, ◌∙◌, ◌+◌, None, Some, ap, sym, refl, rules}
+use Rattle.std.proofs.Common.{◌≡◌, ◌∙◌, None, Some, ap, sym}
 use Rattle.zk_vm.specs.Sessions.{Session}
-use Rattle.zk_vm.specs.Pausing.{told_due}
 use Rattle.zk_vm.proofs.LogSteps.{due_failed, due_full, due_got, ran_closed, ran_stopped, steps_on}
 use Rattle.zk_vm.proofs.PausedRuns.{awaits_so}
 use Rattle.zk_vm.proofs.machine.pausing.PausingMachine.run_for.Goals as goal

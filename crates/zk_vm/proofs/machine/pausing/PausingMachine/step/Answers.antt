@@ -1,6 +1,4 @@
-use Rattle.std.proofs.Common.{Some, None, ap}
 use Rattle.zk_vm.specs.Logged.{IsOn}
-use Rattle.zk_vm.specs.Sessions.{Session}
 use Rattle.zk_vm.proofs.PausedRuns.{cut_on, ended_on, made_on}
 use Rattle.zk_vm.proofs.machine.pausing.PausingMachine.step.Goals as goal
 
