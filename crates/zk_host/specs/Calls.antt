@@ -73,10 +73,10 @@ HasEnded old new answer =
     RunsOn (Shown old.text new.text) Unnoted old.machine new.machine answer (is_lost new.text)
     × (new ≡ record old { machine = new.machine; text = new.text; stopped = stop_of answer })
 
--- a play has paused after so many steps, or once there is no room for more text
+-- a play has paused after so many steps and parts of texts, or once there is no room for more text
 abbrev pub HasPausedBy : Play → Play → ℕ → Asked → Type 0
 HasPausedBy old new steps why =
-    Ran Collects has_no_room is_lost Unnoted old.text new.text (old.machine.state.steps + steps) 0 old.machine new.machine (Ok tt)
+    ((parts : ℕ) × Ran Collects has_no_room is_lost Unnoted old.text new.text (old.machine.state.steps + steps) parts old.machine new.machine (Ok tt))
     × (why ≡ pause_of new)
     × (new ≡ record old { machine = new.machine; text = new.text })
 

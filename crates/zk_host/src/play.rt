@@ -34,6 +34,7 @@ use zk_step::state::ending::Event;
 use zk_step::state::game_state::View;
 use zk_vm::limits::Limits;
 use zk_vm::machine::Machine;
+use zk_vm::machine::pausing::PausingMachine;
 use zk_vm::stop::Stop;
 
 /// Why an answer is refused.
@@ -76,7 +77,7 @@ pub enum Asked {
 /// A machine, the text that it has shown and that was not taken yet, and why its last turn ended.
 #[derive(Drop)]
 pub struct Play {
-    machine: Machine,
+    machine: PausingMachine,
     text: Collected,
     // what a host asks for beside the play: the name in the status line, and a listing
     name: Collected,
@@ -125,6 +126,7 @@ impl Play {
     fn of(alloc: Global, machine: Machine) -> Result<Box<Play>, AllocError>
         ensures { IfOk result (λ p. p.value ≡ play_of machine) }
     {
+        let machine = PausingMachine::of(alloc, machine)?;
         let play = Play {
             machine,
             text: Collected::new(alloc),
@@ -222,7 +224,7 @@ impl Play {
     pub fn turn(&mut self, steps: u32, room: u32) -> Result<Asked, Stop>
         ensures { IsTurned self.old self.new steps room result }
     {
-        if let Some(event) = self.machine.waiting() {
+        if let Some(event) = self.machine.machine().waiting() {
             return Ok(Asked::Answer(event));
         }
         if let Some(stop) = self.stopped {
@@ -292,13 +294,13 @@ impl Play {
         ensures { IsGivenUnless (line_refused (awaited self.old) line.now)
             (with_grid_forgotten self.old.machine) self.old self.new result (Typed (codes_read self.old.machine line.now)) }
     {
-        let Some(Event::Line(_, _)) = self.machine.waiting() else {
+        let Some(Event::Line(_, _)) = self.machine.machine().waiting() else {
             return Err(Refusal::NotAwaited);
         };
         if !is_line(line) {
             return Err(Refusal::NotALine);
         }
-        let codes = codes_of(self.machine.memory(), line);
+        let codes = codes_of(self.machine.machine().memory(), line);
         self.machine.forget_grid();
         self.machine.answer_line(codes.as_slice());
         Ok(())
@@ -309,10 +311,10 @@ impl Play {
         ensures { IsGivenUnless (character_refused (awaited self.old))
             (with_grid_forgotten self.old.machine) self.old self.new result (Typed (character_read self.old.machine character ∷ [])) }
     {
-        let Some(Event::Char) = self.machine.waiting() else {
+        let Some(Event::Char) = self.machine.machine().waiting() else {
             return Err(Refusal::NotAwaited);
         };
-        let code = code_of(self.machine.memory(), character);
+        let code = code_of(self.machine.machine().memory(), character);
         self.machine.forget_grid();
         self.machine.answer_char(code);
         Ok(())
@@ -322,10 +324,10 @@ impl Play {
     pub fn image(&self, alloc: Global) -> Result<Vec<u8>, Refusal>
         ensures { IsImage (save_refused (awaited self.now)) self.now result }
     {
-        let Some(Event::Save) = self.machine.waiting() else {
+        let Some(Event::Save) = self.machine.machine().waiting() else {
             return Err(Refusal::NotAwaited);
         };
-        match self.machine.image(alloc) {
+        match self.machine.machine().image(alloc) {
             Ok(file) => Ok(file),
             Err(_) => Err(Refusal::Memory),
         }
@@ -335,10 +337,10 @@ impl Play {
     pub fn snapshot(&self, alloc: Global, most: usize) -> Result<Vec<u8>, Refusal>
         ensures { IsSnapshot self.now most result }
     {
-        if !has_snapshot(&self.machine) {
+        if !has_snapshot(self.machine.machine()) {
             return Err(Refusal::NotAwaited);
         }
-        match snapshot(alloc, &self.machine, most) {
+        match snapshot(alloc, self.machine.machine(), most) {
             Ok(bytes) => Ok(bytes),
             Err(_) => Err(Refusal::Memory),
         }
@@ -348,7 +350,7 @@ impl Play {
     pub fn longest_snapshot(&self, most: usize) -> usize
         ensures { result ≡ longest_snapshot self.now most }
     {
-        longest_snapshot(&self.machine, most)
+        longest_snapshot(self.machine.machine(), most)
     }
 
     /// Answers whether the saved game was kept.
@@ -356,7 +358,7 @@ impl Play {
         ensures { IsGivenUnless (save_refused (awaited self.old)) self.old.machine self.old self.new result
             (GameKept kept) }
     {
-        let Some(Event::Save) = self.machine.waiting() else {
+        let Some(Event::Save) = self.machine.machine().waiting() else {
             return Err(Refusal::NotAwaited);
         };
         self.machine.answer_save(kept);
@@ -368,7 +370,7 @@ impl Play {
         ensures { IsGivenUnless (restore_refused (awaited self.old)) self.old.machine self.old self.new result
             (File (option_copied file.entry)) }
     {
-        let Some(Event::Restore) = self.machine.waiting() else {
+        let Some(Event::Restore) = self.machine.machine().waiting() else {
             return Err(Refusal::NotAwaited);
         };
         self.machine.answer_restore(file);
@@ -379,7 +381,7 @@ impl Play {
     pub fn go_back(&mut self) -> Result<(), Refusal>
         ensures { IsGoneBack (read_refused (awaited self.old)) self.old self.new result }
     {
-        let (Some(Event::Line(_, _)) | Some(Event::Char)) = self.machine.waiting() else {
+        let (Some(Event::Line(_, _)) | Some(Event::Char)) = self.machine.machine().waiting() else {
             return Err(Refusal::NotAwaited);
         };
         if self.machine.go_back() {
@@ -393,8 +395,8 @@ impl Play {
     pub fn longest_line(&self) -> u8
         ensures { result ≡ longest_line self.now.machine.state.game.memory (awaited self.now) }
     {
-        match self.machine.waiting() {
-            Some(Event::Line(text, _)) => line_room(self.machine.memory(), text),
+        match self.machine.machine().waiting() {
+            Some(Event::Line(text, _)) => line_room(self.machine.machine().memory(), text),
             Some(Event::Char | Event::Save | Event::Restore) => 0,
             None => 0,
         }
@@ -404,7 +406,7 @@ impl Play {
     pub fn window(&self) -> WindowFigures
         ensures { result ≡ window_of self.now.machine.state.game.windows }
     {
-        window_of(self.machine.windows())
+        window_of(self.machine.machine().windows())
     }
 
     /// The UTF-8 of a row of the upper window.
@@ -412,7 +414,7 @@ impl Play {
         ensures { result.items ≡ row_bytes (row_text self.now.machine.state.game.windows) (row_number row) }
     {
         match row_of(row) {
-            Some(row) => utf8_of(self.machine.windows().row(row)),
+            Some(row) => utf8_of(self.machine.machine().windows().row(row)),
             None => ArrayVec::new(),
         }
     }
@@ -422,7 +424,7 @@ impl Play {
         ensures { result.items ≡ row_bytes (tallest_row_text self.now.machine.state.game.windows) (row_number row) }
     {
         match row_of(row) {
-            Some(row) => utf8_of(self.machine.windows().tallest_row(row)),
+            Some(row) => utf8_of(self.machine.machine().windows().tallest_row(row)),
             None => ArrayVec::new(),
         }
     }
@@ -431,8 +433,8 @@ impl Play {
     pub fn status(&mut self, alloc: Global) -> StatusFigures
         ensures { IsStatus self.old self.new result }
     {
-        let status = status_of(self.machine.memory());
-        self.name = name_of(alloc, self.machine.memory(), status);
+        let status = status_of(self.machine.machine().memory());
+        self.name = name_of(alloc, self.machine.machine().memory(), status);
         figures(status)
     }
 
@@ -449,7 +451,7 @@ impl Play {
     pub fn header(&self) -> Header
         ensures { result ≡ header_of self.now.machine.state.game.memory.file }
     {
-        self.machine.memory().header()
+        self.machine.machine().memory().header()
     }
 
     /// Drops what is left of a listing.
@@ -464,7 +466,7 @@ impl Play {
         ensures { IsListedBy listing most self.old self.new result }
     {
         self.drop_listing(alloc);
-        match list_file(alloc, self.machine.memory(), listing, most) {
+        match list_file(alloc, self.machine.machine().memory(), listing, most) {
             Ok(text) => {
                 self.listing = text;
                 Ok(())

@@ -1,4 +1,4 @@
-use Rattle.std.proofs.Common.{◌≡◌, ◌∷◌, ◌+◌, ◌-◌, refl, sym, arith}
+use Rattle.std.proofs.Common.{◌∷◌, refl, arith}
 use Rattle.zk_host.specs.NameSinks.{name_cut, name_unit}
 use Rattle.zk_host.proofs.name.NameSinkSink.put.Goals as goal
 

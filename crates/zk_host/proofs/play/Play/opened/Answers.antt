@@ -1,4 +1,4 @@
-use Rattle.std.proofs.Common.{◌≡◌, sym, subst}
+use Rattle.std.proofs.Common.{sym, subst}
 use Rattle.std.specs.Prelude.{IsTrue}
 use Rattle.zk_vm.specs.declared.limits.Limits.{Limits}
 use Rattle.zk_host.specs.Within.{AreWithin}

@@ -7,17 +7,17 @@ use Rattle.zk_host.proofs.play.Play.run.Goals as goal
 pub returns-then-is_lost : goal.returns-then-is_lost
 returns-then-is_lost c =
     let lost = sym c.is_lost.ensures ∙ c.if-is_lost.true in
-    let ends = lost_run c.run_for-ran.result c.args.self.now.machine c.run_for-ran.new.self c.close.new.self c.args.self.now.text c.run_for-ran.new.screen _ c.run_for-ran.ensures.logged lost (ap (λ (s : Session). s.stopped) c.close.ensures) (ap (λ (s : Session). s.waiting) c.close.ensures) in
+    let ends = lost_run c.run_for-ran.result c.args.self.now.machine c.run_for-ran.new.self c.close.new.self c.args.self.now.text c.run_for-ran.new.screen _ c.run_for-ran.ensures.logged.0 c.run_for-ran.ensures.logged.1 lost (ap (λ (s : Session). s.stopped) c.close.ensures) (ap (λ (s : Session). s.waiting) c.close.ensures) in
     (ends, refl)
 
 pub returns-in-Ok-Some : goal.returns-in-Ok-Some
 returns-in-Ok-Some c =
     let works = sym c.is_lost.ensures ∙ c.if-is_lost.false in
     let is : halted c.run_for-ran.result ≡ Err (Ok c.in-Ok-Some.event) = search rules in
-    (whole_run c.run_for-ran.result c.args.self.now.machine c.run_for-ran.new.self c.args.self.now.text c.run_for-ran.new.screen _ (Ok c.in-Ok-Some.event) c.run_for-ran.ensures.logged is tt works, search rules)
+    (whole_run c.run_for-ran.result c.args.self.now.machine c.run_for-ran.new.self c.args.self.now.text c.run_for-ran.new.screen _ c.run_for-ran.ensures.logged.0 (Ok c.in-Ok-Some.event) c.run_for-ran.ensures.logged.1 is tt works, search rules)
 
 pub returns-in-Err : goal.returns-in-Err
 returns-in-Err c =
     let works = sym c.is_lost.ensures ∙ c.if-is_lost.false in
     let is : halted c.run_for-ran.result ≡ Err (Err c.in-Err.stop) = search rules in
-    (whole_run c.run_for-ran.result c.args.self.now.machine c.run_for-ran.new.self c.args.self.now.text c.run_for-ran.new.screen _ (Err c.in-Err.stop) c.run_for-ran.ensures.logged is c.in-Err.ensures.stops works, search rules)
+    (whole_run c.run_for-ran.result c.args.self.now.machine c.run_for-ran.new.self c.args.self.now.text c.run_for-ran.new.screen _ c.run_for-ran.ensures.logged.0 (Err c.in-Err.stop) c.run_for-ran.ensures.logged.1 is c.in-Err.ensures.stops works, search rules)
