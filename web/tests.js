@@ -18,7 +18,7 @@ const EXAMPLES = fileURLToPath(new URL("../examples", import.meta.url));
 const VERSIONS = [3, 4, 5, 8];
 const CAP = 64 << 20;
 const PAGE = 65_536;
-const TOO_MUCH_TEXT = 6;
+const QUIT = 1;
 const UNDO_BYTES = 1 << 20;
 const LONGEST = 512 << 20;
 const NONE = Buffer.alloc(0);
@@ -98,8 +98,6 @@ function rows(module) {
 
 /** Tells where two plays differ, if they do. */
 function wantSame(came, wanted, what) {
-    if (came.status === TOO_MUCH_TEXT)
-        return want(same(wanted.shown.subarray(0, came.shown.length), came.shown), `${what}: the text up to its stop`);
     want(same(came.shown, wanted.shown), `${what}: the text`);
     want(same(came.script, wanted.script), `${what}: the transcript`);
     want(same(came.saved ?? NONE, wanted.saved ?? NONE), `${what}: the saved game`);
@@ -339,10 +337,17 @@ function loop(module) {
     game.close();
 }
 
-/** An instruction that prints forty million letters, and a listing of as many. */
+/** An instruction that prints forty million letters, which pauses in the middle of its text, and a listing of as many. */
 function long(module) {
     const game = module.open(made("long.z5"));
-    want(game.turn() === "stopped" && game.status() === TOO_MUCH_TEXT, "too much text of an instruction stops it");
+    want(game.turn(1) === "time", "the turn of an instruction ends in the middle of its text");
+    let letters = game.textBytes().length;
+    want(letters > 0 && letters <= 1002, "it has shown a thousand letters");
+    let awaited = game.turn();
+    for (; awaited === "room"; awaited = game.turn())
+        letters += game.textBytes().length;
+    letters += game.textBytes().length;
+    want(awaited === "stopped" && game.status() === QUIT && letters === 40_500_000, `it ends with its text: ${letters}`);
     want(game.list("code") === null, "there is no memory for a listing of so many letters");
     want(game.list("code", 1 << 20) === null, "it has more bytes than it may");
     want(game.list("header") !== null, "another one is listed after it");
