@@ -1,4 +1,4 @@
-/* Plays a story in turns of one instruction, and tells how long the slowest call took: for those of conformance/hostile.py.
+/* Plays a story of conformance/hostile.py in turns of one instruction, and tells how long the slowest call took.
  *
  *     cc -O1 -Iinclude conformance/hostile.c dist/libzkit.a -o hostile
  *

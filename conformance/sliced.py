@@ -39,7 +39,7 @@ CLOSE = bytes.fromhex("f33ffffd f33ffffd")  # the newest tables of stream 3
 LOWER, READ = bytes.fromhex("eb7f00"), bytes.fromhex("f67f0100")
 ROWS = bytes.fromhex("fe03") + b"".join(word.to_bytes(2, "big") for word in (hostile.TABLE + 2, 70, 60))
 TURNS = ((1, 1 << 20), (3, 1 << 20), (1_000_000_000, 64))
-TIME = 6
+TIME, MOST_TURNS = 6, 20_000
 
 
 class Sliced(embedded.Game):
@@ -52,8 +52,8 @@ class Sliced(embedded.Game):
         self.most, self.turns, self.shown = most, 0, b""
 
     def turn(self) -> int:
-        asked = TIME
-        while asked == TIME:
+        asked = TIME if self.turns < MOST_TURNS else play.STOPPED
+        while asked == TIME and self.turns < MOST_TURNS:
             asked = self.call("turn_for", self.most)
             self.shown += self.text()
             self.script += self.text("transcript")

@@ -124,7 +124,7 @@ enum {
     ZKIT_FAULT = 2,             /* an instruction can't be carried out: zkit_reason and zkit_address */
     ZKIT_LIMIT = 3,             /* an instruction would go past a limit: zkit_reason and zkit_address */
     ZKIT_OUT_OF_MEMORY = 5,     /* there is no memory for its text, for a state that is kept or for a saved game */
-    ZKIT_TOO_MUCH_TEXT = 6      /* more than 1,048,576 bytes past the room for text came at once; a long text awaits room before */
+    ZKIT_TOO_MUCH_TEXT = 6      /* more than 1,048,576 bytes past the room came at once; a long text awaits room before */
 };
 
 /* What zkit_reason answers after a fault. */
@@ -184,13 +184,13 @@ void zkit_close(zkit *game);
  * zkit_transcript, and kept until it is taken. Where the story awaits an answer already, that is told again and
  * nothing is run; where it has stopped, ZKIT_STOPPED.
  *
- * ZKIT_AWAITS_ROOM: as many bytes of text wait, for both together, as the option `room` says, or what was shown at once more.
- * This may be in the middle of an instruction's text. Nothing else is changed by it: the next turn goes on. */
+ * ZKIT_AWAITS_ROOM: as many bytes of text wait, for both together, as the option `room` says, or what was shown at once
+ * more. This may be in the middle of an instruction's text. Nothing else is changed by it: the next turn goes on. */
 uint32_t zkit_turn(zkit *game);
 
 /* The same for so many instructions at most: ZKIT_AWAITS_TIME where they are used up, and the next turn goes on as if
- * nothing had been. Of a long text each thousand Z-characters count as an instruction here, and so do rows of a table with as
- * many characters, or a longer one: the time may come in their middle. */
+ * nothing had been. Of a long text each thousand Z-characters count as an instruction here, and so do rows of a table
+ * with as many characters, or a longer one: the time may come in their middle. */
 uint32_t zkit_turn_for(zkit *game, uint32_t steps);
 
 /* Moves the next bytes of the screen's text into a buffer, and answers how many: at most length, and 0 where no text is

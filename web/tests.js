@@ -337,7 +337,7 @@ function loop(module) {
     game.close();
 }
 
-/** An instruction that prints forty million letters, which pauses in the middle of its text, and a listing of as many. */
+/** An instruction that prints forty million letters and pauses in their middle, and a listing of as many. */
 function long(module) {
     const game = module.open(made("long.z5"));
     want(game.turn(1) === "time", "the turn of an instruction ends in the middle of its text");
@@ -347,7 +347,8 @@ function long(module) {
     for (; awaited === "room"; awaited = game.turn())
         letters += game.textBytes().length;
     letters += game.textBytes().length;
-    want(awaited === "stopped" && game.status() === QUIT && letters === 40_500_000, `it ends with its text: ${letters}`);
+    want(awaited === "stopped" && game.status() === QUIT, "it ends");
+    want(letters === 40_500_000, `it has shown all of them: ${letters}`);
     want(game.list("code") === null, "there is no memory for a listing of so many letters");
     want(game.list("code", 1 << 20) === null, "it has more bytes than it may");
     want(game.list("header") !== null, "another one is listed after it");
