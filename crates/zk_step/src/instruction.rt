@@ -120,8 +120,8 @@ fn complete<S: Screen>(
 }
 
 /// Carries out an instruction, shows or stores what it prints, and answers where the machine goes on. What is printed
-/// is read from memory as the instruction finds it, before its result is stored; where the instruction is refused nothing
-/// is shown. `codes` is room for what a table of stream 3 gets.
+/// is read from memory as the instruction finds it, before its result is stored; where the instruction is refused
+/// nothing is shown. `codes` is room for what a table of stream 3 gets.
 pub fn carry_out<S: Screen>(
     game: &mut GameState,
     i: &Instr,
@@ -146,15 +146,16 @@ pub fn carry_out<S: Screen>(
     complete(game, i, &begun, codes, screen)
 }
 
-/// How far an instruction has come: it was finished, and this is where the machine goes on; or it is in the middle of what it
-/// prints.
+/// How far an instruction has come: it was finished, and this is where the machine goes on; or it is in the middle of
+/// what it prints.
 #[derive(Clone, Copy, Drop)]
 pub enum Progress {
     Done(Next),
     Part(Half),
 }
 
-/// Shows a part of what an instruction prints, and finishes it once all is there, or gives back what its operands have taken.
+/// Shows a part of what an instruction prints, and finishes it once all is there, or gives back what its operands have
+/// taken.
 fn go_on<S: Screen>(
     game: &mut GameState,
     i: &Instr,
@@ -231,26 +232,27 @@ fn start_part<S: Screen>(
     }
 }
 
-/// Carries out an instruction as `carry_out` does, but shows a long text, or many rows, in parts: so many words of text, or rows
-/// as long, at most; or all, where no number is given. Where more is to come then, the game state stands as the instruction found it, and the next call goes on
-/// from the half that was answered. `draft` is room for an upper window.
+/// Carries out an instruction as `carry_out` does, but shows a long text, or many rows, in parts: so many words of
+/// text, or rows as long, at most; or all, where no number is given. Where more is to come then, the game state stands
+/// as the instruction found it, and the next call goes on from the half that was answered. `draft` is room for an upper
+/// window.
 pub fn carry_out_part<S: Screen>(
     game: &mut GameState,
     i: &Instr,
-    half: Option<Half>,
+    half: &Option<Half>,
     codes: &mut Codes,
     draft: &mut Windows,
     screen: &mut S,
     words: Option<u32>,
 ) -> Result<Progress, Refusal>
     requires near { i.now.next ≤ 2 ^ 20 }
-    requires half { IfSome half (IsHalf game.old i.now codes.old draft.old) }
+    requires half { IfSome half.now (IsHalf game.old i.now codes.old draft.old) }
     ensures value { MatchResult result (λ p. IsCarriedOn game.old game.new i.now codes.new draft.new p)
         (λ e. limited_move (carried_out game.old i.now) ≡ Err e) }
     ensures quiet { IfOk result (λ p. IsQuietAs p (text_in (limited_move (carried_out game.old i.now)))) }
     ensures whole { words ≡ None → IfOk result IsDone }
     ensures text { MatchResult result (λ p. ShowsSome S.shows screen.old screen.new
-        (text_due game.old i.now half) (text_then game.old p))
+        (text_due game.old i.now half.now) (text_then game.old p))
         (λ _. S.shows screen.old screen.new [] []) }
     ensures bounds { bounds_of game.new.frames ≡ bounds_of game.old.frames }
 {
@@ -264,7 +266,7 @@ pub fn carry_out_part<S: Screen>(
                 values,
                 effect: half.effect,
             };
-            go_on(game, i, &begun, half, codes, draft, screen, words)
+            go_on(game, i, &begun, *half, codes, draft, screen, words)
         }
         Err(_) => unreachable!(),
     }

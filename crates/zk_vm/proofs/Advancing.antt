@@ -1,6 +1,6 @@
 -- A step, by how the instruction that was carried out goes on.
 use Rattle.std.specs.Prelude.{◌&&◌, if◌then◌else◌}
-use Rattle.std.proofs.Common.{◌≡◌, ◌∙◌, ◌≤◌, ◌<◌, ◌⊎◌, inl, inr, ℕ, ◌+◌, ◌-◌, List, [], ◌∷◌, ◌++◌, take, Bool, true, false, Option, Some, None, Result, Ok, Err, refl, ap, sym, subst, arith, nat_le, nat_lt}
+use Rattle.std.proofs.Common.{◌≡◌, ◌∙◌, ◌≤◌, ◌<◌, inl, inr, ℕ, ◌+◌, ◌-◌, List, [], ◌∷◌, ◌++◌, take, Bool, true, false, Option, Some, None, Result, Ok, Err, refl, ap, sym, subst, arith, nat_le, nat_lt}
 use Rattle.std.proofs.lemmas.Bool.Decides.{nat_tests}
 use Rattle.zk_mem.specs.declared.fault.Fault.{Fault}
 use Rattle.zk_mem.specs.Map.{MemoryMap}
@@ -19,10 +19,14 @@ use Rattle.zk_step.specs.declared.state.ending.Request.{Request}
 use Rattle.zk_step.specs.declared.state.ending.Request.TheVariants.{Answer, Quit, RestoreUndo, SaveUndo}
 use Rattle.zk_step.specs.declared.state.game_state.GameState.{GameState}
 use Rattle.zk_step.specs.Inputs.{result_answered}
+use Rattle.zk_step.specs.Effects.{effect_of}
+use Rattle.zk_step.specs.Finish.{finished}
 use Rattle.zk_step.specs.Instructions.{carried_out}
 use Rattle.zk_step.specs.Laws.{fixed_parts}
 use Rattle.zk_step.specs.Limited.{kept, limited_move, text_in}
-use Rattle.zk_step.specs.Routing.{Texts, no_text}
+use Rattle.zk_step.specs.Routing.{Texts, no_text, routed}
+use Rattle.zk_step.specs.Saving.{saving}
+use Rattle.zk_step.specs.Variables.{operands_read}
 use Rattle.zk_step.proofs.Sweep.{stories_stay}
 use Rattle.zk_fast.specs.declared.cache.Cache.{Cache}
 use Rattle.zk_fast.specs.Caches.{IsCacheOf}
@@ -30,8 +34,8 @@ use Rattle.zk_vm.specs.declared.machine.Machine.TheInside.{Inside}
 use Rattle.zk_vm.specs.declared.stop.Stop.{Stop}
 use Rattle.zk_vm.specs.declared.stop.Stop.TheVariants as stop
 use Rattle.zk_vm.specs.declared.waiting.Waiting.{Waiting}
-use Rattle.zk_vm.specs.Going.{stop_by, IsPut, Settles, LacksMemory}
-use Rattle.zk_vm.specs.Halts.{Halt, IsKeeping, IsLeftAt, IsStep, StepsTo, halt_by}
+use Rattle.zk_vm.specs.Going.{stop_by, IsPut, Settles}
+use Rattle.zk_vm.specs.Halts.{Halt, IsKeeping, IsLeftAt, IsStep, KeepsState, StepsTo, halt_by}
 use Rattle.zk_vm.specs.Sessions.{Session}
 use Rattle.zk_vm.specs.Sound.{state_seen, IsOfStory, IsSound}
 use Rattle.zk_vm.specs.Step.{State, Step, Verdict, asked, back_to, fetched, settled, goes_by, goes_to, is_past_reads, is_read, kept_answer, led_to, most_reads, state_after, step, text_of, text_within, verdict_of, waits_by, with_kept}
@@ -124,7 +128,7 @@ silent_by s undo r = step_all (λ x. text_of s x ≡ no_text) _ r (λ x e. go (w
     go (Ok u) = refl
     go (Err e) = refl
 
-pub keeps_silent : (s : State) (i : Instr) (w : GameState) → text_of s (asked s i w SaveUndo) ≡ no_text
+keeps_silent : (s : State) (i : Instr) (w : GameState) → text_of s (asked s i w SaveUndo) ≡ no_text
 keeps_silent s i w = silent_by s (with_kept s i w) (result_answered w i (kept_answer w.memory.undo_states) true)
 
 -- ---- the ways of a step
@@ -138,38 +142,79 @@ still_there m w i x t h told =
 
 pub stepped_asked : {S : Type 0} (shows : S → S → List ℕ → List ℕ → Type 0) (twice : (a b c : S) (s t u v : List ℕ) → shows a b s u → shows b c t v → shows a c (s ++ t) (u ++ v)) (a b c : S) (m : Inside) (new : Session) (i : Instr) (w : GameState) (x : Request) (t : Texts) (answer : Result (Unit {0}) Halt)
     → instr_at m.game.memory m.pc ≡ Ok i → limited_move (carried_out m.game i) ≡ Ok (w, (Asks x, t)) → t ≡ no_text → shows a b t.screen t.script
-    → Settles (seen (record m { game = w })) new answer (asked (state_seen (record m { game = w })) i w x) ⊎ ((x ≡ SaveUndo) × LacksMemory (seen (record m { game = w })) new answer)
+    → Settles (seen (record m { game = w })) new answer (asked (state_seen (record m { game = w })) i w x)
     → shows b c (text_of (state_seen m) (asked (state_seen (record m { game = w })) i w x)).screen (text_of (state_seen m) (asked (state_seen (record m { game = w })) i w x)).script
     → IsStep (seen m) new answer (λ y. shows a c y.screen y.script)
-stepped_asked {S} shows twice a b c m new i w x t answer h told quiet first (inl settles) rest =
+stepped_asked {S} shows twice a b c m new i w x t answer h told quiet first settles rest =
     let none : shows a b [] [] = subst (λ (y : Texts). shows a b y.screen y.script) quiet first in
     inl (subst (λ (y : Step). StepsTo y (seen m) new answer (λ z. shows a c z.screen z.script)) (sym (step_moved m i w x t h told)) (record {
       tells = settles.tells;
       left = left_moved (seen m) new w (states_in w.memory.file m.undo) (asked (state_seen (record m { game = w })) i w x) settles.put;
       shown = twice a b c [] _ [] _ none rest;
     }))
-stepped_asked {S} shows twice a b c m new i w x t answer h told quiet first (inr (keeps, lacks)) rest =
-    let is = move_is (carried_out m.game i) (w, (Asks x, t)) told in
-    let fixed = carried_fixed m.game i w (Asks x) t told in
-    let most = same_most m.game.memory w.memory fixed in
-    let has = asks m.game i w x t is in
-    let by : AsksBy i.opcode SaveUndo = subst (AsksBy i.opcode) keeps has.by in
-    let undo = same_states m.game.memory w.memory m.undo fixed in
-    let keeping : IsKeeping (state_seen m) new.state = record {
+
+-- ---- an instruction that keeps a state
+
+-- it is one, where the machine is asked to keep a state
+pub asks_keeps : (w v : GameState) (i : Instr) (x : Request) (t : Texts) → limited_move (carried_out w i) ≡ Ok (v, (Asks x, t)) → x ≡ SaveUndo → KeepsState i
+asks_keeps w v i x t told saves = subst (AsksBy i.opcode) saves (asks w i v x t (move_is (carried_out w i) (v, (Asks x, t)) told)).by
+
+-- what it shows is nothing
+pub shown_silent : (old new : Session) (answer : Result (Unit {0}) Halt) (Shown : Texts → Type 0) → IsStep old new answer (λ t. t ≡ no_text) → Shown no_text → IsStep old new answer Shown
+shown_silent old new answer Shown (inl made) shown = inl (record { tells = made.tells; left = made.left; shown = subst Shown (sym made.shown) shown })
+shown_silent old new answer Shown (inr (tells, same, (keeping, silent))) shown = inr (tells, same, (keeping, shown))
+
+-- its operands are taken, and it asks the machine to keep a state
+pub keeps_asks : (w v : GameState) (i : Instr) (vs : List ℕ) → KeepsState i → operands_read w i.operands ≡ Ok (v, vs) → limited_move (carried_out w i) ≡ Ok (v, (Asks SaveUndo, no_text))
+unfolding carried_out effect_of saving routed finished
+keeps_asks w v i vs keeps taken = rw (taken, keeps) refl
+
+-- where they can't be taken, it is refused
+pub keeps_refused : (w : GameState) (i : Instr) (f : Fault) → operands_read w i.operands ≡ Err f → limited_move (carried_out w i) ≡ Err (refusal.Fault f)
+unfolding carried_out
+keeps_refused w i f refused = rw refused refl
+
+-- it settles as the step does
+pub kept_settled : (m : Inside) (new : Session) (i : Instr) (w : GameState) (vs : List ℕ) (answer : Result (Unit {0}) Halt) (Shown : Texts → Type 0) → instr_at m.game.memory m.pc ≡ Ok i → KeepsState i → operands_read m.game i.operands ≡ Ok (w, vs)
+    → Settles (seen (record m { game = w })) new answer (asked (state_seen (record m { game = w })) i w SaveUndo) → Shown no_text → IsStep (seen m) new answer Shown
+kept_settled m new i w vs answer Shown h keeps taken settles shown =
+    let told = keeps_asks m.game w i vs keeps taken in
+    let silent : text_of (state_seen m) (asked (state_seen (record m { game = w })) i w SaveUndo) ≡ no_text = keeps_silent (state_seen (record m { game = w })) i w in
+    inl (subst (λ (y : Step). StepsTo y (seen m) new answer Shown) (sym (step_moved m i w SaveUndo no_text h told)) (record {
+      tells = settles.tells;
+      left = left_moved (seen m) new w (states_in w.memory.file m.undo) (asked (state_seen (record m { game = w })) i w SaveUndo) settles.put;
+      shown = subst Shown (sym silent) shown;
+    }))
+
+-- its operands are given back: the machine stands as before
+pub sound_back : (m : Inside) (v : GameState) → IsSound m → m.stopped ≡ None → m.waiting ≡ None → fixed_parts v.memory ≡ fixed_parts m.game.memory → bounds_of v.frames ≡ bounds_of m.game.frames → IsSound (record m { game = v })
+sound_back m v is runs free same bounds =
+    let has = running m.stopped (IsOfStory m) runs is.story in
+    sound_now m (record m { game = v }) is refl free is.steps is.reads refl bounds (λ e. story_stays (record m { game = v }) m.game has.are_of has.memory has.cache same bounds)
+
+pub stands_back : (m n : Inside) (w : GameState) → fixed_parts w.memory ≡ fixed_parts m.game.memory → seen n ≡ seen (record m { game = w }) → seen (record n { game = m.game }) ≡ seen m
+stands_back m n w fixed same =
+    let game : n.game ≡ w = ap (λ (s : Session). s.state.game) same in
+    let here : fixed_parts n.game.memory ≡ fixed_parts m.game.memory = ap (λ (v : GameState). fixed_parts v.memory) game ∙ fixed in
+    let of_n = same_states m.game.memory n.game.memory n.undo here in
+    let of_m = same_states m.game.memory w.memory m.undo fixed in
+    ap (λ (u : List WholeState). let s : Session = record (seen n) { state = record (state_seen n) { game = m.game; undo = u } } in s) (sym of_n)
+    ∙ ap (λ (s : Session). let t : Session = record s { state = record s.state { game = m.game } } in t) same
+    ∙ ap (λ (u : List WholeState). let s : Session = record (seen m) { state = record (state_seen m) { undo = u } } in s) of_m
+
+-- or there is no memory for the state
+pub is_keeping : (m : Inside) (i : Instr) (w : GameState) (vs : List ℕ) → instr_at m.game.memory m.pc ≡ Ok i → KeepsState i → operands_read m.game i.operands ≡ Ok (w, vs) → 0 < w.memory.undo_states → IsKeeping (state_seen m)
+is_keeping m i w vs h keeps taken some =
+    let fixed = carried_fixed m.game i w (Asks SaveUndo) no_text (keeps_asks m.game w i vs keeps taken) in
+    record {
       instruction = i;
       fetched = h;
-      keeps = by;
-      some = subst (λ (k : ℕ). 0 < k) most lacks.some;
+      keeps = keeps;
+      some = subst (λ (k : ℕ). 0 < k) (same_most m.game.memory w.memory fixed) some;
       game = w;
-      values = has.values;
-      operands = has.operands;
-      beside = lacks.same ∙ ap (λ (u : List WholeState). let s : State = record (state_seen m) { game = w; undo = u } in s) undo;
-    } in
-    let none : shows a b [] [] = subst (λ (y : Texts). shows a b y.screen y.script) quiet first in
-    let silent : text_of (state_seen m) (asked (state_seen (record m { game = w })) i w x) ≡ no_text
-    = ap (λ (y : Request). text_of (state_seen m) (asked (state_seen (record m { game = w })) i w y)) keeps ∙ keeps_silent (state_seen (record m { game = w })) i w in
-    let last : shows b c [] [] = subst (λ (y : Texts). shows b c y.screen y.script) silent rest in
-    inr (lacks.tells, lacks.waiting, (keeping, twice a b c [] [] [] [] none last))
+      values = vs;
+      operands = taken;
+    }
 
 -- it goes on at an address
 kept_at : (q : Result FrameList Refusal) (r s : GameState × (Next × Texts)) → kept {B = GameState × (Next × Texts)} q r ≡ Ok s → (u : FrameList) × (q ≡ Ok u)

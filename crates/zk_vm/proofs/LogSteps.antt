@@ -300,9 +300,9 @@ module _ {S : Type 0} (shows : S → S → List ℕ → List ℕ → Type 0) (no
           let next = step_on (notes p q) (notes p r) parts a now b old s on room made.shown all in
           by_next (notes p q) (notes p r) parts a now b old s new h on works next (subst (λ (x : Passed). RunEnds shows full failed a b bound parts old x.to new (on.log ++ (moved s Goes).entries) (Err h)) (sym is)
           (ends_so parts a b old s new (on.log ++ (moved s Goes).entries) h (verdict_of s.state (step s.state)) (state_after s.state (step s.state)) (text_of s.state (step s.state)) made.tells made.left on.whole))
-      on_end p q r parts a now b old s new h on room works one (inr (tells, waits, (keeping, got))) =
+      on_end p q r parts a now b old s new h on room works one (inr (tells, same, (keeping, got))) =
           let memory : h ≡ Err stops.Memory = cc in
-          let lacks : LacksState s new.state = record { on = on.on; few = room; keeping = keeping } in
+          let lacks : LacksState s new.state = record { on = on.on; few = room; keeping = keeping; stands = ap (λ (m : Session). m.state) same } in
           record {
             log = on.log;
             to = s;
@@ -311,7 +311,7 @@ module _ {S : Type 0} (shows : S → S → List ℕ → List ℕ → Type 0) (no
             alone = on.alone;
             got = rw (append-nil (shown on.log), append-nil (scripted on.log)) at (twice a now b (shown on.log) [] (scripted on.log) [] on.got got);
             noted = inr ((new.state, lacks), chain p q r (addresses on.log) (s.state.pc ∷ []) on.noted one);
-            ends = rw (memory) (waits, inr (inl (refl, lacks)));
+            ends = rw (memory) (ap (λ (m : Session). m.waiting) same ∙ on.on.free, inr (inl (refl, lacks)));
             at_once = λ before after. last_silent failed a now b old s on.log on.on on.is.is on.got got works after;
           }
 

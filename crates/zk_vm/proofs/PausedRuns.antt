@@ -21,16 +21,16 @@ use Rattle.zk_step.specs.Saving.{saving}
 use Rattle.zk_vm.specs.declared.stop.Stop.TheVariants as stops
 use Rattle.zk_vm.specs.Going.{GoesAhead, StopsAhead}
 use Rattle.zk_vm.specs.Answers.Answer.{Typed}
-use Rattle.zk_vm.specs.Halts.{CanAnswer, Halt, IsAnswerable, IsKeeping, IsLeftAt, IsStep, StepsTo, event_waited, halt_by}
+use Rattle.zk_vm.specs.Halts.{CanAnswer, Halt, IsAnswerable, IsKeeping, IsLeftAt, IsStep, KeepsState, StepsTo, event_waited, halt_by}
 use Rattle.zk_vm.specs.Log.{Entry, IsLeftIn, Move, Passed, after, is_silent, moved, parted, parted_to, part_shown, parts_of, passed, scripted, scripted_in, shown, shown_in, stepped_to, text_left, text_shown, told}
 use Rattle.zk_vm.specs.Log.Move.{Gets, Goes, Part}
 use Rattle.zk_vm.specs.Logged.{AtLast, IsOn, LacksState, Ran, RunEnds}
-use Rattle.zk_vm.specs.Pausing.{GoneBy, GotDue, IsCut, StandsHalf, WentOn, due_of, left_of, with_left}
+use Rattle.zk_vm.specs.Pausing.{GoneBy, GotDue, HasCome, IsCut, StandsHalf, StandsShort, WentOn, due_of, left_of, told_due, with_left}
 use Rattle.zk_vm.specs.Sessions.{Session}
 use Rattle.zk_vm.specs.Step.{State, Verdict, is_past_reads, is_read, most_reads, step, state_after, text_of, verdict_of}
 use Rattle.zk_vm.specs.Step.Verdict.{GoesOn, WaitsFor, StopsBy}
 use Rattle.zk_vm.proofs.Logs.{Says, answers_both, logs_join, move_is, no_log, says_address, says_step, says_stop, says_told, with_both, with_none, with_step}
-use Rattle.zk_vm.proofs.LogSteps.{on_ahead, on_start, on_stop, waits_so}
+use Rattle.zk_vm.proofs.LogSteps.{Dued, on_ahead, on_start, on_stop, waits_so}
 use Rattle.zk_vm.proofs.Pauses.{ShowsHalf, same_instr, shows_half}
 
 -- ---- sessions
@@ -138,6 +138,12 @@ module _ {S : Type 0} (shows : S → S → List ℕ → List ℕ → Type 0) (no
 
   -- ---- the ends
 
+  lacks_text : (a b : S) (s : Session) (half : Option Half) (codes : List ℕ) (draft : Windows) → IfSome half (StandsHalf s codes draft) → IsKeeping s.state → GotDue shows a b s.state.game half no_text → shows a b [] []
+  lacks_text a b s None codes draft stands keeping got = got
+  lacks_text a b s (Some h) codes draft stands keeping got =
+      let same = same_instr (instr_at s.state.game.memory s.state.pc) keeping.instruction stands.instruction keeping.fetched stands.fetched in
+      absurd (never_keeps s.state.game stands.instruction codes draft h stands.half (subst (λ (i : Instr). i.opcode ≡ Saving SaveUndo) same keeping.keeps))
+
   module _ (full failed : S → Bool) where
     -- what holds of the screen since a move
     since : (holds : S → Bool) (a b : S) (u : Session) (m : Move) → shows a b (shown (moved u m).entries) (scripted (moved u m).entries) → holds a ≡ false → holds b ≡ true → AtLast shows holds a b u (moved u m).to (moved u m).entries
@@ -149,12 +155,6 @@ module _ {S : Type 0} (shows : S → S → List ℕ → List ℕ → Type 0) (no
     ends_so bound a b s new half l (Err stop) (WaitsFor w) t text tells left = absurd cc
     ends_so bound a b s new half l (Ok e) (StopsBy stop) t text tells left = absurd cc
     ends_so bound a b s new half l (Err x) (StopsBy stop) t text tells left = (left, inl cc)
-
-    lacks_text : (a b : S) (s new : Session) (half : Option Half) (codes : List ℕ) (draft : Windows) → IfSome half (StandsHalf s codes draft) → IsKeeping s.state new.state → GotDue shows a b s.state.game half no_text → shows a b [] []
-    lacks_text a b s new None codes draft stands keeping got = got
-    lacks_text a b s new (Some h) codes draft stands keeping got =
-        let same = same_instr (instr_at s.state.game.memory s.state.pc) keeping.instruction stands.instruction keeping.fetched stands.fetched in
-        absurd (never_keeps s.state.game stands.instruction codes draft h stands.half (subst (λ (i : Instr). i.opcode ≡ Saving SaveUndo) same keeping.keeps))
 
     silent_since : (holds : S → Bool) (a b : S) (u : Session) → IsOn u → shows a b [] [] → holds a ≡ false → holds b ≡ true → AtLast shows holds a b u u []
     silent_since holds a b u on gets before after =
@@ -184,11 +184,11 @@ module _ {S : Type 0} (shows : S → S → List ℕ → List ℕ → Type 0) (no
           ends = subst (λ (p : Passed). RunEnds shows full failed a b bound 0 u p.to (with_left new None) (moved u Goes).entries (Err h)) (sym is) (ends_so bound a b s new half (moved u Goes).entries h v t text made.tells made.left);
           at_once = λ before after. since failed a b u Goes got before after;
         }
-    ended_on bound a b s new half codes draft h stands on room works (inr (tells, waits, (keeping, got))) =
+    ended_on bound a b s new half codes draft h stands on room works (inr (tells, same, (keeping, got))) =
         let u = with_left s half in
         let memory : h ≡ Err stops.Memory = cc in
-        let lacks : LacksState u new.state = record { on = record { runs = on.runs; free = on.free; silent = on.silent }; few = room; keeping = keeping } in
-        let none = lacks_text a b s new half codes draft stands keeping got in
+        let lacks : LacksState u new.state = record { on = record { runs = on.runs; free = on.free; silent = on.silent }; few = room; keeping = keeping; stands = ap (λ (m : Session). m.state) same } in
+        let none = lacks_text a b s half codes draft stands keeping got in
         record {
           log = [];
           to = u;
@@ -197,9 +197,28 @@ module _ {S : Type 0} (shows : S → S → List ℕ → List ℕ → Type 0) (no
           alone = refl;
           got = none;
           noted = inl tt;
-          ends = rw memory (waits, inr (inl (refl, lacks)));
+          ends = rw memory (ap (λ (m : Session). m.waiting) same ∙ on.free, inr (inl (refl, lacks)));
           at_once = λ before after. silent_since failed a b u (record { runs = on.runs; free = on.free; silent = on.silent }) none before after;
         }
+
+  -- ---- no memory for a state
+
+  -- nothing is left of a text where an instruction keeps a state
+  nothing_left : (s : Session) (i : Instr) (half : Option Half) (codes : List ℕ) (draft : Windows) → IfSome half (StandsHalf s codes draft) → instr_at s.state.game.memory s.state.pc ≡ Ok i → KeepsState i → half ≡ None
+  nothing_left s i None codes draft stands fetched keeps = refl
+  nothing_left s i (Some h) codes draft stands fetched keeps =
+      absurd (never_keeps s.state.game stands.instruction codes draft h stands.half (subst KeepsState (same_instr (instr_at s.state.game.memory s.state.pc) i stands.instruction fetched stands.fetched) keeps))
+
+  pub silent_due : (a : S) (s : Session) (i : Instr) (half : Option Half) (codes : List ℕ) (draft : Windows) → IfSome half (StandsHalf s codes draft) → instr_at s.state.game.memory s.state.pc ≡ Ok i → KeepsState i → GotDue shows a a s.state.game half no_text
+  silent_due a s i half codes draft stands fetched keeps = subst (λ (h : Option Half). GotDue shows a a s.state.game h no_text) (sym (nothing_left s i half codes draft stands fetched keeps)) (nothing a)
+
+  pub short_on : (s new : Session) (half : Option Half) (codes : List ℕ) (draft : Windows) → IfSome half (StandsHalf s codes draft) → new ≡ s → IsKeeping s.state → with_left new None ≡ with_left s half
+  short_on s new half codes draft stands same keeping =
+      ap (λ (m : Session). with_left m None) same ∙ ap (λ (h : Option Half). with_left s h) (sym (nothing_left s keeping.instruction half codes draft stands keeping.fetched keeping.keeps))
+
+  pub short_after : (failed : S → Bool) (bound parts : ℕ) (a b c : S) (old mid new : Session) → WentOn shows parts a b old mid → failed b ≡ false → new ≡ mid → c ≡ b → IsKeeping mid.state → mid.state.steps + parts < bound → mid.state.steps < mid.limits.steps → StandsShort shows failed a c bound parts old new
+  short_after failed bound parts a b c old mid new went works same alike keeping few room =
+      subst (λ (m : Session). StandsShort shows failed a c bound parts old m) (sym same) (subst (λ (z : S). StandsShort shows failed a z bound parts old mid) (sym alike) (record { went = went; keeping = keeping; works = works; few = few; room = room }))
 
   -- ---- steps that are made in silence
 
@@ -240,6 +259,12 @@ module _ {S : Type 0} (shows : S → S → List ℕ → List ℕ → Type 0) (no
   went_both i j n a b c s t u sum x y =
       let both = with_both i j n s t u x.log y.log sum x.on.runs (record { is = x.is; counted = x.counted }) (record { is = y.is; counted = y.counted }) in
       record { log = x.log ++ y.log; is = both.is; counted = both.counted; alone = answers_both x.log y.log x.alone y.alone; got = got_twice a b c x.log y.log x.got y.got; on = y.on }
+
+  -- it has gone on, once the transcript has got what it was still to get
+  pub short_due : (failed : S → Bool) (bound parts : ℕ) (a b c : S) (s new : Session) → Dued shows nothing twice a b s → s.stopped ≡ None → s.waiting ≡ None → StandsShort shows failed b c bound parts (told_due s) new → StandsShort shows failed a c bound parts s new
+  short_due failed bound parts a b c s new due runs free short =
+      let first : WentOn shows 0 a b s (told_due s) = record { log = due.log; is = due.is.is; counted = due.is.counted; alone = due.alone; got = due.got; on = record { runs = runs; free = free; silent = refl } } in
+      record { went = went_both 0 parts parts a b c s (told_due s) new (omega arith) first short.went; keeping = short.keeping; works = short.works; few = short.few; room = short.room }
 
   -- ---- runs
 
@@ -284,6 +309,12 @@ module _ {S : Type 0} (shows : S → S → List ℕ → List ℕ → Type 0) (no
           ends = rw (few.0) (x.on.free, inl stopped);
           at_once = never a b old (moved s Goes).to (x.log ++ (moved s Goes).entries) works;
         }
+
+    pub come_bound : (bound i : ℕ) (a b : S) (old s : Session) (r : Result Bool Halt) → WentOn shows i a b old s → failed b ≡ false → (s.state.steps < s.limits.steps → s.state.steps + i ≡ bound)
+        → MatchResult r (λ memory. (memory ≡ true) × (s.state.steps < s.limits.steps)) (λ h. (h ≡ Err (stops.Limit s.state.pc Steps)) × (s.limits.steps ≤ s.state.steps)) → HasCome shows full failed a b bound old s r
+    come_bound bound i a b old s (Ok true) x works at few = (i, ran_bound bound i a b old s (Ok tt) x works at few.1)
+    come_bound bound i a b old s (Ok false) x works at few = let memory = few.0 in absurd cc
+    come_bound bound i a b old s (Err h) x works at few = (i, ran_bound bound i a b old s (Err h) x works at few)
 
     -- a run that does not go on, after others
     pub ran_after : (bound bound' i j n : ℕ) (a b c : S) (old s new : Session) (h : Halt) → i + j ≡ n → WentOn shows i a b old s → failed b ≡ false → Ran shows full failed (λ l. Unit {0}) b c bound' j s new (Err h) → Ran shows full failed (λ l. Unit {0}) a c bound n old new (Err h)

@@ -19,7 +19,6 @@ use Rattle.zk_step.specs.declared.state.ending.Next.{Next}
 use Rattle.zk_step.specs.declared.state.ending.Next.TheVariants.{At, Asks}
 use Rattle.zk_step.specs.declared.state.ending.Output.{Output}
 use Rattle.zk_step.specs.declared.state.ending.Request.{Request}
-use Rattle.zk_step.specs.declared.state.ending.Request.TheVariants.{SaveUndo}
 use Rattle.zk_step.specs.declared.state.game_state.GameState.{GameState}
 use Rattle.zk_step.specs.Finish.{finished}
 use Rattle.zk_step.specs.Halves.{IsHalf, IsOnWay, ShowsSome, rest_text, rest_text_by, rest_units, text_due}
@@ -35,7 +34,7 @@ use Rattle.zk_step.proofs.Steps.{carried_ok}
 use Rattle.zk_step.proofs.WithinBounds.{move_is}
 use Rattle.zk_vm.specs.declared.machine.Machine.TheInside.{Inside}
 use Rattle.zk_vm.specs.declared.stop.Stop.TheVariants as stop
-use Rattle.zk_vm.specs.Going.{LacksMemory, Settles, stop_by}
+use Rattle.zk_vm.specs.Going.{Settles, stop_by}
 use Rattle.zk_vm.specs.Halts.{Halt, IsStep}
 use Rattle.zk_vm.specs.Log.{is_silent, text_shown}
 use Rattle.zk_vm.specs.Pausing.{GotDue, StandsHalf}
@@ -186,7 +185,7 @@ made_at {S} shows a b m i (Some x) w p t h told is text = stepped_on (λ (y z : 
 
 pub made_asked : {S : Type 0} (shows : S → S → List ℕ → List ℕ → Type 0) (twice : (a b c : S) (s t u v : List ℕ) → shows a b s u → shows b c t v → shows a c (s ++ t) (u ++ v)) (a b c : S) (m : Inside) (new : Session) (i : Instr) (half : Option Half) (codes : List ℕ) (draft : Windows) (w : GameState) (x : Request) (t : Texts) (answer : Result (Unit {0}) Halt)
     → IfSome half (IsHalf m.game i codes draft) → instr_at m.game.memory m.pc ≡ Ok i → limited_move (carried_out m.game i) ≡ Ok (w, (Asks x, t)) → t ≡ text_in (limited_move (carried_out m.game i)) → t ≡ no_text → ShowsSome shows a b (text_due m.game i half) no_text
-    → Settles (seen (record m { game = w })) new answer (asked (state_seen (record m { game = w })) i w x) ⊎ ((x ≡ SaveUndo) × LacksMemory (seen (record m { game = w })) new answer)
+    → Settles (seen (record m { game = w })) new answer (asked (state_seen (record m { game = w })) i w x)
     → shows b c (text_of (state_seen m) (asked (state_seen (record m { game = w })) i w x)).screen (text_of (state_seen m) (asked (state_seen (record m { game = w })) i w x)).script
     → IsStep (seen m) new answer (GotDue shows a c m.game half)
 made_asked {S} shows twice a b c m new i None codes draft w x t answer half h told is quiet text step rest = stepped_asked shows twice a b c m new i w x t answer h told quiet (rw is (whole_shown shows a b (text_due m.game i None) text)) step rest

@@ -58,13 +58,6 @@ pub record Settles (old new : Session) (answer : Result (Unit {0}) Halt) (x : St
   pub tells : answer ≡ halt_by (verdict_of old.state x)
   pub put : IsPut old new (verdict_of old.state x) (state_after old.state x)
 
--- there is no memory for a state that is to be kept: the states that are kept stand, and nothing is stored
-pub record LacksMemory (old new : Session) (answer : Result (Unit {0}) Halt) : Type 0 where
-  pub tells : answer ≡ Err (Err stop.Memory)
-  pub same : new.state ≡ old.state
-  pub waiting : new.waiting ≡ None
-  pub some : 0 < old.state.game.memory.undo_states
-
 -- where an instruction leads that restores nothing
 abbrev pub unrestored_by : GameState → Instr → Option Limit → Result (GameState × ℕ) Refusal
 unrestored_by w i None = limited_pc (result_answered w i 0 false)

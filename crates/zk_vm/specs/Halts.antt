@@ -72,17 +72,19 @@ CanAnswer s l stopped (Some w) = IsAnswerable s l stopped w
 
 -- ---- lack of memory
 
--- the instruction at a state's program counter would be carried out, and keep a state, where there may be one; its operands were
--- taken, and nothing else has changed
-pub record IsKeeping (s taken : State) : Type 0 where
+-- an instruction keeps a state to go back to
+abbrev pub KeepsState : Instr → Type 0
+KeepsState i = i.opcode ≡ Saving SaveUndo
+
+-- the instruction at a state's program counter would be carried out, and keep a state, where there may be one
+pub record IsKeeping (s : State) : Type 0 where
   pub instruction : Instr
   pub fetched : instr_at s.game.memory s.pc ≡ Ok instruction
-  pub keeps : instruction.opcode ≡ Saving SaveUndo
+  pub keeps : KeepsState instruction
   pub some : 0 < s.game.memory.undo_states
   pub game : GameState
   pub values : List ℕ
   pub operands : operands_read s.game instruction.operands ≡ Ok (game, values)
-  pub beside : taken ≡ record s { game = game }
 
 -- a step was made, and its text was shown
 pub record StepsTo (x : Step) (old new : Session) (answer : Result (Unit {0}) Halt) (Shown : Texts → Type 0) : Type 0 where
@@ -90,11 +92,12 @@ pub record StepsTo (x : Step) (old new : Session) (answer : Result (Unit {0}) Ha
   pub left : IsLeftAt old new (verdict_of old.state x) (state_after old.state x)
   pub shown : Shown (text_of old.state x)
 
--- a step was made as the Standard's machine makes it; or it came to keep a state, for which there was no memory
+-- a step was made as the Standard's machine makes it; or it came to keep a state, for which there was no memory, and nothing
+-- was done
 abbrev pub IsStep : Session → Session → Result (Unit {0}) Halt → (Texts → Type 0) → Type 0
 IsStep old new answer Shown =
     StepsTo (step old.state) old new answer Shown
-    ⊎ ((answer ≡ Err (Err stop.Memory)) × (new.waiting ≡ None) × (IsKeeping old.state new.state × Shown no_text))
+    ⊎ ((answer ≡ Err (Err stop.Memory)) × (new ≡ old) × (IsKeeping old.state × Shown no_text))
 
 -- while a machine has no stop
 abbrev pub WhileRunning : Option Stop → Type 0 → Type 0

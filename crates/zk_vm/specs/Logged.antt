@@ -23,19 +23,20 @@ pub record IsOn (s : Session) : Type 0 where
   pub free : s.waiting ≡ None
   pub silent : s.state.due ≡ []
 
--- the next step of a machine is to keep a state, for which there is no memory: its operands were taken
-pub record LacksState (s : Session) (taken : State) : Type 0 where
+-- the next step of a machine is to keep a state, for which there is no memory: its state stands
+pub record LacksState (s : Session) (state : State) : Type 0 where
   pub on : IsOn s
   pub few : s.state.steps < s.limits.steps
-  pub keeping : IsKeeping s.state taken
+  pub keeping : IsKeeping s.state
+  pub stands : state ≡ s.state
 
 -- so it is, or there is no memory for a saved game
 abbrev pub LacksRoom : Session → State → Type 0
-LacksRoom s taken = LacksState s taken ⊎ AsksForFile s
+LacksRoom s state = LacksState s state ⊎ AsksForFile s
 
 -- the addresses of a log were noted; where the next step is to keep a state, for which there is no memory, its own may be too
 abbrev pub WasNoted : (List ℕ → Type 0) → List Entry → Session → Type 0
-WasNoted Noted l to = Noted (addresses l) ⊎ (((taken : State) × LacksState to taken) × Noted (addresses l ++ to.state.pc ∷ []))
+WasNoted Noted l to = Noted (addresses l) ⊎ (((state : State) × LacksState to state) × Noted (addresses l ++ to.state.pc ∷ []))
 
 -- ---- a run on a screen: what `run` and `run_for` promise
 
@@ -169,7 +170,7 @@ pub record Turns {K : Type 0} (t : SlotTells K) (Noted : List ℕ → Type 0) (s
 pub data EndsBy {R : Type 0} (r : SourceTells R) (a b : R) (reads : List (ExtraTable × List ℕ)) (unwritten : Bool) (to : Session) (stop : Stop) : Type 0 where
   Unwritten : unwritten ≡ true → stop ≡ Write → (reads ≡ [] → b ≡ a) → EndsBy r a b reads unwritten to stop
   Itself : unwritten ≡ false → to.stopped ≡ Some stop → (reads ≡ [] → b ≡ a) → EndsBy r a b reads unwritten to stop
-  NoMemory : unwritten ≡ false → stop ≡ Memory → (taken : State) → LacksRoom to taken → (reads ≡ [] → b ≡ a) → EndsBy r a b reads unwritten to stop
+  NoMemory : unwritten ≡ false → stop ≡ Memory → (state : State) → LacksRoom to state → (reads ≡ [] → b ≡ a) → EndsBy r a b reads unwritten to stop
   NoLine : unwritten ≡ false → (over : InputEnd) → stop ≡ stop_behind over → AsksForLine to → FoundNoLine r a b reads over → EndsBy r a b reads unwritten to stop
 
 -- none is left where a read finds no line

@@ -1,16 +1,22 @@
 -- A machine in the middle of an instruction's text, as contracts see it.
-use Rattle.std.specs.Prelude.{◌≡◌, ◌<◌, ℕ, List, [], ◌∷◌, IfSome, Option, Some, None, Result, Ok, Err}
+use Rattle.std.specs.Prelude.{◌≡◌, ◌<◌, ◌+◌, ℕ, Bool, true, false, List, [], ◌∷◌, IfSome, Option, Some, None, Result, Ok, Err}
 use Rattle.zk_code.specs.declared.instr.Instr.{Instr}
 use Rattle.zk_code.specs.Reading.{instr_at}
 use Rattle.zk_term.specs.Windows.{Windows}
 use Rattle.zk_step.specs.declared.output.parts.Half.{Half}
+use Rattle.zk_step.specs.declared.state.ending.Event.{Event}
 use Rattle.zk_step.specs.declared.state.game_state.GameState.{GameState}
 use Rattle.zk_step.specs.Halves.{IsHalf, ShowsSome, rest_text, text_due}
 use Rattle.zk_step.specs.Routing.{Texts}
 use Rattle.zk_vm.specs.declared.machine.pausing.PausingMachine.TheInside.{Inside}
-use Rattle.zk_vm.specs.Halts.{Halt, IsStep}
+use Rattle.zk_vm.specs.declared.machine.pausing.Reached.{Reached}
+use Rattle.zk_vm.specs.declared.machine.pausing.Reached.TheVariants as reached
+use Rattle.zk_vm.specs.declared.machine.pausing.Stepped.{Stepped}
+use Rattle.zk_vm.specs.declared.machine.pausing.Stepped.TheVariants as stepped
+use Rattle.zk_vm.specs.declared.stop.Stop.{Stop}
+use Rattle.zk_vm.specs.Halts.{Halt, IsKeeping, IsStep}
 use Rattle.zk_vm.specs.Log.{Entry, IsLog, Move, answers_in, moved, parts_of, scripted, shown}
-use Rattle.zk_vm.specs.Logged.{IsOn}
+use Rattle.zk_vm.specs.Logged.{IsOn, Ran}
 use Rattle.zk_vm.specs.Sessions.{Session}
 
 -- what is still to come of a text of which a part was shown
@@ -60,10 +66,17 @@ due_of w (Some h) t = rest_text w h.rest
 abbrev pub GotDue : {S : Type 0} → (S → S → List ℕ → List ℕ → Type 0) → S → S → GameState → Option Half → Texts → Type 0
 GotDue {S} shows a b w half t = shows a b (due_of w half t).screen (due_of w half t).script
 
--- the step was made, and the text that was still to come was shown
-abbrev pub IsMade : {S : Type 0} → (S → S → List ℕ → List ℕ → Type 0) → S → S → Session → Session → Option Half → Result (Option Half) Halt → Type 0
-IsMade {S} shows a b old new half (Ok (Some h)) = Unit {0}
-IsMade {S} shows a b old new half (Ok None) = IsStep old new (Ok tt) (GotDue shows a b old.state.game half)
+-- the part of a text that was shown at last
+abbrev pub part_of : Stepped → Option Half
+part_of (stepped.Part h) = Some h
+part_of stepped.Done = None
+part_of stepped.NoMemory = None
+
+-- the step was made, and the text that was still to come was shown; or nothing was done, for lack of memory
+abbrev pub IsMade : {S : Type 0} → (S → S → List ℕ → List ℕ → Type 0) → S → S → Session → Session → Option Half → Result Stepped Halt → Type 0
+IsMade {S} shows a b old new half (Ok (stepped.Part h)) = Unit {0}
+IsMade {S} shows a b old new half (Ok stepped.Done) = IsStep old new (Ok tt) (GotDue shows a b old.state.game half)
+IsMade {S} shows a b old new half (Ok stepped.NoMemory) = (new ≡ old) × IsKeeping old.state × (b ≡ a)
 IsMade {S} shows a b old new half (Err h) = IsStep old new (Err h) (GotDue shows a b old.state.game half)
 
 -- ---- how a machine goes on
@@ -85,3 +98,32 @@ pub record GoneBy {S : Type 0} (shows : S → S → List ℕ → List ℕ → Ty
   pub alone : answers_in (moved s move).entries ≡ []
   pub got : shows a b (shown (moved s move).entries) (scripted (moved s move).entries)
   pub on : IsOn t
+
+-- ---- what a run comes to
+
+-- a machine has gone on to an instruction that keeps a state, for which there is no memory, and stands before it
+pub record StandsShort {S : Type 0} (shows : S → S → List ℕ → List ℕ → Type 0) (failed : S → Bool) (a b : S) (bound parts : ℕ) (old new : Session) : Type 0 where
+  pub went : WentOn shows parts a b old new
+  pub keeping : IsKeeping new.state
+  pub works : failed b ≡ false
+  pub few : new.state.steps + parts < bound
+  pub room : new.state.steps < new.limits.steps
+
+-- a machine has paused, with memory or for lack of it, or it waits or stops
+abbrev pub HasCome : {S : Type 0} → (S → S → List ℕ → List ℕ → Type 0) → (full failed : S → Bool) → (a b : S) → (bound : ℕ) → (old new : Session) → Result Bool Halt → Type 0
+HasCome {S} shows full failed a b bound old new (Ok true) = (parts : ℕ) × Ran shows full failed (λ l. Unit {0}) a b bound parts old new (Ok tt)
+HasCome {S} shows full failed a b bound old new (Ok false) = (parts : ℕ) × StandsShort shows failed a b bound parts old new
+HasCome {S} shows full failed a b bound old new (Err h) = (parts : ℕ) × Ran shows full failed (λ l. Unit {0}) a b bound parts old new (Err h)
+
+-- what a run tells, as its steps tell it
+abbrev pub come_to : Result Reached Stop → Result Bool Halt
+come_to (Ok (reached.Answer event)) = Err (Ok event)
+come_to (Ok reached.Pause) = Ok true
+come_to (Ok reached.NoMemory) = Ok false
+come_to (Err stop) = Err (Err stop)
+
+-- what is waited for, by what a run has reached
+abbrev pub event_reached : Reached → Option Event
+event_reached (reached.Answer event) = Some event
+event_reached reached.Pause = None
+event_reached reached.NoMemory = None

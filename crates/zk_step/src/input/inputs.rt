@@ -38,8 +38,8 @@ fn result_of_line(version: u8) -> Option<u16>
     if version < 5 { None } else { Some(13) }
 }
 
-/// Answers a read by a line: its codes go to the text buffer, and its words to the parse buffer. `words` is what is known
-/// of the story's dictionary. It tells the address where the machine goes on.
+/// Answers a read by a line: its codes go to the text buffer, and its words to the parse buffer. `words` is what is
+/// known of the story's dictionary. It tells the address where the machine goes on.
 #[tactic(auto, unfolding(crate::specs::Inputs::line_answered))]
 pub fn answer_line(
     game: &mut GameState,

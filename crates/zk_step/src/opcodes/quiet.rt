@@ -16,8 +16,8 @@ use crate::state::game_state::GameState;
 use zk_code::opcode::{Opcode, Routine};
 use zk_mem::fault::Fault;
 
-/// What a quiet instruction does by the values of its operands, and what it yields. All but its call goes away where the
-/// opcode is known.
+/// What a quiet instruction does by the values of its operands, and what it yields. All but its call goes away where
+/// the opcode is known.
 #[inline(always)]
 #[tactic(auto, unfolding(crate::specs::Routines::routine_effect))]
 pub fn yield_of(opcode: Opcode, game: &mut GameState, values: &[u16]) -> Result<Yield, Fault>

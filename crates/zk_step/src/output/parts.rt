@@ -100,7 +100,8 @@ fn give_words<K: Sink>(
     }
 }
 
-/// Gives a sink so many words of a text at most, and after its end a new line, if one follows. Says whether more is to come.
+/// Gives a sink so many words of a text at most, and after its end a new line, if one follows. Says whether more is to
+/// come.
 fn give_text_part<K: Sink>(
     memory: &Memory,
     place: &mut Place,
@@ -203,7 +204,8 @@ fn rows_in(words: Option<u32>, width: u16) -> u32
     }
 }
 
-/// Gives a sink a part of what is still to come: so many words of a text, or rows as long, at most, or all. Says whether more is to come.
+/// Gives a sink a part of what is still to come: so many words of a text, or rows as long, at most, or all. Says
+/// whether more is to come.
 fn give_part<K: Sink>(
     memory: &Memory,
     rest: &mut Rest,
@@ -238,7 +240,8 @@ fn give_part<K: Sink>(
     }
 }
 
-/// Shows a part of what is still to come on the screen and in the transcript, while they are on. Says whether more is to come.
+/// Shows a part of what is still to come on the screen and in the transcript, while they are on. Says whether more is
+/// to come.
 pub(crate) fn show_part<S: Screen>(
     memory: &Memory,
     selected: Selected,
@@ -300,8 +303,8 @@ pub(crate) fn collect_part(
     }
 }
 
-/// Prints so many rows of a rectangle at most in the upper window, each but the first from a column on. Says whether more are to
-/// come.
+/// Prints so many rows of a rectangle at most in the upper window, each but the first from a column on. Says whether
+/// more are to come.
 fn print_some_rows(
     memory: &Memory,
     windows: &mut Windows,
@@ -334,8 +337,8 @@ fn print_some_rows(
     *row < rectangle.height
 }
 
-/// Prints so many words of a text at most in the upper window, and after its end a new line, if one follows. Says whether more is
-/// to come.
+/// Prints so many words of a text at most in the upper window, and after its end a new line, if one follows. Says
+/// whether more is to come.
 fn print_text_part(
     memory: &Memory,
     windows: &mut Windows,

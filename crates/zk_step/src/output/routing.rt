@@ -313,8 +313,8 @@ pub(crate) fn route<S: Screen>(
     }
 }
 
-/// Collects what is still to come for the newest table of stream 3, a part of it; once all is there, it is stored. Says whether
-/// more is to come.
+/// Collects what is still to come for the newest table of stream 3, a part of it; once all is there, it is stored. Says
+/// whether more is to come.
 fn fill_table_part(
     game: &mut GameState,
     table: OpenTable,
@@ -378,8 +378,8 @@ fn show_lower_part<S: Screen>(
     more
 }
 
-/// Prints a part of what is still to come in a draft of the upper window, which takes its place once all is there. Says whether
-/// more is to come.
+/// Prints a part of what is still to come in a draft of the upper window, which takes its place once all is there. Says
+/// whether more is to come.
 fn print_draft_part(
     game: &mut GameState,
     half: &mut Half,
@@ -443,8 +443,8 @@ pub(crate) fn route_part<S: Screen>(
     }
 }
 
-/// What an instruction prints is ready to be shown in parts, once nothing can refuse the instruction any more where the screen
-/// gets it.
+/// What an instruction prints is ready to be shown in parts, once nothing can refuse the instruction any more where the
+/// screen gets it.
 pub(crate) fn begin_half(
     game: &GameState,
     i: &Instr,

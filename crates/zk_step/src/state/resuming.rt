@@ -11,9 +11,9 @@ use zk_code::decode::decode_branch;
 use zk_mem::fault::Fault;
 use zk_state::refusal::Refusal;
 
-/// Goes on where a state was saved that is back now, and tells the address (Z-Machine Standards Document 1.1, section 15,
-/// `save` and `restore_undo`): in version 3 the branch at that byte address is taken, from version 4 on 2 is
-/// stored by the store byte there. Where one of these bytes lies outside the story, this is `BadTarget`.
+/// Goes on where a state was saved that is back now, and tells the address (Z-Machine Standards Document 1.1, section
+/// 15, `save` and `restore_undo`): in version 3 the branch at that byte address is taken, from version 4 on 2 is stored
+/// by the store byte there. Where one of these bytes lies outside the story, this is `BadTarget`.
 #[tactic(auto, unfolding(crate::specs::Resuming::resumed))]
 pub fn resume(game: &mut GameState, pc: u32) -> Result<u32, Refusal>
     ensures value { MatchResult result

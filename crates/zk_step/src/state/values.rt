@@ -161,8 +161,9 @@ fn give_back_one(game: &mut GameState, operand: Operand, value: u16)
     }
 }
 
-/// Gives back the words of the evaluation stack that operands have taken, the last first: the game state is as it was before.
-pub(crate) fn give_back(game: &mut GameState, operands: &Operands, values: &Values)
+/// Gives back the words of the evaluation stack that operands have taken, the last first: the game state is as it was
+/// before.
+pub fn give_back(game: &mut GameState, operands: &Operands, values: &Values)
     requires { HaveTaken operands.now game.old values.now }
     ensures value { (found : GameState) → IsBounded found.frames
         → operands_read found operands.now ≡ Ok (game.old, values.now) → game.new ≡ found }

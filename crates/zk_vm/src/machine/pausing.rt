@@ -1,6 +1,6 @@
 // A machine that pauses in the middle of an instruction's text.
 
-ghost use Rattle.std.specs.Prelude.{◌≡◌, ◌≤◌, ◌<◌, ◌+◌, ◌^◌, ◌⊎◌, true, false, [], ◌∷◌, ℕ, Some, None, Ok, Err, IfErr, IfOk, IfSome, OnOk, OnErr, OnSome};
+ghost use Rattle.std.specs.Prelude.{◌≡◌, ◌≤◌, ◌<◌, ◌+◌, ◌^◌, ◌⊎◌, true, false, [], ◌∷◌, ℕ, Some, None, Ok, Err, IfErr, IfOk, IfSome, MatchResult, OnOk, OnErr, OnSome};
 ghost use Rattle.std.specs.List.{AllByRecursion};
 ghost use Rattle.std.specs.Prelude.{length, option_copied};
 ghost use Rattle.zk_code.specs.Reading.{instr_at};
@@ -9,13 +9,14 @@ ghost use Rattle.zk_step.specs.Routing.{Texts};
 ghost use Rattle.zk_vm.specs.Answers.{undone};
 ghost use Rattle.zk_text.specs.Extra.{is_input_code};
 ghost use Rattle.zk_vm.specs.Answers.Answer.{Typed, GameKept, File};
-ghost use Rattle.zk_vm.specs.Halts.{CanAnswer, IsLeftAs, IsLine, IsStep, IsUndone, event_waited};
-ghost use Rattle.zk_vm.specs.Logged.{Ran, halted};
-ghost use Rattle.zk_vm.specs.Pausing.{GoneBy, IsCut, IsCutAt, IsMade, StandsHalf, WentOn, told_due};
+ghost use Rattle.zk_vm.specs.Halts.{CanAnswer, IsKeeping, IsLeftAs, IsLine, IsUndone, KeepsState, event_waited};
+ghost use Rattle.zk_vm.specs.Logged.{Ran};
+ghost use Rattle.zk_vm.specs.Pausing.{GoneBy, HasCome, IsCut, IsCutAt, IsMade, StandsHalf, WentOn, come_to, event_reached, part_of, told_due};
 ghost use Rattle.zk_vm.specs.Plays.{AsksForLine};
 ghost use Rattle.zk_vm.specs.Sessions.{given, with_grid_forgotten, with_stop};
 ghost use Rattle.zk_vm.specs.Step.{is_read};
 
+use crate::machine::step::keeps_state;
 use crate::machine::{Machine, stop_at};
 use crate::stop::Stop;
 use crate::transcript::script_all;
@@ -25,12 +26,32 @@ use std::marker::Model;
 use zk_code::decode::decode;
 use zk_code::instr::Instr;
 use zk_fast::places::Unnoted;
+use zk_state::refusal::Limit;
 use zk_step::instruction::{Progress, carry_out_part};
 use zk_step::output::codes::Codes;
 use zk_step::output::parts::Half;
 use zk_step::state::ending::{Event, Next};
 use zk_term::screen::Screen;
 use zk_term::windows::Windows;
+
+/// What a run has reached.
+#[derive(Clone, Copy, Drop)]
+pub enum Reached {
+    /// The story waits for an answer.
+    Answer(Event),
+    /// A pause.
+    Pause,
+    /// An instruction that keeps a state, for which there is no memory.
+    NoMemory,
+}
+
+/// How far a step has come: a part of its text was shown, it was made, or there is no memory for the state that it keeps.
+#[derive(Clone, Copy, Drop)]
+enum Stepped {
+    Part(Half),
+    Done,
+    NoMemory,
+}
 
 /// So many words of text are shown at once, and count as an instruction: some thousand Z-characters.
 const WORDS: u32 = 334;
@@ -70,16 +91,16 @@ impl Machine {
         let _ = &self.limits;
     }
 
-    /// Carries out an instruction that was fetched from the machine's program counter, or a part of it: then the machine stands
-    /// as before.
+    /// Carries out an instruction that was fetched from the machine's program counter, and keeps no state, or a part of it: then
+    /// the machine stands as before.
     fn advance_part<S: Screen>(
         &mut self,
         i: Instr,
-        half: Option<Half>,
+        half: &Option<Half>,
         codes: &mut Codes,
         draft: &mut Windows,
         screen: &mut S,
-    ) -> Result<Option<Half>, Halt>
+    ) -> Result<Stepped, Halt>
         requires room { self.old.state.steps < self.old.limits.steps }
         requires free { self.old.waiting ≡ None }
         requires runs { self.old.stopped ≡ None }
@@ -87,25 +108,26 @@ impl Machine {
         requires near { i.next ≤ 2 ^ 20 }
         requires inside { self.old.state.pc < i.next }
         requires fetched { instr_at self.old.state.game.memory self.old.state.pc ≡ Ok i }
-        requires half { IfSome half (IsHalf self.old.state.game i codes.old draft.old) }
-        ensures part { IfOk result (λ p. IfSome p (IsCut S.shows screen.old screen.new self.old self.new
-            i half codes.new draft.new)) }
-        ensures step { IsMade S.shows screen.old screen.new self.old self.new half result }
+        requires other { KeepsState i → ⊥ }
+        requires half { IfSome half.now (IsHalf self.old.state.game i codes.old draft.old) }
+        ensures part { IfOk result (λ p. IfSome (part_of p) (IsCut S.shows screen.old screen.new self.old self.new
+            i half.now codes.new draft.new)) }
+        ensures step { IsMade S.shows screen.old screen.new self.old self.new half.now result }
         ensures silent { OnOk result (self.new.state.due ≡ self.old.state.due) }
-        ensures counted { IfOk result (λ p. p ≡ None → self.new.state.steps ≡ self.old.state.steps + 1) }
+        ensures counted { IfOk result (λ p. p ≡ Stepped.Done → self.new.state.steps ≡ self.old.state.steps + 1) }
         ensures reads { self.new.state.reads ≡ self.old.state.reads }
         ensures more { self.old.state.steps ≤ self.new.state.steps }
         ensures limits { self.new.limits ≡ self.old.limits }
     {
         match carry_out_part(&mut self.game, &i, half, codes, draft, screen, Some(WORDS)) {
-            Ok(Progress::Part(half)) => Ok(Some(half)),
+            Ok(Progress::Part(half)) => Ok(Stepped::Part(half)),
             Ok(Progress::Done(Next::At(pc))) => {
                 self.pc = pc;
                 self.steps += 1;
-                Ok(None)
+                Ok(Stepped::Done)
             }
             Ok(Progress::Done(Next::Asks(request))) => match self.meet(request, i, screen) {
-                Ok(()) => Ok(None),
+                Ok(()) => Ok(Stepped::Done),
                 Err(halt) => Err(halt),
             },
             Err(refusal) => {
@@ -116,29 +138,35 @@ impl Machine {
         }
     }
 
-    /// Carries out the instruction at the machine's program counter, or a part of it: then the machine stands as before.
+    /// Carries out the instruction at the machine's program counter, or a part of it: then the machine stands as before, and so it
+    /// does where there is no memory for a state.
     fn step_part<S: Screen>(
         &mut self,
-        half: Option<Half>,
+        half: &Option<Half>,
         codes: &mut Codes,
         draft: &mut Windows,
         screen: &mut S,
-    ) -> Result<Option<Half>, Halt>
+    ) -> Result<Stepped, Halt>
         requires room { self.old.state.steps < self.old.limits.steps }
         requires free { self.old.waiting ≡ None }
         requires runs { self.old.stopped ≡ None }
         requires silent { self.old.state.due ≡ [] }
-        requires half { IfSome half (StandsHalf self.old codes.old draft.old) }
-        ensures part { IfOk result (λ p. IfSome p (IsCutAt S.shows screen.old screen.new self.old self.new
-            half codes.new draft.new)) }
-        ensures step { IsMade S.shows screen.old screen.new self.old self.new half result }
+        requires half { IfSome half.now (StandsHalf self.old codes.old draft.old) }
+        ensures part { IfOk result (λ p. IfSome (part_of p) (IsCutAt S.shows screen.old screen.new self.old self.new
+            half.now codes.new draft.new)) }
+        ensures step { IsMade S.shows screen.old screen.new self.old self.new half.now result }
         ensures silent { OnOk result (self.new.state.due ≡ self.old.state.due) }
-        ensures counted { IfOk result (λ p. p ≡ None → self.new.state.steps ≡ self.old.state.steps + 1) }
+        ensures counted { IfOk result (λ p. p ≡ Stepped.Done → self.new.state.steps ≡ self.old.state.steps + 1) }
         ensures reads { self.new.state.reads ≡ self.old.state.reads }
         ensures more { self.old.state.steps ≤ self.new.state.steps }
         ensures limits { self.new.limits ≡ self.old.limits }
     {
         match decode(&self.game.memory, self.pc) {
+            Ok(i) if keeps_state(&i) => match self.keep(&i) {
+                Ok(Ok(())) => Ok(Stepped::Done),
+                Ok(Err(halt)) => Err(halt),
+                Err(AllocError) => Ok(Stepped::NoMemory),
+            },
             Ok(i) => self.advance_part(i, half, codes, draft, screen),
             Err(fault) => {
                 let stop = Stop::Fault(self.pc, fault);
@@ -236,17 +264,22 @@ impl PausingMachine {
         Ok(())
     }
 
-    /// One step, or a part of one. Says how many parts were shown.
-    fn step<S: Screen>(&mut self, screen: &mut S) -> Result<u32, Halt>
+    /// One step, or a part of one. Says how many parts were shown; none where there is no memory for a state: then the machine
+    /// stands as before.
+    fn step<S: Screen>(&mut self, screen: &mut S) -> Result<Option<u32>, Halt>
         requires room { self.old.state.steps < self.old.limits.steps }
         requires free { self.old.waiting ≡ None }
         requires runs { self.old.stopped ≡ None }
         requires silent { self.old.state.due ≡ [] }
         requires works { S.failed screen.old ≡ false }
-        ensures on { IfOk result (λ parts. GoneBy S.shows parts screen.old screen.new self.old self.new) }
+        ensures on { IfOk result (λ shown. IfSome shown
+            (λ parts. GoneBy S.shows parts screen.old screen.new self.old self.new)) }
+        ensures short { IfOk result (λ shown. shown ≡ None → (self.new ≡ self.old) × IsKeeping self.old.state
+            × (screen.new ≡ screen.old)) }
         ensures ends { IfErr result (λ h. Ran S.shows S.full S.failed (λ l. Unit {0}) screen.old screen.new 0 0
             self.old self.new (Err h)) }
-        ensures counted { IfOk result (λ parts. self.new.state.steps + parts ≡ self.old.state.steps + 1) }
+        ensures counted { IfOk result (λ shown. IfSome shown
+            (λ parts. self.new.state.steps + parts ≡ self.old.state.steps + 1)) }
         ensures reads { self.new.state.reads ≡ self.old.state.reads }
         ensures more { self.old.state.steps ≤ self.new.state.steps }
         ensures limits { self.new.limits ≡ self.old.limits }
@@ -254,16 +287,21 @@ impl PausingMachine {
         self.machine.is_told();
         match self
             .machine
-            .step_part(self.half, &mut self.codes, &mut self.draft, screen)
+            .step_part(&self.half, &mut self.codes, &mut self.draft, screen)
         {
-            Ok(Some(half)) => {
+            Ok(Stepped::Part(half)) => {
                 self.half = Some(half);
-                Ok(1)
+                Ok(Some(1))
             }
-            Ok(None) => {
+            Ok(Stepped::Done) => {
                 self.half = None;
                 self.machine.is_told();
-                Ok(0)
+                Ok(Some(0))
+            }
+            Ok(Stepped::NoMemory) => {
+                self.half = None;
+                self.machine.is_told();
+                Ok(None)
             }
             Err(halt) => {
                 self.half = None;
@@ -274,15 +312,16 @@ impl PausingMachine {
     }
 
     /// Steps up to an event or a stop, `Write` after the step or part of one at which the screen fails; or up to a pause, once so
-    /// many steps and parts were made, and after the one at which the screen comes to ask for it.
-    fn steps_in_parts<S: Screen>(&mut self, screen: &mut S, most: u32) -> Result<(), Halt>
+    /// many steps and parts were made, and after the one at which the screen comes to ask for it, or before one that keeps a state
+    /// for which there is no memory. Says whether there is memory.
+    fn steps_in_parts<S: Screen>(&mut self, screen: &mut S, most: u32) -> Result<bool, Halt>
         requires free { self.old.waiting ≡ None }
         requires runs { self.old.stopped ≡ None }
         requires silent { self.old.state.due ≡ [] }
         requires works { S.failed screen.old ≡ false }
         requires room { S.full screen.old ≡ false }
-        ensures logged { (parts : ℕ) × Ran S.shows S.full S.failed (λ l. Unit {0}) screen.old screen.new
-            (self.old.state.steps + most) parts self.old self.new result }
+        ensures logged { HasCome S.shows S.full S.failed screen.old screen.new (self.old.state.steps + most) self.old self.new
+            result }
         ensures reads { self.new.state.reads ≡ self.old.state.reads }
         ensures more { self.old.state.steps ≤ self.new.state.steps }
         ensures limits { self.new.limits ≡ self.old.limits }
@@ -297,42 +336,55 @@ impl PausingMachine {
                 Err(halt) => return Err(halt),
             }
             if self.machine.steps_made() >= bound {
-                return self.machine.pause();
+                return self.pause();
             }
             match self.step(screen) {
-                Ok(shown) => parts += shown,
+                Ok(Some(shown)) => parts += shown,
+                Ok(None) => return Ok(false),
                 Err(halt) => return Err(halt),
             }
             if screen.has_failed() {
                 return Err(Err(Stop::Write));
             }
             if screen.is_full() {
-                return Ok(());
+                return Ok(true);
             }
         }
-        self.machine.pause()
+        self.pause()
+    }
+
+    /// Pauses, unless no step is left. There is memory.
+    fn pause(&self) -> Result<bool, Halt>
+        ensures { MatchResult result (λ memory. (memory ≡ true) × (self.now.state.steps < self.now.limits.steps))
+            (λ halt. (halt ≡ Err (Stop.Limit self.now.state.pc Limit.Steps))
+            × (self.now.limits.steps ≤ self.now.state.steps)) }
+    {
+        match self.machine.pause() {
+            Ok(()) => Ok(true),
+            Err(halt) => Err(halt),
+        }
     }
 
     /// Runs the story up to the next event, a read or a saved game, or its stop, and answers the same stop from then on until
     /// `close` sets another; or up to a pause, where it answers none, and goes on from there when it is run again. It pauses once
     /// so many instructions were carried out, of which a long text counts one for each part that was shown of it, and after one
-    /// at which the screen comes to ask for it. Nothing of an instruction that faults is shown. Where there is no memory for a
-    /// state that `save_undo` keeps, the stop is `Memory`, and the states that were kept stand. Where the screen fails, the stop
-    /// is `Write`, right after what it showed. The machine is not waiting, and the screen does not ask for a pause.
-    pub fn run_for<S: Screen>(&mut self, screen: &mut S, most: u32) -> Result<Option<Event>, Stop>
+    /// at which the screen comes to ask for it. It pauses too before a `save_undo` for whose state there is no memory. Nothing of
+    /// an instruction that faults is shown. Where the screen fails, the stop is `Write`, right after what it showed. The machine is
+    /// not waiting, and the screen does not ask for a pause.
+    pub fn run_for<S: Screen>(&mut self, screen: &mut S, most: u32) -> Result<Reached, Stop>
         requires free { self.old.waiting ≡ None }
         requires room { S.full screen.old ≡ false }
-        ensures logged { (parts : ℕ) × Ran S.shows S.full S.failed (λ l. Unit {0}) screen.old screen.new
-            (self.old.state.steps + most) parts self.old self.new (halted result) }
+        ensures logged { HasCome S.shows S.full S.failed screen.old screen.new (self.old.state.steps + most) self.old self.new
+            (come_to result) }
         ensures stops { IfErr result (λ stop. self.new.stopped ≡ Some stop) }
         ensures free { OnErr result (self.new.waiting ≡ None) }
-        ensures asks { IfOk result (λ event. event_waited self.new.waiting ≡ event) }
-        ensures reads { IfOk result (λ asked. IfSome asked
+        ensures asks { IfOk result (λ reached. event_waited self.new.waiting ≡ event_reached reached) }
+        ensures reads { IfOk result (λ reached. IfSome (event_reached reached)
             (λ event. is_read event ≡ true → self.new.state.reads < 16777216)) }
         ensures same_reads { OnOk result (self.new.state.reads ≡ self.old.state.reads) }
         ensures more { OnOk result (self.old.state.steps ≤ self.new.state.steps) }
-        ensures steps { IfOk result
-            (λ asked. OnSome asked (self.new.state.steps < self.new.limits.steps)) }
+        ensures steps { IfOk result (λ reached. OnSome (event_reached reached)
+            (self.new.state.steps < self.new.limits.steps)) }
         ensures runs { OnOk result (self.new.stopped ≡ None) }
         ensures limits { self.new.limits ≡ self.old.limits }
     {
@@ -345,13 +397,18 @@ impl PausingMachine {
             return Err(Stop::Write);
         }
         if screen.is_full() {
-            return Ok(None);
+            return Ok(Reached::Pause);
         }
         match self.steps_in_parts(screen, most) {
-            Ok(()) => Ok(None),
+            Ok(memory) => {
+                if memory {
+                    return Ok(Reached::Pause);
+                }
+                Ok(Reached::NoMemory)
+            }
             Err(Ok(event)) => {
                 self.machine.is_answerable();
-                Ok(Some(event))
+                Ok(Reached::Answer(event))
             }
             Err(Err(stop)) => {
                 self.close(stop);

@@ -1,10 +1,11 @@
 // A machine's run: step after step, up to what is waited for or the stop.
 
-ghost use Rattle.std.specs.Prelude.{◌≡◌, ◌≤◌, ◌<◌, ◌+◌, ◌-◌, ◌^◌, ◌⊎◌, true, false, [], if◌then◌else◌, Some, None, Ok, Err, IfErr, IfOk, IfSome, OnOk, OnSome, OnErr, MatchResult};
+ghost use Rattle.std.specs.Prelude.{◌≡◌, ◌↔◌, ◌≤◌, ◌<◌, ◌+◌, ◌-◌, ◌^◌, ◌⊎◌, true, false, [], if◌then◌else◌, Some, None, Ok, Err, IfErr, IfOk, IfSome, IsTrue, OnOk, OnSome, OnErr, MatchResult};
 ghost use Rattle.zk_state.specs.Frames.{IsBounded};
 ghost use Rattle.zk_code.specs.Reading.{instr_at};
-ghost use Rattle.zk_vm.specs.Going.{IsAhead, Settles, LacksMemory};
-ghost use Rattle.zk_vm.specs.Halts.{IsStep, event_waited};
+ghost use Rattle.zk_step.specs.Routing.{no_text};
+ghost use Rattle.zk_vm.specs.Going.{IsAhead, Settles};
+ghost use Rattle.zk_vm.specs.Halts.{IsKeeping, IsStep, KeepsState, event_waited};
 ghost use Rattle.zk_vm.specs.Laws.{IsWithin};
 ghost use Rattle.zk_vm.specs.Logged.{Ran, halted};
 ghost use Rattle.zk_vm.specs.Step.{asked, is_read, text_of};
@@ -13,8 +14,10 @@ use crate::machine::{MOST_READS, Machine, go_on, halt, is_read, pc_of_save, stop
 use crate::stop::Stop;
 use crate::transcript::script_all;
 use crate::waiting::{Halt, Waiting};
+use std::alloc::AllocError;
 use zk_code::decode::decode;
 use zk_code::instr::Instr;
+use zk_code::opcode::{Opcode, Saving};
 use zk_fast::ahead::run_ahead;
 use zk_fast::places::{Places, Unnoted};
 use zk_state::refusal::Limit;
@@ -23,14 +26,24 @@ use zk_step::instruction::carry_out;
 use zk_step::output::view::{check_view, show_view};
 use zk_step::state::ending::{Event, Next, Request};
 use zk_step::state::resuming::resume;
+use zk_step::state::values::{give_back, read_operands};
 use zk_term::screen::Screen;
+
+/// Whether an instruction keeps a state to go back to.
+pub(crate) fn keeps_state(i: &Instr) -> bool
+    ensures { IsTrue result ↔ KeepsState i.now }
+{
+    match i.opcode {
+        Opcode::Saving(Saving::SaveUndo) => true,
+        _ => false,
+    }
+}
 
 impl Machine {
     /// Runs the story up to the next event, a read or a saved game, or its stop, and answers the same stop
     /// from then on until `close` sets another. Nothing of an instruction that faults is shown. Where there is
-    /// no memory for a state that `save_undo` keeps, the stop is `Memory`, before that instruction stores its
-    /// answer, and the states that were kept stand. Where the screen fails, the stop is `Write`, right after the step that
-    /// showed something. It is not waiting, and the screen never asks for a pause.
+    /// no memory for a state that `save_undo` keeps, the stop is `Memory`, before that instruction. Where the screen fails, the
+    /// stop is `Write`, right after the step that showed something. It is not waiting, and the screen never asks for a pause.
     pub fn run<S: Screen>(&mut self, screen: &mut S) -> Result<Event, Stop>
         requires free { self.old.waiting ≡ None }
         requires endless { (a : S) → S.full a ≡ false }
@@ -239,12 +252,16 @@ impl Machine {
         ensures limits { self.new.limits ≡ self.old.limits }
     {
         match decode(&self.game.memory, self.pc) {
+            Ok(i) if keeps_state(&i) => match self.keep(&i) {
+                Ok(went) => went,
+                Err(AllocError) => Err(Err(Stop::Memory)),
+            },
             Ok(i) => self.advance(i, screen),
             Err(fault) => halt(&mut self.stopped, Stop::Fault(self.pc, fault)),
         }
     }
 
-    /// Carries out an instruction that was fetched from the machine's program counter.
+    /// Carries out an instruction that was fetched from the machine's program counter, and keeps no state.
     fn advance<S: Screen>(&mut self, i: Instr, screen: &mut S) -> Result<(), Halt>
         requires room { self.old.state.steps < self.old.limits.steps }
         requires free { self.old.waiting ≡ None }
@@ -253,6 +270,7 @@ impl Machine {
         requires near { i.next ≤ 2 ^ 20 }
         requires inside { self.old.state.pc < i.next }
         requires fetched { instr_at self.old.state.game.memory self.old.state.pc ≡ Ok i }
+        requires other { KeepsState i → ⊥ }
         ensures step { IsStep self.old self.new result
             (λ t. S.shows screen.old screen.new t.screen t.script) }
         ensures counted { OnOk result (self.new.state.steps ≡ self.old.state.steps + 1) }
@@ -272,7 +290,7 @@ impl Machine {
         }
     }
 
-    /// Does what an instruction asks for.
+    /// Does what an instruction asks for that keeps no state.
     pub(crate) fn meet<S: Screen>(
         &mut self,
         request: Request,
@@ -286,9 +304,9 @@ impl Machine {
         requires near { i.next ≤ 2 ^ 20 }
         requires inside { self.old.state.pc < i.next }
         requires fetched { instr_at self.old.state.game.memory self.old.state.pc ≡ Ok i }
+        requires other { request ≡ Request.SaveUndo → ⊥ }
         ensures step { Settles self.old self.new result
-            (asked self.old.state i self.old.state.game request)
-            ⊎ ((request ≡ Request.SaveUndo) × LacksMemory self.old self.new result) }
+            (asked self.old.state i self.old.state.game request) }
         ensures text { S.shows screen.old screen.new
             (text_of self.old.state (asked self.old.state i self.old.state.game request)).screen
             (text_of self.old.state (asked self.old.state i self.old.state.game request)).script }
@@ -300,25 +318,58 @@ impl Machine {
     {
         match request {
             Request::Answer(event) => self.wait_for(event, i, screen),
-            Request::SaveUndo => self.save_undo(&i),
+            Request::SaveUndo => unreachable!(),
             Request::RestoreUndo => self.restore_undo(&i),
             Request::Quit => halt(&mut self.stopped, Stop::Quit),
         }
     }
 
-    /// Keeps the state in front of the others, and goes on with the answer of `save_undo`. Where there is no
-    /// memory for it, nothing is stored.
-    fn save_undo(&mut self, i: &Instr) -> Result<(), Halt>
+    /// Carries out an instruction that keeps a state, and was fetched from the machine's program counter. Where there is no
+    /// memory for a state, the machine stands as before.
+    pub(crate) fn keep(&mut self, i: &Instr) -> Result<Result<(), Halt>, AllocError>
+        requires room { self.old.state.steps < self.old.limits.steps }
+        requires free { self.old.waiting ≡ None }
+        requires runs { self.old.stopped ≡ None }
+        requires silent { self.old.state.due ≡ [] }
+        requires near { i.now.next ≤ 2 ^ 20 }
+        requires inside { self.old.state.pc < i.now.next }
+        requires fetched { instr_at self.old.state.game.memory self.old.state.pc ≡ Ok i.now }
+        requires keeps { KeepsState i.now }
+        ensures step { IfOk result (λ went. IsStep self.old self.new went (λ t. t ≡ no_text)) }
+        ensures short { OnErr result ((self.new ≡ self.old) × IsKeeping self.old.state) }
+        ensures counted { IfOk result (λ went. OnOk went (self.new.state.steps ≡ self.old.state.steps + 1)) }
+        ensures silent { IfOk result (λ went. OnOk went (self.new.state.due ≡ self.old.state.due)) }
+        ensures reads { self.new.state.reads ≡ self.old.state.reads }
+        ensures more { self.old.state.steps ≤ self.new.state.steps }
+        ensures limits { self.new.limits ≡ self.old.limits }
+    {
+        self.game.frames.is_bounded();
+        let values = match read_operands(&mut self.game, &i.operands) {
+            Ok(values) => values,
+            Err(fault) => return Ok(halt(&mut self.stopped, Stop::Fault(self.pc, fault))),
+        };
+        match self.save_undo(i) {
+            Ok(went) => Ok(went),
+            Err(AllocError) => {
+                give_back(&mut self.game, &i.operands, &values);
+                Err(AllocError)
+            }
+        }
+    }
+
+    /// Keeps the state in front of the others, and goes on with the answer of `save_undo`. Where there is no memory for it,
+    /// nothing is done.
+    fn save_undo(&mut self, i: &Instr) -> Result<Result<(), Halt>, AllocError>
         requires room { self.old.state.steps < self.old.limits.steps }
         requires free { self.old.waiting ≡ None }
         requires runs { self.old.stopped ≡ None }
         requires near { i.now.next ≤ 2 ^ 20 }
         requires inside { self.old.state.pc < i.now.next }
-        ensures step { Settles self.old self.new result
-            (asked self.old.state i.now self.old.state.game Request.SaveUndo)
-            ⊎ LacksMemory self.old self.new result }
-        ensures counted { OnOk result (self.new.state.steps ≡ self.old.state.steps + 1) }
-        ensures silent { OnOk result (self.new.state.due ≡ self.old.state.due) }
+        ensures step { IfOk result (λ went. Settles self.old self.new went
+            (asked self.old.state i.now self.old.state.game Request.SaveUndo)) }
+        ensures short { OnErr result ((self.new ≡ self.old) × (0 < self.old.state.game.memory.undo_states)) }
+        ensures counted { IfOk result (λ went. OnOk went (self.new.state.steps ≡ self.old.state.steps + 1)) }
+        ensures silent { IfOk result (λ went. OnOk went (self.new.state.due ≡ self.old.state.due)) }
         ensures reads { self.new.state.reads ≡ self.old.state.reads }
         ensures more { self.old.state.steps ≤ self.new.state.steps }
         ensures limits { self.new.limits ≡ self.old.limits }
@@ -326,15 +377,12 @@ impl Machine {
         if self.limits.undo == 0 {
             self.undo.len();
             let led = answer_result(&mut self.game, i, 0xffff, true);
-            return go_on(&mut self.pc, &mut self.steps, &mut self.stopped, led);
+            return Ok(go_on(&mut self.pc, &mut self.steps, &mut self.stopped, led));
         }
         let pc = pc_of_save(self.game.memory.version(), self.pc, i.next);
-        match self.undo.put(&self.game.memory, &self.game.frames, pc) {
-            Ok(()) => {}
-            Err(_) => return halt(&mut self.stopped, Stop::Memory),
-        }
+        self.undo.put(&self.game.memory, &self.game.frames, pc)?;
         let led = answer_result(&mut self.game, i, 1, true);
-        go_on(&mut self.pc, &mut self.steps, &mut self.stopped, led)
+        Ok(go_on(&mut self.pc, &mut self.steps, &mut self.stopped, led))
     }
 
     /// Goes back to the newest state that is kept, and on where it was saved; without one `restore_undo`

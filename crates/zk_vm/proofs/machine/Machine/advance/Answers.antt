@@ -1,5 +1,5 @@
 use Rattle.std.proofs.Common.{◌≤◌, ◌+◌, refl, arith}
-use Rattle.zk_vm.proofs.Advancing.{sound_moved, still_there, stepped_asked, stepped_on, stepped_err}
+use Rattle.zk_vm.proofs.Advancing.{asks_keeps, sound_moved, still_there, stepped_asked, stepped_on, stepped_err}
 use Rattle.zk_vm.proofs.machine.Machine.advance.Goals as goal
 
 pub invariant_of-self : goal.invariant_of-self
@@ -43,3 +43,9 @@ meet-requires-clause-fetched g c =
     let fetched = rw (← c.self.view_is) at c.requires.fetched in
     let value = rw c.in-Ok-Asks.field-0-is at c.in-Ok-Asks.ensures.value in
     still_there c.self.inside c.carry_out.new.game c.args.i c.in-Ok-Asks.request _ fetched value
+
+pub meet-requires-clause-other : goal.meet-requires-clause-other
+meet-requires-clause-other g c = λ saves.
+    let other = c.requires.other in
+    let value = rw c.in-Ok-Asks.field-0-is at c.in-Ok-Asks.ensures.value in
+    other (asks_keeps c.self.inside.game c.carry_out.new.game c.args.i c.in-Ok-Asks.request _ value saves)
