@@ -11,6 +11,7 @@ use Rattle.zk_vm.specs.Answers.{Answer, undone}
 use Rattle.zk_vm.specs.Halts.{IsLeftAs, IsUndone, event_waited}
 use Rattle.zk_vm.specs.Log.{Entry, scripted, shown}
 use Rattle.zk_vm.specs.Logged.{Ran, RunsOn}
+use Rattle.zk_vm.specs.Pausing.{StandsShort}
 use Rattle.zk_vm.specs.Sessions.{Session, begun, given}
 use Rattle.zk_vm.specs.Plays.{image_of}
 use Rattle.zk_host.specs.declared.collected.Collected.{Collected}
@@ -23,7 +24,7 @@ use Rattle.zk_host.specs.declared.play.Refusal.{Refusal}
 use Rattle.zk_host.specs.declared.play.Refusal.TheVariants as refused
 use Rattle.zk_step.specs.declared.output.status.StatusLine.{StatusLine}
 use Rattle.zk_host.specs.declared.drawing.StatusFigures.{StatusFigures}
-use Rattle.zk_host.specs.Collecting.{Collects, has_no_room, is_lost, no_text, nothing_collected}
+use Rattle.zk_host.specs.Collecting.{Collects, has_no_room, is_lost, no_text, nothing_collected, wants_pause}
 use Rattle.zk_host.specs.Drawing.{HasStatus, figures_or_none}
 use Rattle.zk_host.specs.Names.{HasName}
 use Rattle.zk_mem.specs.Fresh.{fresh}
@@ -65,7 +66,7 @@ Unnoted places = Unit {0}
 
 -- why a run has paused
 abbrev pub pause_of : Play → Asked
-pause_of p = if has_no_room p.text then asked.Room else asked.Time
+pause_of p = if has_no_room p.text then asked.Room else if p.text.short then asked.Memory else asked.Time
 
 -- a play has run to an event or its stop, and collected what it shows; where text is lost, that is its stop
 abbrev pub HasEnded : Play → Play → Result Event Stop → Type 0
@@ -73,11 +74,17 @@ HasEnded old new answer =
     RunsOn (Shown old.text new.text) Unnoted old.machine new.machine answer (is_lost new.text)
     × (new ≡ record old { machine = new.machine; text = new.text; stopped = stop_of answer })
 
--- a play has paused after so many steps and parts of texts, or once there is no room for more text
+-- a play has paused after so many steps and parts of texts, or once there is no room or memory for more text
 abbrev pub HasPausedBy : Play → Play → ℕ → Asked → Type 0
 HasPausedBy old new steps why =
-    ((parts : ℕ) × Ran Collects has_no_room is_lost Unnoted old.text new.text (old.machine.state.steps + steps) parts old.machine new.machine (Ok tt))
+    ((parts : ℕ) × Ran Collects wants_pause is_lost Unnoted old.text new.text (old.machine.state.steps + steps) parts old.machine new.machine (Ok tt))
     × (why ≡ pause_of new)
+    × (new ≡ record old { machine = new.machine; text = new.text })
+
+-- a play has come to an instruction that keeps a state, for which there is no memory, and stands before it
+abbrev pub HasRunShort : Play → Play → ℕ → Type 0
+HasRunShort old new steps =
+    ((parts : ℕ) × StandsShort Collects is_lost old.text new.text (old.machine.state.steps + steps) parts old.machine new.machine)
     × (new ≡ record old { machine = new.machine; text = new.text })
 
 -- a play has run for so many steps at most, by what the turn tells
@@ -85,16 +92,26 @@ abbrev pub HasRun : Play → Play → ℕ → Result Asked Stop → Type 0
 HasRun old new steps (Ok (asked.Answer event)) = HasEnded old new (Ok event)
 HasRun old new steps (Ok asked.Room) = HasPausedBy old new steps asked.Room
 HasRun old new steps (Ok asked.Time) = HasPausedBy old new steps asked.Time
+HasRun old new steps (Ok asked.Memory) = HasPausedBy old new steps asked.Memory ⊎ HasRunShort old new steps
 HasRun old new steps (Err stop) = HasEnded old new (Err stop)
 
 -- a play with so much room for text
 abbrev pub with_room : Play → ℕ → Play
 with_room p room = record p { text = record p.text { room = room } }
 
--- by whether there is none
+-- and without memory for text, or with it
+abbrev pub with_short : Play → Bool → Play
+with_short p short = record p { text = record p.text { short = short } }
+
+-- by whether there is no memory
+abbrev pub IsTurnedOn : Bool → Play → Play → ℕ → Result Asked Stop → Type 0
+IsTurnedOn true old new steps answer = (answer ≡ Ok asked.Memory) × (new ≡ old)
+IsTurnedOn false old new steps answer = HasRun old new steps answer
+
+-- by whether there is no room
 abbrev pub IsTurnedIn : Bool → Play → Play → ℕ → Result Asked Stop → Type 0
 IsTurnedIn true old new steps answer = (answer ≡ Ok asked.Room) × (new ≡ old)
-IsTurnedIn false old new steps answer = HasRun old new steps answer
+IsTurnedIn false old new steps answer = (short : Bool) × IsTurnedOn short (with_short old short) new steps answer
 
 -- a turn, by what was waited for and why the story has stopped before: both are told again, and nothing is run
 abbrev pub IsTurnedBy : Option Event → Option Stop → Play → Play → (steps room : ℕ) → Result Asked Stop → Type 0

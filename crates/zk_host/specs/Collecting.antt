@@ -17,6 +17,10 @@ is_lost c = c.too_much || (c.screen.failed || c.script.failed)
 abbrev pub has_no_room : Collected → Bool
 has_no_room c = nat_le c.room (waiting_of c)
 
+-- more is to be shown only after a pause: there is no room, or no memory
+abbrev pub wants_pause : Collected → Bool
+wants_pause c = has_no_room c || c.short
+
 -- so many bytes past the room are too many for one instruction
 abbrev pub most_past_room : ℕ
 most_past_room = 1048576
@@ -43,7 +47,7 @@ abbrev pub no_text : Unread
 no_text = record { bytes = []; failed = false }
 
 abbrev pub nothing_collected : Collected
-nothing_collected = record { screen = no_text; script = no_text; room = 0; too_much = false }
+nothing_collected = record { screen = no_text; script = no_text; room = 0; too_much = false; short = false }
 
 -- ---- text after text
 

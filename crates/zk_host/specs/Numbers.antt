@@ -26,6 +26,7 @@ abbrev pub turn_number : Result Asked Stop → ℕ
 turn_number (Ok (asked.Answer event)) = event_number event
 turn_number (Ok asked.Room) = 5
 turn_number (Ok asked.Time) = 6
+turn_number (Ok asked.Memory) = 7
 turn_number (Err stop) = 0
 
 -- how an answer was taken

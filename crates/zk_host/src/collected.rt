@@ -1,7 +1,7 @@
 // Text that a play has shown and nobody has taken yet.
 
-ghost use Rattle.std.specs.Prelude.{◌≡◌, ◌+◌, nat_le};
-ghost use Rattle.zk_host.specs.Collecting.{has_no_room, is_lost, most_past_room, nothing_collected, waiting_of};
+ghost use Rattle.std.specs.Prelude.{◌≡◌, ◌+◌, false, if◌then◌else◌, nat_le, true};
+ghost use Rattle.zk_host.specs.Collecting.{has_no_room, is_lost, most_past_room, nothing_collected, waiting_of, wants_pause};
 
 use crate::text::Text;
 use std::alloc::Global;
@@ -11,8 +11,9 @@ use zk_term::target::{Failed, write_char};
 /// One instruction shows at most so many bytes past the room.
 const MOST_PAST_ROOM: u64 = 1_048_576;
 
-/// UTF-8 of the screen and of the transcript that waits to be taken, and in how much room. What is shown is lost once there
-/// is no memory for it, or much more of it than there is room for.
+/// UTF-8 of the screen and of the transcript that waits to be taken, and in how much room. There is memory for what may be shown
+/// at once before it is shown, or `short` says that there is none. What is shown is lost where there is no memory for it, or
+/// much more of it than there is room for.
 #[derive(Drop)]
 pub struct Collected {
     pub screen: Text,
@@ -20,6 +21,8 @@ pub struct Collected {
     pub room: u32,
     /// An instruction has shown too much past the room.
     pub too_much: bool,
+    /// There is no memory for what may be shown at once.
+    pub short: bool,
 }
 
 impl Collected {
@@ -32,6 +35,7 @@ impl Collected {
             script: Text::new(alloc),
             room: 0,
             too_much: false,
+            short: false,
         }
     }
 
@@ -56,6 +60,40 @@ impl Collected {
         self.has(self.room as u64)
     }
 
+    /// Makes room for what may be shown at once. Says whether there is memory for it.
+    pub fn make_room(&mut self) -> bool
+        ensures value { self.new ≡ record self.old { short = self.new.short } }
+        ensures told { result ≡ (if self.new.short then false else true) }
+    {
+        self.short = !(self.screen.make_room() && self.script.make_room());
+        !self.short
+    }
+
+    /// Makes room again behind a character for the screen.
+    fn keep_screen_room(&mut self)
+        ensures { self.new ≡ record self.old { short = self.new.short } }
+    {
+        if !self.short {
+            self.short = !self.screen.make_room();
+        }
+    }
+
+    /// Makes room again behind a character for the transcript.
+    fn keep_script_room(&mut self)
+        ensures { self.new ≡ record self.old { short = self.new.short } }
+    {
+        if !self.short {
+            self.short = !self.script.make_room();
+        }
+    }
+
+    /// Whether more is to be shown only after a pause: there is no room, or no memory.
+    fn wants_pause(&self) -> bool
+        ensures { result ≡ wants_pause self.now }
+    {
+        self.has_no_room() || self.short
+    }
+
     /// Whether an instruction has shown too much past the room.
     fn is_overfull(&self) -> bool
         ensures { result ≡ nat_le (self.now.room + most_past_room) (waiting_of self.now) }
@@ -65,13 +103,13 @@ impl Collected {
 }
 
 impl Screen for Collected {
-    ghost use Rattle.zk_host.specs.Collecting.{Collects, collects_nothing, collects_twice, has_no_room, is_lost};
+    ghost use Rattle.zk_host.specs.Collecting.{Collects, collects_nothing, collects_twice, is_lost, wants_pause};
 
     ghost shows = { Collects };
 
     ghost failed = { is_lost };
 
-    ghost full = { has_no_room };
+    ghost full = { wants_pause };
 
     fn text(&mut self, c: char) {
         if self.is_lost() {
@@ -82,7 +120,7 @@ impl Screen for Collected {
             return;
         }
         match write_char(&mut self.screen, c) {
-            Ok(()) => {}
+            Ok(()) => self.keep_screen_room(),
             Err(Failed) => {}
         }
     }
@@ -96,7 +134,7 @@ impl Screen for Collected {
             return;
         }
         match write_char(&mut self.script, c) {
-            Ok(()) => {}
+            Ok(()) => self.keep_script_room(),
             Err(Failed) => {}
         }
     }
@@ -106,7 +144,7 @@ impl Screen for Collected {
     }
 
     fn is_full(&self) -> bool {
-        self.has_no_room()
+        self.wants_pause()
     }
 
     ghost nothing = { collects_nothing };

@@ -28,6 +28,7 @@ pub fn turn_number(turned: Result<Asked, Stop>) -> u32
         Ok(Asked::Answer(event)) => event_number(event),
         Ok(Asked::Room) => 5,
         Ok(Asked::Time) => 6,
+        Ok(Asked::Memory) => 7,
         Err(_) => 0,
     }
 }

@@ -34,7 +34,7 @@ use zk_step::state::ending::Event;
 use zk_step::state::game_state::View;
 use zk_vm::limits::Limits;
 use zk_vm::machine::Machine;
-use zk_vm::machine::pausing::PausingMachine;
+use zk_vm::machine::pausing::{PausingMachine, Reached};
 use zk_vm::stop::Stop;
 
 /// Why an answer is refused.
@@ -72,6 +72,8 @@ pub enum Asked {
     Room,
     /// The instructions of the turn are used up.
     Time,
+    /// There is no memory for text, or for a state that the next instruction keeps.
+    Memory,
 }
 
 /// A machine, the text that it has shown and that was not taken yet, and why its last turn ended.
@@ -119,7 +121,7 @@ fn list_file(alloc: Global, memory: &Memory, listing: Listing, most: usize) -> R
 
 impl Play {
     ghost use Rattle.zk_host.specs.Calls.{begun_play, play_of, IsOpenedFrom, IsPlayOpened, IsSnapshot, longest_snapshot, awaited, pause_of, HasRun, IsGivenUnless, IsGoneBack, IsImage, IsListedBy, IsStatus, IsTurned, line_refused, character_refused, read_refused, save_refused, restore_refused, character_read, with_none_listed};
-    ghost use Rattle.zk_host.specs.Collecting.{has_no_room};
+    ghost use Rattle.zk_host.specs.Collecting.{wants_pause};
     ghost use Rattle.std.specs.Prelude.{Option, Some, None, false, option_copied, ◌∷◌, []};
 
     /// A play of a machine, with no text.
@@ -218,9 +220,9 @@ impl Play {
         }
     }
 
-    /// Runs the story up to its next event or its stop, for so many instructions at most and while there is room for its
-    /// text, which it collects. Where an event waits for its answer already, or the story has stopped, that is told again;
-    /// where there is no room, nothing is run.
+    /// Runs the story up to its next event or its stop, for so many instructions at most and while there is room and memory for
+    /// its text, which it collects, and memory for the states that it keeps. Where an event waits for its answer already, or the
+    /// story has stopped, that is told again; where there is no room, or no memory, nothing is run.
     pub fn turn(&mut self, steps: u32, room: u32) -> Result<Asked, Stop>
         ensures { IsTurned self.old self.new steps room result }
     {
@@ -234,14 +236,17 @@ impl Play {
         if self.text.has_no_room() {
             return Ok(Asked::Room);
         }
+        if !self.text.make_room() {
+            return Ok(Asked::Memory);
+        }
         self.run(steps)
     }
 
-    /// Runs the story where there is room for text.
+    /// Runs the story where there is room and memory for text.
     fn run(&mut self, steps: u32) -> Result<Asked, Stop>
         requires free { self.old.machine.waiting ≡ None }
         requires runs { self.old.stopped ≡ None }
-        requires room { has_no_room self.old.text ≡ false }
+        requires room { wants_pause self.old.text ≡ false }
         ensures { HasRun self.old self.new steps result }
     {
         let ran = self.machine.run_for(&mut self.text, steps);
@@ -251,8 +256,9 @@ impl Play {
             return Err(Stop::Write);
         }
         match ran {
-            Ok(Some(event)) => Ok(Asked::Answer(event)),
-            Ok(None) => Ok(self.pause()),
+            Ok(Reached::Answer(event)) => Ok(Asked::Answer(event)),
+            Ok(Reached::Pause) => Ok(self.pause()),
+            Ok(Reached::NoMemory) => Ok(Asked::Memory),
             Err(stop) => {
                 self.stopped = Some(stop);
                 Err(stop)
@@ -266,6 +272,8 @@ impl Play {
     {
         if self.text.has_no_room() {
             Asked::Room
+        } else if self.text.short {
+            Asked::Memory
         } else {
             Asked::Time
         }

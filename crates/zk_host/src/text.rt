@@ -14,6 +14,9 @@ use zk_term::target::{Failed, Target};
 /// The buffer has no room for a file.
 const NO_ROOM: u32 = 3;
 
+/// What is shown at once has fewer bytes, but for a long row of a table, or the upper window as text.
+const PART: usize = 4096;
+
 /// UTF-8 that was written and is not taken yet. Contracts see the bytes that wait, and whether there was no memory for
 /// more.
 #[derive(Drop)]
@@ -74,6 +77,17 @@ impl Text {
         ensures { result ≡ self.now.failed }
     {
         self.failed
+    }
+
+    /// Makes room for what is shown at once. Says whether there is memory for it.
+    pub fn make_room(&mut self) -> bool
+        ensures { self.new ≡ self.old }
+    {
+        let waiting = self.bytes.len();
+        if self.bytes.capacity() - waiting >= PART {
+            return true;
+        }
+        self.bytes.reserve(waiting.max(PART) + PART).is_ok()
     }
 
     /// Takes bytes from the front into a buffer, at most as many as it has room for, and says how many: none where none
