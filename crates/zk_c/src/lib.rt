@@ -65,7 +65,7 @@ pub extern "C" fn zk_open(
 
 /// Runs the story up to its next event or its stop, for so many instructions at most and while fewer than `room` bytes of its
 /// text wait, which it collects: `run_for` of `zk_vm`. Answers what is awaited: 1 a line, 2 a character, 3 that a game is
-/// kept, 4 a saved game, 5 that text is taken, 6 another turn; 0 where the story has stopped.
+/// kept, 4 a saved game, 5 that text is taken, 6 another turn, 7 memory; 0 where the story has stopped.
 #[unsafe(no_mangle)]
 pub extern "C" fn zk_turn(alloc: Global, game: &mut Zkit, steps: u32, room: u32) -> u32
     ensures { OnPlay game.old.play game.new.play
