@@ -103,7 +103,8 @@ enum {
     ZKIT_AWAITS_SAVE = 3,       /* a game is to be kept: zkit_image, and then zkit_saved */
     ZKIT_AWAITS_RESTORE = 4,    /* a saved game: zkit_restore or zkit_restore_none */
     ZKIT_AWAITS_ROOM = 5,       /* as much text waits as may: take it, and turn again */
-    ZKIT_AWAITS_TIME = 6        /* the instructions of the turn are used up: turn again */
+    ZKIT_AWAITS_TIME = 6,       /* the instructions of the turn are used up: turn again */
+    ZKIT_AWAITS_MEMORY = 7      /* there is no memory for text, or for a state that the story keeps: turn again */
 };
 
 /* What the functions that answer a story answer. */
@@ -123,7 +124,7 @@ enum {
     ZKIT_QUIT = 1,              /* it has ended */
     ZKIT_FAULT = 2,             /* an instruction can't be carried out: zkit_reason and zkit_address */
     ZKIT_LIMIT = 3,             /* an instruction would go past a limit: zkit_reason and zkit_address */
-    ZKIT_OUT_OF_MEMORY = 5,     /* there is no memory for its text, for a state that is kept or for a saved game */
+    ZKIT_OUT_OF_MEMORY = 5,     /* there was no memory for more than 4,096 bytes of text that came at once */
     ZKIT_TOO_MUCH_TEXT = 6      /* more than 1,048,576 bytes past the room came at once; a long text awaits room before */
 };
 
@@ -185,7 +186,12 @@ void zkit_close(zkit *game);
  * nothing is run; where it has stopped, ZKIT_STOPPED.
  *
  * ZKIT_AWAITS_ROOM: as many bytes of text wait, for both together, as the option `room` says, or what was shown at once
- * more. This may be in the middle of an instruction's text. Nothing else is changed by it: the next turn goes on. */
+ * more. This may be in the middle of an instruction's text. Nothing else is changed by it: the next turn goes on.
+ *
+ * ZKIT_AWAITS_MEMORY: there is no memory for the next 4,096 bytes of text, or for the state that the next instruction
+ * keeps to go back to. Nothing is lost by it either: once there is memory, a turn goes on. Taking the text may be
+ * enough. (What comes at once is longer only where a story prints a row of a table of more than 1,365 characters, or
+ * where `upper` is set and the window tall. Where there is no memory for that the story stops, by ZKIT_OUT_OF_MEMORY.) */
 uint32_t zkit_turn(zkit *game);
 
 /* The same for so many instructions at most: ZKIT_AWAITS_TIME where they are used up, and the next turn goes on as if

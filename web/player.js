@@ -24,6 +24,7 @@ const LONGEST_LINE = 65_535;
 const RUNS = 0;
 const QUIT = 1;
 const READ_FAILED = 4;
+const OUT_OF_MEMORY = 5;
 const NEW_LINE = 10;
 const RETURN = 13;
 
@@ -152,6 +153,8 @@ export function play(game, devices, slice) {
         while (goesOn) {
             const awaited = game.turn(slice);
             show(game, devices);
+            if (awaited === "memory")
+                return { status: OUT_OF_MEMORY, told: ["zkit: out of memory"] };
             goesOn = answer(game, awaited, devices);
         }
     } catch (error) {

@@ -18,6 +18,7 @@ const EXAMPLES = fileURLToPath(new URL("../examples", import.meta.url));
 const VERSIONS = [3, 4, 5, 8];
 const CAP = 64 << 20;
 const PAGE = 65_536;
+const RUNS = 0;
 const QUIT = 1;
 const UNDO_BYTES = 1 << 20;
 const LONGEST = 512 << 20;
@@ -398,10 +399,13 @@ function full(module) {
     want(refusalOf(() => module.open(story)).number === 6, "a story is refused");
     want(game.snapshot() === null && game.list("code") === null && !game.line("look"), "calls are refused");
     module.calls.zkit_give(pieces.pop());
-    for (let turn = 0; turn < 1000 && other.line("x") && other.turn() === "line";)
-        turn++;
-    want(other.lastLine() === "zkit: out of memory", "a story stops where there is no room for its text");
+    let awaited = "line";
+    for (let turn = 0; turn < 1000 && other.line("x") && awaited === "line"; turn++)
+        awaited = other.turn();
+    want(awaited === "memory" && other.status() === RUNS, "a story waits where there is no room for its text");
+    const before = other.text();
     pieces.forEach((at) => module.calls.zkit_give(at));
+    want(other.turn() === "line" && (before + other.text()).endsWith(">"), "it goes on once there is");
     want(game.line("look") && game.turn() === "line" && game.text().includes("The planks"), "the other one goes on");
     [game, other].forEach((one) => one.close());
     wantAllFree(module, first, "a full memory");

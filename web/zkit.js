@@ -4,7 +4,7 @@
 //
 // A call that traps leaves the module unusable: drop it with all its games, and make a new one.
 
-/** @typedef {"stopped"|"line"|"character"|"save"|"restore"|"room"|"time"} Awaited */
+/** @typedef {"stopped"|"line"|"character"|"save"|"restore"|"room"|"time"|"memory"} Awaited */
 
 /**
  * How a story is played; what is left out is as `zkit_defaults` says.
@@ -74,7 +74,7 @@ export const LISTINGS = [
 ];
 
 /** @type {Awaited[]} */
-const AWAITED = ["stopped", "line", "character", "save", "restore", "room", "time"];
+const AWAITED = ["stopped", "line", "character", "save", "restore", "room", "time", "memory"];
 
 // What the functions that answer a story answer.
 const DONE = 0;

@@ -511,6 +511,17 @@ static void tell_end(void) {
     }
 }
 
+/* The story goes on with a key, once there is memory for its text or for a state to go back to. */
+static int wait_for_memory(void) {
+    wint_t key;
+    int is_code;
+    add_words("\n[There is no memory to go on with. A key tries again.]\n");
+    if (show_new() == IS_LEFT)
+        return IS_LEFT;
+    draw(text_length, text_length, 0);
+    return next_key(&key, &is_code);
+}
+
 static void play(void) {
     int comes = GOES_ON;
     uint32_t asked = ZKIT_AWAITS_TIME;
@@ -519,6 +530,8 @@ static void play(void) {
         take_text();
         if (asked == ZKIT_STOPPED)
             tell_end();
+        else if (asked == ZKIT_AWAITS_MEMORY)
+            comes = wait_for_memory();
         else
             comes = answer(asked);
     }

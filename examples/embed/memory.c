@@ -84,6 +84,8 @@ static int answer(zkit *game, uint32_t asked) {
     size_t length = 0;
     if (asked == ZKIT_AWAITS_ROOM)
         return 1;
+    if (asked == ZKIT_AWAITS_MEMORY)
+        return 0;
     if (asked == ZKIT_AWAITS_SAVE)
         return zkit_saved(game, zkit_image(game, image, sizeof image, &image_length) == ZKIT_DONE) == ZKIT_DONE;
     if (asked == ZKIT_AWAITS_RESTORE)

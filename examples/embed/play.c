@@ -12,7 +12,7 @@
 enum { LONGEST_STORY = 524289, LONGEST_LINE = 65535 };
 
 /* What comes of what the story asks for. */
-enum { ANSWERED, NO_MORE_INPUT, NOT_READ };
+enum { ANSWERED, NO_MORE_INPUT, NOT_READ, NO_MEMORY };
 
 struct saved {
     uint8_t *bytes;
@@ -117,6 +117,8 @@ static void restore(zkit *game, const struct saved *saved) {
 static int answer(zkit *game, uint32_t asked, struct saved *saved) {
     if (asked == ZKIT_AWAITS_LINE || asked == ZKIT_AWAITS_CHARACTER)
         return answer_read(game, asked);
+    if (asked == ZKIT_AWAITS_MEMORY)
+        return NO_MEMORY;
     if (asked == ZKIT_AWAITS_SAVE)
         keep(game, saved);
     if (asked == ZKIT_AWAITS_RESTORE)
@@ -146,6 +148,10 @@ static int report(const zkit *game, int came) {
     if (came == NOT_READ) {
         fprintf(stderr, "play: read failed\n");
         return 4;
+    }
+    if (came == NO_MEMORY) {
+        fprintf(stderr, "play: out of memory\n");
+        return ZKIT_OUT_OF_MEMORY;
     }
     if (status != ZKIT_RUNS && status != ZKIT_QUIT) {
         size_t count = zkit_text_of_reason(status, zkit_reason(game), words, sizeof words);

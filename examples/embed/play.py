@@ -15,8 +15,9 @@ import sys
 from collections.abc import Callable, Iterator
 
 LIBRARY = pathlib.Path(__file__).resolve().parent.parent.parent / "dist/libzkit.so.1"
-STOPPED, LINE, CHARACTER, SAVE, RESTORE, ROOM = range(6)
+STOPPED, LINE, CHARACTER, SAVE, RESTORE, ROOM, TIME, MEMORY = range(8)
 QUIT = 1
+OUT_OF_MEMORY = 5
 LONGEST_LINE = 65_535
 
 
@@ -134,6 +135,9 @@ class Game:
         """Plays the story up to its stop, or as far as there are lines, and answers the status of `zkit play`."""
         try:
             while asked := self.turn():
+                if asked == MEMORY:
+                    print("play.py: out of memory", file=sys.stderr)
+                    return OUT_OF_MEMORY
                 if not self.answer(asked, lines):
                     break
         except ReadFailed:

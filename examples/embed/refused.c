@@ -1,10 +1,13 @@
-/* Plays a story with each of its requests for memory refused once: the first, in another play the second, and so on up to a
- * play in which all are met. The lines of standard input answer the story.
+/* Plays a story with each of its requests for memory refused once: the first, in another play the second, and so on up
+ * to a play in which all are met. Then it plays it once more, where a turn's requests are refused from its first on,
+ * those of the next from its second on, and so on, until it no longer awaits memory. The lines of standard input answer
+ * the story.
  *
  *     refused STORY <LINES
  *
- * A call that says that there is no memory is made again. So each play shows the same text to its end, or a first part of it
- * where the story has stopped for lack of memory, and in the end no block is left. Where that is so the status is 0. */
+ * A call that says that there is no memory is made again, and so is a turn that awaits memory. So each play shows the
+ * same text to its end, none stops for lack of memory, and in the end no block is left. Where that is so the
+ * status is 0. */
 #include <stdio.h>
 #include <stdlib.h>
 #include <string.h>
@@ -23,9 +26,20 @@ static uint8_t story[LONGEST_STORY];
 static size_t story_length;
 static struct bytes input, first_text, text;
 
-/* ---- the heap: it counts its blocks, and refuses one request */
+/* How many turns have awaited memory, and whether few requests are met while the story runs. */
+static long waits;
+static int is_poor;
 
-static long blocks, requests, refused_request;
+/* ---- the heap: it counts its blocks, and refuses one request, or all once so many were met */
+
+static long blocks, requests, refused_request, left = -1;
+
+static int is_refused(void) {
+    if (++requests == refused_request || left == 0)
+        return 1;
+    left -= left > 0;
+    return 0;
+}
 
 static struct rattle_block refusal(void) {
     static unsigned char nothing;
@@ -39,7 +53,7 @@ static struct rattle_block got(void *at) {
 }
 
 struct rattle_block rattle_alloc(size_t size, size_t alignment) {
-    if (++requests == refused_request)
+    if (is_refused())
         return refusal();
     struct rattle_block block = got(malloc(size > 0 ? size : alignment));
     blocks += block.is_there;
@@ -48,7 +62,7 @@ struct rattle_block rattle_alloc(size_t size, size_t alignment) {
 
 struct rattle_block rattle_realloc(void *block, size_t kept, size_t size, size_t alignment) {
     (void)kept;
-    if (++requests == refused_request)
+    if (is_refused())
         return refusal();
     return got(realloc(block, size > 0 ? size : alignment));
 }
@@ -126,10 +140,15 @@ static int answer_read(zkit *game, uint32_t asked, size_t *at) {
 static void play(zkit *game) {
     static struct bytes saved;
     size_t at = 0;
+    long tries = 0;
     int goes_on = 1;
     saved.length = 0;
     while (goes_on) {
+        left = is_poor ? tries : -1;
         uint32_t asked = zkit_turn(game);
+        left = -1;
+        tries = asked == ZKIT_AWAITS_MEMORY ? tries + 1 : 0;
+        waits += asked == ZKIT_AWAITS_MEMORY;
         take_text(game);
         if (asked == ZKIT_STOPPED)
             break;
@@ -137,7 +156,7 @@ static void play(zkit *game) {
             keep(game, &saved);
         else if (asked == ZKIT_AWAITS_RESTORE)
             zkit_restore(game, saved.at, saved.length);
-        else if (asked != ZKIT_AWAITS_ROOM)
+        else if (asked != ZKIT_AWAITS_ROOM && asked != ZKIT_AWAITS_MEMORY)
             goes_on = answer_read(game, asked, &at);
     }
 }
@@ -147,6 +166,8 @@ static zkit *from_snapshot(zkit *game) {
     static uint8_t kept[MOST];
     size_t size = 0;
     uint32_t reason = ZKIT_OPENED, asked = zkit_turn(game);
+    if (asked == ZKIT_AWAITS_MEMORY)
+        asked = zkit_turn(game);
     take_text(game);
     if (asked != ZKIT_AWAITS_LINE && asked != ZKIT_AWAITS_CHARACTER)
         return game;
@@ -160,16 +181,14 @@ static zkit *from_snapshot(zkit *game) {
 }
 
 /* Says whether the play is as it should be; the first one, in which nothing is refused, tells how its text is. */
-static int is_right(uint32_t status) {
-    if (refused_request == 0)
+static int is_right(void) {
+    if (refused_request == 0 && !is_poor)
         first_text = text;
-    int is_same = text.length == first_text.length && memcmp(text.at, first_text.at, text.length) == 0;
-    int is_part = text.length <= first_text.length && memcmp(text.at, first_text.at, text.length) == 0;
-    return blocks == 0 && (status == ZKIT_OUT_OF_MEMORY ? is_part : is_same);
+    return blocks == 0 && text.length == first_text.length && memcmp(text.at, first_text.at, text.length) == 0;
 }
 
 /* Plays once, and says whether all was right. */
-static int plays(long *stopped) {
+static int plays(void) {
     requests = 0;
     text.length = 0;
     zkit *game = open_game();
@@ -180,25 +199,30 @@ static int plays(long *stopped) {
     if (!game)
         return 0;
     play(game);
-    uint32_t status = zkit_status(game);
     zkit_close(game);
-    *stopped += status == ZKIT_OUT_OF_MEMORY;
-    return is_right(status);
+    return is_right();
 }
 
 int main(int count, char **words) {
     FILE *file = count == 2 ? fopen(words[1], "rb") : NULL;
-    long stopped = 0;
     if (!file)
         return 2;
     story_length = fread(story, 1, sizeof story, file);
     fclose(file);
     input.length = fread(input.at, 1, sizeof input.at, stdin);
     for (refused_request = 0; refused_request == 0 || requests >= refused_request; refused_request++)
-        if (!plays(&stopped)) {
+        if (!plays()) {
             printf("request %ld refused: not as it should be\n", refused_request);
             return 1;
         }
-    printf("requests that were refused: %ld; plays that stopped for that: %ld\n", refused_request - 1, stopped);
+    long refused_requests = refused_request - 1, once = waits;
+    is_poor = 1;
+    refused_request = 0;
+    if (!plays() || waits == once) {
+        printf("few requests met: not as it should be\n");
+        return 1;
+    }
+    printf("requests that were refused: %ld; turns that awaited memory: %ld, and %ld where few were met\n",
+           refused_requests, once, waits - once);
     return 0;
 }

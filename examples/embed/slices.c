@@ -54,7 +54,7 @@ static int answer(zkit *game, uint32_t asked) {
         return zkit_saved(game, 0) == ZKIT_DONE;
     if (asked == ZKIT_AWAITS_RESTORE)
         return zkit_restore_none(game) == ZKIT_DONE;
-    if (!read_line(&length))
+    if (asked == ZKIT_AWAITS_MEMORY || !read_line(&length))
         return 0;
     if (asked == ZKIT_AWAITS_LINE)
         return zkit_line(game, line, length) == ZKIT_DONE;

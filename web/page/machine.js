@@ -8,7 +8,7 @@ import { at, fromBase64 } from "./at.js";
 /**
  * How a story stands after it has run.
  * @typedef {object} Standing
- * @property {"stopped" | "line" | "character" | "save" | "restore" | "pause" | "halt" | "refused"} awaits
+ * @property {"stopped" | "line" | "character" | "save" | "restore" | "memory" | "pause" | "halt" | "refused"} awaits
  * @property {string[]} rows
  * @property {string[] | null} box the rows of a grid that was taken away again before the read
  * @property {StatusLine | null} status

@@ -46,6 +46,14 @@ const MARKS = 32;
 /** After so many milliseconds the page says that the story runs. */
 const SOON = 300;
 
+/** Why a story has paused that nobody has stopped.
+ * @type {Record<string, string>}
+ */
+const PAUSED = {
+    pause: "The story has written very much without asking for anything.",
+    memory: "There is no memory left for the story to go on.",
+};
+
 /** Something else was begun meanwhile. */
 export class Left extends Error {}
 
@@ -489,9 +497,7 @@ export class Play {
             this.reach(standing);
             showOver(standing, this.here !== null);
         } else {
-            const words = awaits === "pause" ? "The story has written very much without asking for anything."
-                : "You have stopped the story.";
-            showPaused(words, this.here !== null);
+            showPaused(PAUSED[awaits] || "You have stopped the story.", this.here !== null);
         }
         this.reader.changed();
     }
