@@ -503,6 +503,25 @@ async function withoutEnd(page) {
     same(await page.transcript(), native(["play", "--echo", MENU], "roll\n").text, "the transcript");
 }
 
+/** A story that finds no memory once: the worker's turn answers so, as the module would. */
+async function withoutMemory(page) {
+    await page.fresh();
+    await page.run(() => {
+        const source = document.getElementById("worker-source");
+        const turn = "game.turn(SLICE)";
+        if (!source.textContent.includes(turn))
+            throw new Error("the worker has another turn");
+        source.textContent = `let short = 1;\n${source.textContent.replace(turn, `short-- > 0 ? "memory" : ${turn}`)}`;
+    });
+    await page.open(z(5));
+    await page.until(() => document.getElementById("running-words").textContent.includes("no memory left"));
+    holds(await page.run(() => document.activeElement.id) === "go-on", "the focus is on the button that goes on");
+    await page.click("#go-on");
+    await page.rests();
+    await page.say("open bag");
+    same(await page.transcript(), native(["play", "--echo", z(5)], "open bag\n").text, "the transcript");
+}
+
 async function undo(page, version) {
     await page.fresh();
     await page.open(z(version));
@@ -737,6 +756,7 @@ export const CASES = [
     ["a Blorb file", blorbFile],
     ["damaged files", damaged],
     ["stories without end", withoutEnd],
+    ["a story that finds no memory", withoutMemory],
     ["a failure of the machine", failure],
     ["the story's own transcript", script],
     ["undo in version 3", (page) => undo(page, 3)],
