@@ -513,7 +513,7 @@ async function withoutMemory(page) {
             throw new Error("the worker has another turn");
         source.textContent = `let short = 1;\n${source.textContent.replace(turn, `short-- > 0 ? "memory" : ${turn}`)}`;
     });
-    await page.open(z(5));
+    await page.choose(z(5));
     await page.until(() => document.getElementById("running-words").textContent.includes("no memory left"));
     holds(await page.run(() => document.activeElement.id) === "go-on", "the focus is on the button that goes on");
     await page.click("#go-on");
