@@ -1,6 +1,9 @@
 -- A machine in the middle of an instruction's text, as contracts see it.
 use Rattle.std.specs.Prelude.{◌≡◌, ◌<◌, ◌+◌, ℕ, Bool, true, false, List, [], ◌∷◌, IfSome, Option, Some, None, Result, Ok, Err}
 use Rattle.zk_code.specs.declared.instr.Instr.{Instr}
+use Rattle.zk_code.specs.declared.opcode.Opcode.{Opcode}
+use Rattle.zk_code.specs.declared.opcode.Opcode.TheVariants as opcode
+use Rattle.zk_code.specs.declared.opcode.Printing.TheVariants as printing
 use Rattle.zk_code.specs.Reading.{instr_at}
 use Rattle.zk_term.specs.Windows.{Windows}
 use Rattle.zk_step.specs.declared.output.parts.Half.{Half}
@@ -66,15 +69,20 @@ due_of w (Some h) t = rest_text w h.rest
 abbrev pub GotDue : {S : Type 0} → (S → S → List ℕ → List ℕ → Type 0) → S → S → GameState → Option Half → Texts → Type 0
 GotDue {S} shows a b w half t = shows a b (due_of w half t).screen (due_of w half t).script
 
--- the part of a text that was shown at last
-abbrev pub part_of : Stepped → Option Half
-part_of (stepped.Part h) = Some h
-part_of stepped.Done = None
-part_of stepped.NoMemory = None
+-- an instruction may print a long text, or many rows
+abbrev pub prints_text : Opcode → Bool
+prints_text (opcode.Printing printing.Print) = true
+prints_text (opcode.Printing printing.PrintRet) = true
+prints_text (opcode.Printing printing.PrintAddr) = true
+prints_text (opcode.Printing printing.PrintPaddr) = true
+prints_text (opcode.Printing printing.PrintObj) = true
+prints_text (opcode.Printing p) = false
+prints_text (opcode.Table t) = true
+prints_text _ = false
 
 -- the step was made, and the text that was still to come was shown; or nothing was done, for lack of memory
 abbrev pub IsMade : {S : Type 0} → (S → S → List ℕ → List ℕ → Type 0) → S → S → Session → Session → Option Half → Result Stepped Halt → Type 0
-IsMade {S} shows a b old new half (Ok (stepped.Part h)) = Unit {0}
+IsMade {S} shows a b old new half (Ok stepped.Part) = Unit {0}
 IsMade {S} shows a b old new half (Ok stepped.Done) = IsStep old new (Ok tt) (GotDue shows a b old.state.game half)
 IsMade {S} shows a b old new half (Ok stepped.NoMemory) = (new ≡ old) × IsKeeping old.state × (b ≡ a)
 IsMade {S} shows a b old new half (Err h) = IsStep old new (Err h) (GotDue shows a b old.state.game half)

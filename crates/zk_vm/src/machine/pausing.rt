@@ -11,7 +11,7 @@ ghost use Rattle.zk_text.specs.Extra.{is_input_code};
 ghost use Rattle.zk_vm.specs.Answers.Answer.{Typed, GameKept, File};
 ghost use Rattle.zk_vm.specs.Halts.{CanAnswer, IsKeeping, IsLeftAs, IsLine, IsUndone, KeepsState, event_waited};
 ghost use Rattle.zk_vm.specs.Logged.{Ran};
-ghost use Rattle.zk_vm.specs.Pausing.{GoneBy, HasCome, IsCut, IsCutAt, IsMade, StandsHalf, WentOn, come_to, event_reached, part_of, told_due};
+ghost use Rattle.zk_vm.specs.Pausing.{GoneBy, HasCome, IsCut, IsCutAt, IsMade, StandsHalf, WentOn, come_to, event_reached, prints_text, told_due};
 ghost use Rattle.zk_vm.specs.Plays.{AsksForLine};
 ghost use Rattle.zk_vm.specs.Sessions.{given, with_grid_forgotten, with_stop};
 ghost use Rattle.zk_vm.specs.Step.{is_read};
@@ -25,6 +25,7 @@ use std::alloc::{AllocError, Global};
 use std::marker::Model;
 use zk_code::decode::decode;
 use zk_code::instr::Instr;
+use zk_code::opcode::{Opcode, Printing};
 use zk_fast::places::Unnoted;
 use zk_state::refusal::Limit;
 use zk_step::instruction::{Progress, carry_out_part};
@@ -48,9 +49,25 @@ pub enum Reached {
 /// How far a step has come: a part of its text was shown, it was made, or there is no memory for the state that it keeps.
 #[derive(Clone, Copy, Drop)]
 enum Stepped {
-    Part(Half),
+    Part,
     Done,
     NoMemory,
+}
+
+/// Whether an instruction may print a long text, or many rows. Others are carried out at once.
+fn prints_text(i: &Instr) -> bool
+    ensures { result ≡ prints_text i.now.opcode }
+{
+    match i.opcode {
+        Opcode::Printing(operation) => match operation {
+            Printing::Print | Printing::PrintRet => true,
+            Printing::PrintAddr | Printing::PrintPaddr | Printing::PrintObj => true,
+            Printing::NewLine | Printing::PrintNum => false,
+            Printing::PrintChar | Printing::PrintUnicode => false,
+        },
+        Opcode::Table(_) => true,
+        _ => false,
+    }
 }
 
 /// So many words of text are shown at once, and count as an instruction: some thousand Z-characters.
@@ -96,7 +113,7 @@ impl Machine {
     fn advance_part<S: Screen>(
         &mut self,
         i: Instr,
-        half: &Option<Half>,
+        half: &mut Option<Half>,
         codes: &mut Codes,
         draft: &mut Windows,
         screen: &mut S,
@@ -109,10 +126,12 @@ impl Machine {
         requires inside { self.old.state.pc < i.next }
         requires fetched { instr_at self.old.state.game.memory self.old.state.pc ≡ Ok i }
         requires other { KeepsState i → ⊥ }
-        requires half { IfSome half.now (IsHalf self.old.state.game i codes.old draft.old) }
-        ensures part { IfOk result (λ p. IfSome (part_of p) (IsCut S.shows screen.old screen.new self.old self.new
-            i half.now codes.new draft.new)) }
-        ensures step { IsMade S.shows screen.old screen.new self.old self.new half.now result }
+        requires half { IfSome half.old (IsHalf self.old.state.game i codes.old draft.old) }
+        ensures part { IfOk result (λ p. p ≡ Stepped.Part → (h : Half) × (half.new ≡ Some h)
+            × IsCut S.shows screen.old screen.new self.old self.new i half.old codes.new draft.new h) }
+        ensures none { IfOk result (λ p. (p ≡ Stepped.Part → ⊥) → half.new ≡ None) }
+        ensures over { OnErr result (half.new ≡ None) }
+        ensures step { IsMade S.shows screen.old screen.new self.old self.new half.old result }
         ensures silent { OnOk result (self.new.state.due ≡ self.old.state.due) }
         ensures counted { IfOk result (λ p. p ≡ Stepped.Done → self.new.state.steps ≡ self.old.state.steps + 1) }
         ensures reads { self.new.state.reads ≡ self.old.state.reads }
@@ -120,17 +139,25 @@ impl Machine {
         ensures limits { self.new.limits ≡ self.old.limits }
     {
         match carry_out_part(&mut self.game, &i, half, codes, draft, screen, Some(WORDS)) {
-            Ok(Progress::Part(half)) => Ok(Stepped::Part(half)),
+            Ok(Progress::Part(rest)) => {
+                *half = Some(rest);
+                Ok(Stepped::Part)
+            }
             Ok(Progress::Done(Next::At(pc))) => {
+                *half = None;
                 self.pc = pc;
                 self.steps += 1;
                 Ok(Stepped::Done)
             }
-            Ok(Progress::Done(Next::Asks(request))) => match self.meet(request, i, screen) {
-                Ok(()) => Ok(Stepped::Done),
-                Err(halt) => Err(halt),
-            },
+            Ok(Progress::Done(Next::Asks(request))) => {
+                *half = None;
+                match self.meet(request, i, screen) {
+                    Ok(()) => Ok(Stepped::Done),
+                    Err(halt) => Err(halt),
+                }
+            }
             Err(refusal) => {
+                *half = None;
                 let stop = stop_at(self.pc, refusal);
                 self.stopped = Some(stop);
                 Err(Err(stop))
@@ -142,7 +169,7 @@ impl Machine {
     /// does where there is no memory for a state.
     fn step_part<S: Screen>(
         &mut self,
-        half: &Option<Half>,
+        half: &mut Option<Half>,
         codes: &mut Codes,
         draft: &mut Windows,
         screen: &mut S,
@@ -151,10 +178,12 @@ impl Machine {
         requires free { self.old.waiting ≡ None }
         requires runs { self.old.stopped ≡ None }
         requires silent { self.old.state.due ≡ [] }
-        requires half { IfSome half.now (StandsHalf self.old codes.old draft.old) }
-        ensures part { IfOk result (λ p. IfSome (part_of p) (IsCutAt S.shows screen.old screen.new self.old self.new
-            half.now codes.new draft.new)) }
-        ensures step { IsMade S.shows screen.old screen.new self.old self.new half.now result }
+        requires half { IfSome half.old (StandsHalf self.old codes.old draft.old) }
+        ensures part { IfOk result (λ p. p ≡ Stepped.Part → (h : Half) × (half.new ≡ Some h)
+            × IsCutAt S.shows screen.old screen.new self.old self.new half.old codes.new draft.new h) }
+        ensures none { IfOk result (λ p. (p ≡ Stepped.Part → ⊥) → half.new ≡ None) }
+        ensures over { OnErr result (half.new ≡ None) }
+        ensures step { IsMade S.shows screen.old screen.new self.old self.new half.old result }
         ensures silent { OnOk result (self.new.state.due ≡ self.old.state.due) }
         ensures counted { IfOk result (λ p. p ≡ Stepped.Done → self.new.state.steps ≡ self.old.state.steps + 1) }
         ensures reads { self.new.state.reads ≡ self.old.state.reads }
@@ -162,13 +191,21 @@ impl Machine {
         ensures limits { self.new.limits ≡ self.old.limits }
     {
         match decode(&self.game.memory, self.pc) {
-            Ok(i) if keeps_state(&i) => match self.keep(&i) {
-                Ok(Ok(())) => Ok(Stepped::Done),
-                Ok(Err(halt)) => Err(halt),
-                Err(AllocError) => Ok(Stepped::NoMemory),
+            Ok(i) if keeps_state(&i) => {
+                *half = None;
+                match self.keep(&i) {
+                    Ok(Ok(())) => Ok(Stepped::Done),
+                    Ok(Err(halt)) => Err(halt),
+                    Err(AllocError) => Ok(Stepped::NoMemory),
+                }
+            }
+            Ok(i) if half.is_none() && !prints_text(&i) => match self.advance(i, screen) {
+                Ok(()) => Ok(Stepped::Done),
+                Err(halt) => Err(halt),
             },
             Ok(i) => self.advance_part(i, half, codes, draft, screen),
             Err(fault) => {
+                *half = None;
                 let stop = Stop::Fault(self.pc, fault);
                 self.stopped = Some(stop);
                 Err(Err(stop))
@@ -287,26 +324,20 @@ impl PausingMachine {
         self.machine.is_told();
         match self
             .machine
-            .step_part(&self.half, &mut self.codes, &mut self.draft, screen)
+            .step_part(&mut self.half, &mut self.codes, &mut self.draft, screen)
         {
-            Ok(Stepped::Part(half)) => {
-                self.half = Some(half);
-                Ok(Some(1))
-            }
+            Ok(Stepped::Part) => return Ok(Some(1)),
             Ok(Stepped::Done) => {
-                self.half = None;
                 self.machine.is_told();
-                Ok(Some(0))
+                return Ok(Some(0));
             }
             Ok(Stepped::NoMemory) => {
-                self.half = None;
                 self.machine.is_told();
-                Ok(None)
+                return Ok(None);
             }
             Err(halt) => {
-                self.half = None;
                 self.machine.is_told();
-                Err(halt)
+                return Err(halt);
             }
         }
     }

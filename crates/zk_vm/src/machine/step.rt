@@ -262,7 +262,7 @@ impl Machine {
     }
 
     /// Carries out an instruction that was fetched from the machine's program counter, and keeps no state.
-    fn advance<S: Screen>(&mut self, i: Instr, screen: &mut S) -> Result<(), Halt>
+    pub(crate) fn advance<S: Screen>(&mut self, i: Instr, screen: &mut S) -> Result<(), Halt>
         requires room { self.old.state.steps < self.old.limits.steps }
         requires free { self.old.waiting ≡ None }
         requires runs { self.old.stopped ≡ None }

@@ -38,3 +38,8 @@ returns-in-Ok-Err-clause-step g c =
     let fetched : instr_at c.args.self.now.state.game.memory c.args.self.now.state.pc ≡ Ok c.in-Ok.i = rw (← c.self.view_is) (sym c.in-Ok.ensures.value) in
     let step = rw c.in-Ok-Err.field-0-is at c.in-Ok-Err.ensures.step in
     shown_silent _ _ _ (GotDue g.S.Screen.shows c.args.screen.now c.args.screen.now c.args.self.now.state.game c.args.half.now) step (silent_due g.S.Screen.shows g.met.S.Screen.nothing g.met.S.Screen.twice c.args.screen.now c.args.self.now c.in-Ok.i c.args.half.now _ _ c.requires.half fetched (c.if-keeps_state.ensures.0 refl))
+
+pub advance-requires-clause-inside : goal.advance-requires-clause-inside
+advance-requires-clause-inside g c =
+    let ends = ends_inside c.self.inside.game.memory c.self.inside.pc c.in-Ok.i c.in-Ok.i.next c.in-Ok.ensures.found in
+    rw (← c.self.view_is) ends.0
