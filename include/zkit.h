@@ -191,7 +191,7 @@ void zkit_close(zkit *game);
  * ZKIT_AWAITS_MEMORY: there is no memory for the next 4,096 bytes of text, or for the state that the next instruction
  * keeps to go back to. Nothing is lost by it either: once there is memory, a turn goes on. Taking the text may be
  * enough. (What comes at once is longer only where a story prints a row of a table of more than 1,365 characters, or
- * where `upper` is set and the window tall. Where there is no memory for that the story stops, by ZKIT_OUT_OF_MEMORY.) */
+ * where `upper` is set and the window tall. Where there is no memory for that the story stops: ZKIT_OUT_OF_MEMORY.) */
 uint32_t zkit_turn(zkit *game);
 
 /* The same for so many instructions at most: ZKIT_AWAITS_TIME where they are used up, and the next turn goes on as if
