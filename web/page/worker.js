@@ -10,6 +10,9 @@ const SLICE = 500000;
 /** So much text waits at most in the module; it is posted as it comes. */
 const ROOM = 32768;
 
+/** A snapshot has the limits that the page gave its story, which may be any. */
+const ANY = { frames: 65_535, words: 65_535, undo: 64, steps: 1_000_000_000, room: ROOM };
+
 /** So many characters come at most before the reader is asked whether to go on. */
 const PAUSE = 200000;
 
@@ -65,7 +68,7 @@ function about(it) {
 function freshen() {
     const snapshot = game.snapshot();
     if (snapshot)
-        replace((it) => it.openSnapshot(story, snapshot, { room: ROOM }));
+        replace((it) => it.openSnapshot(story, snapshot, ANY));
     return snapshot !== null;
 }
 
@@ -153,7 +156,7 @@ const CALLS = {
         return ifid;
     },
     resume: ({ story: bytes, snapshot }) => {
-        replace((it) => it.openSnapshot(bytes, snapshot, { room: ROOM }));
+        replace((it) => it.openSnapshot(bytes, snapshot, ANY));
         story = bytes;
         return about(game);
     },
