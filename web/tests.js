@@ -438,9 +438,37 @@ function generated(module) {
     console.log("        " + Object.entries(ends).sort().map(([end, count]) => `${count} ${end}`).join(", "));
 }
 
+/** The page's worker: it goes on from its own snapshots, with the limits that the page gives. */
+async function worker() {
+    const waiting = new Map();
+    let calls = 0;
+    let shown = "";
+    const hear = ({ number, text, ...came }) => number === undefined ? shown += text : waiting.get(number)(came);
+    globalThis.self = { postMessage: hear };
+    await import("./page/worker.js");
+    const call = (name, values) => new Promise((resolve) => {
+        waiting.set(++calls, resolve);
+        globalThis.self.onmessage({ data: { number: calls, call: name, values } });
+    });
+    const story = example("lighthouse.z5");
+    await call("begin", { bytes: code });
+    await call("open", { story, options: { steps: 1_000_000_000 } });
+    await call("run", { answer: null });
+    const { result } = await call("run", { answer: "open bag" });
+    want(result.awaits === "line" && result.snapshot !== null, "the worker has a snapshot of a read");
+    const { refused } = await call("resume", { story, snapshot: result.snapshot });
+    want(refused === undefined, `it opens its own snapshot: ${refused}`);
+    await call("run", { answer: null });
+    shown = "";
+    const next = await call("run", { answer: "take letter" });
+    want(next.result.awaits === "line" && shown.includes("Taken."), "it goes on from there");
+    const fresh = await call("run", { answer: { fresh: true } });
+    want(fresh.result.awaits === "line", "it goes on from a snapshot of its own in place of an answer");
+}
+
 async function main() {
     const tests = [
-        rows, examples, windows, listings, refusals, snapshots, snapshotRefusals, thousand, large, full, generated,
+        rows, examples, windows, listings, refusals, snapshots, snapshotRefusals, thousand, large, full, worker, generated,
     ];
     for (const test of tests) {
         const begin = performance.now();
