@@ -211,7 +211,7 @@ export class Module {
 
     /**
      * Opens a game that goes on from a snapshot, or throws Refused. The limits of the snapshot may be at most those of the
-     * options.
+     * options; of one that is not given, that of `zkit play`.
      * @param {Uint8Array} story
      * @param {Uint8Array} snapshot
      * @param {Options} [options]
