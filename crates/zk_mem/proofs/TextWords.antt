@@ -8,7 +8,7 @@ use Rattle.zk_mem.specs.Words.{word_before, word_and, words_in, words_at, text_e
 use Rattle.zk_mem.specs.Laws.{TextLiesInside}
 
 -- two bytes at the front of the rest
-two_bytes : (xs : List ℕ) (i : ℕ) → i + 1 < length xs → drop i xs ≡ get_or xs i 0 ∷ get_or xs (i + 1) 0 ∷ drop (i + 2) xs
+pub two_bytes : (xs : List ℕ) (i : ℕ) → i + 1 < length xs → drop i xs ≡ get_or xs i 0 ∷ get_or xs (i + 1) 0 ∷ drop (i + 2) xs
 two_bytes xs i h =
     let two : i + 2 ≡ i + 1 + 1 = omega arith in
     let first : drop i xs ≡ get_or xs i 0 ∷ drop (i + 1) xs = (rw (add-one i) (drop-cons xs i 0 (omega arith))) in
@@ -16,7 +16,7 @@ two_bytes xs i h =
     rw (two, first, second) refl
 
 -- whether both bytes of a word lie in the story
-by_room : (m : MemoryMap) (a : ℕ) (b : Bool) → nat_lt (a + 1) (length m.bytes) ≡ b → code_word_at m a ≡ (if b then Some (word_in m.bytes a) else None)
+pub by_room : (m : MemoryMap) (a : ℕ) (b : Bool) → nat_lt (a + 1) (length m.bytes) ≡ b → code_word_at m a ≡ (if b then Some (word_in m.bytes a) else None)
 unfolding code_word_at
 by_room m a b e = rw e refl
 

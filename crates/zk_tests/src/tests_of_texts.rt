@@ -8,6 +8,7 @@ use zk_mem::memory::{Memory, Setup};
 use zk_mem::story::Story;
 use zk_text::key::key;
 use zk_text::text::check_text;
+use zk_text::walked::words_walked;
 
 /// A story whose header is followed by some bytes, with these values at these addresses.
 pub(crate) fn memory_of(
@@ -46,6 +47,26 @@ fn refuses_texts(rt: HostRuntime) -> Result<(), Fail> {
     for (bytes, address, fault) in rows {
         let memory = memory_of(rt.alloc(), &[(0, 3), (0x19, 0x40)], bytes)?;
         same(&rt, check_text(&memory, address), Err(fault));
+    }
+    Ok(())
+}
+
+#[test]
+fn counts_words(rt: HostRuntime) -> Result<(), Fail> {
+    // an abbreviation of two words, and a text
+    let twice = &[0x00, 0x21, 0x00, 0x00, 0x80, 0x00, 0x04, 0x01, 0x80, 0xa5];
+    let in_a_code = &[0x00, 0x21, 0x00, 0x00, 0x80, 0x00, 0x14, 0xc1, 0x80, 0xa5];
+    let rows: [(&[u8], u32, u32, u32); 6] = [
+        (twice, 0x46, 100, 6),
+        (twice, 0x46, 6, 6),
+        (twice, 0x46, 5, 5),
+        (twice, 0x42, 100, 2),
+        (in_a_code, 0x46, 100, 2),
+        (&[0x35, 0xcd, 0x35, 0xcd, 0x35], 0x40, 100, 2),
+    ];
+    for (bytes, address, most, count) in rows {
+        let memory = memory_of(rt.alloc(), &[(0, 3), (0x19, 0x40)], bytes)?;
+        same(&rt, words_walked(&memory, address, most), count);
     }
     Ok(())
 }

@@ -3,6 +3,8 @@ pub mod Giving
 pub mod WordWalks
 pub mod TextWords
 pub mod Sweeping
+pub mod CheckedEnds
+pub mod Walking
 pub mod Faultless
 pub mod Spells
 pub mod Places

@@ -9,7 +9,9 @@ use Rattle.std.proofs.lemmas.List.{drop_all}
 use Rattle.zk_mem.proofs.TextWords.{word_there}
 use Rattle.zk_text.specs.declared.pieces.Pending.{Pending}
 use Rattle.zk_text.specs.declared.pieces.Pending.TheVariants as held
+use Rattle.zk_text.specs.declared.alphabet.Row.TheVariants.{A0}
 use Rattle.zk_text.specs.declared.pieces.Piece.{Piece}
+use Rattle.zk_text.specs.declared.pieces.Piece.TheVariants.{Letter}
 use Rattle.zk_text.specs.declared.unit.Unit.TheVariants as unit
 use Rattle.zk_text.specs.declared.sweep.Rest.{Rest}
 use Rattle.zk_text.specs.Alphabets.{letter_of}
@@ -70,6 +72,12 @@ pass_by expand m h next c o f zs e k = rw (e, k) (before_fault expand m o (piece
 
 pub pass_fault : (m : MemoryMap) (h next : Pending) (c : ℕ) (o : Option Piece) (f : Option Fault) (zs : List ℕ) → pieces (held_back h ++ c ∷ zs) ≡ piece_before o (pieces (held_back next ++ zs)) → f ≡ piece_fault m o → fault_behind m h (c ∷ zs) ≡ first_of f (fault_behind m next zs)
 pass_fault m = pass_by (abbreviation m) m
+
+-- three letters
+pub letters_by : (expand : ℕ → Units) (m : MemoryMap) (h next : Pending) (a b c : ℕ) (ys zs : List ℕ) → pieces (held_back h ++ ys) ≡ Letter A0 a ∷ Letter A0 b ∷ Letter A0 c ∷ pieces (held_back next ++ zs) → fault_by expand m h ys ≡ fault_by expand m next zs
+letters_by expand m h next a b c ys zs e =
+    let ps = pieces (held_back next ++ zs) in
+    rw e (before_fault expand m (Some (Letter A0 a)) (Letter A0 b ∷ Letter A0 c ∷ ps) ∙ before_fault expand m (Some (Letter A0 b)) (Letter A0 c ∷ ps) ∙ before_fault expand m (Some (Letter A0 c)) ps)
 
 -- what is kept for each that may be held back
 pub rest_of : (m : MemoryMap) (zs : List ℕ) (r : Rest) → r.nothing ≡ fault_behind m held.Nothing zs → r.first ≡ fault_behind m held.First zs → r.second ≡ fault_behind m held.Second zs → r.third ≡ fault_behind m held.Third zs → r.shift_to_a1 ≡ fault_behind m held.ShiftToA1 zs → r.shift_to_a2 ≡ fault_behind m held.ShiftToA2 zs → r.escape ≡ fault_behind m held.Escape zs → ((high : ℕ) → r.upper_half ≡ fault_behind m (held.UpperHalf high) zs) → IsRestOf m zs r

@@ -5,6 +5,7 @@ pub mod Pieces
 pub mod Reading
 pub mod Meaning
 pub mod Lengths
+pub mod Walked
 pub mod Places
 pub mod Sweeps
 pub mod Extra

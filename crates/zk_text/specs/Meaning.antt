@@ -70,6 +70,15 @@ abbreviation m n =
 unfoldable pub text_units : MemoryMap → ℕ → Units
 text_units m a = meaning_at (abbreviation m) m a
 
+-- a text in which there is a fault is refused by it, and one without an end as such
+abbrev pub refused_by : MemoryMap → ℕ → Fault → Result ℕ Fault
+refused_by m a f = past_end (text_end_at m a) >>= λ end. Err f
+
+-- the address after the text at an address, where the text has a meaning by what abbreviations stand for
+abbrev pub end_by : (ℕ → Units) → MemoryMap → ℕ → Result ℕ Fault
+end_by expand m a =
+    past_end (text_end_at m a) >>= λ end. meaning_at expand m a >>= λ us. Ok end
+
 -- the address after the text at an address, where the text has a meaning
 unfoldable pub checked_end : MemoryMap → ℕ → Result ℕ Fault
 checked_end m a = past_end (text_end_at m a) >>= λ end. text_units m a >>= λ us. Ok end

@@ -1,13 +1,12 @@
 // Whether texts have a meaning. The text of an abbreviation is walked once, however often it is used.
 
-ghost use Rattle.std.specs.Prelude.{◌≡◌, ◌∷◌, List, ℕ, false, None, Some, IfErr, IfOk, slice_get, unwrap_or};
+ghost use Rattle.std.specs.Prelude.{◌≡◌, ◌∷◌, List, ℕ, false, None, Some, Err, IfErr, IfOk, slice_get, unwrap_or};
 ghost use Rattle.zk_mem.specs.Map.{MemoryMap};
-ghost use Rattle.zk_mem.specs.Words.{words_at};
-ghost use Rattle.zk_text.specs.Meaning.{abbreviation, meaning};
+ghost use Rattle.zk_text.specs.Meaning.{abbreviation, end_by, refused_by};
 ghost use Rattle.zk_text.specs.Sweeps.{AreGood, fault_by, fault_of, piece_fault_by};
 ghost use Rattle.zk_text.specs.Words.{z_characters};
 
-use crate::pieces::{Pending, Piece, advance, is_letter};
+use crate::pieces::{Pending, Piece, advance, are_letters, is_letter};
 use crate::text::check_abbreviation;
 use zk_mem::fault::Fault;
 use zk_mem::memory::Memory;
@@ -183,35 +182,49 @@ fn check_word<A: Abbreviations>(
         fault_by (A.stands memory.now) memory.now held (z_characters (word ∷ ws)) ≡ Some fault) }
     ensures holds { A.holds memory.now abbreviations.new }
 {
+    // most are three letters
+    if are_letters(held, word) {
+        return Ok(Pending::Nothing);
+    }
     let held = check_character(memory, abbreviations, held, (word / 1024 % 32) as u8)?;
     let held = check_character(memory, abbreviations, held, (word / 32 % 32) as u8)?;
     check_character(memory, abbreviations, held, (word % 32) as u8)
 }
 
-/// The fault of a text that ends inside the story, if it has one.
-pub(crate) fn text_fault<A: Abbreviations>(
+/// Refuses a text by a fault in it. One without an end inside the story is refused as such.
+#[tactic(auto, unfolding(zk_mem::specs::Words::text_end_at))]
+fn refuse(memory: &Memory, at: u32, fault: Fault) -> Result<u32, Fault>
+    ensures { result ≡ refused_by memory.now at fault }
+{
+    memory.text_end(at).ok_or(Fault::TextPastEnd)?;
+    Err(fault)
+}
+
+/// The byte address after the text at a byte address, where the text has a meaning by what abbreviations stand for.
+/// `TextPastEnd` where it has no last word inside the story, else the fault of its first abbreviation that has one.
+pub(crate) fn check<A: Abbreviations>(
     memory: &Memory,
     address: u32,
     abbreviations: &mut A,
-) -> Option<Fault>
+) -> Result<u32, Fault>
     requires { A.holds memory.now abbreviations.old }
-    ensures { (ws : List ℕ) → words_at memory.now address ≡ Some ws →
-        result ≡ fault_of (meaning memory.now (A.stands memory.now) (z_characters ws)) }
+    ensures { result ≡ end_by (A.stands memory.now) memory.now address }
 {
     let mut at = address;
     let mut held = Pending::Nothing;
+    // there are fewer words than bytes
     for _i in 0..memory.len() {
         let Some(word) = memory.code_word(at) else {
-            return Some(Fault::TextPastEnd);
+            return Err(Fault::TextPastEnd);
         };
         match check_word(memory, abbreviations, held, word) {
             Ok(next) => held = next,
-            Err(fault) => return Some(fault),
-        }
-        if word >= 0x8000 {
-            return None;
+            Err(fault) => return refuse(memory, at, fault),
         }
         at += 2;
+        if word >= 0x8000 {
+            return Ok(at);
+        }
     }
-    Some(Fault::TextPastEnd)
+    Err(Fault::TextPastEnd)
 }

@@ -15,3 +15,4 @@ pub mod sink;
 pub mod sweep;
 pub mod text;
 pub mod unit;
+pub mod walked;

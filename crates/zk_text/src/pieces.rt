@@ -1,6 +1,6 @@
 // From Z-characters to the pieces of a text, one at a time.
 
-ghost use Rattle.std.specs.Prelude.{◌≡◌, ◌∷◌, ◌++◌, List, ℕ, IfSome, IsTrue, OnSome};
+ghost use Rattle.std.specs.Prelude.{◌≡◌, ◌∷◌, ◌++◌, ◌/◌, ◌%◌, List, ℕ, IfSome, IsTrue, OnSome};
 ghost use Rattle.zk_text.specs.declared.alphabet.Row.TheVariants.{A0};
 ghost use Rattle.zk_text.specs.declared.pieces.Piece.TheVariants.{Letter};
 ghost use Rattle.zk_text.specs.declared.pieces.Pending.TheVariants as Pending;
@@ -85,6 +85,18 @@ pub(crate) fn is_letter(held: Pending, character: u8) -> bool
         ≡ Letter A0 character ∷ pieces (held_back Pending.Nothing ++ zs) }
 {
     character > 5 && matches!(held, Pending::Nothing)
+}
+
+/// Whether the three Z-characters of a word are letters of A0 by themselves.
+#[tactic(auto, unfolding(crate::specs::Pieces::pieces_past))]
+#[inline(always)]
+pub(crate) fn are_letters(held: Pending, word: u16) -> bool
+    ensures { IsTrue result → (zs : List ℕ) →
+        pieces (held_back held ++ word / 1024 % 32 ∷ word / 32 % 32 ∷ word % 32 ∷ zs)
+        ≡ Letter A0 (word / 1024 % 32) ∷ Letter A0 (word / 32 % 32) ∷ Letter A0 (word % 32)
+        ∷ pieces (held_back Pending.Nothing ++ zs) }
+{
+    is_letter(held, (word / 1024 % 32) as u8) && word / 32 % 32 > 5 && word % 32 > 5
 }
 
 /// The next Z-character: what is held back then, and the piece that it ends.

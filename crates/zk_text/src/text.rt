@@ -5,7 +5,7 @@ ghost use Rattle.zk_text.specs.Lengths.{HasShortText, HasShortTexts};
 ghost use Rattle.zk_text.specs.Meaning.{text_units, checked_end, meaning_at, no_abbreviation};
 ghost use Rattle.zk_text.specs.declared.unit.Unit.{Unit};
 
-use crate::checking::{Inside, Outside, text_fault};
+use crate::checking::{Inside, Outside, check};
 use crate::printing::{Place, print_rest};
 use crate::sink::{Sink, SinkFault};
 use crate::unit::Unit;
@@ -18,33 +18,28 @@ use zk_mem::memory::Memory;
 /// abbreviation's address can't be read or its text has no last word, `NestedAbbreviation` where
 /// its text uses an abbreviation. Such a text, and that of each abbreviation that it uses, has at most half as many
 /// words as the story has bytes.
-#[tactic(auto, unfolding(crate::specs::Meaning::checked_end, crate::specs::Meaning::text_units, zk_mem::specs::Words::text_end_at), using(crate::proofs::ShortTexts::short_texts))]
+#[tactic(auto, unfolding(crate::specs::Meaning::checked_end, crate::specs::Meaning::text_units), using(crate::proofs::ShortTexts::short_texts, crate::proofs::CheckedEnds::end_inside_by, crate::proofs::CheckedEnds::means_by))]
 pub fn check_text(memory: &Memory, address: u32) -> Result<u32, Fault>
     ensures value { result ≡ checked_end memory.now address }
     ensures meaning { OnOk result (IsOk (text_units memory.now address)) }
     ensures inside { IfOk result (λ end. end ≤ length memory.now.bytes) }
     ensures short { OnOk result (HasShortTexts memory.now address) }
 {
-    let end = memory.text_end(address).ok_or(Fault::TextPastEnd)?;
-    match text_fault(memory, address, &mut Outside::new()) {
-        None => Ok(end),
-        Some(fault) => Err(fault),
-    }
+    check(memory, address, &mut Outside::new())
 }
 
 /// Whether the text of an abbreviation at a byte address has a meaning (Z-Machine Standards Document 1.1, section 3.3):
 /// `TextPastEnd` where it has no last word inside the story, `NestedAbbreviation` where it uses an abbreviation. Such a
 /// text has at most half as many words as the story has bytes.
-#[tactic(auto, unfolding(zk_mem::specs::Words::text_end_at), using(crate::proofs::ShortTexts::short_text))]
+#[tactic(auto, using(crate::proofs::ShortTexts::short_text, crate::proofs::CheckedEnds::means_by, crate::proofs::CheckedEnds::means_not_by))]
 pub fn check_abbreviation(memory: &Memory, address: u32) -> Result<(), Fault>
     ensures meaning { MatchResult result (λ _. IsOk (meaning_at no_abbreviation memory.now address))
         (λ e. meaning_at no_abbreviation memory.now address ≡ Err e) }
     ensures short { OnOk result (HasShortText memory.now address) }
 {
-    memory.text_end(address).ok_or(Fault::TextPastEnd)?;
-    match text_fault(memory, address, &mut Inside) {
-        None => Ok(()),
-        Some(fault) => Err(fault),
+    match check(memory, address, &mut Inside) {
+        Ok(_) => Ok(()),
+        Err(fault) => Err(fault),
     }
 }
 

@@ -1,4 +1,4 @@
-use Rattle.std.proofs.Common.{◌≡◌, ◌++◌, ◌∷◌, ◌+◌, drop, List, ℕ, ap, subst, sym, arith}
+use Rattle.std.proofs.Common.{◌≡◌, ◌++◌, ◌∷◌, ◌+◌, drop, List, ℕ, subst, arith}
 use Rattle.zk_text.specs.Meaning.{meaning}
 use Rattle.zk_text.specs.Reading.{held_back}
 use Rattle.zk_text.specs.Words.{z_characters}
