@@ -1,10 +1,11 @@
 #!/usr/bin/env python3
 """Makes stories whose single instructions ask for as much work as a story can.
 
-usage: conformance/hostile.py FOLDER
+usage: conformance/hostile.py FOLDER [STORY ..]
 
 FOLDER gets a story for each kind of work, each place where text can go and each of the greatest lengths, as
-`letters.upper.z3`. Each does nothing but that work, and ends.
+`letters.upper.z3`. Each does nothing but that work, and ends. Others, as `shifts.names.z3` and `shifts.code.z8`, have
+names and code that are long to list. Where stories are named, these alone are written.
 """
 
 from __future__ import annotations
@@ -89,7 +90,7 @@ def long_text(version: int, place: str, saying: str) -> bytes:
     return bytes(data)
 
 
-def long_check(version: int) -> bytes:
+def long_check(version: int, saying: str) -> bytes:
     """A text of all abbreviations: 95 are as long as the story, and the last names another, so that none is shown."""
     data = story(version, printing(version, "screen", TABLE))
     names: list[int] = []
@@ -98,7 +99,7 @@ def long_check(version: int) -> bytes:
         names += [number // 32 + 1, number % 32]
     put_word(data, ABBREVIATIONS + 2 * 95, NESTED // 2)
     put(data, NESTED, text_of((1, 6, 6), 1))
-    put(data, TEXTS, text_of(SAYINGS["letters"], (LENGTHS[version] - TEXTS) // 2))
+    put(data, TEXTS, text_of(SAYINGS[saying], (LENGTHS[version] - TEXTS) // 2))
     put(data, TABLE, text_of(tuple(names), 64))
     return bytes(data)
 
@@ -113,6 +114,31 @@ def long_rows(version: int, place: str) -> bytes:
     return bytes(data)
 
 
+def long_names(version: int, saying: str) -> bytes:
+    """Objects with a name of 255 words of abbreviations, whose text has the story's length. The first is in the status line."""
+    data = story(version, b"")
+    for number in range(96):
+        put_word(data, ABBREVIATIONS + 2 * number, TEXTS // 2)
+    first, length, pointer = (62, 9, 7) if version == 3 else (126, 14, 12)
+    put_word(data, GLOBALS, 1)
+    for at in range(OBJECTS + first, CODE - length + 1, length):
+        put_word(data, at + pointer, TABLE)
+    put(data, TABLE, b"\xff" + text_of((1, 0), 255))
+    put(data, TEXTS, text_of(SAYINGS[saying], (LENGTHS[version] - TEXTS) // 2))
+    return bytes(data)
+
+
+def long_print(version: int, saying: str) -> bytes:
+    """Code that prints a text of all abbreviations, whose text has half the story's length or more."""
+    # a word names no address further on
+    middle = min(LENGTHS[version] // 2, 2 * 0xFFFF)
+    data = story(version, b"\xb2" + text_of((1, 0), (middle - CODE) // 2 - 1))
+    for number in range(96):
+        put_word(data, ABBREVIATIONS + 2 * number, middle // 2)
+    put(data, middle, text_of(SAYINGS[saying], (LENGTHS[version] - middle) // 2))
+    return bytes(data)
+
+
 def all_stories() -> dict[str, bytes]:
     """The stories by their names."""
     stories: dict[str, bytes] = {}
@@ -122,18 +148,22 @@ def all_stories() -> dict[str, bytes]:
                 stories[f"{saying}.{place}.z{version}"] = long_text(version, place, saying)
             if version >= 5:
                 stories[f"rows.{place}.z{version}"] = long_rows(version, place)
-        stories[f"check.screen.z{version}"] = long_check(version)
+        for saying in SAYINGS:
+            stories[f"{saying}.check.z{version}"] = long_check(version, saying)
+            stories[f"{saying}.names.z{version}"] = long_names(version, saying)
+            stories[f"{saying}.code.z{version}"] = long_print(version, saying)
     return stories
 
 
 def main() -> None:
     """Writes the stories."""
-    if len(sys.argv) != 2:
+    if len(sys.argv) < 2:
         sys.exit(str(__doc__).splitlines()[2])
     folder = Path(sys.argv[1])
     folder.mkdir(parents=True, exist_ok=True)
-    for name, data in all_stories().items():
-        (folder / name).write_bytes(data)
+    stories = all_stories()
+    for name in sys.argv[2:] or stories:
+        (folder / name).write_bytes(stories[name])
 
 
 if __name__ == "__main__":

@@ -61,6 +61,9 @@ typedef struct zkit zkit;
 /* A listing by zkit_list has at most so many bytes. */
 #define ZKIT_LISTING 67108864
 
+/* The texts that are looked at for a listing have at most so many words of the story. */
+#define ZKIT_LISTING_WORDS 1048576
+
 /* How a story is played. */
 typedef struct zkit_options {
     size_t size;     /* sizeof (zkit_options) */
@@ -115,7 +118,8 @@ enum {
     ZKIT_NO_ROOM = 3,           /* the buffer is shorter than the file */
     ZKIT_NO_MEMORY = 4,         /* there is no memory */
     ZKIT_NO_STATE = 5,          /* there is no state to go back to */
-    ZKIT_LISTING_TOO_LONG = 6   /* the listing has more bytes than it may */
+    ZKIT_LISTING_TOO_LONG = 6,  /* the listing has more bytes than it may */
+    ZKIT_LISTING_TOO_MANY_WORDS = 7  /* the texts of the listing have more words than ZKIT_LISTING_WORDS */
 };
 
 /* What zkit_status answers: why the story has stopped. */
@@ -351,7 +355,8 @@ typedef struct zkit_figures {
 void zkit_status_line(const zkit *game, zkit_figures *figures);
 
 /* Puts the name in the status line of a story of version 3, which is mostly that of a place, at the front of a buffer, as
- * UTF-8, or as much of it as there is room for; answers how many bytes. Of a longer name the first 1,000 characters count. */
+ * UTF-8, or as much of it as there is room for; answers how many bytes. Of a longer name the first 1,000 characters count,
+ * and of one that has more than 65,536 words of the story, with those of abbreviations at each use, none. */
 size_t zkit_status_name(const zkit *game, uint8_t *buffer, size_t length);
 
 /* ---- about a story */
@@ -385,8 +390,10 @@ enum {
  * that `zkit info`, `zkit disasm` and `zkit check` show, without the name of the section. The play is not changed. The whole
  * listing is kept; a story can have texts of gigabytes, so it has at most ZKIT_LISTING bytes.
  *
- * ZKIT_DONE; ZKIT_NOT_AWAITED: there is no such listing; ZKIT_NO_MEMORY; ZKIT_LISTING_TOO_LONG: it has more bytes. Where it is
- * refused nothing is listed, and what was left of an earlier listing is gone. */
+ * ZKIT_DONE; ZKIT_NOT_AWAITED: there is no such listing; ZKIT_NO_MEMORY; ZKIT_LISTING_TOO_LONG: it has more bytes;
+ * ZKIT_LISTING_TOO_MANY_WORDS: the texts that are looked at for it have more than ZKIT_LISTING_WORDS words of the
+ * story, where those of an abbreviation count with each use. Where it is refused nothing is listed, and what was left
+ * of an earlier listing is gone. */
 uint32_t zkit_list(zkit *game, uint32_t listing);
 
 /* The same for a listing of at most so many bytes. No more than that and one byte are kept meanwhile. */

@@ -43,9 +43,10 @@ pub record IsLonger (l : Listing) (m : MemoryMap) (most : ℕ) : Type 0 where
   pub is : IsListingOrRows l m text
   pub longer : most < length text
 
--- why there is no listing of at most so many bytes: it has more, or there is no memory
+-- why there is no listing of at most so many bytes: it has more, its texts have many words, or there is no memory
 abbrev pub IsUnlisted : Listing → MemoryMap → ℕ → Refusal → Type 0
 IsUnlisted l m most refused.TooLong = IsLonger l m most
+IsUnlisted l m most refused.TooManyWords = Unit {0}
 IsUnlisted l m most refused.Memory = Unit {0}
 IsUnlisted l m most refused.NotAwaited = ⊥
 IsUnlisted l m most refused.NotALine = ⊥

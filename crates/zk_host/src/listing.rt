@@ -100,7 +100,7 @@ fn write(
     }
 }
 
-/// A listing of a story, of so many bytes at most.
+/// A listing of a story, of so many bytes at most. One is refused, too, where its texts have too many words.
 pub(crate) fn list(
     alloc: Global,
     memory: &Memory,
@@ -118,6 +118,6 @@ pub(crate) fn list(
     }
     match written {
         Ok(()) => Ok(target.text),
-        Err(_) => Err(Refusal::Memory),
+        Err(_) => Err(target.refusal()),
     }
 }

@@ -7,7 +7,7 @@ ghost use Rattle.zk_text.specs.Meaning.{text_units};
 ghost use Rattle.zk_text.specs.Shown.{shown, shown_all};
 ghost use Rattle.zk_step.specs.Status.{named};
 ghost use Rattle.zk_host.specs.Collecting.{Collects, nothing_collected};
-ghost use Rattle.zk_host.specs.Names.{HasName, IsNamed, IsNameOf};
+ghost use Rattle.zk_host.specs.Names.{HasName, IsNamed, IsNameOf, first_units};
 
 use crate::collected::Collected;
 use std::alloc::Global;
@@ -19,10 +19,13 @@ use zk_text::shown::Shown;
 use zk_text::sink::{Sink, SinkFault};
 use zk_text::text::print_text;
 use zk_text::unit::Unit;
+use zk_text::walked::words_walked;
 
-/// So many units of a name are collected at most. A status line shows fewer, and an abbreviation can stand for more than there
-/// is time for.
+/// So many units of a name are collected at most. A status line shows fewer.
 const MOST_UNITS: usize = 1_000;
+
+/// None are collected of a name of more words, with those of the abbreviations that it uses.
+const MOST_WORDS: u32 = 65_536;
 
 /// Collects the first units of a text, as many as are left.
 #[derive(Drop)]
@@ -97,7 +100,7 @@ impl<'a> Sink for NameSink<'a> {
 }
 
 /// Collects the first units of the text at a byte address.
-fn collect(memory: &Memory, address: u32, name: &mut Collected)
+fn collect_first(memory: &Memory, address: u32, name: &mut Collected)
     requires { IsOk (text_units memory.now address) }
     ensures { (units : List Unit) → text_units memory.now address ≡ Ok units →
         Collects name.old name.new (shown_all (own_characters memory.now) (take 1000 units)) [] }
@@ -112,6 +115,18 @@ fn collect(memory: &Memory, address: u32, name: &mut Collected)
         Ok(()) => {}
         // all that there is room for was collected
         Err(_) => {}
+    }
+}
+
+/// Collects the first units of the text at a byte address, unless it has too many words.
+fn collect(memory: &Memory, address: u32, name: &mut Collected)
+    requires { IsOk (text_units memory.now address) }
+    ensures { (units : List Unit) → text_units memory.now address ≡ Ok units →
+        Collects name.old name.new (shown_all (own_characters memory.now)
+        (first_units memory.now address units)) [] }
+{
+    if words_walked(memory, address, MOST_WORDS + 1) <= MOST_WORDS {
+        collect_first(memory, address, name);
     }
 }
 

@@ -43,6 +43,7 @@ pub fn refused_number(refusal: Refusal) -> u32
         Refusal::Memory => 4,
         Refusal::NoState => 5,
         Refusal::TooLong => 6,
+        Refusal::TooManyWords => 7,
     }
 }
 

@@ -50,6 +50,8 @@ pub enum Refusal {
     NoState,
     /// The listing has more bytes than it may.
     TooLong,
+    /// The texts of the listing have more words than may be looked at.
+    TooManyWords,
 }
 
 /// Why no play goes on from a snapshot.

@@ -1,8 +1,7 @@
 -- The routines that lie beside others, step by step.
-use Rattle.std.proofs.Common.{◌≡◌, ◌∙◌, ℕ, ◌+◌, ◌*◌, ◌/◌, ◌-◌, ◌<◌, ◌≤◌, ◌⊎◌, ◌↔◌, Bool, true, false, List, [], ◌∷◌, length, Option, Some, None, Result, Ok, Err, IfOk, nat_lt, refl, sym, subst, ap, arith, inl, inr, if◌then◌else◌}
+use Rattle.std.proofs.Common.{◌≡◌, ◌∙◌, ℕ, ◌+◌, ◌*◌, ◌/◌, ◌-◌, ◌<◌, ◌≤◌, ◌⊎◌, ◌↔◌, Bool, true, false, List, length, Option, Some, None, Result, Ok, Err, IfOk, nat_lt, refl, sym, subst, arith, inl, inr, if◌then◌else◌}
 use Rattle.std.specs.Prelude.{get_or, slice_set, option_map}
 use Rattle.std.proofs.lemmas.Bool.{cases_eq}
-use Rattle.std.proofs.lemmas.Grind.{common_steps}
 use Rattle.zk_mem.specs.Header.{header_of, unit_length}
 use Rattle.zk_mem.specs.Map.{MemoryMap}
 use Rattle.zk_code.specs.Extent.{IsExtent, IsNeighbour, FollowsCode, IsRoutine, next_packed}
@@ -13,7 +12,6 @@ use Rattle.zk_code.specs.Extent.{IsStraight}
 use Rattle.zk_code.specs.Extent.IsStraight.{Nothing, Then}
 use Rattle.zk_code.proofs.Longer.{ends_inside}
 use Rattle.zk_inspect.specs.Beside.{IsNextRoutine, LiesBeside}
-use Rattle.zk_inspect.specs.Codes.{IsRoutineAt}
 use Rattle.zk_inspect.specs.Lists.{IsAmong, IsListOf, IsMarked}
 use Rattle.zk_inspect.specs.Lists.IsAmong.{Some as Among, Next as NextAmong}
 use Rattle.zk_inspect.proofs.Inside.{routine_inside}

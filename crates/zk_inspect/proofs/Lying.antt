@@ -1,18 +1,16 @@
 -- The texts that lie in a story, step by step.
-use Rattle.std.proofs.Common.{◌≡◌, ◌∙◌, ℕ, ◌+◌, ◌*◌, ◌-◌, ◌<◌, ◌≤◌, ◌⊎◌, ◌↔◌, Bool, true, false, List, [], ◌∷◌, ◌++◌, length, Option, Some, None, Result, Ok, Err, IfOk, IfSome, refl, sym, subst, ap, arith, inl, inr}
+use Rattle.std.proofs.Common.{◌≡◌, ◌∙◌, ℕ, ◌+◌, ◌*◌, ◌-◌, ◌<◌, ◌≤◌, ◌⊎◌, ◌↔◌, Bool, true, List, [], ◌∷◌, ◌++◌, length, Option, Some, None, Result, Ok, Err, IfOk, refl, sym, subst, ap, arith, inl, inr}
 use Rattle.std.specs.Prelude.{get_or, slice_set, option_map}
-use Rattle.std.specs.List.{Contains}
-use Rattle.std.proofs.lemmas.List.Elements.{Contains-push, Contains-append_left, Contains-append_right, Contains-push_cases}
+use Rattle.std.proofs.lemmas.List.Elements.{Contains-push, Contains-append_left, Contains-push_cases}
 use Rattle.zk_mem.specs.Map.{MemoryMap}
 use Rattle.zk_mem.specs.Words.{words_at, text_end_at}
-use Rattle.zk_mem.proofs.TextWords.{text_lies_inside, end_inside}
+use Rattle.zk_mem.proofs.TextWords.{text_lies_inside}
 use Rattle.zk_code.specs.declared.instr.Instr.{Instr}
 use Rattle.zk_code.specs.Extent.{IsExtent, next_packed}
 use Rattle.zk_code.specs.Grammar.{IsInstruction}
 use Rattle.zk_code.specs.Routines.{code_start}
 use Rattle.zk_code.proofs.Extents.{one_extent}
 use Rattle.zk_code.proofs.Whole.{at_most_one}
-use Rattle.zk_code.proofs.Reached.{has_one}
 use Rattle.zk_inspect.specs.declared.reach.code.Code.{Code}
 use Rattle.zk_inspect.specs.Lists.{IsAmong, IsListOf, IsMarked}
 use Rattle.zk_inspect.specs.LyingTexts.{IsAfterLast, IsNextText, IsPrintedBy, IsText, LiesText, PrintsText, packed_text}

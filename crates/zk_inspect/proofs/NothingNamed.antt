@@ -3,7 +3,7 @@ use Rattle.std.proofs.Common.{◌≡◌, ℕ, List, [], refl, subst}
 use Rattle.zk_mem.specs.Map.{MemoryMap}
 use Rattle.zk_code.specs.Reach.{IsCalledFrom, first_alone}
 use Rattle.zk_inspect.specs.declared.reach.code.Code.{Code}
-use Rattle.zk_inspect.specs.Beside.{IsNamedCode, NothingNamedAddsNothing, inside, roots_of, starts}
+use Rattle.zk_inspect.specs.Beside.{NothingNamedAddsNothing, inside, roots_of, starts}
 use Rattle.zk_inspect.specs.Codes.{IsCodeFrom, IsCodeOf, IsRoutineFrom}
 use Rattle.zk_inspect.specs.Codes.IsRoutineFrom.{Called, Named}
 use Rattle.zk_inspect.proofs.Searching.{nothing_in}

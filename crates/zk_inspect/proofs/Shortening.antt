@@ -1,5 +1,5 @@
 -- The first characters of a text.
-use Rattle.std.proofs.Common.{◌≡◌, ◌∙◌, ◌<◌, ◌≤◌, ◌+◌, ℕ, zero, suc, List, [], ◌∷◌, ◌++◌, arith, length, take, refl, sym, ap}
+use Rattle.std.proofs.Common.{◌≡◌, ◌∙◌, ◌<◌, ◌≤◌, ℕ, zero, suc, List, [], ◌∷◌, ◌++◌, arith, length, take, refl, sym, ap}
 use Rattle.std.proofs.Math.Dec.{leb-suc-suc, leb-suc-zero}
 use Rattle.zk_text.specs.declared.unit.Unit.{Unit}
 use Rattle.std.specs.Prelude.{Bool, decimal, Ok, Err, IsOk, codes, nat_le, if◌then◌else◌}

@@ -14,15 +14,27 @@ use zk_term::line_writer::LineWriter;
 use zk_term::writing::write_decimal;
 use zk_text::text::check_abbreviation;
 
-/// Writes what the text of an abbreviation prints, or why it prints nothing.
-fn write_text<P: LineWriter>(writer: &mut P, memory: &Memory, address: u32)
+/// Writes what the text of an abbreviation prints, or why it prints nothing, once note was taken of it.
+fn write_checked<P: LineWriter>(writer: &mut P, memory: &Memory, address: u32)
     ensures { P.wrote writer.old writer.new
         (units_text memory.now (meaning_at no_abbreviation memory.now address)) }
 {
+    if writer.has_ended() {
+        return;
+    }
     match check_abbreviation(memory, address) {
         Ok(()) => write_meaning(writer, memory, address),
         Err(fault) => write_fault(writer, fault),
     }
+}
+
+/// Writes what the text of an abbreviation prints, or why it prints nothing. Once a write has failed no text is looked at.
+fn write_text<P: LineWriter>(writer: &mut P, memory: &Memory, address: u32)
+    ensures { P.wrote writer.old writer.new
+        (units_text memory.now (meaning_at no_abbreviation memory.now address)) }
+{
+    writer.look_at(memory, address);
+    write_checked(writer, memory, address);
 }
 
 /// Writes what an abbreviation stands for, or why it stands for nothing.

@@ -3,7 +3,7 @@ use Rattle.zk_text.specs.Extra.{own_characters}
 use Rattle.zk_text.specs.Shown.{shown_all}
 use Rattle.zk_host.specs.Collecting.{Collects}
 use Rattle.zk_host.specs.NameSinks.{whole_name}
-use Rattle.zk_host.proofs.name.collect.Goals as goal
+use Rattle.zk_host.proofs.name.collect_first.Goals as goal
 
 pub returns-in-Ok : goal.returns-in-Ok
 returns-in-Ok c = λ units e.

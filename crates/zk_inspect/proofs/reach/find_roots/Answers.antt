@@ -4,7 +4,7 @@ use Rattle.std.proofs.lemmas.Grind.{get_or_default_zero}
 use Rattle.std.proofs.lemmas.List.Elements.{Contains-get_or}
 use Rattle.zk_code.specs.Reach.IsReachedFrom.{Root}
 use Rattle.zk_inspect.specs.Lists.{IsMarked}
-use Rattle.zk_inspect.proofs.Searching.{grows_same, grows_twice}
+use Rattle.zk_inspect.proofs.Searching.{grows_twice}
 use Rattle.zk_inspect.proofs.reach.find_roots.Goals as goal
 
 pub find-requires-clause-reached : goal.find-requires-clause-reached

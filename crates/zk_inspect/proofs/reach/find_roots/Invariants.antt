@@ -1,4 +1,4 @@
-use Rattle.std.proofs.Common.{◌<◌, ℕ, get_or, length}
+use Rattle.std.proofs.Common.{◌<◌, ℕ, get_or}
 use Rattle.zk_inspect.specs.Lists.{IsMarked}
 use Rattle.zk_inspect.specs.Search.{IsSearch, Grows}
 use Rattle.zk_inspect.proofs.reach.find_roots.Given as goal

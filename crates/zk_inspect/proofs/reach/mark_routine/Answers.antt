@@ -1,7 +1,7 @@
-use Rattle.std.proofs.Common.{◌∙◌, arith, sym, ap}
+use Rattle.std.proofs.Common.{◌∙◌, arith, ap}
 use Rattle.std.specs.Prelude.{is_some}
 use Rattle.zk_inspect.proofs.Inside.{routine_inside}
-use Rattle.zk_inspect.proofs.Searching.{start_of, no_start_of, one_marked, none_more}
+use Rattle.zk_inspect.proofs.Searching.{start_of, one_marked}
 use Rattle.zk_inspect.proofs.reach.mark_routine.Goals as goal
 
 pub mark-requires : goal.mark-requires

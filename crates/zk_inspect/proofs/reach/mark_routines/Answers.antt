@@ -1,7 +1,7 @@
-use Rattle.std.proofs.Common.{◌∙◌, ◌≡◌, arith, sym, subst, length, take, List, ℕ}
+use Rattle.std.proofs.Common.{◌∙◌, ◌≡◌, sym, subst, take, List, ℕ}
 use Rattle.std.proofs.lemmas.List.{take_all}
 use Rattle.std.proofs.lemmas.List.{take_more}
-use Rattle.zk_inspect.proofs.Searching.{AlsoMarked, also_one, also_none}
+use Rattle.zk_inspect.proofs.Searching.{AlsoMarked, also_one}
 use Rattle.zk_inspect.proofs.reach.mark_routines.Goals as goal
 
 pub loop-routine-preserved : goal.loop-routine-preserved

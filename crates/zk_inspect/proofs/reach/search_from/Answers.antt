@@ -1,4 +1,4 @@
-use Rattle.std.proofs.Common.{arith, max}
+use Rattle.std.proofs.Common.{arith}
 use Rattle.zk_inspect.proofs.reach.search_from.Goals as goal
 
 pub find_roots-requires-clause-within : goal.find_roots-requires-clause-within

@@ -1,5 +1,4 @@
 use Rattle.std.proofs.Common.{◌∙◌, ap, refl, sym, Some}
-use Rattle.zk_code.specs.Extent.{IsExtent}
 use Rattle.zk_inspect.proofs.Lying.{one_after_last, no_extent_last}
 use Rattle.zk_inspect.proofs.texts.after_last.Goals as goal
 

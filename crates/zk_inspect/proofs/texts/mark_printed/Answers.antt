@@ -1,4 +1,4 @@
-use Rattle.std.proofs.Common.{◌∙◌, refl, sym}
+use Rattle.std.proofs.Common.{sym}
 use Rattle.zk_inspect.specs.LyingTexts.{PrintsText}
 use Rattle.zk_inspect.proofs.Marking.{some_same}
 use Rattle.zk_inspect.proofs.Lying.{marked_by, none_marked_by, one_printed}

@@ -1,5 +1,4 @@
-use Rattle.std.proofs.Common.{ap, refl, sym, subst}
-use Rattle.zk_code.specs.Extent.{IsNeighbour}
+use Rattle.std.proofs.Common.{ap}
 use Rattle.zk_inspect.proofs.Besides.{if_beside}
 use Rattle.zk_inspect.proofs.whole.lie_beside.Goals as goal
 

@@ -1,4 +1,4 @@
-use Rattle.std.proofs.Common.{◌∙◌, ◌+◌, arith, sym, subst, List, Bool}
+use Rattle.std.proofs.Common.{◌∙◌, ◌+◌, arith, sym, subst}
 use Rattle.zk_inspect.specs.Beside.{IsNextRoutine}
 use Rattle.zk_inspect.proofs.Besides.{IsClosing, closing_begins, closing_marked, closing_on, closing_ends, next_later}
 use Rattle.zk_inspect.proofs.whole.mark_all_next.Goals as goal

@@ -1,4 +1,4 @@
-use Rattle.std.proofs.Common.{arith, refl, sym}
+use Rattle.std.proofs.Common.{arith}
 use Rattle.zk_code.specs.Extent.{IsNeighbour}
 use Rattle.zk_inspect.proofs.Besides.{neighbour_inside, neighbour_marked, none_marked_more}
 use Rattle.zk_inspect.proofs.whole.mark_neighbour.Goals as goal

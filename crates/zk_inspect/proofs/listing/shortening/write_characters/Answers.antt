@@ -1,4 +1,4 @@
-use Rattle.std.proofs.Common.{◌∙◌, ◌++◌, ◌∷◌, [], take, length, sym, ap, subst, List, ℕ}
+use Rattle.std.proofs.Common.{◌∙◌, ◌++◌, ◌∷◌, [], take, sym, ap, subst, List, ℕ}
 use Rattle.std.proofs.lemmas.List.{take_more}
 use Rattle.zk_inspect.specs.Listing.{quoted_bytes}
 use Rattle.zk_inspect.specs.Quoted.{quoted-append}

@@ -1,4 +1,4 @@
-use Rattle.std.proofs.Common.{◌≡◌, ◌∙◌, ◌++◌, ◌∷◌, [], List, ℕ, ap, arith, length}
+use Rattle.std.proofs.Common.{◌∙◌, ◌++◌, ◌∷◌, [], List, ℕ, ap, arith, length}
 use Rattle.zk_inspect.proofs.Shortening.{full_stays, one_more}
 use Rattle.zk_inspect.proofs.listing.shortening.Beginning.keep.Goals as goal
 
