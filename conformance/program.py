@@ -331,7 +331,7 @@ WITH_A_RETURN = (
 )
 WITH_NO_MARKS = '  00040 print "hi"\n  00043 new_line\n  00044 quit\nran: 0 of 3 instructions, 0 of 0 routines\n'
 USAGE: Wanted = (1, "", ANY)
-NO_TEXT: Wanted = (1, "", "zkit: the words after the program's name are no text")
+NO_TEXT: Wanted = (1, "", "zkit: an argument is not valid UTF-8")
 HI: Wanted = (0, "hi\n", "")
 REFUSED: dict[int, Wanted] = {n: (1, "", f"zkit: refused {n}") for n in range(1, 6)}
 UNREAD: Wanted = (4, "", "zkit: read failed")
@@ -655,7 +655,7 @@ CASES: list[tuple[Words, Wanted]] = [
             "zkit: no routine at 00045",
         ),
     ),
-    ("disasm --at xyz hello.z3", (1, "", "zkit: 'xyz' is no address: hexadecimal digits are one")),
+    ("disasm --at xyz hello.z3", (1, "", "zkit: 'xyz' is not a hexadecimal address")),
     ("disasm --cover missing hello.z3", UNREAD),
     ("disasm --cover empty hello.z3", (0, WITH_NO_MARKS, "")),
     ("disasm --cover hello.z3 hello.z3", UNREAD),
@@ -809,7 +809,7 @@ TOLD: list[tuple[Words, str]] = [
     ("play calls_none.z3", "zkit: the story calls address 00046, where no routine begins"),
     ("play calls_some.z3", "zkit: the story calls an address past its end, or where no routine begins"),
     ("play jumps_past.z3", "zkit: the story goes on at address 04041, which is past its end"),
-    ("play jumps_before.z3", "zkit: the story goes on 32703 bytes before its beginning"),
+    ("play jumps_before.z3", "zkit: the story jumps to 32703 bytes before its start"),
     ("play jumps_some.z3", "zkit: the story jumps out of itself"),
     ("play branches_past.z3", "zkit: the story goes on at address 02042, which is past its end"),
     ("play --script missing/said says.z3", "zkit: missing/said: there is no such file or folder"),
@@ -821,14 +821,14 @@ TOLD: list[tuple[Words, str]] = [
     ("info empty", "zkit: empty: not a story: the file is shorter than a header"),
     ("disasm version.6", "zkit: version.6: not a story: version 6 is not played"),
     ("play version.6", "zkit: version.6: not a story: version 6 is not played"),
-    ("play blorb", "zkit: blorb: not a story: it begins as a Blorb resource file; unpack its ZCOD part"),
-    ("check glulx", "zkit: glulx: not a story: it begins as a Glulx story, which is for another machine"),
+    ("play blorb", "zkit: blorb: not a story: it is a Blorb file: `zkit unpack FILE OUT` takes the story out"),
+    ("check glulx", "zkit: glulx: not a story: it is a Glulx story, which is for another machine"),
     ("info gzip", "zkit: gzip: not a story: it is compressed by gzip; unpack it"),
     ("disasm zip", "zkit: zip: not a story: it is a zip archive; unpack it"),
-    ("play text", "zkit: text: not a story: it begins as a plain text"),
+    ("play text", "zkit: text: not a story: it is a text file"),
     ("play missing", "zkit: missing: there is no such file or folder"),
     ("info folder", "zkit: folder: it is a folder"),
-    ("play unreadable", "zkit: unreadable: there is no permission for it"),
+    ("play unreadable", "zkit: unreadable: permission denied"),
     (["play", "missing\x1b[2J"], "zkit: missing?[2J: there is no such file or folder"),
     (["check", b"old\xff.z3"], "zkit: old?.z3: its name is no text (UTF-8)"),
     (["play", "--script", "missing/\x07", "hello.z3"], "zkit: missing/?: there is no such file or folder"),
@@ -1170,7 +1170,7 @@ def check_unwritable(command: list[str], folder: Path) -> str | None:
     told = run(command, "play --save kept saves_on.z3", folder)[2]
     came = kept.read_bytes()
     kept.unlink()
-    wanted = not_saved("kept", "there is no permission for it") + "\n"
+    wanted = not_saved("kept", "permission denied") + "\n"
     return None if free or (told, came) == (wanted, b"an old game") else f"came {told!r}, {came!r}"
 
 

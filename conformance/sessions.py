@@ -178,7 +178,7 @@ def first_of(differences: Iterable[Optional[str]]) -> Optional[str]:
 def seeds_of_the_clock(case: Case) -> Optional[str]:
     """`--seed any` tells the seed, and that seed gives the same play."""
     status, shown, told = case.run("play --seed any throws.z5", b"x\n")
-    found = re.fullmatch(r"zkit: the random numbers begin with --seed (\d+)\n", told)
+    found = re.fullmatch(r"zkit: using --seed (\d+)\n", told)
     if status != 0 or not found:
         return f"came {status} {told!r}"
     return differs((0, shown, ""), case.run(["play", "--seed", found[1], "throws.z5"], b"x\n"))
@@ -301,7 +301,7 @@ def calls_are_told(case: Case) -> Optional[str]:
     ):
         fault = f"zkit: fault 8 at {at}\n"
         routines = f"zkit: in routine {inner}\nzkit: in routine {outer}\n"
-        told = f"zkit: division by zero\nzkit: in turn 1, after line 0\n{routines}{fault}"
+        told = f"zkit: division by zero\nzkit: in turn 1, after command 0\n{routines}{fault}"
         difference = first_of((
             differs((2, "", told), case.run(f"play --calls {name}")),
             differs((2, "", f"zkit: division by zero\n{fault}"), case.run(f"play {name}")),
@@ -316,7 +316,7 @@ def many_calls_are_cut(case: Case) -> Optional[str]:
     status, _, told = case.run("play --calls --frames 20 calls.z3")
     lines = told.splitlines()
     routine = "zkit: in routine 00046, called at 00047"
-    wanted = ["zkit: in turn 1, after line 0", *[routine] * 16, "zkit: and in 3 more", "zkit: limit 1 at 00047"]
+    wanted = ["zkit: in turn 1, after command 0", *[routine] * 16, "zkit: and in 3 more", "zkit: limit 1 at 00047"]
     return differs((3, wanted), (status, lines[1:]))
 
 
@@ -437,7 +437,7 @@ def wrong_texts_fail(case: Case) -> Optional[str]:
     case.write(wrong___a__transcript=text.replace("a postbag", "an apple"))
     status, shown, told = case.run("test wrong")
     lines = shown.splitlines()
-    has = ["FAILED wrong/a.walkthrough: another text from line", "an apple", "a postbag", "0 passed, 1 failed"]
+    has = ["FAILED wrong/a.walkthrough: output differs from line", "an apple", "a postbag", "0 passed, 1 failed"]
     missing = [words for words in has if not any(words in line for line in lines)]
     return differs((1, [], ""), (status, missing, told))
 
@@ -446,10 +446,10 @@ def checks_that_do_not_hold(case: Case) -> Optional[str]:
     """An answer that lacks a text, or has one, and a play that ended before it."""
     head = "# story: echoes.z3\n"
     for lines, reason in (
-        ("abc\n! b\n", "line 3: the answer has not: b"),
-        ("abc\n!~ a\n", "line 3: the answer has: a"),
-        ("! a\nabc\n", "line 2: the answer has not: a"),
-        ("abc\ndef\n! a\n", "line 4: the answer has not: a"),
+        ("abc\n! b\n", "line 3: missing from the reply: b"),
+        ("abc\n!~ a\n", "line 3: found in the reply: a"),
+        ("! a\nabc\n", "line 2: missing from the reply: a"),
+        ("abc\ndef\n! a\n", "line 4: missing from the reply: a"),
     ):
         case.write(check__walkthrough=head + lines)
         status, shown, _ = case.run("test check.walkthrough")
@@ -472,7 +472,7 @@ def wrong_seeds_fail(case: Case) -> Optional[str]:
     written = case.run("test --bless dice.walkthrough")[0]
     case.write(dice__walkthrough="# story: throws.z5\n# seed: 2\nx\n")
     status, shown, _ = case.run("test dice.walkthrough")
-    other = shown.startswith("FAILED dice.walkthrough: another text from line 1 on\n")
+    other = shown.startswith("FAILED dice.walkthrough: output differs from line 1\n")
     return differs((0, 1, True), (written, status, other))
 
 
@@ -498,7 +498,7 @@ def settings_that_are_none(case: Case) -> Optional[str]:
         ("abc\n", "it names no story, and neither does --story"),
         ("# story: echoes.z3\n# save: kept\nabc\n", "there is no setting 'save'"),
         ("# story: echoes.z3\n# undo: 65\nabc\n", "its settings are not understood"),
-        ("# story: echoes.z3\n# seed: any\nabc\n", "a test needs numbers in its settings"),
+        ("# story: echoes.z3\n# seed: any\nabc\n", "a test needs a fixed seed and width"),
         ("# story: echoes.z3\nabc\n", "it has no transcript; --bless writes one"),
     ):
         case.write(odd__walkthrough=lines)

@@ -109,11 +109,11 @@ const OPEN_NO_MEMORY = 6;
  * @type {[RegExp, string][]}
  */
 const BEGINNINGS = [
-    [/^FORM[^]{4}IFRS/, "it begins as a Blorb resource file; unpack its ZCOD part"],
-    [/^Glul/, "it begins as a Glulx story, which is for another machine"],
+    [/^FORM[^]{4}IFRS/, "it is a Blorb file: `zkit unpack FILE OUT` takes the story out"],
+    [/^Glul/, "it is a Glulx story, which is for another machine"],
     [/^\x1f\x8b/, "it is compressed by gzip; unpack it"],
     [/^PK\x03\x04/, "it is a zip archive; unpack it"],
-    [/^[\t\n\r -~\x80-\xff]+$/, "it begins as a plain text"],
+    [/^[\t\n\r -~\x80-\xff]+$/, "it is a text file"],
 ];
 const LEAD = 64;
 

@@ -14,11 +14,11 @@ import { drawMap, drawMeanings } from "./drawings.js";
  * @type {Record<string, [string, string]>}
  */
 const TABS = {
-    findings: ["Check", "What twelve tests for damage and mistakes have found."],
+    findings: ["Check", "Results of the twelve checks."],
     header: ["Header", "The fields at the start of the file."],
     map: ["Map", "Where the parts of the story begin. The bar is the whole file, to scale."],
     objects: ["Objects", "Each object with its links, its attributes, and its properties as number:length."],
-    tree: ["Tree", "The objects below those that they are in."],
+    tree: ["Tree", "The object tree."],
     dictionary: ["Dictionary", "The words that the story knows, with their addresses."],
     abbreviations: ["Texts", "The texts that other texts abbreviate."],
     code: ["Code", "The instructions that a run can reach from the first one on. An address leads to its line."],

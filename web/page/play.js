@@ -50,7 +50,7 @@ const SOON = 300;
  * @type {Record<string, string>}
  */
 const PAUSED = {
-    pause: "The story has written very much without asking for anything.",
+    pause: "The story has printed a lot without asking for input.",
     memory: "There is no memory left for the story to go on.",
 };
 
@@ -558,7 +558,7 @@ export class Play {
         this.turnText = "";
         this.here = null;
         await this.guarded(async () => this.settle(await this.step(null)));
-        tell("Gone back to before that.");
+        tell("Went back one step.");
     }
 
     /**

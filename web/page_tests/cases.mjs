@@ -417,7 +417,7 @@ async function badPlays(page) {
     for (const [i, part] of bad.entries()) {
         await page.drop(Buffer.from(JSON.stringify({ ...play, ...part })), `bad${i}.json`);
         await page.until((words) => document.getElementById("told").textContent === words,
-            `bad${i}.json: not a story: it begins as a plain text`);
+            `bad${i}.json: not a story: it is a text file`);
     }
 }
 
@@ -467,7 +467,7 @@ async function blorbFile(page) {
 async function damaged(page) {
     await page.fresh();
     await page.drop(Buffer.from("Once upon a time there was a text. ".repeat(9)), "tale.txt");
-    await page.until(() => document.getElementById("told").textContent === "tale.txt: not a story: it begins as a plain text");
+    await page.until(() => document.getElementById("told").textContent === "tale.txt: not a story: it is a text file");
     await page.drop(Buffer.alloc(2000, 6), "six.z6");
     await page.until(() => document.getElementById("told").textContent === "six.z6: not a story: version 6 is not played");
     const hello = readFileSync(join(EXAMPLES, "hello.z3"));

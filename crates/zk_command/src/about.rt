@@ -62,11 +62,11 @@ impl Looks {
     pub fn text(self) -> Option<&'static str> {
         match self {
             Looks::Unknown => None,
-            Looks::Blorb => Some("it begins as a Blorb resource file; unpack its ZCOD part"),
-            Looks::Glulx => Some("it begins as a Glulx story, which is for another machine"),
+            Looks::Blorb => Some("it is a Blorb file: `zkit unpack FILE OUT` takes the story out"),
+            Looks::Glulx => Some("it is a Glulx story, which is for another machine"),
             Looks::Gzip => Some("it is compressed by gzip; unpack it"),
             Looks::Zip => Some("it is a zip archive; unpack it"),
-            Looks::Text => Some("it begins as a plain text"),
+            Looks::Text => Some("it is a text file"),
         }
     }
 }

@@ -87,7 +87,7 @@ impl BadDestination {
                 "the story goes on at address {a:05x}, which is past its end"
             ),
             BadDestination::Before(n) => format!(in alloc;
-                "the story goes on {n} bytes before its beginning"
+                "the story jumps to {n} bytes before its start"
             ),
             BadDestination::SomeJump => format!(in alloc; "the story jumps out of itself"),
             BadDestination::SavedGame => format!(in alloc;

@@ -51,7 +51,7 @@ fn add_routines(alloc: Global, machine: &Machine, text: &mut String) -> Result<(
 pub(crate) fn calls_text(alloc: Global, machine: &Machine) -> Result<String, AllocError> {
     let reads = machine.place().reads;
     let mut text = format!(in alloc;
-        "\nzkit: in turn {}, after line {reads}",
+        "\nzkit: in turn {}, after command {reads}",
         reads.saturating_add(1)
     )?;
     add_routines(alloc, machine, &mut text)?;

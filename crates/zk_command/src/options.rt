@@ -91,19 +91,19 @@ pub(crate) const WORDS: NumberOption =
     number!("words", Some("16384"), 0 to 65535, "The most words that the open routines may hold");
 
 pub(crate) const UNDO: NumberOption =
-    number!("undo", Some("16"), 0 to 64, "How many states can be gone back to");
+    number!("undo", Some("16"), 0 to 64, "How many undo states are kept");
 
 pub(crate) const STEPS: NumberOption =
-    number!("steps", Some("10000000"), 1 to 1000000000, "The most instructions without reading");
+    number!("steps", Some("10000000"), 1 to 1000000000, "The most instructions a story may run between two inputs");
 
 pub(crate) const SEED: NumberOption =
-    number!("seed", Some("1"), 0 to 18446744073709551615, or "any", "What begins the random numbers; the clock says it with any");
+    number!("seed", Some("1"), 0 to 18446744073709551615, or "any", "Seed for random numbers; any takes one from the clock");
 
 pub(crate) const WIDTH: NumberOption =
-    number!("width", None, 20 to 255, or "auto", "Wraps the screen's lines at spaces, so that they have at most this many columns, or as many as the terminal has");
+    number!("width", None, 20 to 255, or "auto", "Wraps lines at this many columns; auto uses the terminal's width");
 
 pub(crate) const PAGE: NumberOption =
-    number!("page", None, 2 to 1000, or "auto", "Waits for Enter after this many lines, or as many as the terminal has, where input is a terminal");
+    number!("page", None, 2 to 1000, or "auto", "Pauses after this many lines at a terminal; auto fits its height");
 
 /// The options of `play`.
 const PLAY_OPTIONS: [CommandOption; 17] = [
@@ -114,15 +114,15 @@ const PLAY_OPTIONS: [CommandOption; 17] = [
     CommandOption::Number(SEED),
     CommandOption::File {
         name: "save",
-        help: "The file that the game is saved to and restored from; a save replaces what it held; without it there are no saved games",
+        help: "Saves to and restores from this file, which each save overwrites",
     },
     CommandOption::Folder {
         name: "saves",
-        help: "The folder of saved games: at each save and restore a file's name is asked for",
+        help: "Keeps saved games in this folder, and asks for a name each time",
     },
     CommandOption::File {
         name: "script",
-        help: "The file of the transcript, emptied at the start and filled once the story turns its transcript on",
+        help: "Writes the story's transcript to this file, emptied first",
     },
     CommandOption::Flag {
         name: "upper",
@@ -130,25 +130,25 @@ const PLAY_OPTIONS: [CommandOption; 17] = [
     },
     CommandOption::Flag {
         name: "boxes",
-        help: "Shows the status line and the upper window above the prompt, with rows that the story took away before the read",
+        help: "Shows the status line and the upper window above the prompt, including quotation boxes",
     },
     CommandOption::Number(WIDTH),
     CommandOption::Number(PAGE),
     CommandOption::Flag {
         name: "echo",
-        help: "Shows each line that is read, for input from a pipe",
+        help: "Repeats each line of input, for input from a pipe",
     },
     CommandOption::File {
         name: "record",
-        help: "The file that gets each line that is read, as a walkthrough, emptied at the start",
+        help: "Records the commands to this file as a walkthrough, emptied first",
     },
     CommandOption::Flag {
         name: "calls",
-        help: "Tells after a fault or a limit which calls led there",
+        help: "Prints the call stack after a fault or limit",
     },
     CommandOption::File {
         name: "cover",
-        help: "The file that gets the addresses of the instructions that were carried out, beside those that it has",
+        help: "Adds the addresses of executed instructions to this coverage file",
     },
     CommandOption::Story,
 ];
@@ -162,32 +162,37 @@ pub(crate) const PLAY: CommandTable = CommandTable {
 
 const RECURSIVE: CommandOption = CommandOption::Flag {
     name: "recursive",
-    help: "Takes a folder for all files in it and in its folders, by their names",
+    help: "Searches folders, and the folders in them",
 };
 
 const ROWS: CommandOption = CommandOption::Flag {
     name: "rows",
-    help: "Lists a fact on a line, the path first, with tabs between its fields",
+    help: "Prints tab-separated rows, one fact a line, the path first",
 };
 
 const JSON: CommandOption = CommandOption::Flag {
     name: "json",
-    help: "Lists a JSON object for each story, on a line",
+    help: "Prints one JSON object a story, each on a line",
 };
 
 const NOTES: CommandOption = CommandOption::Flag {
     name: "notes",
-    help: "Says beside what is listed what it means",
+    help: "Adds explanations",
 };
 
-const GRAPH: CommandOption = CommandOption::Flag {
+const OBJECT_GRAPH: CommandOption = CommandOption::Flag {
     name: "graph",
-    help: "Writes a graph in Graphviz's language: of the calls, or of the tree of objects",
+    help: "Prints the tree of objects as a Graphviz graph",
+};
+
+const CALL_GRAPH: CommandOption = CommandOption::Flag {
+    name: "graph",
+    help: "Prints the call graph, for Graphviz",
 };
 
 const FILES_FROM: CommandOption = CommandOption::File {
     name: "files-from",
-    help: "Takes paths from a file, or from standard input for -, one a line, or each up to a zero byte where there is one",
+    help: "Reads paths from this file, or from standard input for -, separated by new lines or zero bytes",
 };
 
 /// The options of `info`.
@@ -222,7 +227,7 @@ const INFO_OPTIONS: [CommandOption; 20] = [
     },
     CommandOption::Flag {
         name: "strings",
-        help: "Lists the texts that lie in the story one after another",
+        help: "Lists the strings in high memory",
     },
     CommandOption::Flag {
         name: "properties",
@@ -238,10 +243,10 @@ const INFO_OPTIONS: [CommandOption; 20] = [
     },
     CommandOption::Flag {
         name: "extension",
-        help: "Lists the words of the header's extension",
+        help: "Lists the header extension table",
     },
     NOTES,
-    GRAPH,
+    OBJECT_GRAPH,
     CommandOption::Flag {
         name: "svg",
         help: "Writes the map as a picture, in SVG",
@@ -255,7 +260,7 @@ const INFO_OPTIONS: [CommandOption; 20] = [
 
 const INFO: CommandTable = CommandTable {
     name: "info",
-    about: "Lists the tables of stories; without an option, what their headers say",
+    about: "Lists the tables of stories; without an option, their headers",
     example: "Example: zkit info --dictionary story.z5",
     options: &INFO_OPTIONS,
 };
@@ -264,28 +269,28 @@ const INFO: CommandTable = CommandTable {
 const DISASM_OPTIONS: [CommandOption; 7] = [
     CommandOption::Flag {
         name: "all",
-        help: "Lists the routines that lie beside these as well",
+        help: "Also lists unreached routines",
     },
     CommandOption::Address {
         name: "at",
-        help: "Lists what is reached from the instruction at this byte address as well",
+        help: "Also disassembles from the instruction at this byte address",
     },
     CommandOption::Address {
         name: "routine",
-        help: "Lists the routine at this byte address as well, with what is reached from it",
+        help: "Also disassembles the routine at this byte address",
     },
     CommandOption::File {
         name: "cover",
-        help: "Lists what is reached from the addresses in this file as well, and marks these",
+        help: "Also disassembles from the addresses in this coverage file, and marks them",
     },
     NOTES,
-    GRAPH,
+    CALL_GRAPH,
     CommandOption::Story,
 ];
 
 const DISASM: CommandTable = CommandTable {
     name: "disasm",
-    about: "Lists the instructions that a run of a story can reach",
+    about: "Disassembles the code reachable from the start",
     example: "Example: zkit disasm story.z5",
     options: &DISASM_OPTIONS,
 };
@@ -295,7 +300,7 @@ const CHECK_OPTIONS: [CommandOption; 7] = [
     NOTES,
     CommandOption::Flag {
         name: "summary",
-        help: "Counts the findings of all stories after them, by kind",
+        help: "Adds a count of all findings, by kind",
     },
     ROWS,
     JSON,
@@ -314,7 +319,7 @@ Example: zkit check story.z5";
 
 const CHECK: CommandTable = CommandTable {
     name: "check",
-    about: "Lists what is wrong with stories, and ends with status 6 where something is",
+    about: "Checks stories for damage and mistakes, and ends with status 6 if it finds any",
     example: CHECK_HELP,
     options: &CHECK_OPTIONS,
 };
@@ -324,18 +329,18 @@ const TEST_OPTIONS: [CommandOption; 4] = [
     FILES_FROM,
     CommandOption::File {
         name: "story",
-        help: "The story of the walkthroughs that name none",
+        help: "Default story, for walkthroughs that name none",
     },
     CommandOption::Flag {
         name: "bless",
-        help: "Writes the transcripts in place of comparing them",
+        help: "Writes the expected transcripts instead of comparing them",
     },
     CommandOption::Walkthroughs,
 ];
 
 const TEST: CommandTable = CommandTable {
     name: "test",
-    about: "Plays walkthroughs and compares what they show with their transcripts",
+    about: "Plays walkthroughs and compares the output with their transcripts",
     example: "Example: zkit test tests",
     options: &TEST_OPTIONS,
 };
@@ -348,13 +353,13 @@ const UNPACK_OPTIONS: [CommandOption; 2] = [
     },
     CommandOption::Path {
         name: "OUT",
-        help: "The file that gets the story, which is not there yet",
+        help: "The file to create",
     },
 ];
 
 const UNPACK: CommandTable = CommandTable {
     name: "unpack",
-    about: "Writes the story of a Blorb file to a file of its own",
+    about: "Takes the story out of a Blorb file",
     example: "Example: zkit unpack story.zblorb story.z5",
     options: &UNPACK_OPTIONS,
 };

@@ -11,7 +11,7 @@ impl Display for Reason<'_> {
     fn fmt<W: Write>(&self, f: &mut Formatter<W>) -> fmt::Result {
         match self.0.kind() {
             ErrorKind::NotFound => f.write_str("there is no such file or folder"),
-            ErrorKind::PermissionDenied => f.write_str("there is no permission for it"),
+            ErrorKind::PermissionDenied => f.write_str("permission denied"),
             ErrorKind::IsADirectory => f.write_str("it is a folder"),
             _ => Display::fmt(self.0, f),
         }

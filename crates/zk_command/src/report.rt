@@ -186,7 +186,7 @@ fn words_on_device(
 
 /// Why a write failed, in words.
 fn words_on_write(alloc: Global, about: &About) -> Result<String, AllocError> {
-    let text = "it takes nothing more";
+    let text = "it accepts no more data";
     if about.script.has_failed() {
         return words_on_device(alloc, about.script_path, &about.script, text);
     }

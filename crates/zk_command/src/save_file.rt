@@ -74,7 +74,7 @@ impl<'a> SaveFile<'a> {
         let name = self.asker.ask_name(doing, self.offered.as_str())?;
         if !is_name(name.as_str()) {
             let _ = eprintln!(self.rt;
-                "zkit: {}: it has to be a name without a slash",
+                "zkit: {}: a file name without / is needed",
                 Shown(name.as_str())
             );
             return None;

@@ -44,11 +44,11 @@ meaning n =
     else if n == 3 then codes "the dictionary says that it is sorted, and the key of this entry is not above the one before it"
     else if n == 4 then codes "there is no dictionary at the address that the header names, or not all of it can be read"
     else if n == 5 then codes "the parent, the sibling or the child of this object has a number past the last object"
-    else if n == 6 then codes "the children of this object go round"
+    else if n == 6 then codes "the child list of this object is circular"
     else if n == 7 then codes "the properties of this object do not end in readable data"
     else if n == 8 then codes "this text, or one of its abbreviations, has no end in the story"
     else if n == 9 then codes "an abbreviation of this text uses an abbreviation"
     else if n == 10 then codes "code leads to this address, and there is no instruction here"
-    else if n == 11 then codes "this instruction branches or jumps out of the story, or calls what is no routine"
+    else if n == 11 then codes "this instruction branches or jumps out of the story, or calls an address with no routine"
     else if n == 12 then codes "this instruction has a byte below the static base, or calls an address that lies there"
     else []

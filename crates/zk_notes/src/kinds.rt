@@ -61,12 +61,13 @@ pub(crate) fn meaning(number: u8) -> &'static str
             "there is no dictionary at the address that the header names, or not all of it can be read",
         5 =>
             "the parent, the sibling or the child of this object has a number past the last object",
-        6 => "the children of this object go round",
+        6 => "the child list of this object is circular",
         7 => "the properties of this object do not end in readable data",
         8 => "this text, or one of its abbreviations, has no end in the story",
         9 => "an abbreviation of this text uses an abbreviation",
         10 => "code leads to this address, and there is no instruction here",
-        11 => "this instruction branches or jumps out of the story, or calls what is no routine",
+        11 =>
+            "this instruction branches or jumps out of the story, or calls an address with no routine",
         12 =>
             "this instruction has a byte below the static base, or calls an address that lies there",
         _ => "",

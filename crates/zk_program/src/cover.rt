@@ -39,7 +39,7 @@ pub fn covered_in(rt: &HostRuntime, path: &str) -> Result<Vec<u32>, u8> {
     match found {
         Ok(Some(addresses)) if are_of_stories(addresses.as_slice()) => Ok(addresses),
         Ok(_) => {
-            let _ = eprintln!(rt; "zkit: {}: no list of addresses", Shown(path));
+            let _ = eprintln!(rt; "zkit: {}: not a coverage file", Shown(path));
             Err(tell_last_line(rt, &Exit::Stopped(Stop::Read)))
         }
         Err(_) => Err(out_of_memory(rt)),

@@ -68,7 +68,7 @@ fn seed_by(rt: &HostRuntime, seed: Amount) -> u64 {
         Amount::Number(seed) => seed,
         Amount::Found => {
             let seed = seed_of_clock(rt);
-            let _ = eprintln!(rt; "zkit: the random numbers begin with --seed {seed}");
+            let _ = eprintln!(rt; "zkit: using --seed {seed}");
             seed
         }
     }

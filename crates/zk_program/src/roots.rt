@@ -21,10 +21,7 @@ pub struct CodeRoots {
 fn add_said(rt: &HostRuntime, addresses: &mut Vec<u32>, texts: &[&str]) -> Result<(), u8> {
     for text in texts {
         let Ok(address) = u32::from_str_radix(text, 16) else {
-            let _ = eprintln!(rt;
-                "zkit: '{}' is no address: hexadecimal digits are one",
-                Shown(text)
-            );
+            let _ = eprintln!(rt; "zkit: '{}' is not a hexadecimal address", Shown(text));
             return Err(1);
         };
         if addresses.push(address).is_err() {

@@ -267,9 +267,9 @@ fn hold(
         };
         if contains(answer, check.text) != check.wanted {
             let reason = if check.wanted {
-                "the answer has not"
+                "missing from the reply"
             } else {
-                "the answer has"
+                "found in the reply"
             };
             return fail_check(rt, path, check, reason, answer);
         }
@@ -302,7 +302,7 @@ fn compare(rt: &HostRuntime, path: &str, wanted: &[u8], shown: &[u8]) -> io::Res
         None => Ok(true),
         Some(difference) => {
             println!(rt;
-                "FAILED {}: another text from line {} on",
+                "FAILED {}: output differs from line {}",
                 Shown(path),
                 difference.line()
             )?;
@@ -447,7 +447,7 @@ fn test_by(
         return fail(rt, path, "its settings are not understood");
     };
     let Some(manner) = manner_by(&options) else {
-        return fail(rt, path, "a test needs numbers in its settings");
+        return fail(rt, path, "a test needs a fixed seed and width");
     };
     match File::open(rt, story) {
         Ok(file) => {

@@ -102,7 +102,7 @@ fn play_with<'a>(rt: &HostRuntime, story: &'a str, options: &PlayOptions<'a>) ->
 fn tell_no_text(rt: &HostRuntime) -> u8
     ensures { result ≡ 1 }
 {
-    let _ = eprintln!(rt; "zkit: the words after the program's name are no text");
+    let _ = eprintln!(rt; "zkit: an argument is not valid UTF-8");
     1
 }
 
