@@ -115,7 +115,7 @@ def long_rows(version: int, place: str) -> bytes:
 
 
 def long_names(version: int, saying: str) -> bytes:
-    """Objects with a name of 255 words of abbreviations, whose text has the story's length. The first is in the status line."""
+    """Objects with a name of 255 words of abbreviations as long as the story. The first is in the status line."""
     data = story(version, b"")
     for number in range(96):
         put_word(data, ABBREVIATIONS + 2 * number, TEXTS // 2)

@@ -874,7 +874,7 @@ HELPED: list[tuple[str, list[str]]] = [
         "disasm --help",
         ["--all", "--at <ADDRESS>", "--routine <ADDRESS>", "--cover <FILE>", "--notes", "STORY", "Example"],
     ),
-    ("check --help", ["STORY", "zkit info --objects", "zkit disasm", "works out", "Example"]),
+    ("check --help", ["STORY", "zkit info --objects", "zkit disasm", "computed", "Example"]),
     (
         "play --help",
         ["--frames", "1024", "1 to 65535", "--words", "16384", "0 to 65535", "--steps", "10000000", "1 to 1000000000"]

@@ -48,7 +48,7 @@ def read_numbers(text: str) -> dict[str, Option]:
     """The options with a number, by the names of their constants."""
     row = (
         r'const (\w+): NumberOption =\s*number!\(\s*"(\w+)",\s*(?:Some\("(\d+)"\)|None),\s*(\d+) to (\d+),'
-        r'(?:\s*or "(\w+)",)?'
+        r'\s*"[^"]*"(?:,\s*or "(\w+)")?'
     )
     found = re.findall(row, text)
     return {

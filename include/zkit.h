@@ -23,11 +23,12 @@
  *
  * The library takes its memory by the three functions of zkit_heap.h, which are there already, over malloc.
  *
- * Every function looks at its numbers itself: any value may be passed. A call that is refused changes nothing, but that a
- * zkit_list that is refused drops what is left of an earlier listing.
+ * Every function looks at its numbers itself: any value may be passed. A call that is refused changes nothing, but that
+ * a zkit_list that is refused drops what is left of an earlier listing.
  *
- * A struct that a program passes has its own size as its first field, which the program sets. The library reads and sets the
- * fields that lie wholly within that size, and nothing past it, so that later versions can add fields at the end.
+ * A struct that a program passes has its own size as its first field, which the program sets. The library reads and
+ * sets the fields that lie wholly within that size, and nothing past it, so that later versions can add fields at the
+ * end.
  */
 #ifndef ZKIT_H
 #define ZKIT_H
@@ -39,8 +40,8 @@
 extern "C" {
 #endif
 
-/* The version of this header, the number of the program: 0.1.0 as 0x000100. From 1.0.0 on later versions under one first
- * number add, and change nothing; before it nothing is promised. */
+/* The version of this header, the number of the program: 0.1.0 as 0x000100. From 1.0.0 on later versions under one
+ * first number add, and change nothing; before it nothing is promised. */
 #define ZKIT_VERSION 0x000100
 
 /* The version of the library. */
@@ -90,8 +91,8 @@ enum {
     ZKIT_BAD_STATIC_BASE = 4,   /* static memory begins inside the header or past the story */
     ZKIT_BAD_START = 5,         /* the first instruction lies at or past the end of the story */
     ZKIT_OPEN_NO_MEMORY = 6,    /* there is no memory */
-    ZKIT_BAD_LIMIT = 7,         /* an option lies out of its range, `size` is less than the fields up to `upper` take, or a limit
-                                   of the snapshot is greater than the option */
+    ZKIT_BAD_LIMIT = 7,         /* an option lies out of its range, `size` is less than the fields up to `upper` take, or a
+                                   limit of the snapshot is greater than the option */
     ZKIT_NOT_A_SNAPSHOT = 8,    /* the bytes are no snapshot */
     ZKIT_OTHER_VERSION = 9,     /* the snapshot is of a format that this version does not know */
     ZKIT_OTHER_STORY = 10,      /* the snapshot is of another story */
@@ -129,7 +130,7 @@ enum {
     ZKIT_FAULT = 2,             /* an instruction can't be carried out: zkit_reason and zkit_address */
     ZKIT_LIMIT = 3,             /* an instruction would go past a limit: zkit_reason and zkit_address */
     ZKIT_OUT_OF_MEMORY = 5,     /* there was no memory for more than 4,096 bytes of text that came at once */
-    ZKIT_TOO_MUCH_TEXT = 6      /* more than 1,048,576 bytes past the room came at once; a long text awaits room before */
+    ZKIT_TOO_MUCH_TEXT = 6      /* more than 1,048,576 bytes past the room came at once; a long text awaits room first */
 };
 
 /* What zkit_reason answers after a fault. */
@@ -167,17 +168,17 @@ enum {
 /* Opens a story at its start.
  *
  * story    the story file, length bytes. They are copied.
- * options  how it is played; null for what zkit_defaults says. Fields past its size are as zkit_defaults has them; a size
- *          without all fields up to `upper` is refused.
+ * options  how it is played; null for what zkit_defaults says. Fields past its size are as zkit_defaults has them; a
+ *          size without all fields up to `upper` is refused.
  * reason   gets ZKIT_OPENED or why the story is not opened; may be null.
  *
  * Answers the game; null where it is not opened. Of several reasons it is an option, then the first of the story's,
  * then memory. */
 zkit *zkit_open(const uint8_t *story, size_t length, const zkit_options *options, uint32_t *reason);
 
-/* Puts the words for why nothing is opened, such as "the snapshot is damaged", at the front of a buffer, as UTF-8 without a 0
- * at its end, or as much of them as there is room for; answers how many bytes. A reason that is not known has none, nor has
- * ZKIT_OPENED. */
+/* Puts the words for why nothing is opened, such as "the snapshot is damaged", at the front of a buffer, as UTF-8
+ * without a 0 at its end, or as much of them as there is room for; answers how many bytes. A reason that is not known
+ * has none, nor has ZKIT_OPENED. */
 size_t zkit_text_of_open(uint32_t reason, uint8_t *buffer, size_t length);
 
 /* Gives back all memory of a game. Null is nothing. */
@@ -220,9 +221,9 @@ uint32_t zkit_reason(const zkit *game);
 /* The byte address of the instruction with that fault or limit; 0 where there is none. */
 uint32_t zkit_address(const zkit *game);
 
-/* Puts the words for a status and its reason, such as "division by zero", at the front of a buffer, as UTF-8 without a 0 at
- * its end, or as much of them as there is room for; answers how many bytes. A status or reason that is not known has none, nor
- * has ZKIT_RUNS. Only after a fault or a limit the reason counts. */
+/* Puts the words for a status and its reason, such as "division by zero", at the front of a buffer, as UTF-8 without a
+ * 0 at its end, or as much of them as there is room for; answers how many bytes. A status or reason that is not known
+ * has none, nor has ZKIT_RUNS. Only after a fault or a limit the reason counts. */
 size_t zkit_text_of_reason(uint32_t status, uint32_t reason, uint8_t *buffer, size_t length);
 
 /* ---- answers */
@@ -230,9 +231,9 @@ size_t zkit_text_of_reason(uint32_t status, uint32_t reason, uint8_t *buffer, si
 /* The most characters of a line that the story takes, where it awaits a line: at most 255. 0 where it awaits none. */
 uint32_t zkit_longest_line(const zkit *game);
 
-/* Answers a story that awaits a line: length bytes of UTF-8, at most 65,535, without its end: no new line, and no return
- * before it. A character that the story's character set has not is read as a question mark, and so is a byte that is no
- * UTF-8; a tab is a space. What is after the 255th character is dropped.
+/* Answers a story that awaits a line: length bytes of UTF-8, at most 65,535, without its end: no new line, and no
+ * return before it. A character that the story's character set has not is read as a question mark, and so is a byte
+ * that is no UTF-8; a tab is a space. What is after the 255th character is dropped.
  *
  * ZKIT_DONE, ZKIT_NOT_AWAITED or ZKIT_NOT_A_LINE. */
 uint32_t zkit_line(zkit *game, const uint8_t *line, size_t length);
@@ -276,39 +277,39 @@ uint32_t zkit_restore_none(zkit *game);
 
 /* ---- snapshots */
 
-/* Copies a snapshot of the play to the front of a buffer of length bytes, and says in *needed how many bytes it has. It may
- * be had where the story awaits a line or a character. It has memory, routines, random numbers, streams and windows as they
- * are, so that the same answers give the same play from there on, in another process too. It has not the states that
- * zkit_undo and the story's own `restore_undo` go back to, nor the grid of a box that is gone, nor text that was not taken:
- * take that first.
+/* Copies a snapshot of the play to the front of a buffer of length bytes, and says in *needed how many bytes it has. It
+ * may be had where the story awaits a line or a character. It has memory, routines, random numbers, streams and windows
+ * as they are, so that the same answers give the same play from there on, in another process too. It has not the states
+ * that zkit_undo and the story's own `restore_undo` go back to, nor the grid of a box that is gone, nor text that was
+ * not taken: take that first.
  *
- * Its format is this project's own, and begins with a number of its version. From 1.0.0 on a later version of the same first
- * number reads it. A saved game, by zkit_image, is what other interpreters read.
+ * Its format is this project's own, and begins with a number of its version. From 1.0.0 on a later version of the same
+ * first number reads it. A saved game, by zkit_image, is what other interpreters read.
  *
  * ZKIT_DONE; ZKIT_NO_ROOM: *needed is set and the buffer is as it was; ZKIT_NOT_AWAITED or ZKIT_NO_MEMORY: both are as
  * they were. */
 uint32_t zkit_snapshot(zkit *game, uint8_t *buffer, size_t length, size_t *needed);
 
-/* The same with states to go back to: as many of the newest as fit in undo_bytes bytes, up to the first that does not. A
- * state has 10 bytes, what dynamic memory then differed in from the story's file, packed, and 10 bytes for each frame and 2
- * for each of their words. */
+/* The same with states to go back to: as many of the newest as fit in undo_bytes bytes, up to the first that does not.
+ * A state has 10 bytes, what dynamic memory then differed in from the story's file, packed, and 10 bytes for each frame
+ * and 2 for each of their words. */
 uint32_t zkit_snapshot_with_undo(zkit *game, size_t undo_bytes, uint8_t *buffer, size_t length, size_t *needed);
 
 /* How many bytes a snapshot of the game has at most, now or later, with so many bytes of states: 0 for those of
- * zkit_snapshot. It is 82,007 and the bytes of the story's dynamic memory (less than 65,536), and 10 for each frame and 2 for
- * each word that the limits allow, and undo_bytes, or SIZE_MAX where that is less. */
+ * zkit_snapshot. It is 82,007 and the bytes of the story's dynamic memory (less than 65,536), and 10 for each frame and
+ * 2 for each word that the limits allow, and undo_bytes, or SIZE_MAX where that is less. */
 size_t zkit_longest_snapshot(const zkit *game, size_t undo_bytes);
 
-/* Opens a game that goes on from a snapshot, in the place of the one that it was taken of: as zkit_open, with the story's
- * file and the snapshot's bytes. The game has the limits that are in the snapshot, and shows the upper window in the text as
- * that game did.
+/* Opens a game that goes on from a snapshot, in the place of the one that it was taken of: as zkit_open, with the
+ * story's file and the snapshot's bytes. The game has the limits that are in the snapshot, and shows the upper window
+ * in the text as that game did.
  *
- * options  the most that frames, words, undo and steps of the snapshot may be, and `room`; null for any limits, and the room
- *          that zkit_defaults says. Fields past its size are as zkit_defaults has them.
+ * options  the most that frames, words, undo and steps of the snapshot may be, and `room`; null for any limits, and the
+ *          room that zkit_defaults says. Fields past its size are as zkit_defaults has them.
  *
- * Of several reasons why it is not opened it is an option out of its range, then the first of the story's, then the first of
- * the snapshot's, 8 to 11, then a limit of the snapshot that is greater than the option. There may be no memory at any
- * time. */
+ * Of several reasons why it is not opened it is an option out of its range, then the first of the story's, then the
+ * first of the snapshot's, 8 to 11, then a limit of the snapshot that is greater than the option. There may be no
+ * memory at any time. */
 zkit *zkit_open_snapshot(const uint8_t *story, size_t length, const uint8_t *snapshot, size_t snapshot_length,
                          const zkit_options *options, uint32_t *reason);
 
@@ -318,9 +319,9 @@ zkit *zkit_open_snapshot(const uint8_t *story, size_t length, const uint8_t *sna
 typedef struct zkit_window {
     size_t size;       /* sizeof (zkit_window) */
     uint32_t height;   /* how many rows are shown: 0 to 255 */
-    uint32_t tallest;  /* the rows of the tallest grid that was shown since the last answer to a read, this one among them.
-                          Where it is more than height, its rows were taken away again before the story reads: a box that
-                          is drawn over the text */
+    uint32_t tallest;  /* the rows of the tallest grid that was shown since the last answer to a read, this one among
+                          them. Where it is more than height, its rows were taken away again before the story reads: a
+                          box that is drawn over the text */
     uint32_t row;      /* where the cursor is, from 1 on; 256 is past the last row */
     uint32_t column;   /* from 1 on; 81 is past the last column */
     uint32_t selected; /* 1 where the upper window is selected, else 0 */
@@ -329,8 +330,8 @@ typedef struct zkit_window {
 /* Tells how the upper window stands. A size without all fields up to `selected` sets none. */
 void zkit_window_of(const zkit *game, zkit_window *window);
 
-/* Puts the text of a row of the upper window, from 1 on, at the front of a buffer, as UTF-8 without the spaces at its end,
- * or as much of it as there is room for; answers how many bytes, at most 240. A row that is not shown has none. */
+/* Puts the text of a row of the upper window, from 1 on, at the front of a buffer, as UTF-8 without the spaces at its
+ * end, or as much of it as there is room for; answers how many bytes, at most 240. A row that is not shown has none. */
 size_t zkit_row(const zkit *game, uint32_t row, uint8_t *buffer, size_t length);
 
 /* The same for a row of the tallest grid since the last answer to a read. */
@@ -354,9 +355,9 @@ typedef struct zkit_figures {
 /* Tells the figures of the status line of a story of version 3. A size without all fields up to `second` sets none. */
 void zkit_status_line(const zkit *game, zkit_figures *figures);
 
-/* Puts the name in the status line of a story of version 3, which is mostly that of a place, at the front of a buffer, as
- * UTF-8, or as much of it as there is room for; answers how many bytes. Of a longer name the first 1,000 characters count,
- * and of one that has more than 65,536 words of the story, with those of abbreviations at each use, none. */
+/* Puts the name in the status line of a story of version 3, which is mostly that of a place, at the front of a buffer,
+ * as UTF-8, or as much of it as there is room for; answers how many bytes. Of a longer name the first 1,000 characters
+ * count, and of one that has more than 65,536 words of the story, with those of abbreviations at each use, none. */
 size_t zkit_status_name(const zkit *game, uint8_t *buffer, size_t length);
 
 /* ---- about a story */
@@ -386,9 +387,9 @@ enum {
     ZKIT_LIST_FINDINGS = 8      /* as `zkit check` */
 };
 
-/* Lists what is in the file of the game's story, for zkit_listing, in place of what is left of an earlier listing: the lines
- * that `zkit info`, `zkit disasm` and `zkit check` show, without the name of the section. The play is not changed. The whole
- * listing is kept; a story can have texts of gigabytes, so it has at most ZKIT_LISTING bytes.
+/* Lists what is in the file of the game's story, for zkit_listing, in place of what is left of an earlier listing: the
+ * lines that `zkit info`, `zkit disasm` and `zkit check` show, without the name of the section. The play is not
+ * changed. The whole listing is kept; a story can have texts of gigabytes, so it has at most ZKIT_LISTING bytes.
  *
  * ZKIT_DONE; ZKIT_NOT_AWAITED: there is no such listing; ZKIT_NO_MEMORY; ZKIT_LISTING_TOO_LONG: it has more bytes;
  * ZKIT_LISTING_TOO_MANY_WORDS: the texts that are looked at for it have more than ZKIT_LISTING_WORDS words of the

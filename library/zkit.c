@@ -1,8 +1,8 @@
 /* zkit.c - the functions of zkit.h, each by the function of raw.h that is proved.
  * SPDX-License-Identifier: MIT OR Apache-2.0
  *
- * What is added here: a game is a block on the heap, options have their defaults, structs have their sizes, the room for text
- * is kept beside the play, and a null pointer with the length 0 becomes one that is not null. */
+ * What is added here: a game is a block on the heap, options have their defaults, structs have their sizes, the room
+ * for text is kept beside the play, and a null pointer with the length 0 becomes one that is not null. */
 #include <stddef.h>
 #include <stdint.h>
 
@@ -34,9 +34,10 @@ static uint8_t *buffer_at(uint8_t *at) {
     return at ? at : &nothing;
 }
 
-/* The play of a game that is only looked at. The proved functions take a handle that they could change, but each one that is
- * given this leaves it, and all of the play that a call tells: a clause of its contract in crates/zk_c says so. What changes
- * is the name that zk_figures collects for zk_status_name, and zkit_status_name has it collected anew each time. */
+/* The play of a game that is only looked at. The proved functions take a handle that they could change, but each one
+ * that is given this leaves it, and all of the play that a call tells: a clause of its contract in crates/zk_c says so.
+ * What changes is the name that zk_figures collects for zk_status_name, and zkit_status_name has it collected anew each
+ * time. */
 static struct zk_handle *play_of(const zkit *game) {
     return (struct zk_handle *)&game->play;
 }
@@ -47,8 +48,8 @@ uint32_t zkit_version(void) {
 
 /* ---- sizes and options */
 
-/* Where a field of a struct ends. A struct whose size is less than the end of the first version's last field is left alone. A
- * field that comes later is read and set only where the size has all of it. */
+/* Where a field of a struct ends. A struct whose size is less than the end of the first version's last field is left
+ * alone. A field that comes later is read and set only where the size has all of it. */
 #define END(type, field) (offsetof(type, field) + sizeof((type *)NULL)->field)
 
 static const zkit_options default_options = {
@@ -67,8 +68,8 @@ void zkit_defaults(zkit_options *options) {
     options->size = size;
 }
 
-/* The options that a program gives, or the defaults where it gives none. Those of a size that is too small get no room, and so
- * they are refused. */
+/* The options that a program gives, or the defaults where it gives none. Those of a size that is too small get no room,
+ * and so they are refused. */
 static zkit_options whole_options(const zkit_options *given) {
     zkit_options whole = default_options;
     if (given && has_options(given))
@@ -108,8 +109,8 @@ zkit *zkit_open(const uint8_t *story, size_t length, const zkit_options *options
     struct zk_handle play = {NULL, 0};
     uint32_t refused = ZKIT_BAD_LIMIT;
     if (has_room(&whole))
-        refused = zk_open(&play, bytes_at(story), length, whole.seed, whole.frames, whole.words, whole.undo, whole.steps,
-                          whole.upper);
+        refused = zk_open(&play, bytes_at(story), length, whole.seed, whole.frames, whole.words, whole.undo,
+                          whole.steps, whole.upper);
     return game_with(&play, refused, whole.room, reason);
 }
 

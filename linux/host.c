@@ -1,5 +1,5 @@
-/* host.c - what the program asks of C beside the heap: the words that it is started with, the variables of its environment,
- * open folders, and the number of the last error.
+/* host.c - what the program asks of C beside the heap: the words that it is started with, the variables of its
+ * environment, open folders, and the number of the last error.
  * SPDX-License-Identifier: MIT OR Apache-2.0
  *
  * The toolchain has this for x86-64 and glibc alone; its os/src/c.rt declares these functions. */

@@ -1,5 +1,5 @@
-/* Plays a story on the whole of a terminal, by the library for C and ncurses: the status line and the upper window at the top,
- * the text below them, lines that are edited, and saved games in files.
+/* Plays a story on the whole of a terminal, by the library for C and ncurses: the status line and the upper window at
+ * the top, the text below them, lines that are edited, and saved games in files.
  *
  *     screen STORY [SEED]
  *
@@ -99,7 +99,8 @@ static int width_of(wchar_t character) {
     return width > 0 ? width : 0;
 }
 
-/* Where the row after the one that starts here does, of a text that ends there: words are wrapped at the screen's width. */
+/* Where the row after the one that starts here does, of a text that ends there: words are wrapped at the screen's
+ * width. */
 static size_t next_start(size_t start, size_t end) {
     size_t after_space = start;
     int column = 0;
@@ -138,7 +139,7 @@ static void draw_bar(int row, const uint8_t *bytes, size_t count) {
     attroff(A_REVERSE);
 }
 
-/* Draws the status line of version 3, the name on the left and the figures on the right, and says how many rows it has. */
+/* Draws the status line of version 3, the name on the left and the figures on the right; answers its rows. */
 static int draw_status_line(void) {
     zkit_figures it = {.size = sizeof it};
     uint8_t name[240];
@@ -184,8 +185,8 @@ static void widen(struct box *box, uint32_t row, const uint8_t *bytes, size_t co
     box->right = right > box->right ? right : box->right;
 }
 
-/* Draws the rows that were taken away again before the read, over the text: a quotation box. It stands in the middle, as it
- * does on 80 columns. */
+/* Draws the rows that were taken away again before the read, over the text: a quotation box. It stands in the middle,
+ * as it does on 80 columns. */
 static void draw_box(int top, const zkit_window *window) {
     struct box box = {0, 0, 80, 0};
     uint8_t row[241];
@@ -208,7 +209,8 @@ static void draw_box(int top, const zkit_window *window) {
 
 /* Draws the last rows of the text, up to an end, between two rows of the screen. The cursor comes to a place in it. */
 static void draw_text(int top, int bottom, size_t end, size_t cursor) {
-    size_t room = (size_t)(bottom > top ? bottom - top : 1), count = lay_out(end), first = count > room ? count - room : 0;
+    size_t room = (size_t)(bottom > top ? bottom - top : 1), count = lay_out(end);
+    size_t first = count > room ? count - room : 0;
     int row = top, cursor_row = top, cursor_column = 0;
     for (size_t i = first; i < count; i++, row++) {
         size_t row_end = i + 1 < count ? starts[i + 1] : end, start = starts[i];

@@ -1,11 +1,12 @@
-/* Plays a story a line at a time, each by a process of its own, as a server or a chat does that keeps no game in memory.
+/* Plays a story a line at a time, each by a process of its own, as a server or a chat does that keeps no game in
+ * memory.
  *
  *     kept STORY SNAPSHOT [LINE]
  *
- * Without a file SNAPSHOT the story begins; else it goes on from there, and LINE answers it. What it shows up to the next read
- * goes to standard output, and SNAPSHOT is written anew, with the newest states for the story's UNDO. Once the story has
- * stopped SNAPSHOT is removed, and the status is 3. Nothing is saved, and nothing restored. The status is 1 where a file
- * can't be read or is refused. */
+ * Without a file SNAPSHOT the story begins; else it goes on from there, and LINE answers it. What it shows up to the
+ * next read goes to standard output, and SNAPSHOT is written anew, with the newest states for the story's UNDO. Once
+ * the story has stopped SNAPSHOT is removed, and the status is 3. Nothing is saved, and nothing restored. The status is
+ * 1 where a file can't be read or is refused. */
 #include <stdio.h>
 #include <stdlib.h>
 #include <string.h>

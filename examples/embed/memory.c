@@ -2,9 +2,9 @@
  *
  *     memory STORY [FRAMES WORDS UNDO ROOM] <LINES
  *
- * It writes the bytes that the library has asked for and not given back: after the game is opened, at most while it is played,
- * at most while all listings are made after that, and after it is closed; and the bytes of the stack that a thread has used
- * which does nothing else. */
+ * It writes the bytes that the library has asked for and not given back: after the game is opened, at most while it is
+ * played, at most while all listings are made after that, and after it is closed; and the bytes of the stack that a
+ * thread has used which does nothing else. */
 #define _XOPEN_SOURCE 700
 #include <pthread.h>
 #include <stdio.h>

@@ -1,5 +1,5 @@
-/* Plays a story: the lines of standard input answer it, its text goes to standard output. The last saved game is kept in
- * memory.
+/* Plays a story: the lines of standard input answer it, its text goes to standard output. The last saved game is kept
+ * in memory.
  *
  *     play STORY <LINES
  *

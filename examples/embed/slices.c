@@ -3,9 +3,9 @@
  *
  *     slices INSTRUCTIONS BYTES STORY [SECONDS] <LINES
  *
- * The lines of standard input answer the story, and its text goes to standard output, as by `zkit play`; it saves nothing.
- * With SECONDS the game is closed once so much processor time has gone by, wherever it is. Standard error gets a line: what the
- * last turn awaited, the status, the reason, and the most memory of the process, in KB. */
+ * The lines of standard input answer the story, and its text goes to standard output, as by `zkit play`; it saves
+ * nothing. With SECONDS the game is closed once so much processor time has gone by, wherever it is. Standard error gets
+ * a line: what the last turn awaited, the status, the reason, and the most memory of the process, in KB. */
 #define _XOPEN_SOURCE 700
 #include <stdio.h>
 #include <stdlib.h>

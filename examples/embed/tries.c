@@ -1,6 +1,6 @@
-/* Tries what play.c does not: stories that fault or go past a limit, a saved game that another game restores, calls that are
- * refused, slices and the room for text, the upper window, undo, snapshots, options and sizes, listings, words, and memory that
- * is given back. It writes what comes of each.
+/* Tries what play.c does not: stories that fault or go past a limit, a saved game that another game restores, calls
+ * that are refused, slices and the room for text, the upper window, undo, snapshots, options and sizes, listings,
+ * words, and memory that is given back. It writes what comes of each.
  *
  *     tries LIGHTHOUSE OTHER
  *
@@ -14,8 +14,8 @@
 
 enum { SMALL = 4096, LONGEST_STORY = 524288 };
 
-/* The blocks of memory that the library has, and the bytes of the largest one that it has asked for: these three functions
- * stand in place of those in the archive. */
+/* The blocks of memory that the library has, and the bytes of the largest one that it has asked for: these three
+ * functions stand in place of those in the archive. */
 static long blocks = 0;
 static size_t largest = 0;
 
@@ -409,8 +409,9 @@ static void show_window(zkit *game) {
 static void draw_box(void) {
     /* split_window 2; set_window 1; set_cursor 1 3; print_char 'a'; print_char 'b'; set_window 0; split_window 0;
      * read_char 1 -> global 16; read_char 1 -> global 16; quit */
-    const uint8_t code[] = {0xea, 0x7f, 0x02, 0xeb, 0x7f, 0x01, 0xef, 0x5f, 0x01, 0x03, 0xe5, 0x7f, 0x61, 0xe5, 0x7f, 0x62,
-                            0xeb, 0x7f, 0x00, 0xea, 0x7f, 0x00, 0xf6, 0x7f, 0x01, 0x10, 0xf6, 0x7f, 0x01, 0x10, 0xba};
+    const uint8_t code[] = {0xea, 0x7f, 0x02, 0xeb, 0x7f, 0x01, 0xef, 0x5f, 0x01, 0x03, 0xe5, 0x7f, 0x61, 0xe5, 0x7f,
+                            0x62, 0xeb, 0x7f, 0x00, 0xea, 0x7f, 0x00, 0xf6, 0x7f, 0x01, 0x10, 0xf6, 0x7f, 0x01, 0x10,
+                            0xba};
     zkit_figures figures = {.size = sizeof figures, .kind = 9, .first = 9, .second = 9};
     puts("a box over the text");
     zkit *game = opened_code(code, sizeof code, NULL);

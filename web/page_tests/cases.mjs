@@ -491,10 +491,10 @@ async function withoutEnd(page) {
     await page.click("#step-back");
     await page.until(() => !document.getElementById("ask").hidden);
     await page.say("print");
-    await page.until(() => document.getElementById("running-words").textContent.includes("very much"));
+    await page.until(() => document.getElementById("running-words").textContent.includes("printed a lot"));
     await page.click("#go-on");
     await page.until(() => document.getElementById("log").getAttribute("aria-busy") === "false");
-    await page.until(() => document.getElementById("running-words").textContent.includes("very much"));
+    await page.until(() => document.getElementById("running-words").textContent.includes("printed a lot"));
     const blocks = await page.run(() => document.querySelectorAll(".turn").length);
     holds(blocks <= 81, `${blocks} blocks stand in the page`);
     await page.click("#step-back");

@@ -72,14 +72,14 @@ macro_rules! number {
             help: concat!($help, ", ", $least, " to ", $most),
         }
     };
-    ($name:literal, $default:expr, $least:literal to $most:literal, or $word:literal, $help:literal) => {
+    ($name:literal, $default:expr, $least:literal to $most:literal, $help:literal, or $word:literal $does:literal) => {
         NumberOption {
             name: $name,
             default: $default,
             least: $least,
             most: $most,
             word: Some($word),
-            help: concat!($help, ", ", $least, " to ", $most, ", or ", $word),
+            help: concat!($help, ", ", $least, " to ", $most, "; ", $word, " ", $does),
         }
     };
 }
@@ -97,13 +97,13 @@ pub(crate) const STEPS: NumberOption =
     number!("steps", Some("10000000"), 1 to 1000000000, "The most instructions a story may run between two inputs");
 
 pub(crate) const SEED: NumberOption =
-    number!("seed", Some("1"), 0 to 18446744073709551615, or "any", "Seed for random numbers; any takes one from the clock");
+    number!("seed", Some("1"), 0 to 18446744073709551615, "Seed for random numbers", or "any" "takes one from the clock");
 
 pub(crate) const WIDTH: NumberOption =
-    number!("width", None, 20 to 255, or "auto", "Wraps lines at this many columns; auto uses the terminal's width");
+    number!("width", None, 20 to 255, "Wraps lines at this many columns", or "auto" "uses the terminal's width");
 
 pub(crate) const PAGE: NumberOption =
-    number!("page", None, 2 to 1000, or "auto", "Pauses after this many lines at a terminal; auto fits its height");
+    number!("page", None, 2 to 1000, "Pauses after this many lines at a terminal", or "auto" "fits its height");
 
 /// The options of `play`.
 const PLAY_OPTIONS: [CommandOption; 17] = [
@@ -199,7 +199,7 @@ const FILES_FROM: CommandOption = CommandOption::File {
 const INFO_OPTIONS: [CommandOption; 20] = [
     CommandOption::Flag {
         name: "header",
-        help: "Lists what the header says",
+        help: "Lists the header",
     },
     CommandOption::Flag {
         name: "map",
@@ -249,7 +249,7 @@ const INFO_OPTIONS: [CommandOption; 20] = [
     OBJECT_GRAPH,
     CommandOption::Flag {
         name: "svg",
-        help: "Writes the map as a picture, in SVG",
+        help: "Prints the map as an SVG picture",
     },
     ROWS,
     JSON,
@@ -311,9 +311,9 @@ const CHECK_OPTIONS: [CommandOption; 7] = [
 
 /// What `check` says of its findings.
 const CHECK_HELP: &str =
-    "A finding's address is that of an object's entry, a text, or an instruction. \
-`zkit info --objects` lists the objects in the order of their entries, and `zkit disasm` the instructions \
-by their addresses and the routines. Code that is reached only by numbers that a story works out is not looked at.
+    "A finding has the address of an object's entry, a text or an instruction. \
+`zkit info --objects` lists objects in the order of their entries, `zkit disasm` routines and instructions \
+by address. Code that only computed calls and jumps reach is not checked.
 
 Example: zkit check story.z5";
 
