@@ -91,8 +91,8 @@ enum {
     ZKIT_BAD_STATIC_BASE = 4,   /* static memory begins inside the header or past the story */
     ZKIT_BAD_START = 5,         /* the first instruction lies at or past the end of the story */
     ZKIT_OPEN_NO_MEMORY = 6,    /* there is no memory */
-    ZKIT_BAD_LIMIT = 7,         /* an option lies out of its range, `size` is less than the fields up to `upper` take, or a
-                                   limit of the snapshot is greater than the option */
+    ZKIT_BAD_LIMIT = 7,         /* an option lies out of its range, `size` is less than the fields up to `upper` take,
+                                   or a limit of the snapshot is greater than the option */
     ZKIT_NOT_A_SNAPSHOT = 8,    /* the bytes are no snapshot */
     ZKIT_OTHER_VERSION = 9,     /* the snapshot is of a format that this version does not know */
     ZKIT_OTHER_STORY = 10,      /* the snapshot is of another story */
@@ -130,7 +130,7 @@ enum {
     ZKIT_FAULT = 2,             /* an instruction can't be carried out: zkit_reason and zkit_address */
     ZKIT_LIMIT = 3,             /* an instruction would go past a limit: zkit_reason and zkit_address */
     ZKIT_OUT_OF_MEMORY = 5,     /* there was no memory for more than 4,096 bytes of text that came at once */
-    ZKIT_TOO_MUCH_TEXT = 6      /* more than 1,048,576 bytes past the room came at once; a long text awaits room first */
+    ZKIT_TOO_MUCH_TEXT = 6      /* more than 1,048,576 bytes past the room came at once; a long text waits for room */
 };
 
 /* What zkit_reason answers after a fault. */

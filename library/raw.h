@@ -14,8 +14,8 @@ struct zk_handle {
     unsigned char is_open;
 };
 
-uint32_t zk_open(struct zk_handle *game, const uint8_t *story, size_t length, uint64_t seed, uint32_t frames, uint32_t words,
-                 uint32_t undo, uint32_t steps, uint32_t upper);
+uint32_t zk_open(struct zk_handle *game, const uint8_t *story, size_t length, uint64_t seed, uint32_t frames,
+                 uint32_t words, uint32_t undo, uint32_t steps, uint32_t upper);
 void zk_close(struct zk_handle *game);
 /* steps: at most so many instructions; room: pauses where so many bytes of text wait */
 uint32_t zk_turn(struct zk_handle *game, uint32_t steps, uint32_t room);

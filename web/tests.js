@@ -468,7 +468,8 @@ async function worker() {
 
 async function main() {
     const tests = [
-        rows, examples, windows, listings, refusals, snapshots, snapshotRefusals, thousand, large, full, worker, generated,
+        rows, examples, windows, listings, refusals, snapshots, snapshotRefusals, thousand, large, full, worker,
+        generated,
     ];
     for (const test of tests) {
         const begin = performance.now();

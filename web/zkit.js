@@ -210,8 +210,8 @@ export class Module {
     }
 
     /**
-     * Opens a game that goes on from a snapshot, or throws Refused. The limits of the snapshot may be at most those of the
-     * options; of one that is not given, that of `zkit play`.
+     * Opens a game that goes on from a snapshot, or throws Refused. The limits of the snapshot may be at most those of
+     * the options; of one that is not given, that of `zkit play`.
      * @param {Uint8Array} story
      * @param {Uint8Array} snapshot
      * @param {Options} [options]
@@ -515,8 +515,8 @@ export class Game {
     }
 
     /**
-     * A listing, one of LISTINGS, of so many bytes at most; null where there is no such one, it has more, or there is no
-     * memory.
+     * A listing, one of LISTINGS, of so many bytes at most; null where there is no such one, it has more, its texts
+     * have too many words, or there is no memory.
      * @param {string} listing
      * @param {number} [most]
      */

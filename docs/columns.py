@@ -1,0 +1,46 @@
+#!/usr/bin/env python3
+"""Looks whether lines have at most 120 columns: those of pages, tables and what stands between fences apart, of the C
+and of the JavaScript.
+
+usage: docs/columns.py
+
+It tells each longer one, and the status is then 1.
+"""
+
+from __future__ import annotations
+
+import sys
+from collections.abc import Iterator
+from pathlib import Path
+
+TOP = Path(__file__).resolve().parent.parent
+MOST = 120
+FOLDERS = ("conformance", "docs", "examples", "include", "library", "linux", "web")
+PATTERNS = ("*.md", "*.c", "*.h", "*.js")
+
+
+def prose(text: str) -> Iterator[tuple[int, str]]:
+    """The lines of a page that are no rows of a table and stand between no fences, with their numbers."""
+    is_fenced = False
+    for number, line in enumerate(text.split("\n"), 1):
+        if line.lstrip().startswith("```"):
+            is_fenced = not is_fenced
+        elif not is_fenced and not line.startswith("|"):
+            yield number, line
+
+
+def main() -> int:
+    """Tells the lines that are too long."""
+    paths = [*TOP.glob("*.md"), *(path for folder in FOLDERS for it in PATTERNS for path in (TOP / folder).rglob(it))]
+    status = 0
+    for path in sorted(paths):
+        text = path.read_text("utf-8")
+        for number, line in prose(text) if path.suffix == ".md" else enumerate(text.split("\n"), 1):
+            if len(line) > MOST:
+                print(f"{path.relative_to(TOP)}:{number}: {len(line)} columns", file=sys.stderr)
+                status = 1
+    return status
+
+
+if __name__ == "__main__":
+    sys.exit(main())
