@@ -33,6 +33,11 @@ static const struct call calls[] = {
     {"ifid", ZKIT_LIST_IFID},
     {"code", ZKIT_LIST_CODE},
     {"findings", ZKIT_LIST_FINDINGS},
+    {"strings", ZKIT_LIST_STRINGS},
+    {"properties", ZKIT_LIST_PROPERTIES},
+    {"globals", ZKIT_LIST_GLOBALS},
+    {"alphabets", ZKIT_LIST_ALPHABETS},
+    {"extension", ZKIT_LIST_EXTENSION},
 };
 
 static uint8_t story[LONGEST_STORY];

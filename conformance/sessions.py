@@ -79,6 +79,11 @@ NAMED_BY_SIGNS = story(
         0xC7: 0x80, 0xCA: 1, 0xCF: 0xED, 0xED: 1,
     },
 )
+# The first has the name `^~`: 5 6 2 30 is code 94, and 5 6 3 30 code 126.
+NAMED_BY_MARKS = story(
+    "", length=0xF0, x04=0xE0, x06=0xE0, x0a=0x80, x0e=0xE0,
+    bytes_at={**OBJECTS, **dict(enumerate(bytes.fromhex("03 14C2 78A6 8FC5 00"), 0xD0)), 0xCF: 0xD7},
+)
 # `save` in the middle of a line, with a row before the read after it.
 SAVES_IN_LINE = story(f"{letters('a')} BE00FF00 {letters('b')} {upper(1, 'hi')} {READS} {letters('c')} BA", version=5)
 
@@ -611,6 +616,32 @@ def facts_in_json(case: Case) -> Optional[str]:
     ))
 
 
+def texts_are_told_as_they_are(case: Case) -> Optional[str]:
+    """A circumflex and a tilde of a name are themselves in rows, in JSON and in a graph."""
+    case.write(marks__z3=NAMED_BY_MARKS)
+    objects = json.loads(case.run("info --objects --json marks.z3")[1])["objects"]
+    return first_of((
+        differs("^~", objects[0]["name"]),
+        differs("marks.z3\tobject\t1\t^~\t0\t0\t0\t-\t-", case.run("info --objects --rows marks.z3")[1].split("\n")[0]),
+        differs('  o1 [label="1 ^~"];', case.run("info --graph marks.z3")[1].splitlines()[2]),
+        differs('1 "^~"', case.run("info --tree marks.z3")[1].splitlines()[1]),
+    ))
+
+
+def stories_come_from_a_pipe(case: Case) -> Optional[str]:
+    """A story is opened once, so a pipe gives all that a file does."""
+    lighthouse = (EXAMPLES / "lighthouse.z5").read_bytes()
+    found = {"finding": "C5", "address": "000c7", "object": 2, "words": "object links"}
+    meaning = "the parent, the sibling or the child of this object has a number past the last object"
+    noted = f"C5 000c7 object links  ; object 2: {meaning}"
+    return first_of((
+        differs([found], json.loads(case.run("check --json /dev/stdin", LOOSE_LINKS)[1])["findings"][1:]),
+        differs([noted], case.run("check --notes /dev/stdin", LOOSE_LINKS)[1].splitlines()[1:]),
+        differs(case.run("info --notes lighthouse.z5"), case.run("info --notes /dev/stdin", lighthouse)),
+        differs(True, "compiler Inform" in case.run("info --notes /dev/stdin", lighthouse)[1]),
+    ))
+
+
 def files_are_counted_at_a_terminal(case: Case) -> Optional[str]:
     """A terminal shows how many files were looked at."""
     case.write(two___a__z3=FILES["verifies_right.z3"], two___b__z3=FILES["verifies_right.z3"])
@@ -735,7 +766,8 @@ CASES: tuple[Callable[[Case], Optional[str]], ...] = (
     rows_stand_above_the_prompt, rows_have_a_width, boxes_leave_saves_alone, boxes_show_the_status_line,
     a_quotation_stands_in_its_box, suites_pass, wrong_texts_fail,
     checks_that_do_not_hold, wrong_seeds_fail, faults_and_limits_fail, settings_that_are_none, saves_in_tests,
-    folders_are_looked_through, lists_of_paths, facts_in_rows, facts_in_json, files_are_counted_at_a_terminal,
+    folders_are_looked_through, lists_of_paths, facts_in_rows, facts_in_json,
+    texts_are_told_as_they_are, stories_come_from_a_pipe, files_are_counted_at_a_terminal,
     names_of_stories, stories_are_unpacked, files_without_a_story, covers_are_kept, covers_are_marked, facts_of_tables,
 )
 

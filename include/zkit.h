@@ -384,7 +384,12 @@ enum {
     ZKIT_LIST_TREE = 5,
     ZKIT_LIST_IFID = 6,
     ZKIT_LIST_CODE = 7,         /* as `zkit disasm` */
-    ZKIT_LIST_FINDINGS = 8      /* as `zkit check` */
+    ZKIT_LIST_FINDINGS = 8,     /* as `zkit check` */
+    ZKIT_LIST_STRINGS = 9,
+    ZKIT_LIST_PROPERTIES = 10,
+    ZKIT_LIST_GLOBALS = 11,
+    ZKIT_LIST_ALPHABETS = 12,
+    ZKIT_LIST_EXTENSION = 13
 };
 
 /* Lists what is in the file of the game's story, for zkit_listing, in place of what is left of an earlier listing: the

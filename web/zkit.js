@@ -71,6 +71,7 @@
 /** What `list` lists, in the order of the constants ZKIT_LIST_HEADER and so on. */
 export const LISTINGS = [
     "header", "map", "abbreviations", "dictionary", "objects", "tree", "ifid", "code", "findings",
+    "strings", "properties", "globals", "alphabets", "extension",
 ];
 
 /** @type {Awaited[]} */

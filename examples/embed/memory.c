@@ -64,7 +64,7 @@ static void drop_text(zkit *game) {
 
 static void drop_listings(zkit *game) {
     uint8_t buffer[4096];
-    for (uint32_t listing = ZKIT_LIST_HEADER; listing <= ZKIT_LIST_FINDINGS; listing++) {
+    for (uint32_t listing = ZKIT_LIST_HEADER; listing <= ZKIT_LIST_EXTENSION; listing++) {
         zkit_list(game, listing);
         while (zkit_listing(game, buffer, sizeof buffer) > 0) {
         }

@@ -104,7 +104,7 @@ static void list(zkit *game, uint32_t listing) {
 
 /* Lists all that there is of the story, as long as it is there. */
 static void take_listings(zkit *game) {
-    for (uint32_t listing = ZKIT_LIST_HEADER; listing <= ZKIT_LIST_FINDINGS; listing++) {
+    for (uint32_t listing = ZKIT_LIST_HEADER; listing <= ZKIT_LIST_EXTENSION; listing++) {
         size_t count;
         list(game, listing);
         while ((count = zkit_listing(game, text.at + text.length, MOST - text.length)) > 0)

@@ -562,7 +562,7 @@ static void refuse_listings(const uint8_t *story, size_t length) {
     puts("listings that are refused");
     zkit *game = opened(story, length, NULL);
     say("a listing", zkit_list(game, ZKIT_LIST_IFID));
-    say("one that there is not", zkit_list(game, 9));
+    say("one that there is not", zkit_list(game, ZKIT_LIST_EXTENSION + 1));
     say("its first bytes", zkit_listing(game, buffer, sizeof buffer));
     say("of 20 bytes", zkit_list_within(game, ZKIT_LIST_IFID, 20));
     say("its bytes", zkit_listing(game, buffer, sizeof buffer));

@@ -161,17 +161,22 @@ export class Page {
             await this.say(line);
     }
 
-    /** The file that the page has given after something was done. */
+    /** The file that the page has given after something was done: the same in two looks, as Firefox renames it. */
     async fileAfter(does) {
         const folder = this.browser.folder;
-        const files = () => readdirSync(folder).filter((name) => name !== "profile");
-        files().forEach((name) => rmSync(join(folder, name), { recursive: true }));
+        const files = () => readdirSync(folder).filter((name) => name !== "profile")
+            .map((name) => ({ name, size: statSync(join(folder, name), { throwIfNoEntry: false })?.size }));
+        files().forEach(({ name }) => rmSync(join(folder, name), { recursive: true, force: true }));
         await does();
-        for (const end = Date.now() + LONGEST_WAIT; Date.now() < end; await pause(10)) {
-            const found = files().filter((name) => /\.(txt|qzl|json)$/.test(name) && statSync(join(folder, name)).isFile());
-            const isWhole = !files().some((name) => /\.(part|crdownload)$/.test(name));
-            if (found.length && isWhole && (found[0].endsWith("findings.txt") || statSync(join(folder, found[0])).size))
-                return join(folder, found[0]);
+        let before = "";
+        for (const end = Date.now() + LONGEST_WAIT; Date.now() < end; await pause(20)) {
+            const seen = files();
+            const isStill = JSON.stringify(seen) === before;
+            const isWhole = !seen.some(({ name }) => /\.(part|crdownload)$/.test(name));
+            const found = seen.find(({ name }) => /\.(txt|qzl|json)$/.test(name));
+            if (isStill && isWhole && found && (found.name.endsWith("findings.txt") || found.size))
+                return join(folder, found.name);
+            before = JSON.stringify(seen);
         }
         throw new Error("no file came");
     }

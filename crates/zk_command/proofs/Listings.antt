@@ -1,25 +1,29 @@
 -- What a screen took of a listing.
 use Rattle.std.proofs.Common.{◌≡◌, ◌∙◌, ◌<◌, ◌+◌, inl, inr, ℕ, Bool, true, false, List, [], ◌∷◌, ◌++◌, Option, Some, None, IfOk, Result, Ok, Err, append-nil, append_assoc, ap, get_or, length, refl, subst, sym, take}
-use Rattle.std.specs.Prelude.{option_map, OnOk}
+use Rattle.std.specs.Prelude.{option_map}
 use Rattle.std.proofs.lemmas.List.{take_more}
-use Rattle.std.proofs.KnownBytes.{Appends-nil, Appends-trans}
+use Rattle.std.proofs.KnownBytes.{Appends-trans}
 use Rattle.std.specs.Io.KnownBytes.{Appends}
 use Rattle.zk_mem.specs.Map.{MemoryMap}
 use Rattle.zk_term.specs.Devices.{Device, device}
 use Rattle.zk_mem.specs.Fresh.{fresh}
 use Rattle.zk_mem.specs.Story.{refusal}
 use Rattle.zk_vm.specs.declared.stop.Stop.TheVariants.{EndOfInput, Memory, Quit, Read, Write, Fault as FaultAt, Limit as LimitAt}
-use Rattle.zk_inspect.specs.declared.error.ListError.{ListError}
-use Rattle.zk_inspect.specs.declared.error.ListError.TheVariants as error
-use Rattle.zk_inspect.specs.TreeLines.{AreSomeRows, AreTreeRows, has_failed}
-use Rattle.zk_inspect.specs.Written.{GaveSome}
+use Rattle.zk_command.specs.declared.listing.ListError.{ListError}
+use Rattle.zk_command.specs.declared.listing.ListError.TheVariants as error
+use Rattle.zk_inspect.specs.Facts.{GaveBy, GaveSome}
+use Rattle.zk_inspect.specs.Lines.{WroteLines}
+use Rattle.zk_term.specs.LineWriters.{WroteSome}
+use Rattle.zk_inspect.specs.SectionFacts.{AreOfSection}
+use Rattle.zk_inspect.specs.declared.fact.Fact.{Fact}
+use Rattle.zk_inspect.specs.declared.fact.Fact.TheVariants as fact
+use Rattle.zk_inspect.specs.declared.section.Section.{Section}
 use Rattle.zk_command.specs.Headings.{heading}
-use Rattle.zk_command.specs.Listing.{AreSections, EndsListing, IsAsked, IsBelow, IsLeftOut, IsListed, IsListing, HasPath, IsOfSection, IsSection, IsStoryAlone, IsWritten, SaysWhy, Tells, TookAll, asks_for, exit_by, title}
+use Rattle.zk_command.specs.Listing.{AreAny, AreSections, EndsListing, IsAsked, IsBelow, IsLeftOut, IsListed, IsListing, HasPath, IsStoryAlone, IsWritten, SaysWhy, Tells, TookAll, asks_for, exit_by}
 use Rattle.zk_command.specs.Playing.{AreRead, EndsBy}
 use Rattle.zk_command.specs.declared.exit.Exit.{Exit}
 use Rattle.zk_command.specs.declared.exit.Exit.TheVariants.{Unread, Refused, Stopped, Found}
 use Rattle.zk_command.specs.declared.listing.Listing.{Listing}
-use Rattle.zk_command.specs.declared.listing.Section.{Section}
 use Rattle.zk_command.specs.declared.listing.Sections.{Sections}
 
 -- a file that was refused ends a listing, with that said
@@ -59,35 +63,36 @@ pub has_path : {P : Type 0} (view : P → List ℕ) (path : Option P) (failed : 
 has_path view None failed none e = let never = none refl in absurd cc
 has_path view (Some path) failed none e = tt
 
--- a section below its title
-pub titled : {A : Type 0} → (s : Section) (m : MemoryMap) (t : List ℕ) (r : Result A ListError) (old mid new : Device) → t ≡ title s → mid.failed ≡ old.failed → Appends old.taken mid.taken t
-    → IsWritten (IsOfSection s m) r mid new → IsWritten (IsSection s m) r old new
-titled {A} s m t (Ok x) old mid new e same first h = record {
-  text = t ++ h.text;
-  is = record { below = h.text; is = h.is; whole = ap (λ (u : List ℕ). u ++ h.text) e };
-  takes = Appends-trans old.taken mid.taken new.taken t h.text first h.takes;
-  failed = h.failed ∙ same;
-}
-titled {A} s m t (Err error.Write) old mid new e same first h = h
-titled {A} s m t (Err error.Memory) old mid new e same first h = h ∙ same
+one_more : (asked : Sections) (m : MemoryMap) (ss : List Section) (s : Section) (t u : List Fact) → AreSections asked m ss t → IsAsked (asks_for asked s) s m u → AreSections asked m (ss ++ s ∷ []) (t ++ u)
+one_more asked m [] s t u h k = (u, [], k, refl, ap (λ (v : List Fact). v ++ u) h ∙ sym (append-nil u))
+one_more asked m (x ∷ ss) s t u h k = (h.0, h.1 ++ u, h.2, one_more asked m ss s h.1 u h.3 k, ap (λ (v : List Fact). v ++ u) h.4 ∙ append_assoc h.0 h.1 u)
 
--- one section more
-one_more : (asked : Sections) (m : MemoryMap) (ss : List Section) (s : Section) (t u : List ℕ) → AreSections asked m ss t → IsAsked (asks_for asked s) s m u → AreSections asked m (ss ++ s ∷ []) (t ++ u)
-one_more asked m [] s t u h k = (u, [], k, refl, ap (λ (v : List ℕ). v ++ u) h ∙ sym (append-nil u))
-one_more asked m (x ∷ ss) s t u h k = (h.0, h.1 ++ u, h.2, one_more asked m ss s h.1 u h.3 k, ap (λ (v : List ℕ). v ++ u) h.4 ∙ append_assoc h.0 h.1 u)
+module _ {S : Type 0} (wrote : S → S → List Fact → Type 0) where
+  any_then : (twice : (x y z : S) (s t : List Fact) → wrote x y s → wrote y z t → wrote x z (s ++ t)) (x y z : S) → GaveSome AreAny wrote x y → GaveSome AreAny wrote y z → GaveSome AreAny wrote x z
+  any_then twice x y z h k = record { facts = h.facts ++ k.facts; is = tt; given = twice x y z h.facts k.facts h.given k.given }
 
-pub sections_more : (asked : Sections) (m : MemoryMap) (ss : List Section) (i : ℕ) (d : Section) (old mid new : Device) → i < length ss → TookAll (AreSections asked m (take i ss)) old mid
-    → TookAll (IsAsked (asks_for asked (get_or ss i d)) (get_or ss i d) m) mid new → TookAll (AreSections asked m (take (i + 1) ss)) old new
-sections_more asked m ss i d old mid new lt h k = record {
-  text = h.text ++ k.text;
-  is = subst (λ (ts : List Section). AreSections asked m ts (h.text ++ k.text)) (sym (take_more ss i d lt)) (one_more asked m (take i ss) (get_or ss i d) h.text k.text h.is k.is);
-  takes = Appends-trans old.taken mid.taken new.taken h.text k.text h.takes k.takes;
-  failed = k.failed ∙ h.failed;
-}
+  -- a section below its title
+  pub titled : (twice : (x y z : S) (s t : List Fact) → wrote x y s → wrote y z t → wrote x z (s ++ t)) (s : Section) (m : MemoryMap) (P : List Fact → Type 0) (b : Bool) (x y z : S) → wrote x y (fact.Title s ∷ []) → GaveBy b (AreOfSection s m) P wrote y z
+      → GaveBy b (IsAsked true s m) AreAny wrote x z
+  titled twice s m P false x y z first h = record { facts = fact.Title s ∷ h.facts; is = (h.facts, h.is, refl); given = twice x y z (fact.Title s ∷ []) h.facts first h.given }
+  titled twice s m P true x y z first h = record { facts = fact.Title s ∷ h.facts; is = tt; given = twice x y z (fact.Title s ∷ []) h.facts first h.given }
 
--- nothing of a listing was written
-pub no_sections : (asked : Sections) (m : MemoryMap) (old : Device) → TookAll (AreSections asked m []) old old
-no_sections asked m old = record { text = []; is = refl; takes = Appends-nil old.taken; failed = refl }
+  -- one section more
+  pub sections_more : (twice : (x y z : S) (s t : List Fact) → wrote x y s → wrote y z t → wrote x z (s ++ t)) (asked : Sections) (m : MemoryMap) (ss : List Section) (i : ℕ) (d : Section) (x y z : S) → i < length ss → GaveSome (AreSections asked m (take i ss)) wrote x y
+      → GaveSome (IsAsked (asks_for asked (get_or ss i d)) (get_or ss i d) m) wrote y z → GaveSome (AreSections asked m (take (i + 1) ss)) wrote x z
+  sections_more twice asked m ss i d x y z lt h k = record {
+    facts = h.facts ++ k.facts;
+    is = subst (λ (ts : List Section). AreSections asked m ts (h.facts ++ k.facts)) (sym (take_more ss i d lt)) (one_more asked m (take i ss) (get_or ss i d) h.facts k.facts h.is k.is);
+    given = twice x y z h.facts k.facts h.given k.given;
+  }
+
+  -- no memory for the next one
+  pub sections_cut : (twice : (x y z : S) (s t : List Fact) → wrote x y s → wrote y z t → wrote x z (s ++ t)) (P Q : List Fact → Type 0) (x y z : S) → GaveSome P wrote x y → GaveSome Q wrote y z → GaveSome AreAny wrote x z
+  sections_cut twice P Q x y z h k = any_then twice x y z (record { facts = h.facts; is = tt; given = h.given }) (record { facts = k.facts; is = tt; given = k.given })
+
+-- nothing was given of a listing
+pub no_sections : {S : Type 0} (wrote : S → S → List Fact → Type 0) (x : S) → wrote x x [] → (asked : Sections) (m : MemoryMap) → GaveSome (AreSections asked m []) wrote x x
+no_sections {S} wrote x h asked m = record { facts = []; is = refl; given = h }
 
 -- a text below its heading
 below : (listing : Listing) (m : MemoryMap) (path : Option (List ℕ)) (old mid new : Device) → mid.failed ≡ old.failed → Appends old.taken mid.taken (heading path None)
@@ -107,9 +112,12 @@ listed listing m path (Ok false) old mid new same first tells h = (tells, below 
 listed listing m path (Err error.Write) old mid new same first tells h = h
 listed listing m path (Err error.Memory) old mid new same first tells h = h ∙ same
 
--- the tree of objects
-pub tree_written : {S A : Type 0} (taken : S → Option (List ℕ)) (failed : S → Bool) (m : MemoryMap) (r : Result A ListError) (old new : S) → GaveSome (AreSomeRows m) taken failed (has_failed r) old new → OnOk r (GaveSome (AreTreeRows m) taken failed false old new)
-    → IsWritten (AreTreeRows m) r (device taken failed old) (device taken failed new)
-tree_written taken failed m (Ok x) old new h k = record { text = k.text; is = k.is; takes = k.gave.written; failed = k.gave.failed_by }
-tree_written taken failed m (Err error.Write) old new h k = h.gave.failed_by
-tree_written taken failed m (Err error.Memory) old new h k = h.gave.failed_by
+-- some lines were written
+pub some_lines : {S : Type 0} (b : Bool) (P Q : List Fact → Type 0) (notes : Bool) (m : MemoryMap) (wrote : S → S → List ℕ → Type 0) (x y : S) → WroteLines b P Q notes m wrote x y → WroteSome (λ text. Unit {0}) wrote x y
+some_lines {S} false P Q notes m wrote x y h = record { text = h.text; is = tt; given = h.given }
+some_lines {S} true P Q notes m wrote x y h = record { text = h.text; is = tt; given = h.given }
+
+-- a listing was written as lines, all of it
+pub text_written : {S : Type 0} (taken : S → Option (List ℕ)) (failed : S → Bool) (listing : Listing) (m : MemoryMap) (x : Bool) (old new : S) (text : List ℕ) → IsListing listing m text
+    → Appends (taken old) (taken new) text × (failed new ≡ failed old) → IsWritten (IsListing listing m) (Ok x) (device taken failed old) (device taken failed new)
+text_written {S} taken failed listing m x old new text is h = record { text = text; is = is; takes = h.0; failed = h.1 }

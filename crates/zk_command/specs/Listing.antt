@@ -1,33 +1,21 @@
 -- What a listing of a file shows, and how it ends.
-use Rattle.std.specs.Prelude.{◌≡◌, ◌≢◌, ◌⊎◌, ℕ, Bool, true, false, List, [], ◌∷◌, ◌++◌, Option, Some, None, Result, Ok, Err, codes}
+use Rattle.std.specs.Prelude.{◌≡◌, ◌≢◌, ◌⊎◌, ℕ, Bool, true, false, List, [], ◌∷◌, ◌++◌, map, Option, Some, None, Result, Ok, Err}
 use Rattle.std.specs.Io.KnownBytes.{Appends}
-use Rattle.std.specs.List.{flat_map}
 use Rattle.zk_mem.specs.Fresh.{fresh}
 use Rattle.zk_mem.specs.Map.{MemoryMap}
 use Rattle.zk_mem.specs.Story.{refusal}
 use Rattle.zk_term.specs.Devices.{Device}
-use Rattle.zk_inspect.specs.AbbreviationLines.{abbreviation_lines}
-use Rattle.zk_inspect.specs.AlphabetLines.{alphabet_lines}
-use Rattle.zk_inspect.specs.DictionaryLines.{dictionary_lines}
-use Rattle.zk_inspect.specs.ExtensionLines.{extension_lines}
-use Rattle.zk_inspect.specs.FindingLines.{finding_line}
+use Rattle.zk_inspect.specs.CodeFacts.{AreReachedFacts, AreWholeFacts}
 use Rattle.zk_inspect.specs.Findings.{AreFindings}
-use Rattle.zk_inspect.specs.GlobalLines.{global_lines}
-use Rattle.zk_inspect.specs.HeaderLines.{header_lines}
-use Rattle.zk_inspect.specs.Ifid.{ifid_line}
-use Rattle.zk_inspect.specs.Beside.{IsNamedCode, IsWhole}
-use Rattle.zk_inspect.specs.Listing.{disassembly, whole_disassembly}
-use Rattle.zk_inspect.specs.Lists.{IsListOf}
-use Rattle.zk_inspect.specs.LyingTexts.{LiesText, text_lines}
-use Rattle.zk_inspect.specs.MapLines.{map_lines}
-use Rattle.zk_inspect.specs.Notes.{noted_disassembly, noted_whole}
-use Rattle.zk_inspect.specs.ObjectLines.{AreObjectLines}
-use Rattle.zk_inspect.specs.PropertyBytes.{ArePropertyLines}
-use Rattle.zk_inspect.specs.TreeLines.{AreTreeRows}
-use Rattle.zk_inspect.specs.declared.reach.code.Code as code
-use Rattle.zk_inspect.specs.declared.whole.Whole as whole
-use Rattle.zk_inspect.specs.declared.error.ListError.{ListError}
-use Rattle.zk_inspect.specs.declared.error.ListError.TheVariants as error
+use Rattle.zk_inspect.specs.Lines.{AreLines}
+use Rattle.zk_inspect.specs.SectionFacts.{AreOfSection}
+use Rattle.zk_inspect.specs.Sections.{all_sections}
+use Rattle.zk_inspect.specs.declared.fact.Fact.{Fact}
+use Rattle.zk_inspect.specs.declared.fact.Fact.TheVariants as fact
+use Rattle.zk_inspect.specs.declared.section.Section.{Section}
+use Rattle.zk_inspect.specs.declared.section.Section.TheVariants as section
+use Rattle.zk_command.specs.declared.listing.ListError.{ListError}
+use Rattle.zk_command.specs.declared.listing.ListError.TheVariants as error
 use Rattle.zk_inspect.specs.declared.check.finding.Finding.{Finding}
 use Rattle.zk_vm.specs.declared.stop.Stop.TheVariants.{Quit, Write, Memory}
 use Rattle.zk_command.specs.Headings.{heading}
@@ -37,53 +25,7 @@ use Rattle.zk_command.specs.declared.exit.Exit.TheVariants.{Stopped, Found}
 use Rattle.zk_command.specs.declared.listing.Listing.{Listing}
 use Rattle.zk_command.specs.declared.listing.Listing.TheVariants.{Info, Code, Findings}
 use Rattle.zk_command.specs.declared.listing.CodeListing.{CodeListing}
-use Rattle.zk_command.specs.declared.listing.Section.{Section}
-use Rattle.zk_command.specs.declared.listing.Section.TheVariants as section
 use Rattle.zk_command.specs.declared.listing.Sections.{Sections}
-
--- the line that begins a section
-abbrev pub title : Section → List ℕ
-title section.Header = codes "[header]\n"
-title section.Map = codes "[map]\n"
-title section.Abbreviations = codes "[abbreviations]\n"
-title section.Dictionary = codes "[dictionary]\n"
-title section.Objects = codes "[objects]\n"
-title section.Tree = codes "[tree]\n"
-title section.Ifid = codes "[ifid]\n"
-title section.Strings = codes "[strings]\n"
-title section.Properties = codes "[properties]\n"
-title section.Globals = codes "[globals]\n"
-title section.Alphabets = codes "[alphabets]\n"
-title section.Extension = codes "[extension]\n"
-
--- a text is the lines of the texts that lie in a story, by its code and the routines that lie beside
-pub record AreTextLines (m : MemoryMap) (text : List ℕ) : Type 0 where
-  pub code : whole.Whole
-  pub code_is : IsWhole m [] [] code
-  pub texts : List ℕ
-  pub texts_are : IsListOf (LiesText m code.code) texts
-  pub lines : text ≡ text_lines m texts
-
--- a text is that of a section, below its title
-abbrev pub IsOfSection : Section → MemoryMap → List ℕ → Type 0
-IsOfSection section.Header m text = text ≡ header_lines m
-IsOfSection section.Map m text = text ≡ map_lines m
-IsOfSection section.Abbreviations m text = text ≡ abbreviation_lines m
-IsOfSection section.Dictionary m text = text ≡ dictionary_lines m
-IsOfSection section.Objects m text = AreObjectLines m text
-IsOfSection section.Tree m text = AreTreeRows m text
-IsOfSection section.Ifid m text = text ≡ ifid_line m
-IsOfSection section.Strings m text = AreTextLines m text
-IsOfSection section.Properties m text = ArePropertyLines m text
-IsOfSection section.Globals m text = text ≡ global_lines m
-IsOfSection section.Alphabets m text = text ≡ alphabet_lines m
-IsOfSection section.Extension m text = text ≡ extension_lines m
-
--- a text is a section with its title
-pub record IsSection (s : Section) (m : MemoryMap) (text : List ℕ) : Type 0 where
-  pub below : List ℕ
-  pub is : IsOfSection s m below
-  pub whole : text ≡ title s ++ below
 
 -- whether a section is asked for
 abbrev pub asks_for : Sections → Section → Bool
@@ -100,41 +42,39 @@ asks_for s section.Globals = s.globals
 asks_for s section.Alphabets = s.alphabets
 asks_for s section.Extension = s.extension
 
--- all sections, in the order in which they are shown
-abbrev pub all_sections : List Section
-all_sections =
-    section.Header ∷ section.Map ∷ section.Abbreviations ∷ section.Dictionary ∷ section.Objects ∷ section.Tree ∷ section.Ifid ∷ section.Strings
-    ∷ section.Properties ∷ section.Globals ∷ section.Alphabets ∷ section.Extension ∷ []
+-- facts are none, or a section below its title where it is asked for
+abbrev pub IsAsked : Bool → Section → MemoryMap → List Fact → Type 0
+IsAsked true s m facts = (below : List Fact) × AreOfSection s m below × (facts ≡ fact.Title s ∷ below)
+IsAsked false s m facts = facts ≡ []
 
--- a text is nothing, or a section where it is asked for
-abbrev pub IsAsked : Bool → Section → MemoryMap → List ℕ → Type 0
-IsAsked true s m text = IsSection s m text
-IsAsked false s m text = text ≡ []
+-- facts are those of some sections that are asked for, one after another
+abbrev pub AreSections : Sections → MemoryMap → List Section → List Fact → Type 0
+AreSections asked m [] facts = facts ≡ []
+AreSections asked m (s ∷ more) facts = (first : List Fact) × (rest : List Fact) × IsAsked (asks_for asked s) s m first × AreSections asked m more rest × (facts ≡ first ++ rest)
 
--- a text is those of some sections that are asked for, one after another
-abbrev pub AreSections : Sections → MemoryMap → List Section → List ℕ → Type 0
-AreSections asked m [] text = text ≡ []
-AreSections asked m (s ∷ more) text = (first : List ℕ) × (rest : List ℕ) × IsAsked (asks_for asked s) s m first × AreSections asked m more rest × (text ≡ first ++ rest)
+-- facts are those of what is reached where code is named, with the routines that lie beside or without them
+abbrev pub AreCode : Bool → CodeListing → MemoryMap → List Fact → Type 0
+AreCode false l m facts = AreReachedFacts m l.addresses.now l.routines.now facts
+AreCode true l m facts = AreWholeFacts m l.addresses.now l.routines.now facts
 
--- the lines of some code, without notes or with them
-abbrev pub code_lines : Bool → MemoryMap → code.Code → List ℕ
-code_lines false m c = disassembly m c
-code_lines true m c = noted_disassembly m c
+-- facts are those of a listing
+abbrev pub AreListed : Listing → MemoryMap → List Fact → Type 0
+AreListed (Info asked) m facts = AreSections asked m all_sections facts
+AreListed (Code l) m facts = AreCode l.all l m facts
+AreListed Findings m facts = (fs : List Finding) × AreFindings m fs × (facts ≡ map fact.Finding fs)
 
-abbrev pub whole_lines : Bool → MemoryMap → whole.Whole → List ℕ
-whole_lines false m w = whole_disassembly m w
-whole_lines true m w = noted_whole m w
+-- facts are some, where there was no memory for a listing
+abbrev pub AreAny : List Fact → Type 0
+AreAny facts = Unit {0}
 
--- a text is that of what is reached where code is named, with the routines that lie beside or without them
-abbrev pub IsCodeText : Bool → CodeListing → MemoryMap → List ℕ → Type 0
-IsCodeText false l m text = (c : code.Code) × IsNamedCode m l.addresses.now l.routines.now c × (text ≡ code_lines l.notes m c)
-IsCodeText true l m text = (w : whole.Whole) × IsWhole m l.addresses.now l.routines.now w × (text ≡ whole_lines l.notes m w)
+-- whether notes stand after instructions
+abbrev pub has_notes : Listing → Bool
+has_notes (Code l) = l.notes
+has_notes _ = false
 
 -- a text is that of a listing
 abbrev pub IsListing : Listing → MemoryMap → List ℕ → Type 0
-IsListing (Info asked) m text = AreSections asked m all_sections text
-IsListing (Code l) m text = IsCodeText l.all l m text
-IsListing Findings m text = (fs : List Finding) × AreFindings m fs × (text ≡ flat_map finding_line fs)
+IsListing listing m text = AreLines (AreListed listing m) (has_notes listing) m text
 
 -- whether a listing tells that something is wrong: a check does where a story has findings, and no other does
 abbrev pub Tells : Listing → MemoryMap → Bool → Type 0

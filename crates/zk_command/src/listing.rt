@@ -1,16 +1,17 @@
 // Listings of a story, from the bytes of its file to the screen.
 
-ghost use Rattle.std.specs.Prelude.{◌≡◌, false, true, IfOk, None, Some, option_map};
-ghost use Rattle.std.specs.Io.KnownBytes.{Appends};
+ghost use Rattle.std.specs.Prelude.{◌≡◌, false, true, is_err, IfOk, None, Some, option_map};
 ghost use Rattle.zk_mem.specs.Fresh.{fresh};
 ghost use Rattle.zk_mem.specs.Story.{refusal};
 ghost use Rattle.zk_term.specs.Devices.{device};
+ghost use Rattle.zk_inspect.specs.Facts.{GaveBy};
+ghost use Rattle.zk_inspect.specs.Lines.{WroteLines};
+ghost use Rattle.zk_inspect.specs.Sections.{all_sections};
 ghost use Rattle.zk_command.specs.Headings.{heading};
-ghost use Rattle.zk_command.specs.Listing.{AreSections, EndsListing, IsAsked, IsLeftOut, IsListed, IsCodeText, IsListing, IsOfSection, IsSection, IsWritten, Tells, all_sections, asks_for, code_lines, exit_by, title, whole_lines};
+ghost use Rattle.zk_command.specs.Listing.{AreAny, AreCode, AreListed, AreSections, EndsListing, IsAsked, IsLeftOut, IsListed, IsListing, IsWritten, Tells, asks_for, exit_by, has_notes};
 ghost use Rattle.zk_command.specs.Playing.{IsReported};
 ghost use Rattle.zk_command.specs.Verdict.{IsStart};
 ghost use Rattle.zk_command.specs.declared.listing.Listing.TheVariants as listing;
-ghost use Rattle.zk_command.specs.declared.listing.Section.TheVariants as section;
 
 use crate::about::About;
 use crate::clean::verdict;
@@ -18,60 +19,21 @@ use crate::exit::Exit;
 use crate::heading::write_heading;
 use crate::opening::open_story;
 use crate::report::report_listing;
-use std::alloc::Global;
+use std::alloc::{AllocError, Global};
 use std::io::Read;
-use zk_inspect::check::finding_lines::write_findings;
-use zk_inspect::error::ListError;
-use zk_inspect::listing::{
-    abbreviations, alphabets, dictionary, extension, globals, header, ifid, map, objects,
-    properties, tree,
-};
-use zk_inspect::reach::code::Code;
-use zk_inspect::reach::disassembly::{
-    disassemble, disassemble_whole, disassemble_whole_with_notes, disassemble_with_notes,
-};
-use zk_inspect::texts::{find_texts, list_texts};
-use zk_inspect::whole::{Whole, find_whole, reach_named};
+use zk_inspect::check::finding_lines::list_findings as list_each;
+use zk_inspect::fact::{Fact, FactList, FactWriter};
+use zk_inspect::listing::{list_reached, list_section, list_whole};
+use zk_inspect::plain_text::PlainText;
+use zk_inspect::section::{SECTIONS, Section};
 use zk_mem::memory::{Memory, Setup};
 use zk_mem::story::Story;
-use zk_term::target::{Failed, Target, write_all};
+use zk_term::line_writer::{LineWriter, TargetWriter};
+use zk_term::target::{Failed, Target};
 use zk_vm::stop::Stop;
 
 /// How many states to go back to the header's fields speak of where a story is listed: what `play` has without `--undo`.
 const UNDO_STATES: u8 = 16;
-
-/// A section of `info`.
-#[derive(Clone, Copy, Drop)]
-pub enum Section {
-    Header,
-    Map,
-    Abbreviations,
-    Dictionary,
-    Objects,
-    Tree,
-    Ifid,
-    Strings,
-    Properties,
-    Globals,
-    Alphabets,
-    Extension,
-}
-
-/// The sections in the order in which they are shown.
-const SECTIONS: [Section; 12] = [
-    Section::Header,
-    Section::Map,
-    Section::Abbreviations,
-    Section::Dictionary,
-    Section::Objects,
-    Section::Tree,
-    Section::Ifid,
-    Section::Strings,
-    Section::Properties,
-    Section::Globals,
-    Section::Alphabets,
-    Section::Extension,
-];
 
 /// Which sections are shown.
 #[derive(Clone, Copy, PartialEq, Eq, Drop)]
@@ -152,221 +114,156 @@ pub enum Listing<'a> {
     Findings,
 }
 
-/// The line that begins a section.
-fn title(section: Section) -> &'static [u8]
-    ensures { result.now ≡ title section }
-{
-    match section {
-        Section::Header => b"[header]\n",
-        Section::Map => b"[map]\n",
-        Section::Abbreviations => b"[abbreviations]\n",
-        Section::Dictionary => b"[dictionary]\n",
-        Section::Objects => b"[objects]\n",
-        Section::Tree => b"[tree]\n",
-        Section::Ifid => b"[ifid]\n",
-        Section::Strings => b"[strings]\n",
-        Section::Properties => b"[properties]\n",
-        Section::Globals => b"[globals]\n",
-        Section::Alphabets => b"[alphabets]\n",
-        Section::Extension => b"[extension]\n",
+impl Listing<'_> {
+    /// Whether notes stand after instructions.
+    fn has_notes(self) -> bool
+        ensures { result ≡ has_notes self.entry }
+    {
+        match self {
+            Listing::Code(code) => code.notes,
+            _ => false,
+        }
     }
 }
 
-/// Writes the texts that lie in a story, by its code and the routines that lie beside.
-fn list_strings<T: Target>(alloc: Global, memory: &Memory, target: &mut T) -> Result<(), ListError>
-    ensures { IsWritten (IsOfSection section.Strings memory.now) result
-        (device T.taken T.failed target.old) (device T.taken T.failed target.new) }
-{
-    let Ok(whole) = find_whole(alloc, memory, &[], &[]) else {
-        return Err(ListError::Memory);
-    };
-    let Ok(texts) = find_texts(alloc, memory, &whole.code) else {
-        return Err(ListError::Memory);
-    };
-    list_texts(memory, &texts, target)
-}
-
-/// Writes what stands in a section.
-fn list_below<T: Target>(
-    alloc: Global,
-    memory: &Memory,
-    section: Section,
-    target: &mut T,
-) -> Result<(), ListError>
-    ensures { IsWritten (IsOfSection section memory.now) result
-        (device T.taken T.failed target.old) (device T.taken T.failed target.new) }
-{
-    match section {
-        Section::Header => header(memory, target),
-        Section::Map => map(memory, target),
-        Section::Abbreviations => abbreviations(memory, target),
-        Section::Dictionary => dictionary(memory, target),
-        Section::Objects => objects(memory, target),
-        Section::Tree => tree(alloc, memory, target),
-        Section::Ifid => ifid(memory, target),
-        Section::Strings => list_strings(alloc, memory, target),
-        Section::Properties => properties(memory, target),
-        Section::Globals => globals(memory, target),
-        Section::Alphabets => alphabets(memory, target),
-        Section::Extension => extension(memory, target),
-    }
-}
-
-/// Writes a section.
-fn list_section<T: Target>(
-    alloc: Global,
-    memory: &Memory,
-    section: Section,
-    target: &mut T,
-) -> Result<(), ListError>
-    ensures { IsWritten (IsSection section memory.now) result
-        (device T.taken T.failed target.old) (device T.taken T.failed target.new) }
-{
-    match write_all(target, title(section)) {
-        Ok(()) => list_below(alloc, memory, section, target),
-        Err(Failed) => Err(ListError::Write),
-    }
-}
-
-/// Writes a section where it is shown.
-fn list_asked<T: Target>(
+/// Gives a section below its title, where it is shown.
+fn list_asked<F: FactWriter>(
     alloc: Global,
     memory: &Memory,
     sections: Sections,
     section: Section,
-    target: &mut T,
-) -> Result<(), ListError>
-    ensures { IsWritten (IsAsked (asks_for sections section) section memory.now) result
-        (device T.taken T.failed target.old) (device T.taken T.failed target.new) }
+    facts: &mut F,
+) -> Result<(), AllocError>
+    ensures { GaveBy (is_err result) (IsAsked (asks_for sections section) section memory.now) AreAny
+        F.wrote facts.old facts.new }
 {
-    if sections.has(section) {
-        list_section(alloc, memory, section, target)
-    } else {
-        Ok(())
+    if !sections.has(section) {
+        return Ok(());
     }
+    facts.write(Fact::Title(section));
+    list_section(alloc, memory, section, facts)
 }
 
-/// Writes the sections that are shown.
-fn list_sections<T: Target>(
+/// Gives the sections that are shown.
+fn list_sections<F: FactWriter>(
     alloc: Global,
     memory: &Memory,
     sections: Sections,
-    target: &mut T,
-) -> Result<(), ListError>
-    ensures { IsWritten (AreSections sections memory.now all_sections) result
-        (device T.taken T.failed target.old) (device T.taken T.failed target.new) }
+    facts: &mut F,
+) -> Result<(), AllocError>
+    ensures { GaveBy (is_err result) (AreSections sections memory.now all_sections) AreAny
+        F.wrote facts.old facts.new }
 {
     for section in &SECTIONS {
-        list_asked(alloc, memory, sections, *section, target)?;
+        match list_asked(alloc, memory, sections, *section, facts) {
+            Ok(()) => {}
+            Err(error) => return Err(error),
+        }
     }
     Ok(())
 }
 
-/// Writes the lines of code, with notes or without them.
-fn write_code<T: Target>(
-    memory: &Memory,
-    code: &Code,
-    notes: bool,
-    target: &mut T,
-) -> Result<(), ListError>
-    ensures { IsWritten (λ text. text ≡ code_lines notes memory.now code.now) result
-        (device T.taken T.failed target.old) (device T.taken T.failed target.new) }
-{
-    if notes {
-        disassemble_with_notes(memory, code, target)
-    } else {
-        disassemble(memory, code, target)
-    }
-}
-
-/// Writes the lines of the code of a whole story, with notes or without them.
-fn write_whole<T: Target>(
-    memory: &Memory,
-    whole: &Whole,
-    notes: bool,
-    target: &mut T,
-) -> Result<(), ListError>
-    ensures { IsWritten (λ text. text ≡ whole_lines notes memory.now whole.now) result
-        (device T.taken T.failed target.old) (device T.taken T.failed target.new) }
-{
-    if notes {
-        disassemble_whole_with_notes(memory, whole, target)
-    } else {
-        disassemble_whole(memory, whole, target)
-    }
-}
-
-/// Writes the code that is reached.
-fn list_reached<T: Target>(
+/// Gives code.
+fn list_code<F: FactWriter>(
     alloc: Global,
     memory: &Memory,
     listing: CodeListing<'_>,
-    target: &mut T,
-) -> Result<(), ListError>
-    ensures { IsWritten (IsCodeText false listing.entry memory.now) result
-        (device T.taken T.failed target.old) (device T.taken T.failed target.new) }
-{
-    let Ok(code) = reach_named(alloc, memory, listing.addresses, listing.routines) else {
-        return Err(ListError::Memory);
-    };
-    write_code(memory, &code, listing.notes, target)
-}
-
-/// Writes the code that is reached, with the routines that lie beside.
-fn list_whole<T: Target>(
-    alloc: Global,
-    memory: &Memory,
-    listing: CodeListing<'_>,
-    target: &mut T,
-) -> Result<(), ListError>
-    ensures { IsWritten (IsCodeText true listing.entry memory.now) result
-        (device T.taken T.failed target.old) (device T.taken T.failed target.new) }
-{
-    let Ok(whole) = find_whole(alloc, memory, listing.addresses, listing.routines) else {
-        return Err(ListError::Memory);
-    };
-    write_whole(memory, &whole, listing.notes, target)
-}
-
-/// Writes code.
-fn list_code<T: Target>(
-    alloc: Global,
-    memory: &Memory,
-    listing: CodeListing<'_>,
-    target: &mut T,
-) -> Result<(), ListError>
-    ensures { IsWritten (IsCodeText listing.entry.all listing.entry memory.now) result
-        (device T.taken T.failed target.old) (device T.taken T.failed target.new) }
+    facts: &mut F,
+) -> Result<(), AllocError>
+    ensures { GaveBy (is_err result) (AreCode listing.entry.all listing.entry memory.now) AreAny
+        F.wrote facts.old facts.new }
 {
     if listing.all {
-        list_whole(alloc, memory, listing, target)
+        list_whole(alloc, memory, listing.addresses, listing.routines, facts)
     } else {
-        list_reached(alloc, memory, listing, target)
+        list_reached(alloc, memory, listing.addresses, listing.routines, facts)
     }
 }
 
-/// Writes what is wrong with a story, and tells whether something is.
-fn list_findings<T: Target>(
+/// Gives what is wrong with a story, and tells whether something is.
+fn list_findings<F: FactWriter>(
     alloc: Global,
     memory: &Memory,
-    target: &mut T,
-) -> Result<bool, ListError>
+    facts: &mut F,
+) -> Result<bool, AllocError>
     requires { IsStart memory.now }
     ensures tells { IfOk result (λ found. Tells listing.Findings memory.now found) }
-    ensures written { IsWritten (IsListing listing.Findings memory.now) result
-        (device T.taken T.failed target.old) (device T.taken T.failed target.new) }
+    ensures given { GaveBy (is_err result) (AreListed listing.Findings memory.now) AreAny
+        F.wrote facts.old facts.new }
 {
-    let Ok(findings) = verdict(alloc, memory) else {
-        return Err(ListError::Memory);
-    };
-    match write_findings(findings.as_slice(), target) {
-        Ok(()) => Ok(!findings.is_empty()),
-        Err(error) => Err(error),
+    let findings = verdict(alloc, memory)?;
+    list_each(facts, findings.as_slice());
+    Ok(!findings.is_empty())
+}
+
+/// Gives the facts of a listing, and tells whether it says that something is wrong. Refused for lack of memory alone.
+pub fn list<F: FactWriter>(
+    alloc: Global,
+    memory: &Memory,
+    listing: Listing<'_>,
+    facts: &mut F,
+) -> Result<bool, AllocError>
+    requires { IsStart memory.now }
+    ensures tells { IfOk result (λ found. Tells listing.entry memory.now found) }
+    ensures given { GaveBy (is_err result) (AreListed listing.entry memory.now) AreAny
+        F.wrote facts.old facts.new }
+{
+    match listing {
+        Listing::Info(sections) => {
+            list_sections(alloc, memory, sections, facts)?;
+            Ok(false)
+        }
+        Listing::Code(code) => {
+            list_code(alloc, memory, code, facts)?;
+            Ok(false)
+        }
+        Listing::Findings => list_findings(alloc, memory, facts),
     }
 }
 
-/// Writes a listing, and tells whether it says that something is wrong.
-fn list<T: Target>(
+/// The facts of a listing, and whether they say that something is wrong. Refused for lack of memory alone.
+pub fn facts_of(
+    alloc: Global,
+    memory: &Memory,
+    listing: Listing<'_>,
+) -> Result<(Vec<Fact>, bool), AllocError>
+    requires { IsStart memory.now }
+    ensures facts { IfOk result (λ r. AreListed listing.entry memory.now r.0.items) }
+    ensures tells { IfOk result (λ r. Tells listing.entry memory.now r.1) }
+{
+    let mut facts = FactList::new(alloc);
+    let found = list(alloc, memory, listing, &mut facts)?;
+    Ok((facts.finish()?, found))
+}
+
+/// Why a listing was not written to its end.
+#[derive(Clone, Copy, Drop)]
+pub enum ListError {
+    /// There is no memory.
+    Memory,
+    /// A write failed.
+    Write,
+}
+
+/// Writes the lines of a listing, and tells whether it says that something is wrong.
+fn list_lines<P: LineWriter>(
+    alloc: Global,
+    memory: &Memory,
+    listing: Listing<'_>,
+    writer: &mut P,
+) -> Result<bool, AllocError>
+    requires { IsStart memory.now }
+    ensures tells { IfOk result (λ found. Tells listing.entry memory.now found) }
+    ensures written { WroteLines (is_err result) (AreListed listing.entry memory.now) AreAny
+        (has_notes listing.entry) memory.now P.wrote writer.old writer.new }
+{
+    let mut text = PlainText::new(memory, listing.has_notes(), writer);
+    list(alloc, memory, listing, &mut text)
+}
+
+/// Writes a listing as lines, and tells whether it says that something is wrong. Refused where a write fails, and for lack of
+/// memory.
+pub fn list_text<T: Target>(
     alloc: Global,
     memory: &Memory,
     listing: Listing<'_>,
@@ -377,21 +274,19 @@ fn list<T: Target>(
     ensures written { IsWritten (IsListing listing.entry memory.now) result
         (device T.taken T.failed target.old) (device T.taken T.failed target.new) }
 {
-    match listing {
-        Listing::Info(sections) => match list_sections(alloc, memory, sections, target) {
-            Ok(()) => Ok(false),
-            Err(error) => Err(error),
+    let mut writer = TargetWriter::new(target);
+    let listed = list_lines(alloc, memory, listing, &mut writer);
+    match writer.finish() {
+        Err(Failed) => Err(ListError::Write),
+        Ok(()) => match listed {
+            Ok(found) => Ok(found),
+            Err(_) => Err(ListError::Memory),
         },
-        Listing::Code(code) => match list_code(alloc, memory, code, target) {
-            Ok(()) => Ok(false),
-            Err(error) => Err(error),
-        },
-        Listing::Findings => list_findings(alloc, memory, target),
     }
 }
 
 /// How a listing ends.
-fn exit_after(listed: Result<bool, ListError>) -> Exit
+pub fn exit_after(listed: Result<bool, ListError>) -> Exit
     ensures { result ≡ exit_by listed }
 {
     match listed {
@@ -421,7 +316,7 @@ fn list_story<S: Target>(
         return Exit::Stopped(Stop::Write);
     };
     match Memory::start(alloc, story, setup) {
-        Ok(memory) => exit_after(list(alloc, &memory, listing, screen)),
+        Ok(memory) => exit_after(list_text(alloc, &memory, listing, screen)),
         Err(_) => Exit::Stopped(Stop::Memory),
     }
 }
@@ -434,6 +329,23 @@ pub fn leave_out<S: Target>(about: &About, exit: Exit, screen: &mut S) -> Exit
     match write_heading(screen, about.heading, Some(&exit)) {
         Ok(()) => exit,
         Err(Failed) => Exit::Stopped(Stop::Write),
+    }
+}
+
+/// Opens the story that a reader gives for a listing. Refused as `open_story` refuses it, and for lack of memory.
+pub fn open_listed<R: Read + Drop>(alloc: Global, reader: R, about: &About) -> Result<Memory, Exit>
+    ensures { IfOk result (λ memory. IsStart memory) }
+{
+    let story = match open_story(alloc, reader, about) {
+        Ok(story) => story,
+        Err(exit) => return Err(exit),
+    };
+    let setup = Setup {
+        undo_states: UNDO_STATES,
+    };
+    match Memory::start(alloc, story, setup) {
+        Ok(memory) => Ok(memory),
+        Err(_) => Err(Exit::Stopped(Stop::Memory)),
     }
 }
 

@@ -8,11 +8,3 @@ escaped b =
     else if b == 10 then 92 ∷ 110 ∷ []
     else if b == 92 then 92 ∷ 92 ∷ []
     else b ∷ []
-
--- what a byte of a text between quotes shows: `^` (94) a new line and `~` (126) a quote
-abbrev pub meant : ℕ → ℕ
-meant b = if b == 94 then 10 else if b == 126 then 34 else b
-
--- a byte of a text that stood between quotes
-abbrev pub quoted : ℕ → List ℕ
-quoted b = escaped (meant b)

@@ -1,78 +1,45 @@
 // JSON (RFC 8259): an object for each story.
 
-use crate::fact::{Facts, Member, Section, Shape, Value, outcome};
+use crate::members::{Group, MemberWriter, Shape, give};
 use crate::outcome::Looked;
-use crate::words::{Text, meant};
+use crate::texts::characters_of;
+use crate::values::{Member, Value, attributes, properties, text_of};
 use json::Writer;
 use std::alloc::{AllocError, Global};
+use zk_inspect::section::Section;
+use zk_mem::fault::Fault;
+use zk_tables::lists::Property;
 
 /// The version of the form, which rises where a name or a type changes.
 const FORM: u64 = 1;
 
-/// Writes a text, or an object with its fault.
-fn put_text(json: &mut Writer, alloc: Global, text: Text<'_>) -> Result<(), AllocError> {
-    match text {
-        Text::Fault(fault) => {
-            json.begin_object()?;
-            json.key("fault")?;
-            json.string(fault)?;
-            json.end_object()
-        }
-        Text::Quoted(shown) => {
-            let mut text = String::new(alloc);
-            for c in shown.chars() {
-                text.push(meant_character(c))?;
-            }
-            json.string(text.as_str())
-        }
-    }
+/// Writes an object with a fault.
+fn put_fault(json: &mut Writer, alloc: Global, fault: Fault) -> Result<(), AllocError> {
+    json.begin_object()?;
+    json.key("fault")?;
+    json.string(text_of(alloc, Value::Fault(fault))?.as_str())?;
+    json.end_object()
 }
 
-/// The character that one between quotes shows.
-fn meant_character(shown: char) -> char {
-    if shown.is_ascii() {
-        return meant(shown as u8) as char;
-    }
-    shown
-}
-
-/// Writes a number where digits say one, and else the text.
-fn put_number(json: &mut Writer, digits: &str) -> Result<(), AllocError> {
-    match digits.parse::<u64>() {
-        Ok(number) => json.u64(number),
-        Err(_) => json.string(digits),
-    }
-}
-
-/// Writes numbers with commas between them as an array; `-` stands for none.
-fn put_numbers(json: &mut Writer, list: &str) -> Result<(), AllocError> {
+/// Writes numbers as an array.
+fn put_numbers(json: &mut Writer, numbers: &[u16]) -> Result<(), AllocError> {
     json.begin_array()?;
-    if list != "-" {
-        for number in list.split(',') {
-            put_number(json, number)?;
-        }
+    for number in numbers {
+        json.u64(*number as u64)?;
     }
     json.end_array()
 }
 
-/// Writes a property as an object with its number and its length.
-fn put_property(json: &mut Writer, property: &str) -> Result<(), AllocError> {
-    let (number, length) = property.split_once(':').unwrap_or((property, ""));
-    json.begin_object()?;
-    json.key("number")?;
-    put_number(json, number)?;
-    json.key("length")?;
-    put_number(json, length)?;
-    json.end_object()
-}
-
-/// Writes properties as an array; `-` stands for none.
-fn put_properties(json: &mut Writer, list: &str) -> Result<(), AllocError> {
+/// Writes properties as an array of objects, each with its number and its length.
+fn put_properties(json: &mut Writer, properties: &[Property]) -> Result<(), AllocError> {
     json.begin_array()?;
-    if list != "-" {
-        for property in list.split(',') {
-            put_property(json, property)?;
-        }
+    for property in properties {
+        json.begin_object()?;
+        json.key("number")?;
+        json.u64(property.number as u64)?;
+        json.key("length")?;
+        json.u64(property.length as u64)?;
+        json.end_object()?;
     }
     json.end_array()
 }
@@ -80,16 +47,22 @@ fn put_properties(json: &mut Writer, list: &str) -> Result<(), AllocError> {
 /// Writes what a member says.
 fn put_value(json: &mut Writer, alloc: Global, value: Value<'_>) -> Result<(), AllocError> {
     match value {
-        Value::Plain(text) | Value::Fault(text) => json.string(text),
-        Value::Digits(digits) => put_number(json, digits),
         Value::Number(number) => json.u64(number),
-        Value::Text(text) => put_text(json, alloc, text),
-        Value::Numbers(list) => put_numbers(json, list),
-        Value::Properties(Text::Quoted(list)) => put_properties(json, list),
-        Value::Properties(fault) => put_text(json, alloc, fault),
-        Value::Verdict(verdict) => json.boolean(verdict == "ok"),
+        Value::Text(memory, text) => match characters_of(alloc, memory, text)? {
+            Ok(characters) => json.string(characters.as_str()),
+            Err(fault) => put_fault(json, alloc, fault),
+        },
+        Value::Attributes(memory, object) => {
+            put_numbers(json, attributes(alloc, memory, object)?.as_slice())
+        }
+        Value::Properties(memory, object) => match properties(alloc, memory, object)? {
+            Ok(list) => put_properties(json, list.as_slice()),
+            Err(fault) => put_fault(json, alloc, fault),
+        },
+        Value::Verdict(right) => json.boolean(right),
         Value::Again => json.boolean(true),
         Value::Unknown => Ok(()),
+        value => json.string(text_of(alloc, value)?.as_str()),
     }
 }
 
@@ -116,12 +89,12 @@ struct Document {
     words: bool,
 }
 
-impl Facts for Document {
-    fn begin(&mut self, section: Section) -> Result<(), AllocError> {
-        self.json.key(section.name())?;
-        match section {
-            Section::Header | Section::Dictionary => self.json.begin_object(),
-            Section::Ifid => Ok(()),
+impl MemberWriter for Document {
+    fn begin(&mut self, group: Group) -> Result<(), AllocError> {
+        self.json.key(group.name())?;
+        match group {
+            Group::Section(Section::Header | Section::Dictionary) => self.json.begin_object(),
+            Group::Section(Section::Ifid) => Ok(()),
             _ => self.json.begin_array(),
         }
     }
@@ -153,14 +126,14 @@ impl Facts for Document {
         }
     }
 
-    fn end(&mut self, section: Section) -> Result<(), AllocError> {
+    fn end(&mut self, group: Group) -> Result<(), AllocError> {
         if self.words {
             self.words = false;
             self.json.end_array()?;
         }
-        match section {
-            Section::Header | Section::Dictionary => self.json.end_object(),
-            Section::Ifid => Ok(()),
+        match group {
+            Group::Section(Section::Header | Section::Dictionary) => self.json.end_object(),
+            Group::Section(Section::Ifid) => Ok(()),
             _ => self.json.end_array(),
         }
     }
@@ -179,7 +152,7 @@ pub fn object_about(alloc: Global, looked: &Looked<'_>) -> Result<Vec<u8>, Alloc
         alloc,
         words: false,
     };
-    outcome(&mut document, looked.outcome)?;
+    give(&mut document, looked.outcome)?;
     document.json.end_object()?;
     let mut line = document.json.into_inner();
     line.extend_from_slice(b"\n")?;

@@ -3,8 +3,9 @@
 
 pub mod document;
 pub mod examples;
-pub mod fact;
+mod members;
 pub mod objects;
 pub mod outcome;
 pub mod rows;
-pub mod words;
+pub mod texts;
+mod values;

@@ -1,57 +1,42 @@
-// The entries of objects, by their addresses.
+// The objects that findings are about.
 
-ghost use Rattle.std.specs.Prelude.{◌≡◌, ◌+◌, ◌*◌, IfSome};
+ghost use Rattle.std.specs.Prelude.{◌≡◌};
+ghost use Rattle.zk_facts.specs.Objects.{object_at, object_of};
 
-/// Where the entries of objects lie: each after the one before, from the first on (Standard, section 12.3).
-#[derive(Clone, Copy, Drop)]
-pub struct Entries {
-    /// The byte address of object 1's entry.
-    pub first: u32,
-    /// The bytes of an entry.
-    pub size: u32,
-}
+use zk_inspect::check::finding::{Finding, Number};
+use zk_mem::memory::Memory;
 
-impl Entries {
-    /// The entries in the object table at a byte address: 31 words of default properties stand before entries of 9 bytes
-    /// in version 3, and 63 before entries of 14 bytes from version 4 on.
-    pub fn of(version: u8, table: u32) -> Entries {
-        if version == 3 {
-            return Entries {
-                first: table.saturating_add(62),
-                size: 9,
-            };
-        }
-        Entries {
-            first: table.saturating_add(126),
-            size: 14,
-        }
+/// The number of the object whose entry lies at a byte address, in the object table at another one: 31 words of default
+/// properties stand before entries of 9 bytes in version 3, and 63 before entries of 14 bytes from version 4 on (Standard,
+/// sections 12.2 and 12.3).
+pub fn object_at(version: u8, table: u16, address: u32) -> Option<u32>
+    ensures { result ≡ object_at version table address }
+{
+    let (first, size) = if version == 3 {
+        (table as u32 + 62, 9)
+    } else {
+        (table as u32 + 126, 14)
+    };
+    if address < first {
+        return None;
     }
-
-    /// The number of the object whose entry lies at a byte address.
-    pub fn number_at(self, address: u32) -> Option<u32>
-        ensures { IfSome result (λ n. address + self.size ≡ self.first + n * self.size) }
-    {
-        if self.size == 0 || address < self.first {
-            return None;
-        }
-        let distance = address - self.first;
-        if distance % self.size != 0 {
-            return None;
-        }
-        (distance / self.size).checked_add(1)
+    let distance = address - first;
+    if distance % size == 0 {
+        Some(distance / size + 1)
+    } else {
+        None
     }
 }
 
-/// The entries of the objects of a story, by what a listing of its header says.
-pub fn entries_in(header: &str) -> Option<Entries> {
-    let mut version = None;
-    let mut table = None;
-    for line in header.lines() {
-        match line.split_once(' ') {
-            Some(("version", number)) => version = number.parse::<u8>().ok(),
-            Some(("objects", address)) => table = u32::from_str_radix(address, 16).ok(),
-            _ => {}
+/// The number of the object that a finding is about, where it is about one and its address is that of the object's entry.
+pub fn object_of(memory: &Memory, finding: Finding) -> Option<u32>
+    ensures { result ≡ object_of memory.now finding }
+{
+    let header = memory.header();
+    match finding.number {
+        Number::ObjectLinks | Number::ChainWithARepeat | Number::PropertyList => {
+            object_at(header.version, header.objects, finding.address)
         }
+        _ => None,
     }
-    Some(Entries::of(version?, table?))
 }

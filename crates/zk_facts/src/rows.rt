@@ -2,13 +2,15 @@
 
 ghost use Rattle.std.specs.Prelude.{◌≡◌, ◌++◌, OnOk};
 ghost use Rattle.std.specs.List.{flat_map};
-ghost use Rattle.zk_facts.specs.Rows.{escaped, quoted};
+ghost use Rattle.zk_facts.specs.Rows.{escaped};
 
-use crate::fact::{Facts, Member, Section, Shape, Value, outcome};
+use crate::members::{Group, MemberWriter, Shape, give};
 use crate::outcome::Looked;
-use crate::words::{Text, meant};
-use itoa::Buffer;
-use std::alloc::AllocError;
+use crate::texts::characters_of;
+use crate::values::{Member, Value, attributes, properties, text_of};
+use std::alloc::{AllocError, Global};
+use zk_mem::fault::Fault;
+use zk_tables::lists::Property;
 
 /// Adds a byte of a field: a tab, a new line and a backslash as two signs.
 fn add_byte(row: &mut Vec<u8>, byte: u8) -> Result<(), AllocError>
@@ -32,38 +34,62 @@ fn add_escaped(row: &mut Vec<u8>, text: &str) -> Result<(), AllocError>
     Ok(())
 }
 
-/// Adds a text that stood between quotes, where `^` is a new line and `~` a quote.
-fn add_quoted(row: &mut Vec<u8>, text: &str) -> Result<(), AllocError>
-    ensures { OnOk result (row.new.items ≡ row.old.items ++ flat_map quoted text.now) }
-{
-    for byte in text.as_bytes() {
-        add_byte(row, meant(*byte))?;
+/// Adds numbers with commas between them, or a hyphen where there are none.
+fn add_numbers(row: &mut Vec<u8>, alloc: Global, numbers: &[u16]) -> Result<(), AllocError> {
+    let mut before = "";
+    for number in numbers {
+        add_escaped(row, format!(in alloc; "{before}{number}")?.as_str())?;
+        before = ",";
+    }
+    if numbers.is_empty() {
+        add_escaped(row, "-")?;
     }
     Ok(())
 }
 
-/// Adds a tab and a field. What is no text is told apart by one backslash before it, which is never alone in a text.
-fn add_field(row: &mut Vec<u8>, value: Value<'_>) -> Result<(), AllocError> {
+/// Adds properties by number and length, as `18:4,17:2`, or a hyphen where there are none.
+fn add_properties(
+    row: &mut Vec<u8>,
+    alloc: Global,
+    properties: &[Property],
+) -> Result<(), AllocError> {
+    let mut before = "";
+    for property in properties {
+        let text = format!(in alloc; "{before}{}:{}", property.number, property.length)?;
+        add_escaped(row, text.as_str())?;
+        before = ",";
+    }
+    if properties.is_empty() {
+        add_escaped(row, "-")?;
+    }
+    Ok(())
+}
+
+/// Adds a fault, which one backslash tells from a text: it is never alone in one.
+fn add_fault(row: &mut Vec<u8>, alloc: Global, fault: Fault) -> Result<(), AllocError> {
+    row.push(b'\\')?;
+    add_escaped(row, text_of(alloc, Value::Fault(fault))?.as_str())
+}
+
+/// Adds a tab and a field. What is no text is told apart by one backslash before it.
+fn add_field(row: &mut Vec<u8>, alloc: Global, value: Value<'_>) -> Result<(), AllocError> {
     row.push(b'\t')?;
     match value {
-        Value::Plain(text) | Value::Digits(text) | Value::Numbers(text) | Value::Verdict(text) => {
-            add_escaped(row, text)
+        Value::Text(memory, text) => match characters_of(alloc, memory, text)? {
+            Ok(characters) => add_escaped(row, characters.as_str()),
+            Err(fault) => add_fault(row, alloc, fault),
+        },
+        Value::Attributes(memory, object) => {
+            add_numbers(row, alloc, attributes(alloc, memory, object)?.as_slice())
         }
-        Value::Text(Text::Quoted(text)) | Value::Properties(Text::Quoted(text)) => {
-            add_quoted(row, text)
-        }
-        Value::Text(Text::Fault(fault))
-        | Value::Properties(Text::Fault(fault))
-        | Value::Fault(fault) => {
-            row.push(b'\\')?;
-            add_escaped(row, fault)
-        }
-        Value::Number(number) => {
-            let mut buffer = Buffer::new();
-            add_escaped(row, buffer.format(number))
-        }
+        Value::Properties(memory, object) => match properties(alloc, memory, object)? {
+            Ok(list) => add_properties(row, alloc, list.as_slice()),
+            Err(fault) => add_fault(row, alloc, fault),
+        },
+        Value::Fault(fault) => add_fault(row, alloc, fault),
+        Value::Verdict(right) => add_escaped(row, if right { "ok" } else { "wrong" }),
         Value::Again => row.extend_from_slice(b"\\*"),
-        Value::Unknown => Ok(()),
+        value => add_escaped(row, text_of(alloc, value)?.as_str()),
     }
 }
 
@@ -71,35 +97,36 @@ fn add_field(row: &mut Vec<u8>, value: Value<'_>) -> Result<(), AllocError> {
 #[derive(Drop)]
 struct Rows<'a> {
     rows: &'a mut Vec<u8>,
+    alloc: Global,
     path: &'a str,
 }
 
-impl Facts for Rows<'_> {
-    fn begin(&mut self, _section: Section) -> Result<(), AllocError> {
+impl MemberWriter for Rows<'_> {
+    fn begin(&mut self, _group: Group) -> Result<(), AllocError> {
         Ok(())
     }
 
     /// Adds a row: the path, what kind of fact it is, and its fields.
     fn fact(&mut self, kind: &str, shape: Shape, members: &[Member<'_>]) -> Result<(), AllocError> {
         add_escaped(self.rows, self.path)?;
-        add_field(self.rows, Value::Plain(kind))?;
+        add_field(self.rows, self.alloc, Value::Words(kind))?;
         if let (Shape::Field, Some(first)) = (shape, members.first()) {
-            add_field(self.rows, Value::Plain(first.name))?;
+            add_field(self.rows, self.alloc, Value::Words(first.name))?;
         }
         for member in members {
-            add_field(self.rows, member.value)?;
+            add_field(self.rows, self.alloc, member.value)?;
         }
         self.rows.push(b'\n')?;
         Ok(())
     }
 
-    fn end(&mut self, _section: Section) -> Result<(), AllocError> {
+    fn end(&mut self, _group: Group) -> Result<(), AllocError> {
         Ok(())
     }
 }
 
 /// Adds the rows of what was looked at: one for each fact of a listing, or one with `refused` or `unread`.
-pub fn add_rows(rows: &mut Vec<u8>, looked: &Looked<'_>) -> Result<(), AllocError> {
+pub fn add_rows(rows: &mut Vec<u8>, alloc: Global, looked: &Looked<'_>) -> Result<(), AllocError> {
     let path = looked.path;
-    outcome(&mut Rows { rows, path }, looked.outcome)
+    give(&mut Rows { rows, alloc, path }, looked.outcome)
 }

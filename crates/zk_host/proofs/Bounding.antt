@@ -1,10 +1,6 @@
 -- A listing is at least as long as what was taken of it.
-use Rattle.std.proofs.Common.{◌≡◌, ◌∙◌, ◌<◌, ℕ, Bool, true, false, List, [], Some, Result, Ok, Err, length, arith, ap}
-use Rattle.std.specs.Prelude.{OnOk, OnErr}
-use Rattle.std.specs.Io.KnownBytes.{Appends}
+use Rattle.std.proofs.Common.{◌≡◌, ◌∙◌, ◌<◌, ℕ, Bool, true, false, List, [], Some, length, arith, ap}
 use Rattle.std.proofs.lemmas.List.{length-append}
-use Rattle.zk_inspect.specs.declared.error.ListError.{ListError}
-use Rattle.zk_term.specs.Devices.{TookPart}
 use Rattle.zk_term.specs.LineWriters.{Wrote}
 
 -- by whether a write has failed
@@ -16,9 +12,3 @@ longer_by true old bytes text none w most more =
     let taken = ap length w.takes ∙ length-append old w.part in
     let whole = ap length w.whole ∙ length-append w.part w.rest in
     omega (arith, ap length none, taken, whole, more)
-
--- by what came of it
-pub longer_on : (r : Result (Unit {0}) ListError) (old bytes text : List ℕ) → old ≡ [] → OnOk r (Appends (Some old) (Some bytes) text) → OnErr r (TookPart (Some old) (Some bytes) text)
-    → (most : ℕ) → most < length bytes → most < length text
-longer_on (Ok u) old bytes text none all part = longer_by false old bytes text none all
-longer_on (Err e) old bytes text none all part = longer_by true old bytes text none part

@@ -1,30 +1,29 @@
 // Listings of a story, as text that is taken in parts.
 
-ghost use Rattle.std.specs.Prelude.{◌≡◌, ◌<◌, ◌≤◌, [], ℕ, IfErr, IfOk, OnOk, length};
-ghost use Rattle.zk_host.specs.Listings.{IsListing, IsLonger, IsUnlisted, listing_numbered};
+ghost use Rattle.std.specs.Prelude.{◌≡◌, ◌<◌, ◌≤◌, [], ℕ, false, IfErr, IfOk, OnOk, is_err, length};
+ghost use Rattle.zk_inspect.specs.Facts.{AreNone, GaveBy};
+ghost use Rattle.zk_inspect.specs.Lines.{WroteLines};
+ghost use Rattle.zk_host.specs.Listings.{AreListed, AreSomeListed, IsListing, IsLonger, IsUnlisted, listing_numbered};
+ghost use Rattle.zk_host.specs.declared.listing.Listing.TheVariants as listing;
 
 use crate::bounded::Bounded;
 use crate::play::Refusal;
 use crate::text::Text;
-use std::alloc::Global;
+use std::alloc::{AllocError, Global};
 use zk_inspect::check::check;
-use zk_inspect::check::finding_lines::write_findings;
-use zk_inspect::error::ListError;
-use zk_inspect::listing::{abbreviations, dictionary, header, ifid, map, objects, tree};
-use zk_inspect::reach::disassembly::disassemble;
-use zk_inspect::reach::reach;
+use zk_inspect::check::finding_lines::list_findings;
+use zk_inspect::fact::FactWriter;
+use zk_inspect::listing::{list_reached, list_section};
+use zk_inspect::plain_text::PlainText;
+use zk_inspect::section::Section;
 use zk_mem::memory::Memory;
+use zk_term::line_writer::{LineWriter, TargetWriter};
+use zk_term::target::Failed;
 
 /// What is listed of a story.
 #[derive(Clone, Copy, Drop)]
 pub enum Listing {
-    Header,
-    Map,
-    Abbreviations,
-    Dictionary,
-    Objects,
-    Tree,
-    Ifid,
+    Section(Section),
     /// Its disassembly.
     Code,
     /// What is wrong with it.
@@ -36,43 +35,67 @@ pub fn listing_of(number: u32) -> Option<Listing>
     ensures { result ≡ listing_numbered number }
 {
     match number {
-        0 => Some(Listing::Header),
-        1 => Some(Listing::Map),
-        2 => Some(Listing::Abbreviations),
-        3 => Some(Listing::Dictionary),
-        4 => Some(Listing::Objects),
-        5 => Some(Listing::Tree),
-        6 => Some(Listing::Ifid),
+        0 => Some(Listing::Section(Section::Header)),
+        1 => Some(Listing::Section(Section::Map)),
+        2 => Some(Listing::Section(Section::Abbreviations)),
+        3 => Some(Listing::Section(Section::Dictionary)),
+        4 => Some(Listing::Section(Section::Objects)),
+        5 => Some(Listing::Section(Section::Tree)),
+        6 => Some(Listing::Section(Section::Ifid)),
         7 => Some(Listing::Code),
         8 => Some(Listing::Findings),
+        9 => Some(Listing::Section(Section::Strings)),
+        10 => Some(Listing::Section(Section::Properties)),
+        11 => Some(Listing::Section(Section::Globals)),
+        12 => Some(Listing::Section(Section::Alphabets)),
+        13 => Some(Listing::Section(Section::Extension)),
         _ => None,
     }
 }
 
-/// Writes a disassembly.
-fn write_code(alloc: Global, memory: &Memory, target: &mut Bounded) -> Result<(), ListError>
-    requires { target.old.text.bytes ≡ [] }
-    ensures whole { OnOk result (IsListing Listing.Code memory.now target.new.text.bytes) }
-    ensures longer { (most : ℕ) → most < length target.new.text.bytes →
-        IsLonger Listing.Code memory.now most }
+/// Gives what is wrong with a story.
+fn list_all_findings<F: FactWriter>(
+    alloc: Global,
+    memory: &Memory,
+    facts: &mut F,
+) -> Result<(), AllocError>
+    ensures { GaveBy (is_err result) (AreListed listing.Findings memory.now) AreNone
+        F.wrote facts.old facts.new }
 {
-    let Ok(code) = reach(alloc, memory) else {
-        return Err(ListError::Memory);
-    };
-    disassemble(memory, &code, target)
+    let findings = check(alloc, memory)?;
+    list_findings(facts, findings.as_slice());
+    Ok(())
 }
 
-/// Writes what is wrong with a story.
-fn write_all_findings(alloc: Global, memory: &Memory, target: &mut Bounded) -> Result<(), ListError>
-    requires { target.old.text.bytes ≡ [] }
-    ensures whole { OnOk result (IsListing Listing.Findings memory.now target.new.text.bytes) }
-    ensures longer { (most : ℕ) → most < length target.new.text.bytes →
-        IsLonger Listing.Findings memory.now most }
+/// Gives the facts of a listing.
+fn list_facts<F: FactWriter>(
+    alloc: Global,
+    memory: &Memory,
+    listing: Listing,
+    facts: &mut F,
+) -> Result<(), AllocError>
+    ensures { GaveBy (is_err result) (AreListed listing memory.now) (AreSomeListed listing memory.now)
+        F.wrote facts.old facts.new }
 {
-    let Ok(findings) = check(alloc, memory) else {
-        return Err(ListError::Memory);
-    };
-    write_findings(findings.as_slice(), target)
+    match listing {
+        Listing::Section(section) => list_section(alloc, memory, section, facts),
+        Listing::Code => list_reached(alloc, memory, &[], &[], facts),
+        Listing::Findings => list_all_findings(alloc, memory, facts),
+    }
+}
+
+/// Writes the lines of a listing.
+fn list_lines<P: LineWriter>(
+    alloc: Global,
+    memory: &Memory,
+    listing: Listing,
+    writer: &mut P,
+) -> Result<(), AllocError>
+    ensures { WroteLines (is_err result) (AreListed listing memory.now) (AreSomeListed listing memory.now)
+        false memory.now P.wrote writer.old writer.new }
+{
+    let mut text = PlainText::new(memory, false, writer);
+    list_facts(alloc, memory, listing, &mut text)
 }
 
 /// Writes a listing. Where it is not written to its end, it has more bytes than were taken, or as many.
@@ -81,22 +104,20 @@ fn write(
     memory: &Memory,
     listing: Listing,
     target: &mut Bounded,
-) -> Result<(), ListError>
+) -> Result<(), Failed>
     requires { target.old.text.bytes ≡ [] }
     ensures whole { OnOk result (IsListing listing memory.now target.new.text.bytes) }
     ensures longer { (most : ℕ) → most < length target.new.text.bytes →
         IsLonger listing memory.now most }
 {
-    match listing {
-        Listing::Header => header(memory, target),
-        Listing::Map => map(memory, target),
-        Listing::Abbreviations => abbreviations(memory, target),
-        Listing::Dictionary => dictionary(memory, target),
-        Listing::Objects => objects(memory, target),
-        Listing::Tree => tree(alloc, memory, target),
-        Listing::Ifid => ifid(memory, target),
-        Listing::Code => write_code(alloc, memory, target),
-        Listing::Findings => write_all_findings(alloc, memory, target),
+    let mut writer = TargetWriter::new(target);
+    let listed = list_lines(alloc, memory, listing, &mut writer);
+    match writer.finish() {
+        Ok(()) => match listed {
+            Ok(()) => Ok(()),
+            Err(_) => Err(Failed),
+        },
+        Err(Failed) => Err(Failed),
     }
 }
 

@@ -6,10 +6,8 @@ use Rattle.std.proofs.lemmas.List.{take_rest}
 use Rattle.zk_mem.specs.Map.{MemoryMap}
 use Rattle.zk_text.specs.declared.pieces.Piece.{Piece}
 use Rattle.zk_text.specs.declared.unit.Unit.{Unit}
-use Rattle.zk_text.specs.Extra.{ExtraTable}
 use Rattle.zk_text.specs.Pieces.{cut, piece_before, pieces, pieces_past}
 use Rattle.zk_inspect.specs.DictionaryLines.{piece_units, word_units}
-use Rattle.zk_inspect.specs.Quoted.{quoted_nothing, quoted_units, quoted_units-append}
 
 -- the first of some Z-characters belong to a piece before
 past_is_rest : (zs : List ℕ) (n : ℕ) → pieces_past zs n ≡ pieces (drop n zs)
@@ -37,19 +35,18 @@ units_step : (m : MemoryMap) (z : ℕ) (zs : List ℕ) → word_units m (z ∷ z
 unfolding word_units pieces_past
 units_step m z zs = with_piece m (cut z zs).0 (pieces_past zs (cut z zs).1) ∙ ap (λ (ps : List Piece). piece_units m (cut z zs).0 ++ flat_map (λ q. piece_units m (Some q)) ps) (past_is_rest zs (cut z zs).1)
 
--- the same between quotes, of a slice
-pub word_on : (m : MemoryMap) (t : ExtraTable) (xs : List ℕ) (d n : ℕ) (p : Option Piece) (rest : List ℕ) → 1 ≤ length xs → rest ≡ take (length xs - 1) (drop 1 xs) → p ≡ (cut (get_or xs 0 d) rest).0 → n ≡ (cut (get_or xs 0 d) rest).1
-    → quoted_units t (word_units m xs) ≡ quoted_units t (piece_units m p) ++ quoted_units t (word_units m (drop (min n (length rest)) rest))
-word_on m t [] d n p rest le r e f = absurd (omega arith)
-word_on m t (z ∷ zs) d n p rest le r e f =
+-- the same of a slice
+pub word_on : (m : MemoryMap) (xs : List ℕ) (d n : ℕ) (p : Option Piece) (rest : List ℕ) → 1 ≤ length xs → rest ≡ take (length xs - 1) (drop 1 xs) → p ≡ (cut (get_or xs 0 d) rest).0 → n ≡ (cut (get_or xs 0 d) rest).1
+    → word_units m xs ≡ piece_units m p ++ word_units m (drop (min n (length rest)) rest)
+word_on m [] d n p rest le r e f = absurd (omega arith)
+word_on m (z ∷ zs) d n p rest le r e f =
     let same : rest ≡ zs = r ∙ take_rest (z ∷ zs) 1 in
     let pe : piece_units m (cut z zs).0 ≡ piece_units m p = ap (λ (l : List ℕ). piece_units m (cut z l).0) (sym same) ∙ ap (piece_units m) (sym e) in
     let re : drop (cut z zs).1 zs ≡ drop (min n (length rest)) rest = ap (λ (l : List ℕ). drop (cut z l).1 l) (sym same) ∙ ap (λ (k : ℕ). drop k rest) (sym f) ∙ sym (drop_past rest n) in
-    ap (quoted_units t) (units_step m z zs) ∙ quoted_units-append t (piece_units m (cut z zs).0) (word_units m (drop (cut z zs).1 zs))
-    ∙ ap₂ (λ (us : List Unit) (l : List ℕ). quoted_units t us ++ quoted_units t (word_units m l)) pe re
+    units_step m z zs ∙ ap₂ (λ (us : List Unit) (l : List ℕ). us ++ word_units m l) pe re
 
 -- no Z-characters are left
-pub word_end : {S : Type 0} (wrote : S → S → List ℕ → Type 0) (m : MemoryMap) (t : ExtraTable) (a : S) (xs : List ℕ) → wrote a a [] → length xs ≡ 0 → wrote a a (quoted_units t (word_units m xs))
+pub word_end : (m : MemoryMap) (xs : List ℕ) → length xs ≡ 0 → word_units m xs ≡ []
 unfolding word_units pieces_past
-word_end {S} wrote m t a [] nothing h = quoted_nothing wrote t a nothing
-word_end {S} wrote m t a (x ∷ xs) nothing h = absurd (omega arith)
+word_end m [] h = refl
+word_end m (x ∷ xs) h = absurd (omega arith)

@@ -22,6 +22,7 @@ pub mod TableMarks
 pub mod TextFaults
 pub mod AllNumbers
 pub mod Numbered
+pub mod Past
 pub mod Places
 pub mod Plain
 pub mod PropertyLines

@@ -1,6 +1,6 @@
 -- The properties of a list, one after another.
 use Rattle.std.specs.List.{flat_map}
-use Rattle.std.proofs.Common.{arith, ◌≤◌, ◌-◌, length, get_or, take, drop, ◌≡◌, ◌∙◌, ℕ, zero, suc, List, [], ◌∷◌, ◌++◌, Some, None, append_assoc, append-nil, codes, refl, sym, ap}
+use Rattle.std.proofs.Common.{arith, ◌≤◌, ◌-◌, length, get_or, map, take, drop, ◌≡◌, ◌∙◌, ℕ, zero, suc, List, [], ◌∷◌, ◌++◌, Some, None, append_assoc, append-nil, codes, refl, sym, ap}
 use Rattle.std.specs.Prelude.{◌+◌, decimal, Result, Ok, Err, IsOk}
 use Rattle.std.proofs.lemmas.List.{take_rest}
 use Rattle.zk_mem.specs.Faults.{fault_number}
@@ -10,7 +10,9 @@ use Rattle.zk_mem.specs.Results.{◌>>=◌}
 use Rattle.zk_mem.specs.declared.fault.Fault.{Fault}
 use Rattle.zk_tables.specs.PropertyList.{properties_at, properties_from, property_at}
 use Rattle.zk_tables.specs.declared.lists.Property.{Property}
-use Rattle.zk_inspect.specs.PropertyBytes.{property_line, property_lines}
+use Rattle.zk_inspect.specs.PropertyBytes.{properties_by}
+use Rattle.zk_inspect.specs.declared.fact.Fact.{Fact}
+use Rattle.zk_inspect.specs.declared.fact.Fact.TheVariants as fact
 use Rattle.zk_inspect.specs.ObjectLines.{properties_or_none, properties_text, property_text, separated}
 
 -- a property after a comma
@@ -18,9 +20,9 @@ abbrev pub behind_comma : Property → List ℕ
 behind_comma p = codes "," ++ property_text p
 
 -- what was written of some properties, and what is left of them
-pub record IsWritten {S : Type 0} (wrote : S → S → List ℕ → Type 0) (f : Property → List ℕ) (m : MemoryMap) (old new : S) (all : List ℕ) (n a : ℕ) : Type 0 where
+pub record IsWritten {S A : Type 0} (wrote : S → S → List A → Type 0) (f : Property → List A) (m : MemoryMap) (old new : S) (all : List A) (n a : ℕ) : Type 0 where
   pub rest : List Property
-  pub done : List ℕ
+  pub done : List A
   pub left : properties_from m n a ≡ Ok rest
   pub whole : all ≡ done ++ flat_map f rest
   pub given : wrote old new done
@@ -29,9 +31,9 @@ value_of : {A : Type 0} (r : Result A Fault) → IsOk r → (x : A) × (r ≡ Ok
 value_of {A} (Ok x) h = (x, refl)
 value_of {A} (Err f) h = absurd cc
 
-pub begun : {S : Type 0} (wrote : S → S → List ℕ → Type 0) (f : Property → List ℕ) (m : MemoryMap) (s : S) (n k a : ℕ) → wrote s s [] → k ≡ n → IsOk (properties_from m n a)
+pub begun : {S A : Type 0} (wrote : S → S → List A → Type 0) (f : Property → List A) (m : MemoryMap) (s : S) (n k a : ℕ) → wrote s s [] → k ≡ n → IsOk (properties_from m n a)
     → IsWritten wrote f m s s (flat_map f (properties_or_none (properties_from m n a))) k a
-begun {S} wrote f m s n k a nothing same h =
+begun {S} {A} wrote f m s n k a nothing same h =
     let v = value_of (properties_from m n a) h in
     record {
       rest = v.0;
@@ -67,9 +69,9 @@ unfolding properties_from
 not_none m a all h = absurd cc
 
 -- one more property was written
-pub written_more : {S : Type 0} (wrote : S → S → List ℕ → Type 0) (twice : (x y z : S) (s t : List ℕ) → wrote x y s → wrote y z t → wrote x z (s ++ t)) (f : Property → List ℕ) (m : MemoryMap) (x y z : S) (all : List ℕ) (n k a : ℕ) (p : Property) → n ≡ suc k → property_at m a ≡ Ok (Some p)
+pub written_more : {S A : Type 0} (wrote : S → S → List A → Type 0) (twice : (x y z : S) (s t : List A) → wrote x y s → wrote y z t → wrote x z (s ++ t)) (f : Property → List A) (m : MemoryMap) (x y z : S) (all : List A) (n k a : ℕ) (p : Property) → n ≡ suc k → property_at m a ≡ Ok (Some p)
     → IsWritten wrote f m x y all n a → wrote y z (f p) → IsWritten wrote f m x z all k (p.address + p.length)
-written_more {S} wrote twice f m x y z all n k a p is there h g =
+written_more {S} {A} wrote twice f m x y z all n k a p is there h g =
     let first = first_one m k a p h.rest there (ap (λ (i : ℕ). properties_from m i a) (sym is) ∙ h.left) in
     record {
       rest = first.0;
@@ -80,18 +82,18 @@ written_more {S} wrote twice f m x y z all n k a p is there h g =
     }
 
 -- the list has ended
-pub written_all : {S : Type 0} (wrote : S → S → List ℕ → Type 0) (f : Property → List ℕ) (m : MemoryMap) (x y : S) (all : List ℕ) (n k a : ℕ) → n ≡ suc k → property_at m a ≡ Ok None
+pub written_all : {S A : Type 0} (wrote : S → S → List A → Type 0) (f : Property → List A) (m : MemoryMap) (x y : S) (all : List A) (n k a : ℕ) → n ≡ suc k → property_at m a ≡ Ok None
     → IsWritten wrote f m x y all n a → wrote x y all
-written_all {S} wrote f m x y all n k a is there h =
+written_all {S} {A} wrote f m x y all n k a is there h =
     let none = no_more m k a h.rest there (ap (λ (i : ℕ). properties_from m i a) (sym is) ∙ h.left) in
     rw (h.whole ∙ ap (λ (l : List Property). h.done ++ flat_map f l) none ∙ append-nil h.done) h.given
 
-pub never_faulty : {S : Type 0} (wrote : S → S → List ℕ → Type 0) (f : Property → List ℕ) (m : MemoryMap) (x y : S) (all : List ℕ) (n k a : ℕ) (fault : Fault) → n ≡ suc k → property_at m a ≡ Err fault
+pub never_faulty : {S A : Type 0} (wrote : S → S → List A → Type 0) (f : Property → List A) (m : MemoryMap) (x y : S) (all : List A) (n k a : ℕ) (fault : Fault) → n ≡ suc k → property_at m a ≡ Err fault
     → IsWritten wrote f m x y all n a → ⊥
-never_faulty {S} wrote f m x y all n k a fault is there h = no_fault m k a fault h.rest there (ap (λ (i : ℕ). properties_from m i a) (sym is) ∙ h.left)
+never_faulty {S} {A} wrote f m x y all n k a fault is there h = no_fault m k a fault h.rest there (ap (λ (i : ℕ). properties_from m i a) (sym is) ∙ h.left)
 
-pub never_without_end : {S : Type 0} (wrote : S → S → List ℕ → Type 0) (f : Property → List ℕ) (m : MemoryMap) (x y : S) (all : List ℕ) (n a : ℕ) → n ≡ zero → IsWritten wrote f m x y all n a → ⊥
-never_without_end {S} wrote f m x y all n a is h = not_none m a h.rest (ap (λ (i : ℕ). properties_from m i a) (sym is) ∙ h.left)
+pub never_without_end : {S A : Type 0} (wrote : S → S → List A → Type 0) (f : Property → List A) (m : MemoryMap) (x y : S) (all : List A) (n a : ℕ) → n ≡ zero → IsWritten wrote f m x y all n a → ⊥
+never_without_end {S} {A} wrote f m x y all n a is h = not_none m a h.rest (ap (λ (i : ℕ). properties_from m i a) (sym is) ∙ h.left)
 
 -- there is room for the end of a list
 pub reaches : (m : MemoryMap) (n a : ℕ) → IsOk (properties_from m n a) → 1 ≤ n
@@ -154,15 +156,22 @@ pub text_of_fault : (r : Result (List Property) Fault) (f : Fault) → r ≡ Err
 unfolding properties_text
 text_of_fault r f e = rw e refl
 
--- their lines with data
-pub lines_of_list : (m : MemoryMap) (o : ℕ) (r s : Result (List Property) Fault) → r ≡ s → IsOk s → property_lines m o r ≡ flat_map (property_line m o) (properties_or_none s)
-unfolding property_lines
-lines_of_list m o r (Ok ps) e h = rw e refl
-lines_of_list m o r (Err f) e h = absurd cc
+-- each of them as a fact
+abbrev pub one_property : ℕ → Property → List Fact
+one_property o p = fact.Property o p ∷ []
 
-pub lines_of_fault : (m : MemoryMap) (o : ℕ) (r : Result (List Property) Fault) (f : Fault) → r ≡ Err f → property_lines m o r ≡ decimal o ++ codes " " ++ (codes "! F" ++ decimal (fault_number f)) ++ codes "\n"
-unfolding property_lines
-lines_of_fault m o r f e = rw e refl
+pub each_property : (o : ℕ) (ps : List Property) → flat_map (one_property o) ps ≡ map (fact.Property o) ps
+each_property o [] = refl
+each_property o (p ∷ ps) = ap (λ (l : List Fact). fact.Property o p ∷ l) (each_property o ps)
+
+pub facts_of_list : (o : ℕ) (r s : Result (List Property) Fault) → r ≡ s → IsOk s → properties_by o r ≡ map (fact.Property o) (properties_or_none s)
+unfolding properties_by
+facts_of_list o r (Ok ps) e h = rw e refl
+facts_of_list o r (Err f) e h = absurd cc
+
+pub facts_of_fault : (o : ℕ) (r : Result (List Property) Fault) (f : Fault) → r ≡ Err f → properties_by o r ≡ fact.NoProperties o f ∷ []
+unfolding properties_by
+facts_of_fault o r f e = rw e refl
 
 -- the first of some things with commas between them, and the others
 pub first_separated : {A : Type 0} (f : A → List ℕ) (xs : List A) (d : A) → 1 ≤ length xs

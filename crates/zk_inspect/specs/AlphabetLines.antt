@@ -9,6 +9,8 @@ use Rattle.zk_text.specs.declared.alphabet.Row.{Row}
 use Rattle.zk_text.specs.declared.alphabet.Row.TheVariants.{A0, A1, A2}
 use Rattle.zk_text.specs.declared.unit.Unit.TheVariants.{Code}
 use Rattle.zk_inspect.specs.Quoted.{quoted_units}
+use Rattle.zk_inspect.specs.declared.fact.Fact.{Fact}
+use Rattle.zk_inspect.specs.declared.fact.Fact.TheVariants.{Alphabet, ExtraCharacters}
 
 -- a ZSCII code as it stands between quotes
 unfoldable pub code_text : MemoryMap → ℕ → List ℕ
@@ -30,7 +32,7 @@ row_name A2 = codes "A2 \""
 
 -- the line of an alphabet: its letters up to Z-character 31, between quotes
 unfoldable pub alphabet_line : MemoryMap → Row → List ℕ
-alphabet_line m row = row_name row ++ flat_map (letter_text m row) (range_with_len (first_letter row) (32 - first_letter row)) ++ codes "\"\n"
+alphabet_line m row = row_name row ++ flat_map (letter_text m row) (range_with_len (first_letter row) (32 - first_letter row)) ++ codes "\""
 
 -- an extra character, where its code has one
 abbrev pub extra_text : MemoryMap → ℕ → List ℕ
@@ -38,8 +40,8 @@ extra_text m code = if is_some (character (own_characters m) code) then code_tex
 
 -- the line of the extra characters, from code 155 on, of which there are 97 at most
 unfoldable pub extra_line : MemoryMap → List ℕ
-extra_line m = codes "extra \"" ++ flat_map (extra_text m) (range_with_len 155 97) ++ codes "\"\n"
+extra_line m = codes "extra \"" ++ flat_map (extra_text m) (range_with_len 155 97) ++ codes "\""
 
 -- the three alphabets, and the extra characters
-unfoldable pub alphabet_lines : MemoryMap → List ℕ
-alphabet_lines m = alphabet_line m A0 ++ alphabet_line m A1 ++ alphabet_line m A2 ++ extra_line m
+abbrev pub alphabet_facts : List Fact
+alphabet_facts = Alphabet A0 ∷ Alphabet A1 ∷ Alphabet A2 ∷ ExtraCharacters ∷ []

@@ -1,5 +1,5 @@
 -- The words of a dictionary (Standard, sections 13.2 to 13.4). What a line looks like is zkit's choice.
-use Rattle.std.specs.Prelude.{ℕ, ◌+◌, ◌==◌, List, [], ◌∷◌, ◌++◌, Option, Some, None, Result, Ok, Err, unwrap_or, nat_lt, codes, decimal, if◌then◌else◌}
+use Rattle.std.specs.Prelude.{ℕ, ◌+◌, ◌==◌, List, [], ◌∷◌, ◌++◌, map, Option, Some, None, Result, Ok, Err, unwrap_or, nat_lt, codes, decimal, if◌then◌else◌}
 use Rattle.std.specs.List.{flat_map, range_with_len}
 use Rattle.zk_mem.specs.declared.fault.Fault.{Fault}
 use Rattle.zk_mem.specs.Faults.{fault_number}
@@ -15,6 +15,8 @@ use Rattle.zk_text.specs.declared.unit.Unit.{Unit}
 use Rattle.zk_text.specs.declared.unit.Unit.TheVariants.{Code}
 use Rattle.zk_tables.specs.Dictionaries.{dictionary_at, entry_start}
 use Rattle.zk_tables.specs.declared.dictionary.Dictionary.{Dictionary}
+use Rattle.zk_inspect.specs.declared.fact.Fact.{Fact}
+use Rattle.zk_inspect.specs.declared.fact.Fact.TheVariants as fact
 use Rattle.zk_term.specs.Numbers.{address_digits}
 use Rattle.zk_inspect.specs.Quoted.{quoted_units}
 
@@ -47,11 +49,8 @@ word_units m zs = flat_map (λ p. piece_units m (Some p)) (pieces zs)
 unfoldable pub entry_front : ℕ → ℕ → List ℕ
 entry_front i a = decimal i ++ codes " " ++ address_digits a ++ codes " \""
 
-unfoldable pub entry_text : MemoryMap → ℕ → ℕ → List ℕ
-entry_text m i a = entry_front i a ++ quoted_units (own_characters m) (word_units m (key_characters m a)) ++ codes "\"\n"
-
-abbrev pub entry_line : MemoryMap → Dictionary → ℕ → List ℕ
-entry_line m d i = entry_text m i (entry_start d i)
+unfoldable pub word_line : MemoryMap → ℕ → ℕ → List ℕ
+word_line m i a = entry_front i a ++ quoted_units (own_characters m) (word_units m (key_characters m a)) ++ codes "\""
 
 -- a separator, counted from 0; they stand after their count (section 13.2)
 abbrev pub separator_text : MemoryMap → Dictionary → ℕ → List ℕ
@@ -61,26 +60,32 @@ unfoldable pub separators_text : MemoryMap → Dictionary → List ℕ
 separators_text m d = flat_map (separator_text m d) (range_with_len 0 d.separators)
 
 unfoldable pub separators_line : MemoryMap → Dictionary → List ℕ
-separators_line m d = codes "separators \"" ++ separators_text m d ++ codes "\"\n"
+separators_line m d = codes "separators \"" ++ separators_text m d ++ codes "\""
 
 -- how many entries there are, and how many bytes one has
 unfoldable pub size_line : Dictionary → List ℕ
-size_line d = codes "entries " ++ decimal d.entries ++ codes " length " ++ decimal d.entry_length ++ codes "\n"
-
--- a dictionary: its separators, its size, and a line for each entry
-unfoldable pub table_lines : MemoryMap → Dictionary → List ℕ
-table_lines m d = separators_line m d ++ size_line d ++ flat_map (entry_line m d) (range_with_len 0 d.entries)
+size_line d = codes "entries " ++ decimal d.entries ++ codes " length " ++ decimal d.entry_length
 
 -- why there is no dictionary
 unfoldable pub fault_line : Fault → List ℕ
-fault_line f = codes "! F" ++ decimal (fault_number f) ++ codes "\n"
+fault_line f = codes "! F" ++ decimal (fault_number f)
 
-abbrev pub found_lines : MemoryMap → Result Dictionary Fault → List ℕ
-found_lines m (Ok d) = table_lines m d
-found_lines m (Err f) = fault_line f
+-- ---- facts
+
+-- a word of a dictionary, counted from 0
+abbrev pub word_of : Dictionary → ℕ → Fact
+word_of d i = fact.Word (record { index = i; address = entry_start d i })
+
+-- a dictionary: its separators, its size, and each word
+unfoldable pub table_facts : Dictionary → List Fact
+table_facts d = fact.Separators d ∷ fact.Entries d ∷ map (word_of d) (range_with_len 0 d.entries)
+
+abbrev pub found_facts : Result Dictionary Fault → List Fact
+found_facts (Ok d) = table_facts d
+found_facts (Err f) = fact.NoDictionary f ∷ []
 
 -- the dictionary that the header names, where it names one
-unfoldable pub dictionary_lines : MemoryMap → List ℕ
-dictionary_lines m =
+unfoldable pub dictionary_facts : MemoryMap → List Fact
+dictionary_facts m =
     if (header_of m.file).dictionary == 0 then []
-    else found_lines m (dictionary_at m (header_of m.file).dictionary)
+    else found_facts (dictionary_at m (header_of m.file).dictionary)

@@ -1,11 +1,13 @@
 -- The global variables and their first values (Standard, section 6.2). What a line looks like is zkit's choice.
-use Rattle.std.specs.Prelude.{ℕ, ◌+◌, ◌*◌, ◌==◌, List, [], ◌++◌, Result, Ok, Err, codes, decimal, if◌then◌else◌}
-use Rattle.std.specs.List.{flat_map, range_with_len}
+use Rattle.std.specs.Prelude.{ℕ, ◌+◌, ◌*◌, ◌==◌, List, [], ◌++◌, map, Result, Ok, Err, codes, decimal, if◌then◌else◌}
+use Rattle.std.specs.List.{range_with_len}
 use Rattle.zk_mem.specs.declared.fault.Fault.{Fault}
 use Rattle.zk_mem.specs.Faults.{fault_number}
 use Rattle.zk_mem.specs.Header.{header_of}
 use Rattle.zk_mem.specs.Map.{MemoryMap, word_at}
 use Rattle.zk_term.specs.Numbers.{address_digits, word_digits}
+use Rattle.zk_inspect.specs.declared.fact.Fact.{Fact}
+use Rattle.zk_inspect.specs.declared.fact.Fact.TheVariants.{Global}
 
 -- where the value of a global variable stands, counted from 0 (section 6.2)
 abbrev pub global_place : MemoryMap → ℕ → ℕ
@@ -22,10 +24,10 @@ global_name n = codes "g" ++ decimal n
 
 -- the line of a global variable: its name, the address of its value, and the value
 unfoldable pub global_line : MemoryMap → ℕ → List ℕ
-global_line m n = global_name n ++ codes " " ++ address_digits (global_place m n) ++ codes " " ++ word_text (word_at m (global_place m n)) ++ codes "\n"
+global_line m n = global_name n ++ codes " " ++ address_digits (global_place m n) ++ codes " " ++ word_text (word_at m (global_place m n))
 
--- a line for each of the 240, where the header names a table
-unfoldable pub global_lines : MemoryMap → List ℕ
-global_lines m =
+-- each of the 240, where the header names a table
+unfoldable pub global_facts : MemoryMap → List Fact
+global_facts m =
     if (header_of m.file).globals == 0 then []
-    else flat_map (global_line m) (range_with_len 0 240)
+    else map Global (range_with_len 0 240)

@@ -1,9 +1,13 @@
 -- What a header says, field by field (Standard, section 11.1). What a line looks like is zkit's choice.
 use Rattle.std.specs.Prelude.{ℕ, Bool, true, false, ◌&&◌, List, [], ◌∷◌, ◌++◌, map, length, nat_lt, codes, decimal, if◌then◌else◌}
-use Rattle.std.specs.List.{concat}
 use Rattle.zk_mem.specs.Checksum.{has_right_sum, stated_length}
 use Rattle.zk_mem.specs.Header.{header_of}
 use Rattle.zk_mem.specs.Map.{MemoryMap}
+use Rattle.zk_inspect.specs.Facts.{field_name}
+use Rattle.zk_inspect.specs.declared.fact.Fact.{Fact}
+use Rattle.zk_inspect.specs.declared.fact.Fact.TheVariants as fact
+use Rattle.zk_inspect.specs.declared.fact.Field.{Field}
+use Rattle.zk_inspect.specs.declared.fact.Field.TheVariants as field
 use Rattle.zk_inspect.specs.declared.listing.header_lines.Value.{Value}
 use Rattle.zk_inspect.specs.declared.listing.header_lines.Value.TheVariants.{Number, Address, Word, Byte, Serial, Checksum}
 use Rattle.zk_term.specs.Numbers.{address_digits, word_digits, byte_digits}
@@ -30,39 +34,43 @@ value_text (Byte b) = byte_digits b
 value_text (Serial bytes) = serial_shown bytes
 value_text (Checksum sum right) = word_digits sum ++ codes " " ++ sum_word right
 
--- the line of a field: its name, and what it says
-unfoldable pub field_line : List ℕ → Value → List ℕ
-field_line name value = name ++ codes " " ++ value_text value ++ codes "\n"
+-- what a field says; the length is the stated one, in bytes, and that of the file stands beside it
+abbrev pub value_of : MemoryMap → Field → Value
+value_of m field.Version = Number (header_of m.file).version
+value_of m field.Release = Number (header_of m.file).release
+value_of m field.Serial = Serial (header_of m.file).serial
+value_of m field.Length = Number (stated_length m.file)
+value_of m field.File = Number (length m.file)
+value_of m field.Checksum = Checksum (header_of m.file).checksum (has_right_sum m.file)
+value_of m field.Start = Address (header_of m.file).first_instruction
+value_of m field.High = Address (header_of m.file).high_memory
+value_of m field.Static = Address (header_of m.file).static_base
+value_of m field.Dictionary = Address (header_of m.file).dictionary
+value_of m field.Objects = Address (header_of m.file).objects
+value_of m field.Globals = Address (header_of m.file).globals
+value_of m field.Abbreviations = Address (header_of m.file).abbreviations
+value_of m field.Flags1 = Byte (header_of m.file).flags_1
+value_of m field.Flags2 = Word (header_of m.file).flags_2
+value_of m field.Alphabet = Address (header_of m.file).alphabet
+value_of m field.Extension = Address (header_of m.file).extension
 
--- the fields that every version has; the length is the stated one, in bytes, and that of the file stands beside it
-unfoldable pub common_lines : MemoryMap → List ℕ
-common_lines m =
-    let h = header_of m.file in
-    concat (
-    field_line (codes "version") (Number h.version)
-    ∷ field_line (codes "release") (Number h.release)
-    ∷ field_line (codes "serial") (Serial h.serial)
-    ∷ field_line (codes "length") (Number (stated_length m.file))
-    ∷ field_line (codes "file") (Number (length m.file))
-    ∷ field_line (codes "checksum") (Checksum h.checksum (has_right_sum m.file))
-    ∷ field_line (codes "start") (Address h.first_instruction)
-    ∷ field_line (codes "high") (Address h.high_memory)
-    ∷ field_line (codes "static") (Address h.static_base)
-    ∷ field_line (codes "dictionary") (Address h.dictionary)
-    ∷ field_line (codes "objects") (Address h.objects)
-    ∷ field_line (codes "globals") (Address h.globals)
-    ∷ field_line (codes "abbreviations") (Address h.abbreviations)
-    ∷ field_line (codes "flags1") (Byte h.flags_1)
-    ∷ field_line (codes "flags2") (Word h.flags_2)
-    ∷ [])
+-- the line of a field: its name, and what it says
+unfoldable pub field_line : MemoryMap → Field → List ℕ
+field_line m f = field_name f ++ codes " " ++ value_text (value_of m f)
+
+-- the fields that every version has
+abbrev pub common_fields : List Field
+common_fields =
+    field.Version ∷ field.Release ∷ field.Serial ∷ field.Length ∷ field.File ∷ field.Checksum ∷ field.Start ∷ field.High ∷ field.Static
+    ∷ field.Dictionary ∷ field.Objects ∷ field.Globals ∷ field.Abbreviations ∷ field.Flags1 ∷ field.Flags2 ∷ []
 
 -- the fields that versions from 5 on have
-unfoldable pub late_lines : MemoryMap → List ℕ
-late_lines m =
-    let h = header_of m.file in
-    if nat_lt h.version 5 then []
-    else concat (field_line (codes "alphabet") (Address h.alphabet) ∷ field_line (codes "extension") (Address h.extension) ∷ [])
+abbrev pub late_fields : List Field
+late_fields = field.Alphabet ∷ field.Extension ∷ []
 
--- a line for each field
-unfoldable pub header_lines : MemoryMap → List ℕ
-header_lines m = common_lines m ++ late_lines m
+unfoldable pub late_facts : MemoryMap → List Fact
+late_facts m = if nat_lt (header_of m.file).version 5 then [] else map fact.Field late_fields
+
+-- each field
+unfoldable pub header_facts : MemoryMap → List Fact
+header_facts m = map fact.Field common_fields ++ late_facts m

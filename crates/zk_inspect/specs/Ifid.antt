@@ -82,6 +82,6 @@ name_or None other = other
 abbrev pub ifid : List ℕ → List ℕ
 ifid file = name_or (own_name file) (header_name (header_of file))
 
--- the line that `info --ifid` shows
+-- the name by the file of a story
 unfoldable pub ifid_line : MemoryMap → List ℕ
-ifid_line m = ifid m.file ++ codes "\n"
+ifid_line m = ifid m.file

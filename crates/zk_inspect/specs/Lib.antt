@@ -1,3 +1,5 @@
+pub mod Sections
+pub mod Facts
 pub mod Lists
 pub mod Codes
 pub mod Beside
@@ -31,6 +33,9 @@ pub mod ObjectLines
 pub mod DictionaryLines
 pub mod TreeLines
 pub mod FindingLines
+pub mod Lines
+pub mod SectionFacts
+pub mod CodeFacts
 pub mod FindingLaws
 pub mod Examples
 pub mod ListExamples

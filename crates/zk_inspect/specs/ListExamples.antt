@@ -1,14 +1,15 @@
 -- Worked examples of lists of lines, of keys and of tests on objects. Their values come from the Standard and from the
 -- layout of the listings, by hand, and no definition made them.
-use Rattle.std.specs.Prelude.{◌≡◌, ℕ, List, [], ◌∷◌, ◌++◌, replicate, codes, true, false}
-use Rattle.std.specs.List.{concat, flat_map}
+use Rattle.std.specs.Prelude.{◌≡◌, ℕ, List, [], ◌∷◌, ◌++◌, map, replicate, codes, true, false}
+use Rattle.std.specs.List.{concat}
 use Rattle.zk_mem.specs.Map.{MemoryMap}
 use Rattle.zk_tables.specs.declared.dictionary.Dictionary.{Dictionary}
 use Rattle.zk_inspect.specs.declared.check.finding.Number.TheVariants.{Checksum, UndecodableCode, TargetOutOfTheStory}
 use Rattle.zk_inspect.specs.declared.objects.Question.TheVariants.{Links, Chain, Properties}
-use Rattle.zk_inspect.specs.AbbreviationLines.{abbreviation_lines}
-use Rattle.zk_inspect.specs.Examples.{listing_object, memory_by, memory_of}
-use Rattle.zk_inspect.specs.FindingLines.{finding_line}
+use Rattle.zk_inspect.specs.AbbreviationLines.{abbreviation_facts}
+use Rattle.zk_inspect.specs.Examples.{lines, listing_object, memory_by, memory_of}
+use Rattle.zk_inspect.specs.Lines.{lines_of}
+use Rattle.zk_inspect.specs.declared.fact.Fact.TheVariants.{Finding}
 use Rattle.zk_inspect.specs.Keys.{comes_before, key_in}
 use Rattle.zk_inspect.specs.ObjectLines.{object_line}
 use Rattle.zk_inspect.specs.ObjectTests.{answer, leads_past}
@@ -16,8 +17,8 @@ use Rattle.zk_inspect.specs.ObjectTests.{answer, leads_past}
 -- a line for each finding, in the order of the list
 abbrev pub FindingsAreLines : Type 0
 FindingsAreLines =
-    (flat_map finding_line (record { number = UndecodableCode; address = 0x41 } ∷ record { number = Checksum; address = 0x1c } ∷ record { number = TargetOutOfTheStory; address = 0x40 } ∷ []) ≡ codes "C10 00041 undecodable code\nC1 0001c checksum\nC11 00040 target out of the story\n")
-    × (flat_map finding_line [] ≡ [])
+    (lines_of false (memory_of 3 []) (map Finding (record { number = UndecodableCode; address = 0x41 } ∷ record { number = Checksum; address = 0x1c } ∷ record { number = TargetOutOfTheStory; address = 0x40 } ∷ [])) ≡ codes "C10 00041 undecodable code\nC1 0001c checksum\nC11 00040 target out of the story\n")
+    × (lines_of false (memory_of 3 []) [] ≡ [])
 
 -- a table of abbreviations at 6: the first 48 are the text of an `a` at 0, 47 that of a `b` at 2, and the last that of a `c`
 abbrev pub abbreviated : MemoryMap
@@ -27,7 +28,7 @@ abbreviated =
 -- 96 lines, in the order of the table (section 3.3)
 abbrev pub AllAbbreviationsAreLines : Type 0
 AllAbbreviationsAreLines =
-    (abbreviation_lines abbreviated ≡ codes "0 \"a\"\n1 \"a\"\n2 \"a\"\n3 \"a\"\n4 \"a\"\n5 \"a\"\n6 \"a\"\n7 \"a\"\n8 \"a\"\n9 \"a\"\n10 \"a\"\n11 \"a\"\n12 \"a\"\n13 \"a\"\n14 \"a\"\n15 \"a\"\n16 \"a\"\n17 \"a\"\n18 \"a\"\n19 \"a\"\n20 \"a\"\n21 \"a\"\n22 \"a\"\n23 \"a\"\n24 \"a\"\n25 \"a\"\n26 \"a\"\n27 \"a\"\n28 \"a\"\n29 \"a\"\n30 \"a\"\n31 \"a\"\n32 \"a\"\n33 \"a\"\n34 \"a\"\n35 \"a\"\n36 \"a\"\n37 \"a\"\n38 \"a\"\n39 \"a\"\n40 \"a\"\n41 \"a\"\n42 \"a\"\n43 \"a\"\n44 \"a\"\n45 \"a\"\n46 \"a\"\n47 \"a\"\n48 \"b\"\n49 \"b\"\n50 \"b\"\n51 \"b\"\n52 \"b\"\n53 \"b\"\n54 \"b\"\n55 \"b\"\n56 \"b\"\n57 \"b\"\n58 \"b\"\n59 \"b\"\n60 \"b\"\n61 \"b\"\n62 \"b\"\n63 \"b\"\n64 \"b\"\n65 \"b\"\n66 \"b\"\n67 \"b\"\n68 \"b\"\n69 \"b\"\n70 \"b\"\n71 \"b\"\n72 \"b\"\n73 \"b\"\n74 \"b\"\n75 \"b\"\n76 \"b\"\n77 \"b\"\n78 \"b\"\n79 \"b\"\n80 \"b\"\n81 \"b\"\n82 \"b\"\n83 \"b\"\n84 \"b\"\n85 \"b\"\n86 \"b\"\n87 \"b\"\n88 \"b\"\n89 \"b\"\n90 \"b\"\n91 \"b\"\n92 \"b\"\n93 \"b\"\n94 \"b\"\n95 \"c\"\n")
+    (lines abbreviated abbreviation_facts ≡ codes "0 \"a\"\n1 \"a\"\n2 \"a\"\n3 \"a\"\n4 \"a\"\n5 \"a\"\n6 \"a\"\n7 \"a\"\n8 \"a\"\n9 \"a\"\n10 \"a\"\n11 \"a\"\n12 \"a\"\n13 \"a\"\n14 \"a\"\n15 \"a\"\n16 \"a\"\n17 \"a\"\n18 \"a\"\n19 \"a\"\n20 \"a\"\n21 \"a\"\n22 \"a\"\n23 \"a\"\n24 \"a\"\n25 \"a\"\n26 \"a\"\n27 \"a\"\n28 \"a\"\n29 \"a\"\n30 \"a\"\n31 \"a\"\n32 \"a\"\n33 \"a\"\n34 \"a\"\n35 \"a\"\n36 \"a\"\n37 \"a\"\n38 \"a\"\n39 \"a\"\n40 \"a\"\n41 \"a\"\n42 \"a\"\n43 \"a\"\n44 \"a\"\n45 \"a\"\n46 \"a\"\n47 \"a\"\n48 \"b\"\n49 \"b\"\n50 \"b\"\n51 \"b\"\n52 \"b\"\n53 \"b\"\n54 \"b\"\n55 \"b\"\n56 \"b\"\n57 \"b\"\n58 \"b\"\n59 \"b\"\n60 \"b\"\n61 \"b\"\n62 \"b\"\n63 \"b\"\n64 \"b\"\n65 \"b\"\n66 \"b\"\n67 \"b\"\n68 \"b\"\n69 \"b\"\n70 \"b\"\n71 \"b\"\n72 \"b\"\n73 \"b\"\n74 \"b\"\n75 \"b\"\n76 \"b\"\n77 \"b\"\n78 \"b\"\n79 \"b\"\n80 \"b\"\n81 \"b\"\n82 \"b\"\n83 \"b\"\n84 \"b\"\n85 \"b\"\n86 \"b\"\n87 \"b\"\n88 \"b\"\n89 \"b\"\n90 \"b\"\n91 \"b\"\n92 \"b\"\n93 \"b\"\n94 \"b\"\n95 \"c\"\n")
 
 -- bytes are compared from the first on, without a sign, and a first part comes before the whole (section 13.5)
 abbrev pub KeysAreInOrder : Type 0
@@ -88,4 +89,4 @@ QuestionsOnObjects =
 -- a property's size is one byte, or two where the top bit is set, and then a length of 0 is 64 (sections 12.3.2 and 12.4.2)
 abbrev pub LateObjectsAreLines : Type 0
 LateObjectsAreLines =
-    (object_line (memory_by 5 (replicate 10 0 ++ 0 ∷ 4 ∷ []) (replicate 130 0 ++ 0x80 ∷ 0 ∷ 0 ∷ 0 ∷ 0x80 ∷ 1 ∷ 1 ∷ 2 ∷ 0 ∷ 3 ∷ 1 ∷ 0 ∷ 0 ∷ 144 ∷ 1 ∷ 0x98 ∷ 0xa5 ∷ 0xbf ∷ 0x80 ∷ replicate 64 0 ++ 0x94 ∷ 0x83 ∷ 1 ∷ 2 ∷ 3 ∷ 0x45 ∷ 1 ∷ 2 ∷ 0x04 ∷ 1 ∷ 0 ∷ [])) 1 ≡ codes "1 \"a\" parent 258 sibling 3 child 256 attributes 0,32,47 properties 63:64,20:3,5:2,4:1\n")
+    (object_line (memory_by 5 (replicate 10 0 ++ 0 ∷ 4 ∷ []) (replicate 130 0 ++ 0x80 ∷ 0 ∷ 0 ∷ 0 ∷ 0x80 ∷ 1 ∷ 1 ∷ 2 ∷ 0 ∷ 3 ∷ 1 ∷ 0 ∷ 0 ∷ 144 ∷ 1 ∷ 0x98 ∷ 0xa5 ∷ 0xbf ∷ 0x80 ∷ replicate 64 0 ++ 0x94 ∷ 0x83 ∷ 1 ∷ 2 ∷ 3 ∷ 0x45 ∷ 1 ∷ 2 ∷ 0x04 ∷ 1 ∷ 0 ∷ [])) 1 ≡ codes "1 \"a\" parent 258 sibling 3 child 256 attributes 0,32,47 properties 63:64,20:3,5:2,4:1")

@@ -23,6 +23,8 @@ use Rattle.zk_code.specs.Reach.{is_jump, jump_address}
 use Rattle.zk_code.specs.Reading.{instr_at}
 use Rattle.zk_code.specs.Routines.{count_at}
 use Rattle.zk_code.specs.Table.{name_of}
+use Rattle.zk_inspect.specs.declared.fact.Fact.{Fact}
+use Rattle.zk_inspect.specs.declared.fact.Fact.TheVariants as fact
 use Rattle.zk_inspect.specs.declared.reach.code.Code.{Code}
 use Rattle.zk_inspect.specs.declared.whole.Whole.{Whole}
 use Rattle.zk_term.specs.Numbers.{address_digits, word_digits, byte_digits}
@@ -124,24 +126,24 @@ found_text m (Err f) = codes "?"
 
 -- the line of an address
 unfoldable pub address_line : MemoryMap → ℕ → List ℕ
-address_line m a = address_digits a ++ codes " " ++ found_text m (instr_at m a) ++ codes "\n"
+address_line m a = address_digits a ++ codes " " ++ found_text m (instr_at m a)
 
--- a routine, with the count of its local variables (section 5.2)
-unfoldable pub routine_text : MemoryMap → ℕ → List ℕ
-routine_text m r = codes "routine " ++ address_digits r ++ codes " locals " ++ decimal (unwrap_or (count_at m r) 0)
-
--- the line of a routine
+-- the line of a routine, with the count of its local variables (section 5.2)
 unfoldable pub routine_line : MemoryMap → ℕ → List ℕ
-routine_line m r = routine_text m r ++ codes "\n"
-
--- a line for each address, then one for each routine
-unfoldable pub disassembly : MemoryMap → Code → List ℕ
-disassembly m code = flat_map (address_line m) code.addresses ++ flat_map (routine_line m) code.routines
+routine_line m r = codes "routine " ++ address_digits r ++ codes " locals " ++ decimal (unwrap_or (count_at m r) 0)
 
 -- the line of a routine, with whether it is reached, or lies beside
-unfoldable pub origin_line : MemoryMap → List Bool → ℕ → List ℕ
-origin_line m reached r = routine_text m r ++ (if get_or reached r false then codes " reached\n" else codes " beside\n")
+unfoldable pub origin_line : MemoryMap → ℕ → Bool → List ℕ
+origin_line m r reached = routine_line m r ++ (if reached then codes " reached" else codes " beside")
 
--- the same lines of a whole story
-unfoldable pub whole_disassembly : MemoryMap → Whole → List ℕ
-whole_disassembly m w = flat_map (address_line m) w.code.addresses ++ flat_map (origin_line m w.reached) w.code.routines
+-- each address, then each routine
+unfoldable pub code_facts : Code → List Fact
+code_facts code = map fact.Instruction code.addresses ++ map fact.Routine code.routines
+
+-- a routine of a whole story
+abbrev pub lying_routine : List Bool → ℕ → Fact
+lying_routine reached r = fact.LyingRoutine r (get_or reached r false)
+
+-- the same of a whole story
+unfoldable pub whole_facts : Whole → List Fact
+whole_facts w = map fact.Instruction w.code.addresses ++ map (lying_routine w.reached) w.code.routines

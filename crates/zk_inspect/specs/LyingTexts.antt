@@ -1,7 +1,7 @@
 -- The texts that lie in a story one after another, and their lines (Standard, sections 1.2.3, 3.2 and 15). What a line looks like
 -- is zkit's choice.
-use Rattle.std.specs.Prelude.{◌≡◌, ◌⊎◌, ◌<◌, ℕ, ◌-◌, ◌/◌, length, get_or, Bool, true, false, List, ◌++◌, Option, Some, None, codes, if◌then◌else◌}
-use Rattle.std.specs.List.{Contains, flat_map}
+use Rattle.std.specs.Prelude.{◌≡◌, ◌⊎◌, ◌<◌, ℕ, ◌-◌, ◌/◌, length, get_or, Bool, true, false, List, [], ◌++◌, map, Option, Some, None, codes, if◌then◌else◌}
+use Rattle.std.specs.List.{Contains}
 use Rattle.zk_mem.specs.Header.{unit_length}
 use Rattle.zk_mem.specs.Map.{MemoryMap}
 use Rattle.zk_mem.specs.Words.{text_end_at}
@@ -14,11 +14,15 @@ use Rattle.zk_code.specs.declared.opcode.Printing.TheVariants.{PrintPaddr}
 use Rattle.zk_code.specs.Extent.{IsExtent, next_packed}
 use Rattle.zk_code.specs.Grammar.{IsInstruction}
 use Rattle.zk_code.specs.Routines.{code_start}
+use Rattle.zk_inspect.specs.Beside.{IsWhole}
 use Rattle.zk_inspect.specs.declared.reach.code.Code.{Code}
+use Rattle.zk_inspect.specs.declared.whole.Whole.{Whole}
 use Rattle.zk_inspect.specs.Listing.{units_text}
-use Rattle.zk_inspect.specs.Lists.{IsAmong}
+use Rattle.zk_inspect.specs.Lists.{IsAmong, IsListOf}
 use Rattle.zk_inspect.specs.Texts.{constant_text}
 use Rattle.zk_term.specs.Numbers.{address_digits, word_digits}
+use Rattle.zk_inspect.specs.declared.fact.Fact.{Fact}
+use Rattle.zk_inspect.specs.declared.fact.Fact.TheVariants.{Text}
 
 -- whether an operation is `print_paddr`
 abbrev pub prints_packed : PrintingOperation → Bool
@@ -72,8 +76,12 @@ packed_constant m t = codes "#" ++ word_digits (t / unit_length m.version)
 
 -- the line of a text: its byte address, its packed address, and what it prints
 unfoldable pub text_line : MemoryMap → ℕ → List ℕ
-text_line m t = address_digits t ++ codes " " ++ packed_constant m t ++ codes " " ++ units_text m (text_units m t) ++ codes "\n"
+text_line m t = address_digits t ++ codes " " ++ packed_constant m t ++ codes " " ++ units_text m (text_units m t)
 
--- a line for each of some texts
-unfoldable pub text_lines : MemoryMap → List ℕ → List ℕ
-text_lines m = flat_map (text_line m)
+-- the texts that lie in a story by its code and the routines that lie beside
+pub record AreTextFacts (m : MemoryMap) (facts : List Fact) : Type 0 where
+  pub code : Whole
+  pub code_is : IsWhole m [] [] code
+  pub texts : List ℕ
+  pub texts_are : IsListOf (LiesText m code.code) texts
+  pub are : facts ≡ map Text texts

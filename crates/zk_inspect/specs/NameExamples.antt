@@ -25,4 +25,4 @@ NamesByHeaders =
     × (header_name (header_with 1 (codes "000000") 0x1234) ≡ codes "ZCODE-1-000000")
     × (header_name (header_with 1 (codes "000001") 0xa) ≡ codes "ZCODE-1-000001-000A")
     × (header_name (header_with 2 (codes "A9/:01") 0x1234) ≡ codes "ZCODE-2-A9--01")
-    × (ifid_line (memory_by 5 (file_of 5) []) ≡ codes "ZCODE-258-261-2--000F\n")
+    × (ifid_line (memory_by 5 (file_of 5) []) ≡ codes "ZCODE-258-261-2--000F")

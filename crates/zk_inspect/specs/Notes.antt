@@ -25,12 +25,10 @@ use Rattle.zk_code.specs.Reading.{instr_at}
 use Rattle.zk_code.specs.Routines.{count_at}
 use Rattle.zk_tables.specs.Properties.{name_of}
 use Rattle.zk_term.specs.Numbers.{address_digits}
-use Rattle.zk_inspect.specs.declared.reach.code.Code.{Code}
 use Rattle.zk_inspect.specs.declared.reach.notes.Meaning.{Meaning}
 use Rattle.zk_inspect.specs.declared.reach.notes.Meaning.TheVariants.{Number, Routine, PackedText, Text, Object}
-use Rattle.zk_inspect.specs.declared.whole.Whole.{Whole}
 use Rattle.zk_inspect.specs.GlobalLines.{global_place}
-use Rattle.zk_inspect.specs.Listing.{instruction_text, names_variable, origin_line, quoted_bytes, routine_line}
+use Rattle.zk_inspect.specs.Listing.{instruction_text, names_variable, quoted_bytes}
 use Rattle.zk_inspect.specs.ObjectLines.{name_text}
 
 -- ---- what a constant stands for (section 15)
@@ -145,12 +143,4 @@ noted_text m (Err f) = codes "?"
 
 -- the line of an address, with notes
 unfoldable pub noted_line : MemoryMap → ℕ → List ℕ
-noted_line m a = address_digits a ++ codes " " ++ noted_text m (instr_at m a) ++ codes "\n"
-
--- a line for each address, then one for each routine
-unfoldable pub noted_disassembly : MemoryMap → Code → List ℕ
-noted_disassembly m code = flat_map (noted_line m) code.addresses ++ flat_map (routine_line m) code.routines
-
--- the same lines of a whole story
-unfoldable pub noted_whole : MemoryMap → Whole → List ℕ
-noted_whole m w = flat_map (noted_line m) w.code.addresses ++ flat_map (origin_line m w.reached) w.code.routines
+noted_line m a = address_digits a ++ codes " " ++ noted_text m (instr_at m a)

@@ -1,5 +1,5 @@
 -- What is said of an object (Standard, sections 12.3 and 12.4). What a line looks like is zkit's choice.
-use Rattle.std.specs.Prelude.{◌≡◌, ℕ, Bool, false, List, [], ◌∷◌, ◌++◌, Option, Some, None, Result, Ok, Err, codes, decimal}
+use Rattle.std.specs.Prelude.{◌≡◌, ℕ, Bool, false, List, [], ◌∷◌, ◌++◌, map, Option, Some, None, Result, Ok, Err, codes, decimal}
 use Rattle.std.specs.List.{filter, flat_map, range_with_len}
 use Rattle.zk_mem.specs.declared.fault.Fault.{Fault}
 use Rattle.zk_mem.specs.Faults.{fault_number}
@@ -10,6 +10,8 @@ use Rattle.zk_tables.specs.Links.{link_at, parent_of, sibling_of, child_of}
 use Rattle.zk_tables.specs.Properties.{name_of, properties_of}
 use Rattle.zk_tables.specs.declared.lists.Property.{Property}
 use Rattle.zk_inspect.specs.Listing.{units_text}
+use Rattle.zk_inspect.specs.declared.fact.Fact.{Fact}
+use Rattle.zk_inspect.specs.declared.fact.Fact.TheVariants.{Object}
 use Rattle.zk_inspect.specs.ObjectTests.{IsCounted}
 
 -- the short name, nothing between quotes where there is none or its table can't be read
@@ -68,10 +70,9 @@ object_line m o =
     label_text m o ++ links_text m o
     ++ (codes " attributes " ++ separated decimal (attributes_of m o))
     ++ (codes " properties " ++ properties_text (properties_of m o))
-    ++ codes "\n"
 
--- the lines of the objects that are counted, from 1 on
-pub record AreObjectLines (m : MemoryMap) (text : List ℕ) : Type 0 where
+-- the objects that are counted, from 1 on
+pub record AreObjectFacts (m : MemoryMap) (facts : List Fact) : Type 0 where
   pub count : ℕ
   pub counted : IsCounted m count
-  pub lines : text ≡ flat_map (object_line m) (range_with_len 1 count)
+  pub are : facts ≡ map Object (range_with_len 1 count)

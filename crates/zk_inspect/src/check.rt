@@ -18,7 +18,7 @@ pub(crate) mod siblings;
 pub(crate) mod text_faults;
 pub(crate) mod texts;
 
-use crate::check::finding::{Finding, Number};
+use crate::check::finding::{Finding, NUMBERS, Number};
 use crate::check::keys::{find_bad_dictionary, find_unordered};
 use crate::check::text_faults::{FailingTexts, find_nested, find_past_end, list_failing};
 use crate::check::texts::mark_all_texts;
@@ -326,22 +326,6 @@ fn add_all(
     }
     Ok(())
 }
-
-/// All kinds of findings, in the order of their numbers.
-const NUMBERS: [Number; 12] = [
-    Number::Checksum,
-    Number::Length,
-    Number::DictionaryOrder,
-    Number::DictionaryExtent,
-    Number::ObjectLinks,
-    Number::ChainWithARepeat,
-    Number::PropertyList,
-    Number::TextPastTheEnd,
-    Number::NestedAbbreviation,
-    Number::UndecodableCode,
-    Number::TargetOutOfTheStory,
-    Number::CodeBelowTheStaticBase,
-];
 
 /// All findings, from the parts of the story.
 fn find_all(alloc: Global, memory: &Memory, parts: &Parts) -> Result<Vec<Finding>, AllocError>

@@ -2,11 +2,13 @@
 #![tactic(auto)]
 
 pub mod check;
-pub mod error;
 pub mod examples;
+pub mod fact;
 pub mod laws;
 pub mod listing;
 mod objects;
+pub mod plain_text;
 pub mod reach;
+pub mod section;
 pub mod texts;
 pub mod whole;

@@ -1,21 +1,21 @@
 // The texts that lie in a story.
 
-ghost use Rattle.std.specs.Prelude.{◌≡◌, ◌≢◌, ◌⊎◌, ◌↔◌, ◌≤◌, ◌<◌, ◌+◌, ◌++◌, ◌/◌, ◌||◌, ℕ, [], true, None, Some, IfOk, IfSome, IfErr, OnErr, OnOk, is_err, length, codes};
-ghost use Rattle.std.specs.List.{Contains, flat_map};
-ghost use Rattle.std.specs.Io.KnownBytes.{Appends};
+ghost use Rattle.std.specs.Prelude.{◌≡◌, ◌≢◌, ◌⊎◌, ◌↔◌, ◌≤◌, ◌<◌, ◌+◌, ◌++◌, ◌/◌, ℕ, [], true, None, Some, IfOk, IfSome, is_err, length, map};
+ghost use Rattle.std.specs.List.{Contains};
 ghost use Rattle.zk_mem.specs.Header.{unit_length};
 ghost use Rattle.zk_mem.specs.Words.{text_end_at};
 ghost use Rattle.zk_code.specs.Ends.{KnowsEnds};
+ghost use Rattle.zk_inspect.specs.Facts.{AreNone, GaveBy};
 ghost use Rattle.zk_inspect.specs.Lists.{IsAmong, IsListOf, IsMarked};
-ghost use Rattle.zk_inspect.specs.LyingTexts.{IsAfterLast, IsNextText, IsPrintedBy, IsText, LiesText, PrintsText, packed_constant, packed_text, prints_packed, takes_packed, text_line, text_lines};
-ghost use Rattle.zk_term.specs.Devices.{TookPart};
+ghost use Rattle.zk_inspect.specs.LyingTexts.{AreTextFacts, IsAfterLast, IsNextText, IsPrintedBy, IsText, LiesText, PrintsText, packed_constant, packed_text, prints_packed, takes_packed, text_line};
 ghost use Rattle.zk_term.specs.Numbers.{word_digits};
 
 use crate::check::texts::constant_text;
-use crate::error::ListError;
+use crate::fact::{Fact, FactWriter};
 use crate::listing::quoting::write_quoted;
 use crate::reach::address_set::{AddressSet, unmarked};
 use crate::reach::code::{Addresses, Code};
+use crate::whole::find_whole;
 use std::alloc::{AllocError, Global};
 use zk_code::decode::decode_by;
 use zk_code::ends::TextEnds;
@@ -25,8 +25,7 @@ use zk_code::opcode::{Opcode, Printing};
 use zk_code::routines::code_start;
 use zk_mem::header::unpack;
 use zk_mem::memory::Memory;
-use zk_term::line_writer::{LineWriter, TargetWriter};
-use zk_term::target::{Failed, Target};
+use zk_term::line_writer::LineWriter;
 use zk_term::writing::{hex_digits_of, write_address, write_texts};
 
 /// The byte address of the text that an instruction prints by a packed address, where that is a constant.
@@ -156,9 +155,9 @@ pub fn find_texts(alloc: Global, memory: &Memory, code: &Code) -> Result<Address
     marks.list(alloc)
 }
 
-/// The packed address that stands for a byte address, or for the one below it that has one.
+/// The packed address that stands for a byte address, or for the one below it that has one (Standard, section 1.2.3).
 #[tactic(auto, unfolding(zk_mem::specs::Header::unit_length))]
-fn packed(memory: &Memory, address: u32) -> u32
+pub fn packed(memory: &Memory, address: u32) -> u32
     ensures { result ≡ address / unit_length memory.now.version }
 {
     address / unpack(memory.version(), 1)
@@ -174,8 +173,9 @@ fn write_packed<P: LineWriter>(writer: &mut P, memory: &Memory, address: u32)
     write_texts(writer, &[b"#", shown]);
 }
 
-/// Writes the line of a text.
-fn write_text_line<P: LineWriter>(writer: &mut P, memory: &Memory, address: u32)
+/// Writes the line of a text: its byte address, its packed address as a constant, and what it prints, between quotes, or `!` and
+/// the fault where it prints nothing.
+pub(crate) fn write_text_line<P: LineWriter>(writer: &mut P, memory: &Memory, address: u32)
     ensures { P.wrote writer.old writer.new (text_line memory.now address) }
 {
     write_address(writer, b"", address);
@@ -183,38 +183,27 @@ fn write_text_line<P: LineWriter>(writer: &mut P, memory: &Memory, address: u32)
     write_packed(writer, memory, address);
     writer.write(b" ");
     write_quoted(writer, memory, address);
-    writer.write(b"\n");
 }
 
-/// Writes the lines of texts.
-#[tactic(auto, unfolding(crate::specs::LyingTexts::text_lines))]
-fn write_text_lines<P: LineWriter>(writer: &mut P, memory: &Memory, addresses: &[u32])
-    ensures { P.wrote writer.old writer.new (text_lines memory.now addresses.now) }
+/// Gives texts.
+fn list_each_text<F: FactWriter>(facts: &mut F, addresses: &[u32])
+    ensures { F.wrote facts.old facts.new (map Fact.Text addresses.now) }
 {
     for address in addresses {
-        write_text_line(writer, memory, *address);
+        facts.write(Fact::Text(*address));
     }
 }
 
-/// Writes a line for each text, whose addresses `find_texts` gave: its byte address, its packed address as a constant, and what
-/// it prints, between quotes as `disassemble` shows texts, or `!` and the fault where it prints nothing. Or, where a write fails,
-/// it writes a first part of that, and refuses.
-pub fn list_texts<T: Target>(
+/// Gives the texts that lie in a story. It gives nothing where it is refused, for lack of memory.
+pub(crate) fn list_texts<F: FactWriter>(
+    alloc: Global,
     memory: &Memory,
-    texts: &Addresses,
-    target: &mut T,
-) -> Result<(), ListError>
-    ensures all { OnOk result
-        (Appends (T.taken target.old) (T.taken target.new) (text_lines memory.now texts.now)) }
-    ensures part { OnErr result
-        (TookPart (T.taken target.old) (T.taken target.new) (text_lines memory.now texts.now)) }
-    ensures failed { T.failed target.new ≡ (is_err result || T.failed target.old) }
-    ensures refusal { IfErr result (λ e. e ≡ ListError.Write) }
+    facts: &mut F,
+) -> Result<(), AllocError>
+    ensures { GaveBy (is_err result) (AreTextFacts memory.now) AreNone F.wrote facts.old facts.new }
 {
-    let mut writer = TargetWriter::new(target);
-    write_text_lines(&mut writer, memory, texts.as_slice());
-    match writer.finish() {
-        Ok(()) => Ok(()),
-        Err(Failed) => Err(ListError::Write),
-    }
+    let whole = find_whole(alloc, memory, &[], &[])?;
+    let texts = find_texts(alloc, memory, &whole.code)?;
+    list_each_text(facts, texts.as_slice());
+    Ok(())
 }

@@ -3,3 +3,4 @@ pub mod LineLoops
 pub mod Covered
 pub mod Unions
 pub mod Versions
+pub mod Collecting

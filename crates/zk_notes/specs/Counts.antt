@@ -1,20 +1,19 @@
 -- Findings, counted by their kinds.
-use Rattle.std.specs.Prelude.{ℕ, ◌==◌, ◌-◌, ◌^◌, Bool, false, List, min, is_some, Option, Some, None}
-use Rattle.zk_facts.specs.Words.{first_word}
-use Rattle.zk_notes.specs.Kinds.{number_of}
+use Rattle.std.specs.Prelude.{ℕ, ◌-◌, ◌^◌, ◌==◌, Bool, true, false, min}
+use Rattle.zk_inspect.specs.FindingLines.{finding_number}
+use Rattle.zk_inspect.specs.declared.fact.Fact.{Fact}
+use Rattle.zk_inspect.specs.declared.fact.Fact.TheVariants as fact
 
 -- a count stays at the greatest number of 64 bits
 abbrev pub capped : ℕ → ℕ
 capped n = min n (2 ^ 64 - 1)
 
-abbrev pub is_number : ℕ → Option ℕ → Bool
-is_number n None = false
-is_number n (Some kind) = kind == n
+-- a fact is a finding of the kind of a number
+abbrev pub is_of : ℕ → Fact → Bool
+is_of n (fact.Finding f) = finding_number f.number == n
+is_of n _ = false
 
--- a line has a finding of the kind of a number
-abbrev pub is_of : ℕ → List ℕ → Bool
-is_of n line = is_number n (number_of (first_word line))
-
--- a line has a finding
-abbrev pub is_finding : List ℕ → Bool
-is_finding line = is_some (number_of (first_word line))
+-- a fact is a finding
+abbrev pub is_finding : Fact → Bool
+is_finding (fact.Finding f) = true
+is_finding _ = false

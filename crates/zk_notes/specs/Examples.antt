@@ -1,13 +1,18 @@
 -- Worked examples of findings, counts and marks, by hand.
-use Rattle.std.specs.Prelude.{◌≡◌, ◌-◌, ◌^◌, true, false, ℕ, List, [], ◌∷◌, ◌++◌, codes, count_by, Some, None}
-use Rattle.std.specs.List.{filter_map, flat_map, list_any}
+use Rattle.std.specs.Prelude.{◌≡◌, ◌-◌, ◌^◌, true, false, ℕ, List, [], ◌∷◌, ◌++◌, map, replicate, codes, count_by, Some, None}
+use Rattle.std.specs.List.{filter_map, list_any}
 use Rattle.std.specs.Str.Lines.{lines}
+use Rattle.zk_mem.specs.Map.{MemoryMap}
+use Rattle.zk_inspect.specs.declared.check.finding.Number.{Number}
+use Rattle.zk_inspect.specs.declared.check.finding.Number.TheVariants as number
+use Rattle.zk_inspect.specs.declared.fact.Fact.{Fact}
+use Rattle.zk_inspect.specs.declared.fact.Fact.TheVariants as fact
+use Rattle.zk_inspect.specs.declared.section.Section.TheVariants as section
 use Rattle.zk_notes.specs.Addresses.{address_of}
 use Rattle.zk_notes.specs.Compilers.{compiler_of}
 use Rattle.zk_notes.specs.Counts.{capped, is_finding, is_of}
-use Rattle.zk_notes.specs.Findings.{explained, object_words}
-use Rattle.zk_notes.specs.Kinds.{number_of}
-use Rattle.zk_notes.specs.Marks.{marked_lines}
+use Rattle.zk_notes.specs.Findings.{explained}
+use Rattle.zk_notes.specs.Marks.{fact_ran, instructions_in, marked_line, routines_in, summary_of}
 use Rattle.zk_notes.specs.Union.{address_on, is_no_address}
 
 -- five hexadecimal digits are an address, four and other signs are none, and 32 bits hold no more
@@ -30,16 +35,24 @@ ListsAreRead =
     × (list_any is_no_address two_lists ≡ false)
     × (list_any is_no_address (lines (codes "01234 x")) ≡ true)
 
-abbrev pub findings : List (List ℕ)
-findings = lines (codes "C1 0001c checksum\nC12 01234 x\nC13 01234 x\nC1 0001c\n")
+-- a story of version 3 whose object table is at 0: the entry of object 2 is at 71
+abbrev pub story : MemoryMap
+story = record { version = 3; static_base = 0; bytes = []; file = 3 ∷ replicate 63 0; undo_states = 0 }
 
--- a line with a kind gets a note, and another stays as it is
+abbrev pub found : Number → ℕ → Fact
+found n a = fact.Finding (record { number = n; address = a })
+
+-- a finding gets a note, which names an object where it is about one, and another fact stays as it is
 abbrev pub FindingsAreExplained : Type 0
 FindingsAreExplained =
-    (flat_map explained findings ≡ codes "C1 0001c checksum  ; the sum of the file's bytes is not the checksum that its header states\nC12 01234 x  ; this instruction has a byte below the static base, or calls an address that lies there\nC13 01234 x\nC1 0001c  ; the sum of the file's bytes is not the checksum that its header states\n")
-    × (number_of (codes "C05") ≡ None)
-    × (object_words (Some 12) ≡ codes "object 12: ")
-    × (object_words None ≡ [])
+    (explained story (found number.Checksum 0x1c) ≡ codes "C1 0001c checksum  ; the sum of the file's bytes is not the checksum that its header states\n")
+    × (explained story (found number.ChainWithARepeat 71) ≡ codes "C6 00047 chain with a repeat  ; object 2: the child list of this object is circular\n")
+    × (explained story (found number.ChainWithARepeat 72) ≡ codes "C6 00048 chain with a repeat  ; the child list of this object is circular\n")
+    × (explained story (found number.NestedAbbreviation 71) ≡ codes "C9 00047 nested abbreviation  ; an abbreviation of this text uses an abbreviation\n")
+    × (explained story (fact.Title section.Map) ≡ codes "[map]\n")
+
+abbrev pub findings : List Fact
+findings = found number.Checksum 0x1c ∷ found number.CodeBelowTheStaticBase 0x1234 ∷ fact.Instruction 1 ∷ found number.Checksum 0x1c ∷ []
 
 abbrev pub FindingsAreCounted : Type 0
 FindingsAreCounted =
@@ -47,16 +60,28 @@ FindingsAreCounted =
     × (count_by (is_of 12) findings ≡ 1)
     × (count_by (is_of 2) findings ≡ 0)
     × (list_any is_finding findings ≡ true)
-    × (list_any is_finding (lines (codes "C13 x\nC\n")) ≡ false)
+    × (list_any is_finding (fact.Ifid ∷ fact.Instruction 1 ∷ []) ≡ false)
     × (capped (2 ^ 64 - 1) ≡ 2 ^ 64 - 1)
     × (capped (2 ^ 64) ≡ 2 ^ 64 - 1)
 
--- 01000 has its first instruction at 01001, which ran; 01010 has none before 01020, whose first did not run, nor has 01021
--- before 01030, which is the last and whose first ran
+-- 1000 has its first instruction at 1001, which ran; 1010 has none before 1020, whose first did not run, nor has 1021 before
+-- 1030, which is the last and whose first ran
+abbrev pub code : List Fact
+code =
+    map fact.Instruction (0x1001 ∷ 0x1021 ∷ 0x1031 ∷ []) ++ map fact.Routine (0x1000 ∷ 0x1010 ∷ [])
+    ++ fact.LyingRoutine 0x1020 true ∷ fact.LyingRoutine 0x1021 false ∷ fact.Routine 0x1030 ∷ []
+
+abbrev pub FactsAreMarked : Type 0
+FactsAreMarked =
+    map (fact_ran (0x1001 ∷ 0x1031 ∷ 0x2000 ∷ []) (instructions_in code) (routines_in code)) code
+    ≡ true ∷ false ∷ true ∷ true ∷ false ∷ false ∷ false ∷ true ∷ []
+
+-- a plus before what ran, and how much that is
 abbrev pub LinesAreMarked : Type 0
 LinesAreMarked =
-    marked_lines (4097 ∷ 4145 ∷ 8192 ∷ []) (lines (codes "01001 rtrue\n01021 rtrue\n01031 rfalse\n\nroutine 01000\nroutine 01010\nroutine 01020\nroutine 01021\nroutine 01030"))
-    ≡ codes "+ 01001 rtrue\n  01021 rtrue\n+ 01031 rfalse\n  \n+ routine 01000\n  routine 01010\n  routine 01020\n  routine 01021\n+ routine 01030\n"
+    (marked_line true (codes "00001 quit") ≡ codes "+ 00001 quit\n")
+    × (marked_line false (codes "00001 quit") ≡ codes "  00001 quit\n")
+    × (summary_of (0x1001 ∷ 0x1031 ∷ []) (instructions_in code) (routines_in code) ≡ codes "ran: 2 of 3 instructions, 2 of 5 routines\n")
 
 -- the bytes at 60 to 63 are a digit, a full stop and two digits
 abbrev pub CompilersAreKnown : Type 0

@@ -1,8 +1,8 @@
+pub mod Lines
 pub mod Addresses
 pub mod Compilers
 pub mod Counts
 pub mod Findings
-pub mod Kinds
 pub mod Marks
 pub mod Union
 pub mod Examples

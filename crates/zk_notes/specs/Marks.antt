@@ -2,23 +2,28 @@
 use Rattle.std.specs.Prelude.{ℕ, ◌==◌, ◌&&◌, Bool, true, false, List, ◌++◌, codes, nat_lt, length, count_by, decimal, if◌then◌else◌, Option, Some, None}
 use Rattle.std.specs.List.{filter_map, find, flat_map, list_any}
 use Rattle.std.specs.Str.{bytes_eq}
-use Rattle.zk_facts.specs.Words.{first_word, after_word}
-use Rattle.zk_notes.specs.Addresses.{address_of}
+use Rattle.zk_mem.specs.Map.{MemoryMap}
+use Rattle.zk_inspect.specs.Lines.{fact_line}
+use Rattle.zk_inspect.specs.declared.fact.Fact.{Fact}
+use Rattle.zk_inspect.specs.declared.fact.Fact.TheVariants as fact
 
--- the address of an instruction's line
-abbrev pub instruction_on : List ℕ → Option ℕ
-instruction_on line = address_of (first_word line)
+-- the address of what stands where code comes to
+abbrev pub instruction_of : Fact → Option ℕ
+instruction_of (fact.Instruction a) = Some a
+instruction_of _ = None
 
--- the address of a routine's line, which begins with `routine`
-abbrev pub routine_on : List ℕ → Option ℕ
-routine_on line = if bytes_eq (first_word line) (codes "routine") then address_of (first_word (after_word line)) else None
+-- the address of a routine
+abbrev pub routine_of : Fact → Option ℕ
+routine_of (fact.Routine r) = Some r
+routine_of (fact.LyingRoutine r reached) = Some r
+routine_of _ = None
 
--- the addresses of the instructions and of the routines that lines list
-abbrev pub instructions_in : List (List ℕ) → List ℕ
-instructions_in ls = filter_map instruction_on ls
+-- the addresses of the instructions and of the routines that are listed
+abbrev pub instructions_in : List Fact → List ℕ
+instructions_in facts = filter_map instruction_of facts
 
-abbrev pub routines_in : List (List ℕ) → List ℕ
-routines_in ls = filter_map routine_on ls
+abbrev pub routines_in : List Fact → List ℕ
+routines_in facts = filter_map routine_of facts
 
 -- an instruction ran if its address is covered
 abbrev pub has_run : List ℕ → ℕ → Bool
@@ -46,17 +51,21 @@ found_ran covered instructions routines (Some instruction) routine = has_run cov
 found_ran covered instructions routines None (Some routine) = was_entered covered instructions routines routine
 found_ran covered instructions routines None None = false
 
--- whether what a line lists ran, where so many instructions and routines are listed
-abbrev pub line_ran : List ℕ → List ℕ → List ℕ → List ℕ → Bool
-line_ran covered instructions routines line = found_ran covered instructions routines (instruction_on line) (routine_on line)
+-- whether what is listed ran, where so many instructions and routines are listed
+abbrev pub fact_ran : List ℕ → List ℕ → List ℕ → Fact → Bool
+fact_ran covered instructions routines f = found_ran covered instructions routines (instruction_of f) (routine_of f)
 
 -- a line with its mark
 abbrev pub marked_line : Bool → List ℕ → List ℕ
 marked_line ran line = (if ran then codes "+ " else codes "  ") ++ line ++ codes "\n"
 
--- the lines of a disassembly with their marks, where the addresses that ran are known
-unfoldable pub marked_lines : List ℕ → List (List ℕ) → List ℕ
-marked_lines covered ls = flat_map (λ line. marked_line (line_ran covered (instructions_in ls) (routines_in ls) line) line) ls
+-- the line of a fact with its mark
+abbrev pub marked_fact : Bool → MemoryMap → List ℕ → List ℕ → List ℕ → Fact → List ℕ
+marked_fact notes m covered instructions routines f = marked_line (fact_ran covered instructions routines f) (fact_line notes m f)
+
+-- the lines of code with their marks, where the addresses that ran are known
+unfoldable pub marked_facts : Bool → MemoryMap → List ℕ → List Fact → List ℕ
+marked_facts notes m covered facts = flat_map (marked_fact notes m covered (instructions_in facts) (routines_in facts)) facts
 
 -- how many of what is listed ran, and words
 abbrev pub share_of : ℕ → ℕ → List ℕ → List ℕ
@@ -72,6 +81,6 @@ abbrev pub summary_of : List ℕ → List ℕ → List ℕ → List ℕ
 summary_of covered instructions routines =
     ran_line (count_by (has_run covered) instructions) (length instructions) (count_by (was_entered covered instructions routines) routines) (length routines)
 
--- a disassembly with its marks, and how much of it ran
-abbrev pub marked_of : List ℕ → List (List ℕ) → List ℕ
-marked_of covered ls = marked_lines covered ls ++ summary_of covered (instructions_in ls) (routines_in ls)
+-- code with its marks, and how much of it ran
+abbrev pub marked_of : Bool → MemoryMap → List ℕ → List Fact → List ℕ
+marked_of notes m covered facts = marked_facts notes m covered facts ++ summary_of covered (instructions_in facts) (routines_in facts)

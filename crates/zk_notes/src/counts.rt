@@ -2,50 +2,52 @@
 
 ghost use Rattle.std.specs.Prelude.{◌≡◌, ℕ, ◌+◌, ◌<◌, ◌≤◌, count_by, length, slice_index, EachIndex, if◌then◌else◌};
 ghost use Rattle.std.specs.List.{list_any};
-ghost use Rattle.std.specs.Str.Lines.{lines};
 ghost use Rattle.zk_notes.specs.Counts.{capped, is_finding, is_of};
 
-use crate::kinds::{name, number_of};
 use crate::pieces::{Piece, TextBuilder};
 use std::alloc::{AllocError, Global};
-use zk_facts::words::cut_word;
+use zk_inspect::check::finding::NUMBERS;
+use zk_inspect::fact::Fact;
 
-/// Whether a line has a finding of the kind of a number.
-fn is_of(line: &str, number: u8) -> bool
-    ensures { result ≡ is_of number line.now }
+/// Whether a fact is a finding of the kind of a number.
+fn is_of(fact: Fact, number: u8) -> bool
+    ensures { result ≡ is_of number fact }
 {
-    match number_of(cut_word(line).0) {
-        Some(kind) => kind == number,
-        None => false,
+    match fact {
+        Fact::Finding(finding) => finding.number.number() == number,
+        _ => false,
     }
 }
 
-/// How many lines have a finding of the kind of a number.
-fn count_of(findings: &str, number: u8) -> u64
-    ensures { result ≡ capped (count_by (is_of number) (lines findings.now)) }
+/// How many facts are findings of the kind of a number.
+fn count_of(facts: &[Fact], number: u8) -> u64
+    ensures { result ≡ capped (count_by (is_of number) facts.now) }
 {
     let mut count: u64 = 0;
-    for line in findings.lines() {
-        if is_of(line, number) {
+    for fact in facts {
+        if is_of(*fact, number) {
             count = count.saturating_add(1);
         }
     }
     count
 }
 
-/// Whether a line has a finding.
-fn is_finding(line: &str) -> bool
-    ensures { result ≡ is_finding line.now }
+/// Whether a fact is a finding.
+fn is_finding(fact: Fact) -> bool
+    ensures { result ≡ is_finding fact }
 {
-    number_of(cut_word(line).0).is_some()
+    match fact {
+        Fact::Finding(_) => true,
+        _ => false,
+    }
 }
 
-/// Whether lines have a finding.
-fn has_finding(findings: &str) -> bool
-    ensures { result ≡ list_any is_finding (lines findings.now) }
+/// Whether facts have a finding.
+fn has_finding(facts: &[Fact]) -> bool
+    ensures { result ≡ list_any is_finding facts.now }
 {
-    for line in findings.lines() {
-        if is_finding(line) {
+    for fact in facts {
+        if is_finding(*fact) {
             return true;
         }
     }
@@ -53,13 +55,13 @@ fn has_finding(findings: &str) -> bool
 }
 
 /// Adds the findings of a story to those of each kind.
-fn add_counts(kinds: &mut [u64], findings: &str)
+fn add_counts(kinds: &mut [u64], facts: &[Fact])
     requires { length kinds.old ≤ 12 }
     ensures { EachIndex kinds.new (λ k. slice_index kinds.new k
-        ≡ capped (slice_index kinds.old k + count_by (is_of (k + 1)) (lines findings.now))) }
+        ≡ capped (slice_index kinds.old k + count_by (is_of (k + 1)) facts.now)) }
 {
     for at in 0..kinds.len() {
-        kinds[at] = kinds[at].saturating_add(count_of(findings, at as u8 + 1));
+        kinds[at] = kinds[at].saturating_add(count_of(facts, at as u8 + 1));
     }
 }
 
@@ -88,17 +90,17 @@ impl Counts {
         }
     }
 
-    /// Adds a story, by the lines that `check` lists of it.
-    pub fn add(&mut self, findings: &str)
+    /// Adds a story, by the facts that `check` lists of it.
+    pub fn add(&mut self, facts: &[Fact])
         ensures kinds { EachIndex self.new.kinds (λ k. slice_index self.new.kinds k
-            ≡ capped (slice_index self.old.kinds k + count_by (is_of (k + 1)) (lines findings.now))) }
+            ≡ capped (slice_index self.old.kinds k + count_by (is_of (k + 1)) facts.now)) }
         ensures stories { self.new.stories ≡ capped (self.old.stories + 1) }
         ensures wrong { self.new.wrong ≡ capped (self.old.wrong
-            + (if list_any is_finding (lines findings.now) then 1 else 0)) }
+            + (if list_any is_finding facts.now then 1 else 0)) }
     {
-        add_counts(&mut self.kinds, findings);
+        add_counts(&mut self.kinds, facts);
         self.stories = self.stories.saturating_add(1);
-        self.wrong = self.wrong.saturating_add(u64::from(has_finding(findings)));
+        self.wrong = self.wrong.saturating_add(u64::from(has_finding(facts)));
     }
 
     /// Adds a story that could not be listed.
@@ -121,16 +123,15 @@ impl Counts {
 
     /// Adds the line of each kind that occurs.
     fn add_kinds(&self, out: &mut TextBuilder) {
-        for (at, count) in self.kinds.iter().enumerate() {
-            let number = at as u8 + 1;
+        for (number, count) in NUMBERS.iter().zip(self.kinds.iter()) {
             if *count > 0 {
                 let line = [
                     Piece::Text("total C"),
-                    Piece::Number(number as u64),
+                    Piece::Number(number.number() as u64),
                     Piece::Text(" "),
                     Piece::Number(*count),
                     Piece::Text(" "),
-                    Piece::Text(name(number)),
+                    Piece::Text(number.words()),
                     Piece::Text("\n"),
                 ];
                 out.pieces(&line);

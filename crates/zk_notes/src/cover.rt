@@ -1,54 +1,62 @@
 // Disassemblies with marks at what ran.
 
-ghost use Rattle.std.specs.Prelude.{◌≡◌, ℕ, ◌++◌, is_none, count_by, decimal, IfOk, IfSome, OnOk};
+ghost use Rattle.std.specs.Prelude.{◌≡◌, ℕ, ◌++◌, is_none, count_by, IfOk, IfSome};
 ghost use Rattle.std.specs.List.{flat_map, list_any};
 ghost use Rattle.std.specs.List.Sorted.{IsNonDecreasing};
 ghost use Rattle.std.specs.Str.Lines.{lines};
-ghost use Rattle.zk_notes.specs.Marks.{first_above, has_run, is_below, instruction_on, instructions_in, line_ran, marked_line, marked_of, ran_line, routine_on, routines_in, share_of, summary_of, was_entered};
+ghost use Rattle.zk_inspect.specs.Lines.{fact_line};
+ghost use Rattle.zk_notes.specs.Marks.{fact_ran, first_above, has_run, instruction_of, instructions_in, is_below, marked_fact, marked_line, marked_of, ran_line, routine_of, routines_in, share_of, summary_of, was_entered};
 ghost use Rattle.zk_notes.specs.Union.{IsUnion, address_on, is_no_address};
 
 use crate::addresses::{address_of, push_found};
+use crate::lines::Lines;
 use itoa::Buffer;
 use std::alloc::{AllocError, Global};
-use zk_facts::words::cut_word;
+use zk_facts::outcome::Facts;
+use zk_inspect::fact::Fact;
+use zk_inspect::plain_text::write_fact;
+use zk_mem::memory::Memory;
+use zk_term::line_writer::LineWriter;
+use zk_term::writing::write_texts;
 
-/// The address of the instruction on a line.
-pub(crate) fn instruction_on(line: &str) -> Option<u32>
-    ensures { result ≡ instruction_on line.now }
+/// The address of what stands where code comes to.
+pub(crate) fn instruction_of(fact: Fact) -> Option<u32>
+    ensures { result ≡ instruction_of fact }
 {
-    address_of(cut_word(line).0)
-}
-
-/// The address of the routine on a line.
-pub(crate) fn routine_on(line: &str) -> Option<u32>
-    ensures { result ≡ routine_on line.now }
-{
-    let (word, rest) = cut_word(line);
-    if word == "routine" {
-        address_of(cut_word(rest).0)
-    } else {
-        None
+    match fact {
+        Fact::Instruction(address) => Some(address),
+        _ => None,
     }
 }
 
-/// The addresses of the instructions that a disassembly lists.
-fn instructions_in(alloc: Global, disassembly: &str) -> Result<Vec<u32>, AllocError>
-    ensures { IfOk result (λ v. v.items ≡ instructions_in (lines disassembly.now)) }
+/// The address of a routine.
+pub(crate) fn routine_of(fact: Fact) -> Option<u32>
+    ensures { result ≡ routine_of fact }
+{
+    match fact {
+        Fact::Routine(address) | Fact::LyingRoutine(address, _) => Some(address),
+        _ => None,
+    }
+}
+
+/// The addresses of the instructions that are listed.
+fn instructions_in(alloc: Global, facts: &[Fact]) -> Result<Vec<u32>, AllocError>
+    ensures { IfOk result (λ v. v.items ≡ instructions_in facts.now) }
 {
     let mut addresses = Vec::new(alloc);
-    for line in disassembly.lines() {
-        push_found(&mut addresses, instruction_on(line))?;
+    for fact in facts {
+        push_found(&mut addresses, instruction_of(*fact))?;
     }
     Ok(addresses)
 }
 
-/// The addresses of the routines that a disassembly lists.
-fn routines_in(alloc: Global, disassembly: &str) -> Result<Vec<u32>, AllocError>
-    ensures { IfOk result (λ v. v.items ≡ routines_in (lines disassembly.now)) }
+/// The addresses of the routines that are listed.
+fn routines_in(alloc: Global, facts: &[Fact]) -> Result<Vec<u32>, AllocError>
+    ensures { IfOk result (λ v. v.items ≡ routines_in facts.now) }
 {
     let mut addresses = Vec::new(alloc);
-    for line in disassembly.lines() {
-        push_found(&mut addresses, routine_on(line))?;
+    for fact in facts {
+        push_found(&mut addresses, routine_of(*fact))?;
     }
     Ok(addresses)
 }
@@ -77,34 +85,26 @@ struct Share {
     listed: usize,
 }
 
-/// Adds a number.
-fn add_number(out: &mut Vec<u8>, number: usize) -> Result<(), AllocError>
-    ensures { OnOk result (out.new.items ≡ out.old.items ++ decimal number) }
+/// Writes how many of what is listed ran, and words.
+fn write_share<P: LineWriter>(out: &mut P, share: Share, words: &[u8])
+    ensures { P.wrote out.old out.new (share_of share.ran share.listed words.now) }
 {
-    let mut buffer = Buffer::new();
-    out.extend_from_slice(buffer.format(number).as_bytes())
+    let mut ran = Buffer::new();
+    let mut listed = Buffer::new();
+    let ran = ran.format(share.ran).as_bytes();
+    let listed = listed.format(share.listed).as_bytes();
+    write_texts(out, &[ran, b" of ", listed, words]);
 }
 
-/// Adds how many of what is listed ran, and words.
-fn add_share(out: &mut Vec<u8>, share: Share, words: &[u8]) -> Result<(), AllocError>
-    ensures { OnOk result (out.new.items
-        ≡ out.old.items ++ share_of share.ran share.listed words.now) }
-{
-    add_number(out, share.ran)?;
-    out.extend_from_slice(b" of ")?;
-    add_number(out, share.listed)?;
-    out.extend_from_slice(words)
-}
-
-/// Adds the line that says how many instructions and routines ran.
+/// Writes the line that says how many instructions and routines ran.
 #[tactic(auto, unfolding(crate::specs::Marks::ran_line))]
-fn add_ran(out: &mut Vec<u8>, instructions: Share, routines: Share) -> Result<(), AllocError>
-    ensures { OnOk result (out.new.items ≡ out.old.items
-        ++ ran_line instructions.ran instructions.listed routines.ran routines.listed) }
+fn write_ran<P: LineWriter>(out: &mut P, instructions: Share, routines: Share)
+    ensures { P.wrote out.old out.new
+        (ran_line instructions.ran instructions.listed routines.ran routines.listed) }
 {
-    out.extend_from_slice(b"ran: ")?;
-    add_share(out, instructions, b" instructions, ")?;
-    add_share(out, routines, b" routines\n")
+    out.write(b"ran: ");
+    write_share(out, instructions, b" instructions, ");
+    write_share(out, routines, b" routines\n");
 }
 
 /// The addresses that ran, and those of the instructions and the routines that are listed.
@@ -139,29 +139,41 @@ impl Coverage<'_> {
         self.has_run(first)
     }
 
-    /// Whether what a line lists ran.
-    fn line_ran(&self, line: &str) -> bool
+    /// Whether what is listed ran.
+    fn fact_ran(&self, fact: Fact) -> bool
         ensures { IsNonDecreasing self.now.covered.now → result
-            ≡ line_ran self.now.covered.now self.now.instructions.now self.now.routines.now line.now }
+            ≡ fact_ran self.now.covered.now self.now.instructions.now self.now.routines.now fact }
     {
-        if let Some(instruction) = instruction_on(line) {
+        if let Some(instruction) = instruction_of(fact) {
             return self.has_run(instruction);
         }
-        match routine_on(line) {
+        match routine_of(fact) {
             Some(routine) => self.was_entered(routine),
             None => false,
         }
     }
 
-    /// Adds the lines of a disassembly with their marks.
-    fn add_lines(&self, out: &mut Vec<u8>, disassembly: &str) -> Result<(), AllocError>
-        ensures { OnOk result (IsNonDecreasing self.now.covered.now → out.new.items ≡ out.old.items
-            ++ flat_map (λ line. marked_line (line_ran self.now.covered.now self.now.instructions.now self.now.routines.now line) line) (lines disassembly.now)) }
+    /// Writes the line of a fact with its mark.
+    fn write_marked<P: LineWriter>(&self, out: &mut P, memory: &Memory, notes: bool, fact: Fact)
+        ensures { IsNonDecreasing self.now.covered.now → P.wrote out.old out.new (marked_line
+            (fact_ran self.now.covered.now self.now.instructions.now self.now.routines.now fact)
+            (fact_line notes memory.now fact)) }
     {
-        for line in disassembly.lines() {
-            add_marked(out, self.line_ran(line), line)?;
+        let mark = if self.fact_ran(fact) { "+ " } else { "  " };
+        out.write(mark.as_bytes());
+        write_fact(out, memory, notes, fact);
+        out.write(b"\n");
+    }
+
+    /// Writes the lines of facts with their marks.
+    fn write_all<P: LineWriter>(&self, out: &mut P, facts: &Facts<'_>, notes: bool)
+        ensures { IsNonDecreasing self.now.covered.now → P.wrote out.old out.new
+            (flat_map (marked_fact notes facts.now.memory.now self.now.covered.now
+            self.now.instructions.now self.now.routines.now) facts.now.list.now) }
+    {
+        for fact in facts.list {
+            self.write_marked(out, facts.memory, notes, *fact);
         }
-        Ok(())
     }
 
     /// How many of the instructions ran.
@@ -188,10 +200,10 @@ impl Coverage<'_> {
         count
     }
 
-    /// Adds the line that says how much ran.
-    fn add_summary(&self, out: &mut Vec<u8>) -> Result<(), AllocError>
-        ensures { OnOk result (IsNonDecreasing self.now.covered.now → out.new.items ≡ out.old.items
-            ++ summary_of self.now.covered.now self.now.instructions.now self.now.routines.now) }
+    /// Writes the line that says how much ran.
+    fn write_summary<P: LineWriter>(&self, out: &mut P)
+        ensures { IsNonDecreasing self.now.covered.now → P.wrote out.old out.new
+            (summary_of self.now.covered.now self.now.instructions.now self.now.routines.now) }
     {
         let instructions = Share {
             ran: self.instructions_run(),
@@ -201,38 +213,33 @@ impl Coverage<'_> {
             ran: self.routines_entered(),
             listed: self.routines.len(),
         };
-        add_ran(out, instructions, routines)
+        write_ran(out, instructions, routines);
     }
 }
 
-/// Adds a line with its mark.
-fn add_marked(out: &mut Vec<u8>, ran: bool, line: &str) -> Result<(), AllocError>
-    ensures { OnOk result (out.new.items ≡ out.old.items ++ marked_line ran line.now) }
-{
-    let mark = if ran { "+ " } else { "  " };
-    out.extend_from_slice(mark.as_bytes())?;
-    out.extend_from_slice(line.as_bytes())?;
-    out.extend_from_slice(b"\n")
-}
-
-/// A disassembly with a mark before each of its lines: `+ ` where it ran, and two spaces where not; and then the line `ran: 12
-/// of 3984 instructions, 3 of 20 routines`. An instruction ran if its address is among the covered ones, which ascend. A routine
-/// ran if the first instruction above its address did, and stands before the next routine.
-pub fn marked(alloc: Global, disassembly: &str, covered: &[u32]) -> Result<Vec<u8>, AllocError>
+/// Code with a mark before each of its lines: `+ ` where it ran, and two spaces where not; and then the line `ran: 12 of 3984
+/// instructions, 3 of 20 routines`. An instruction ran if its address is among the covered ones, which ascend. A routine ran if
+/// the first instruction above its address did, and stands before the next routine.
+pub fn marked(
+    alloc: Global,
+    facts: &Facts<'_>,
+    notes: bool,
+    covered: &[u32],
+) -> Result<Vec<u8>, AllocError>
     ensures { IfOk result (λ v. IsNonDecreasing covered.now
-        → v.items ≡ marked_of covered.now (lines disassembly.now)) }
+        → v.items ≡ marked_of notes facts.now.memory.now covered.now facts.now.list.now) }
 {
-    let instructions = instructions_in(alloc, disassembly)?;
-    let routines = routines_in(alloc, disassembly)?;
+    let instructions = instructions_in(alloc, facts.list)?;
+    let routines = routines_in(alloc, facts.list)?;
     let coverage = Coverage {
         covered,
         instructions: instructions.as_slice(),
         routines: routines.as_slice(),
     };
-    let mut out = Vec::new(alloc);
-    coverage.add_lines(&mut out, disassembly)?;
-    coverage.add_summary(&mut out)?;
-    Ok(out)
+    let mut out = Lines::new(alloc);
+    coverage.write_all(&mut out, facts, notes);
+    coverage.write_summary(&mut out);
+    out.finish()
 }
 
 /// The address that a line has alone, with spaces before and after it.

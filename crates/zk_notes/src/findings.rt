@@ -1,69 +1,64 @@
 // Findings with what they mean.
 
-ghost use Rattle.std.specs.Prelude.{◌≡◌, ◌++◌, IfOk, None, OnOk};
+ghost use Rattle.std.specs.Prelude.{◌≡◌, IfOk};
 ghost use Rattle.std.specs.List.{flat_map};
-ghost use Rattle.std.specs.Str.Lines.{lines};
-ghost use Rattle.zk_facts.specs.Words.{first_word};
 ghost use Rattle.zk_notes.specs.Findings.{explained, note_of, object_words};
-ghost use Rattle.zk_notes.specs.Kinds.{number_of};
 
-use crate::kinds::{meaning, number_of};
-use itoa::Buffer;
+use crate::lines::Lines;
 use std::alloc::{AllocError, Global};
-use zk_facts::objects::Entries;
-use zk_facts::outcome::object_of;
-use zk_facts::words::cut_word;
+use zk_facts::objects::object_of;
+use zk_facts::outcome::Facts;
+use zk_inspect::fact::Fact;
+use zk_inspect::plain_text::write_fact;
+use zk_mem::memory::Memory;
+use zk_term::line_writer::LineWriter;
+use zk_term::writing::write_decimal;
 
-/// Adds the words for an object, where there is one.
-fn add_object(out: &mut Vec<u8>, object: Option<u32>) -> Result<(), AllocError>
-    ensures { OnOk result (out.new.items ≡ out.old.items ++ object_words object) }
+/// Writes the words for an object, where there is one.
+fn write_object<P: LineWriter>(out: &mut P, object: Option<u32>)
+    ensures { P.wrote out.old out.new (object_words object) }
 {
-    let Some(number) = object else {
-        return Ok(());
-    };
-    let mut buffer = Buffer::new();
-    out.extend_from_slice(b"object ")?;
-    out.extend_from_slice(buffer.format(number).as_bytes())?;
-    out.extend_from_slice(b": ")
+    if let Some(number) = object {
+        write_decimal(out, b"object ", number);
+        out.write(b": ");
+    }
 }
 
-/// Adds what the finding on a line means, where the line has one.
-fn add_note(out: &mut Vec<u8>, line: &str, entries: Option<Entries>) -> Result<(), AllocError>
-    ensures { OnOk result (entries ≡ None
-        → out.new.items ≡ out.old.items ++ note_of (number_of (first_word line.now))) }
+/// Writes what a fact means, where it is a finding.
+fn write_note<P: LineWriter>(out: &mut P, memory: &Memory, fact: Fact)
+    ensures { P.wrote out.old out.new (note_of memory.now fact) }
 {
-    let (kind, rest) = cut_word(line);
-    let Some(number) = number_of(kind) else {
-        return Ok(());
-    };
-    out.extend_from_slice(b"  ; ")?;
-    add_object(out, object_of(kind, cut_word(rest).0, entries))?;
-    out.extend_from_slice(meaning(number).as_bytes())
+    if let Fact::Finding(finding) = fact {
+        out.write(b"  ; ");
+        write_object(out, object_of(memory, finding));
+        out.write(finding.number.meaning().as_bytes());
+    }
 }
 
-/// Adds a line with what its finding means.
-fn add_explained(out: &mut Vec<u8>, line: &str, entries: Option<Entries>) -> Result<(), AllocError>
-    ensures { OnOk result (entries ≡ None
-        → out.new.items ≡ out.old.items ++ explained line.now) }
+/// Writes the line of a fact, with what it means where it is a finding.
+fn write_explained<P: LineWriter>(out: &mut P, memory: &Memory, fact: Fact)
+    ensures { P.wrote out.old out.new (explained memory.now fact) }
 {
-    out.extend_from_slice(line.as_bytes())?;
-    add_note(out, line, entries)?;
-    out.extend_from_slice(b"\n")
+    write_fact(out, memory, false, fact);
+    write_note(out, memory, fact);
+    out.write(b"\n");
+}
+
+/// Writes the lines of facts with what they mean.
+fn write_all<P: LineWriter>(out: &mut P, facts: &Facts<'_>)
+    ensures { P.wrote out.old out.new (flat_map (explained facts.now.memory.now) facts.now.list.now) }
+{
+    for fact in facts.list {
+        write_explained(out, facts.memory, *fact);
+    }
 }
 
 /// The lines of `check`, each with two spaces, `; ` and a note after it: what its finding means, as a sentence, and before that
-/// `object 12: ` where the address is that of an object's entry. A line that is no finding stays as it is.
-pub fn explain(
-    alloc: Global,
-    findings: &str,
-    entries: Option<Entries>,
-) -> Result<Vec<u8>, AllocError>
-    ensures { IfOk result (λ v. entries ≡ None
-        → v.items ≡ flat_map explained (lines findings.now)) }
+/// `object 12: ` where the address is that of an object's entry. A fact that is no finding has its line alone.
+pub fn explain(alloc: Global, facts: &Facts<'_>) -> Result<Vec<u8>, AllocError>
+    ensures { IfOk result (λ v. v.items ≡ flat_map (explained facts.now.memory.now) facts.now.list.now) }
 {
-    let mut out = Vec::new(alloc);
-    for line in findings.lines() {
-        add_explained(&mut out, line, entries)?;
-    }
-    Ok(out)
+    let mut out = Lines::new(alloc);
+    write_all(&mut out, facts);
+    out.finish()
 }

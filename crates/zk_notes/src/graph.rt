@@ -1,100 +1,93 @@
 // Graphs of the objects and of the calls of a story, for Graphviz.
 
-use crate::addresses::address_of;
 use crate::pieces::{Piece, TextBuilder};
 use std::alloc::{AllocError, Global};
-use zk_facts::fact::{Node, Section, node_on};
-use zk_facts::words::{Text, cut_word};
+use zk_code::decode::decode;
+use zk_code::routines::local_count;
+use zk_facts::outcome::Facts;
+use zk_facts::texts::{Text, characters_of};
+use zk_inspect::fact::{Fact, Node};
+use zk_mem::fault::Fault;
+use zk_mem::memory::Memory;
 
-/// Adds a character of a label between quotes, where `^` stands for a new line and `~` for a quote. Control characters are left
-/// out.
+/// Adds a character of a label between quotes. Control characters are left out, but for a new line.
 fn add_character(out: &mut TextBuilder, shown: char) {
     match shown {
-        '^' => out.text("\\n"),
-        '~' | '"' => out.text("\\\""),
+        '\n' => out.text("\\n"),
+        '"' => out.text("\\\""),
         '\\' => out.text("\\\\"),
         shown if shown.is_control() => {}
         shown => out.character(shown),
     }
 }
 
-/// Adds the node of an object.
-fn add_object(out: &mut TextBuilder, number: u64, name: Text<'_>) {
-    let (mark, text) = match name {
-        Text::Quoted(text) => (" ", text),
-        Text::Fault(fault) => (" ! ", fault),
-    };
+/// Adds the node of an object with its name, or why it has none.
+fn add_object(out: &mut TextBuilder, number: u16, name: &Result<String, Fault>) {
     out.pieces(&[
         Piece::Text("  o"),
-        Piece::Number(number),
+        Piece::Number(number as u64),
         Piece::Text(" [label=\""),
-        Piece::Number(number),
-        Piece::Text(mark),
+        Piece::Number(number as u64),
     ]);
-    for shown in text.chars() {
-        add_character(out, shown);
+    match name {
+        Ok(name) => {
+            out.text(" ");
+            for shown in name.chars() {
+                add_character(out, shown);
+            }
+        }
+        Err(fault) => out.pieces(&[Piece::Text(" ! F"), Piece::Number(fault.number() as u64)]),
     }
     out.text("\"];\n");
 }
 
-/// A graph of objects that gets the lines of a listing.
+/// A graph of objects.
 #[derive(Drop)]
 struct Tree {
     out: TextBuilder,
-    section: Option<Section>,
-    /// Objects, one below the other: those that the next line may lie below.
-    path: Vec<u64>,
+    /// Objects, one below the other: those that the next one may lie below.
+    path: Vec<u16>,
 }
 
 impl Tree {
-    /// Adds the edge to an object so many levels below the top, from the one above it.
-    fn add_edge(&mut self, depth: usize, number: u64) {
-        self.path.truncate(depth);
+    /// Adds the edge to an object at a level, from the one above it.
+    fn add_edge(&mut self, level: usize, object: u16) {
+        self.path.truncate(level);
         if let Some(parent) = self.path.last() {
             self.out.pieces(&[
                 Piece::Text("  o"),
-                Piece::Number(*parent),
+                Piece::Number(*parent as u64),
                 Piece::Text(" -> o"),
-                Piece::Number(number),
+                Piece::Number(object as u64),
                 Piece::Text(";\n"),
             ]);
         }
     }
 
     /// Adds an object: a node where it was not listed before.
-    fn add(&mut self, node: Node<'_>) {
-        let Ok(number) = node.number.parse::<u64>() else {
-            return;
-        };
-        if let Some(name) = node.name {
-            add_object(&mut self.out, number, name);
+    fn add(&mut self, alloc: Global, memory: &Memory, node: Node) -> Result<(), AllocError> {
+        if !node.again {
+            let name = characters_of(alloc, memory, Text::Name(node.object))?;
+            add_object(&mut self.out, node.object, &name);
         }
-        self.add_edge(node.depth, number);
-        let done = self.path.push(number);
-        self.out.note(done.is_err());
-    }
-
-    /// Takes a line.
-    fn take(&mut self, line: &str) {
-        match (Section::begun_by(line), self.section) {
-            (Some(begun), _) => self.section = Some(begun),
-            (None, Some(Section::Tree)) => self.add(node_on(line)),
-            _ => {}
-        }
+        self.add_edge(node.level, node.object);
+        self.path.push(node.object)?;
+        Ok(())
     }
 }
 
-/// The section `[tree]` of a listing of `info` as a graph for Graphviz: a node for each object, with its number and its name,
-/// and an edge to each from the object above it. A line whose first word is no number is left out.
-pub fn tree_graph(alloc: Global, info: &str) -> Result<Vec<u8>, AllocError> {
+/// The tree of objects as a graph for Graphviz: a node for each object, with its number and its name, and an edge to each from
+/// the object above it.
+pub fn tree_graph(alloc: Global, facts: &Facts<'_>) -> Result<Vec<u8>, AllocError> {
     let mut tree = Tree {
         out: TextBuilder::new(alloc),
-        section: None,
         path: Vec::new(alloc),
     };
     tree.out.text("digraph tree {\n  rankdir=LR; node [shape=box, fontname=\"sans-serif\"];\n");
-    for line in info.lines() {
-        tree.take(line);
+    for fact in facts.list {
+        if let Fact::Node(node) = *fact {
+            tree.add(alloc, facts.memory, node)?;
+        }
     }
     tree.out.text("}\n");
     tree.out.finish()
@@ -108,23 +101,26 @@ struct Routine {
     beside: bool,
 }
 
-/// The routine on a line, as `routine 015bc locals 0 beside`.
-fn routine_on(line: &str) -> Option<Routine> {
-    let (word, rest) = cut_word(line);
-    if word != "routine" {
-        return None;
+/// The routine that is listed.
+fn routine_of(fact: Fact) -> Option<Routine> {
+    match fact {
+        Fact::Routine(address) => Some(Routine {
+            address,
+            beside: false,
+        }),
+        Fact::LyingRoutine(address, reached) => Some(Routine {
+            address,
+            beside: !reached,
+        }),
+        _ => None,
     }
-    Some(Routine {
-        address: address_of(cut_word(rest).0)?,
-        beside: line.ends_with(" beside"),
-    })
 }
 
-/// The routines that a disassembly lists.
-fn routines_in(alloc: Global, disassembly: &str) -> Result<Vec<Routine>, AllocError> {
+/// The routines that are listed.
+fn routines_in(alloc: Global, facts: &[Fact]) -> Result<Vec<Routine>, AllocError> {
     let mut routines = Vec::new(alloc);
-    for line in disassembly.lines() {
-        if let Some(routine) = routine_on(line) {
+    for fact in facts {
+        if let Some(routine) = routine_of(*fact) {
             routines.push(routine)?;
         }
     }
@@ -138,53 +134,32 @@ fn routine_below(routines: &[Routine], address: u32) -> Option<u32> {
     Some(last.address)
 }
 
-/// Whether an opcode calls a routine.
-fn is_call(opcode: &str) -> bool {
-    matches!(
-        opcode,
-        "call"
-            | "call_vs"
-            | "call_1s"
-            | "call_2s"
-            | "call_vs2"
-            | "call_vn"
-            | "call_1n"
-            | "call_2n"
-            | "call_vn2"
-    )
-}
-
 /// A call by a constant: the routine that calls, or none where it is the code that a story begins with; and the routine that
 /// is called.
 type Call = (Option<u32>, u32);
 
-/// The routine that a line calls by a constant, by its first note.
-fn called_on(line: &str) -> Option<u32> {
-    let (_, rest) = cut_word(line);
-    if !is_call(cut_word(rest).0) {
+/// The routine that the instruction at an address calls by a constant.
+fn called_at(memory: &Memory, address: u32) -> Option<u32> {
+    let Ok(instr) = decode(memory, address) else {
         return None;
-    }
-    let (_, note) = line.split_once("  ; routine ")?;
-    let word = cut_word(note).0;
-    address_of(word.strip_suffix(';').unwrap_or(word))
+    };
+    let called = instr.constant_call(memory)?;
+    local_count(memory, called)?;
+    Some(called)
 }
 
-/// The call on a line of a disassembly with these routines.
-fn call_on(line: &str, routines: &[Routine]) -> Option<Call> {
-    let address = address_of(cut_word(line).0)?;
-    Some((routine_below(routines, address), called_on(line)?))
-}
-
-/// The calls of a disassembly, each once.
+/// The calls of code with these routines, each once.
 fn calls_in(
     alloc: Global,
-    disassembly: &str,
+    facts: &Facts<'_>,
     routines: &[Routine],
 ) -> Result<Vec<Call>, AllocError> {
     let mut calls = Vec::new(alloc);
-    for line in disassembly.lines() {
-        if let Some(call) = call_on(line, routines) {
-            calls.push(call)?;
+    for fact in facts.list {
+        if let Fact::Instruction(address) = *fact
+            && let Some(called) = called_at(facts.memory, address)
+        {
+            calls.push((routine_below(routines, address), called))?;
         }
     }
     calls.sort_unstable();
@@ -192,10 +167,10 @@ fn calls_in(
     Ok(calls)
 }
 
-/// Whether a disassembly has an instruction that lies in no routine.
-fn has_start(disassembly: &str, routines: &[Routine]) -> bool {
-    for line in disassembly.lines() {
-        if let Some(address) = address_of(cut_word(line).0)
+/// Whether an instruction lies in no routine.
+fn has_start(facts: &[Fact], routines: &[Routine]) -> bool {
+    for fact in facts {
+        if let Fact::Instruction(address) = *fact
             && routine_below(routines, address).is_none()
         {
             return true;
@@ -246,14 +221,14 @@ fn add_code(out: &mut TextBuilder, routines: &[Routine], calls: &[Call]) {
     }
 }
 
-/// The calls by constants in a disassembly with notes as a graph for Graphviz: a node for each routine that is listed, dashed
-/// where it is one beside; `start` for the code that lies in none; and an edge from each routine to each that it calls.
-pub fn code_graph(alloc: Global, disassembly: &str) -> Result<Vec<u8>, AllocError> {
-    let routines = routines_in(alloc, disassembly)?;
-    let calls = calls_in(alloc, disassembly, routines.as_slice())?;
+/// The calls by constants in code as a graph for Graphviz: a node for each routine that is listed, dashed where it is one beside;
+/// `start` for the code that lies in none; and an edge from each routine to each that it calls.
+pub fn code_graph(alloc: Global, facts: &Facts<'_>) -> Result<Vec<u8>, AllocError> {
+    let routines = routines_in(alloc, facts.list)?;
+    let calls = calls_in(alloc, facts, routines.as_slice())?;
     let mut out = TextBuilder::new(alloc);
     out.text("digraph calls {\n  rankdir=LR; node [shape=box, fontname=\"sans-serif\"];\n");
-    if has_start(disassembly, routines.as_slice()) {
+    if has_start(facts.list, routines.as_slice()) {
         out.text("  start;\n");
     }
     add_code(&mut out, routines.as_slice(), calls.as_slice());

@@ -3,11 +3,19 @@
 ghost use Rattle.std.specs.Prelude.{◌≡◌, option_map};
 ghost use Rattle.zk_notes.specs.Compilers.{compiler_of, is_version};
 
-use crate::pieces::{Piece, TextBuilder};
+use crate::lines::Lines;
 use std::alloc::{AllocError, Global};
 use std::str;
-use zk_facts::fact::Section;
-use zk_facts::words::cut_word;
+use zk_facts::outcome::Facts;
+use zk_facts::texts::{Text, characters_of};
+use zk_inspect::fact::{Fact, Field};
+use zk_inspect::listing::abbreviation_lines::write_meaning_of;
+use zk_inspect::plain_text::write_fact;
+use zk_inspect::section::Section;
+use zk_mem::fault::Fault;
+use zk_mem::memory::Memory;
+use zk_term::line_writer::LineWriter;
+use zk_term::writing::write_decimal;
 
 /// Whether bytes are the version of a compiler, as `6.12`.
 fn is_version(bytes: &[u8]) -> bool
@@ -75,169 +83,156 @@ const FLAGS_2: [Flag; 8] = [
 /// The bit of the first flags of version 3 that says which status line the story wants.
 const HOURS: u16 = 2;
 
-/// Adds the words of flags that are set, with commas between them, after some that stand there or not; `none` where there are none.
-fn add_flags(out: &mut TextBuilder, flags: &[Flag], set: u16, first: &str) {
-    out.text("  ; ");
-    out.text(first);
+/// Writes the words of flags that are set, with commas between them, after some that stand there or not; `none` where there are none.
+fn write_flags(out: &mut Lines, flags: &[Flag], set: u16, first: &str) {
+    out.write(b"  ; ");
+    out.write(first.as_bytes());
     let mut none = first.is_empty();
     for (bit, words) in flags {
         if set & *bit != 0 {
-            out.text(if none { "" } else { ", " });
-            out.text(words);
+            out.write(if none { b"" } else { b", " });
+            out.write(words.as_bytes());
             none = false;
         }
     }
     if none {
-        out.text("none");
+        out.write(b"none");
     }
 }
 
-/// Adds the first flags, by the version of the story.
-fn add_first_flags(out: &mut TextBuilder, version: u8, set: u16) {
+/// Writes the first flags, by the version of the story.
+fn write_first_flags(out: &mut Lines, version: u8, set: u16) {
     if version != 3 {
-        return add_flags(out, &FLAGS_1, set, "");
+        return write_flags(out, &FLAGS_1, set, "");
     }
     let status_line = if set & HOURS != 0 {
         "status line shows hours and minutes"
     } else {
         "status line shows score and turns"
     };
-    add_flags(out, &FLAGS_1_OF_3, set, status_line);
+    write_flags(out, &FLAGS_1_OF_3, set, status_line);
 }
 
 /// Abbreviations one after another that have one text.
-#[derive(Clone, Copy, Drop)]
-struct Alike<'a> {
-    /// The line of the first.
-    line: &'a str,
-    first: &'a str,
-    last: &'a str,
-    text: &'a str,
-    count: u64,
+#[derive(Drop)]
+struct Alike {
+    first: u8,
+    last: u8,
+    text: Result<String, Fault>,
 }
 
-/// Adds abbreviations that have one text as a line.
-fn add_alike(out: &mut TextBuilder, alike: &Alike<'_>) {
-    if alike.count == 1 {
-        out.line(alike.line);
-    } else {
-        out.pieces(&[
-            Piece::Text(alike.first),
-            Piece::Text(" to "),
-            Piece::Text(alike.last),
-            Piece::Text(" "),
-            Piece::Text(alike.text),
-            Piece::Text("  ; "),
-            Piece::Number(alike.count),
-            Piece::Text(" alike\n"),
-        ]);
-    }
-}
-
-/// A listing that gets its notes line by line.
+/// A listing that gets its notes fact by fact.
 #[derive(Drop)]
 struct Notes<'a> {
-    out: TextBuilder,
+    out: Lines,
+    memory: &'a Memory,
     section: Option<Section>,
-    version: u8,
-    compiler: Option<&'a str>,
     /// The abbreviations that the next one may be like.
-    alike: Option<Alike<'a>>,
+    alike: Option<Alike>,
 }
 
-impl<'a> Notes<'a> {
-    /// Adds the abbreviations that have waited for the next one.
-    fn end_alike(&mut self) {
-        if let Some(alike) = &self.alike {
-            add_alike(&mut self.out, alike);
-        }
-        self.alike = None;
+impl Notes<'_> {
+    /// Writes the line of a fact.
+    fn line(&mut self, fact: Fact) {
+        write_fact(&mut self.out, self.memory, false, fact);
+        self.out.write(b"\n");
     }
 
-    /// Adds what is still to come of a section.
+    /// Writes the abbreviations that have waited for the next one.
+    fn end_alike(&mut self) {
+        let (first, last) = match &self.alike {
+            Some(alike) => (alike.first, alike.last),
+            None => return,
+        };
+        self.alike = None;
+        if first == last {
+            return self.line(Fact::Abbreviation(first));
+        }
+        write_decimal(&mut self.out, b"", first as u32);
+        write_decimal(&mut self.out, b" to ", last as u32);
+        self.out.write(b" ");
+        write_meaning_of(&mut self.out, self.memory, first);
+        write_decimal(
+            &mut self.out,
+            b"  ; ",
+            (last as u32).saturating_sub(first as u32) + 1,
+        );
+        self.out.write(b" alike\n");
+    }
+
+    /// Writes what is still to come of a section.
     fn end_section(&mut self) {
         self.end_alike();
-        if let (Some(Section::Header), Some(compiler)) = (self.section, self.compiler) {
-            self.out.pieces(&[
-                Piece::Text("compiler Inform "),
-                Piece::Text(compiler),
-                Piece::Text("\n"),
-            ]);
+        if let (Some(Section::Header), Some(compiler)) = (
+            self.section,
+            compiler_in(self.memory.original()),
+        ) {
+            self.out.write(b"compiler Inform ");
+            self.out.write(compiler.as_bytes());
+            self.out.write(b"\n");
         }
     }
 
-    /// Adds a line of the header.
-    fn header_line(&mut self, line: &str) {
-        let (name, value) = cut_word(line);
-        if name == "version" {
-            self.version = value.parse().unwrap_or(0);
-        }
-        self.out.text(line);
-        if let Ok(set) = u16::from_str_radix(value, 16) {
-            match name {
-                "flags1" => add_first_flags(&mut self.out, self.version, set),
-                "flags2" => add_flags(&mut self.out, &FLAGS_2, set, ""),
-                _ => {}
+    /// Writes a field of the header.
+    fn field(&mut self, field: Field) {
+        let header = self.memory.header();
+        write_fact(&mut self.out, self.memory, false, Fact::Field(field));
+        match field {
+            Field::Flags1 => {
+                write_first_flags(&mut self.out, header.version, header.flags_1 as u16);
             }
+            Field::Flags2 => write_flags(&mut self.out, &FLAGS_2, header.flags_2, ""),
+            _ => {}
         }
-        self.out.text("\n");
+        self.out.write(b"\n");
     }
 
-    /// Takes the line of an abbreviation, which waits for the next.
-    fn abbreviation(&mut self, line: &'a str) {
-        let (number, text) = cut_word(line);
-        if let Some(alike) = self.alike
+    /// Takes an abbreviation, which waits for the next.
+    fn abbreviation(&mut self, alloc: Global, number: u8) -> Result<(), AllocError> {
+        let text = characters_of(alloc, self.memory, Text::Abbreviation(number))?;
+        if let Some(alike) = &mut self.alike
             && alike.text == text
         {
-            self.alike = Some(Alike {
-                last: number,
-                count: alike.count.saturating_add(1),
-                ..alike
-            });
-            return;
+            alike.last = number;
+            return Ok(());
         }
         self.end_alike();
         self.alike = Some(Alike {
-            line,
             first: number,
             last: number,
             text,
-            count: 1,
         });
+        Ok(())
     }
 
-    /// Takes a line.
-    fn take(&mut self, line: &'a str) {
-        if let Some(begun) = Section::begun_by(line) {
-            self.end_section();
-            self.section = Some(begun);
-            return self.out.line(line);
+    /// Takes a fact.
+    fn take(&mut self, alloc: Global, fact: Fact) -> Result<(), AllocError> {
+        match fact {
+            Fact::Title(section) => {
+                self.end_section();
+                self.section = Some(section);
+                self.line(fact);
+            }
+            Fact::Field(field) => self.field(field),
+            Fact::Abbreviation(number) => self.abbreviation(alloc, number)?,
+            fact => self.line(fact),
         }
-        match self.section {
-            Some(Section::Header) => self.header_line(line),
-            Some(Section::Abbreviations) => self.abbreviation(line),
-            _ => self.out.line(line),
-        }
+        Ok(())
     }
 }
 
-/// A listing of `info` with notes. After the flags of the header stand two spaces, `; ` and what is set, with commas between, or
-/// `none`; after the header's last line stands `compiler Inform 6.12`, where the compiler's version is given. Abbreviations one
-/// after another with one text are a line, as `0 to 95 "   "  ; 96 alike`. All other lines are as they were.
-pub fn explain(
-    alloc: Global,
-    listing: &str,
-    compiler: Option<&str>,
-) -> Result<Vec<u8>, AllocError> {
+/// Sections of `info` with notes. After the flags of the header stand two spaces, `; ` and what is set, with commas between, or
+/// `none`; after the header's last line stands `compiler Inform 6.12`, where the story has its compiler's version. Abbreviations
+/// one after another with one text are a line, as `0 to 95 "   "  ; 96 alike`. All other lines are as they were.
+pub fn explain(alloc: Global, facts: &Facts<'_>) -> Result<Vec<u8>, AllocError> {
     let mut notes = Notes {
-        out: TextBuilder::new(alloc),
+        out: Lines::new(alloc),
+        memory: facts.memory,
         section: None,
-        version: 0,
-        compiler,
         alike: None,
     };
-    for line in listing.lines() {
-        notes.take(line);
+    for fact in facts.list {
+        notes.take(alloc, *fact)?;
     }
     notes.end_section();
     notes.out.finish()

@@ -8,7 +8,7 @@ pub mod examples;
 pub mod findings;
 pub mod graph;
 pub mod info_notes;
-mod kinds;
+pub mod lines;
 pub mod missing;
 pub mod picture;
 mod pieces;

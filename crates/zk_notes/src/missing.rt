@@ -1,16 +1,19 @@
 // Addresses that were named, and at which nothing is listed.
 
 use crate::addresses::push_found;
-use crate::cover::{instruction_on, routine_on};
+use crate::cover::{instruction_of, routine_of};
 use std::alloc::{AllocError, Global};
-use zk_facts::words::cut_word;
+use zk_code::decode::decode;
+use zk_facts::outcome::Facts;
+use zk_inspect::fact::Fact;
+use zk_mem::memory::Memory;
 
-/// The address of the instruction on a line, where one is decoded there.
-fn decoded_on(line: &str) -> Option<u32> {
-    if cut_word(line).1 == "?" {
-        None
-    } else {
-        instruction_on(line)
+/// The address of an instruction, where one is decoded there.
+fn decoded_of(memory: &Memory, fact: Fact) -> Option<u32> {
+    let address = instruction_of(fact)?;
+    match decode(memory, address) {
+        Ok(_) => Some(address),
+        Err(_) => None,
     }
 }
 
@@ -25,29 +28,29 @@ fn others(alloc: Global, addresses: &[u32], listed: &[u32]) -> Result<Vec<u32>, 
     Ok(missing)
 }
 
-/// Those of some addresses at which a disassembly lists no instruction, or a question mark in place of one.
+/// Those of some addresses at which no instruction is listed, or a question mark in place of one.
 pub fn without_instruction(
     alloc: Global,
-    disassembly: &str,
+    facts: &Facts<'_>,
     addresses: &[u32],
 ) -> Result<Vec<u32>, AllocError> {
     let mut listed = Vec::new(alloc);
-    for line in disassembly.lines() {
-        push_found(&mut listed, decoded_on(line))?;
+    for fact in facts.list {
+        push_found(&mut listed, decoded_of(facts.memory, *fact))?;
     }
     listed.sort_unstable();
     others(alloc, addresses, listed.as_slice())
 }
 
-/// Those of some addresses at which a disassembly lists no routine.
+/// Those of some addresses at which no routine is listed.
 pub fn without_routine(
     alloc: Global,
-    disassembly: &str,
+    facts: &Facts<'_>,
     addresses: &[u32],
 ) -> Result<Vec<u32>, AllocError> {
     let mut listed = Vec::new(alloc);
-    for line in disassembly.lines() {
-        push_found(&mut listed, routine_on(line))?;
+    for fact in facts.list {
+        push_found(&mut listed, routine_of(*fact))?;
     }
     listed.sort_unstable();
     others(alloc, addresses, listed.as_slice())

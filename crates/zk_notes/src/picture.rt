@@ -1,10 +1,11 @@
 // A picture of a story's map.
 
-use crate::addresses::address_of;
 use crate::pieces::{Piece, TextBuilder};
 use std::alloc::{AllocError, Global};
-use zk_facts::fact::Section;
-use zk_facts::words::cut_word;
+use zk_facts::outcome::Facts;
+use zk_inspect::fact::{Fact, Field};
+use zk_inspect::listing::header_lines::{Value, value_of};
+use zk_mem::memory::Memory;
 
 /// How many pixels wide the bar is, and how many there are to its left and to its right.
 const BAR: u64 = 860;
@@ -24,37 +25,20 @@ const FILLS: [&str; 10] = [
 
 /// A part of a story.
 #[derive(Clone, Copy, Drop)]
-struct Part<'a> {
+struct Part {
     address: u64,
-    name: &'a str,
+    name: &'static str,
 }
 
-/// The part on a line of the map.
-fn part_on(line: &str) -> Option<Part<'_>> {
-    let (address, name) = cut_word(line);
-    Some(Part {
-        address: address_of(address)? as u64,
-        name,
-    })
-}
-
-/// What a listing says of a story's map.
+/// The parts of a story.
 #[derive(Drop)]
-struct Map<'a> {
-    parts: Vec<Part<'a>>,
+struct Map {
+    parts: Vec<Part>,
     /// The bytes of the file, or as many as the header states.
     size: u64,
 }
 
-/// The bytes that a line of the header counts, where it counts some.
-fn size_on(line: &str) -> u64 {
-    match cut_word(line) {
-        ("file" | "length", count) => count.parse::<u32>().unwrap_or(0) as u64,
-        _ => 0,
-    }
-}
-
-impl<'a> Map<'a> {
+impl Map {
     /// The byte address after the last part: where the file ends, or where the last part begins if that lies beyond.
     fn end(&self) -> u64 {
         let mut end = self.size.max(1);
@@ -65,38 +49,30 @@ impl<'a> Map<'a> {
     }
 }
 
-/// The map in a listing of `info`.
-fn map_in(alloc: Global, info: &str) -> Result<Map<'_>, AllocError> {
+/// The bytes of a story's file, or as many as its header states.
+fn size_of(memory: &Memory) -> u64 {
+    let stated = match value_of(memory, Field::Length) {
+        Value::Number(length) => length,
+        _ => 0,
+    };
+    memory.len().max(stated) as u64
+}
+
+/// The map in a listing.
+fn map_in(alloc: Global, facts: &Facts<'_>) -> Result<Map, AllocError> {
     let mut map = Map {
         parts: Vec::new(alloc),
-        size: 0,
+        size: size_of(facts.memory),
     };
-    let mut section = None;
-    for line in info.lines() {
-        section = Section::begun_by(line).or(section);
-        match section {
-            Some(Section::Map) => {
-                if let Some(part) = part_on(line) {
-                    map.parts.push(part)?;
-                }
-            }
-            Some(Section::Header) => map.size = map.size.max(size_on(line)),
-            _ => {}
+    for fact in facts.list {
+        if let Fact::Part(place) = *fact {
+            map.parts.push(Part {
+                address: place.address as u64,
+                name: place.part.name(),
+            })?;
         }
     }
     Ok(map)
-}
-
-/// Adds a character of the picture. Control characters are left out, and the two others that XML has not.
-fn add_character(out: &mut TextBuilder, shown: char) {
-    match shown {
-        '&' => out.text("&amp;"),
-        '<' => out.text("&lt;"),
-        '>' => out.text("&gt;"),
-        '\u{fffe}' | '\u{ffff}' => {}
-        shown if shown.is_control() => {}
-        shown => out.character(shown),
-    }
 }
 
 /// Hundredths of a pixel along the bar, for bytes of so many.
@@ -106,8 +82,8 @@ fn along(bytes: u64, end: u64) -> u64 {
 
 /// A part with its place in the picture.
 #[derive(Clone, Copy, Drop)]
-struct Placed<'a> {
-    part: Part<'a>,
+struct Placed {
+    part: Part,
     /// How many bytes it has.
     size: u64,
     fill: &'static str,
@@ -116,7 +92,7 @@ struct Placed<'a> {
 }
 
 /// Adds the rectangle of a part in the bar, for a story that ends at an address.
-fn add_rectangle(out: &mut TextBuilder, placed: &Placed<'_>, end: u64) {
+fn add_rectangle(out: &mut TextBuilder, placed: &Placed, end: u64) {
     let left = along(placed.part.address, end);
     let right = along(placed.part.address.saturating_add(placed.size), end);
     out.pieces(&[
@@ -131,7 +107,7 @@ fn add_rectangle(out: &mut TextBuilder, placed: &Placed<'_>, end: u64) {
 }
 
 /// Adds the row of a part in the list.
-fn add_row(out: &mut TextBuilder, placed: &Placed<'_>) {
+fn add_row(out: &mut TextBuilder, placed: &Placed) {
     let unit = if placed.size == 1 {
         " byte</text>\n"
     } else {
@@ -147,11 +123,7 @@ fn add_row(out: &mut TextBuilder, placed: &Placed<'_>) {
         Piece::Text("\">"),
         Piece::Address(placed.part.address),
         Piece::Text(" "),
-    ]);
-    for shown in placed.part.name.chars() {
-        add_character(out, shown);
-    }
-    out.pieces(&[
+        Piece::Text(placed.part.name),
         Piece::Text(", "),
         Piece::Number(placed.size),
         Piece::Text(unit),
@@ -184,7 +156,7 @@ fn fill_of(at: usize) -> &'static str {
 }
 
 /// Adds the rectangle and the row of each part.
-fn add_parts(out: &mut TextBuilder, map: &Map<'_>, end: u64) {
+fn add_parts(out: &mut TextBuilder, map: &Map, end: u64) {
     for (at, part) in map.parts.iter().enumerate() {
         let next = match map.parts.get(at + 1) {
             Some(next) => next.address,
@@ -203,11 +175,10 @@ fn add_parts(out: &mut TextBuilder, map: &Map<'_>, end: u64) {
     }
 }
 
-/// The sections `[header]` and `[map]` of a listing of `info` as a picture, an SVG 1.1 of 900 pixels: a bar with a rectangle for
-/// each part, to scale, from its address to the next one's, and the last to the end of the file; below it each part's address,
-/// name and bytes, with a swatch of its fill.
-pub fn map_picture(alloc: Global, info: &str) -> Result<Vec<u8>, AllocError> {
-    let map = map_in(alloc, info)?;
+/// The map of a story as a picture, an SVG 1.1 of 900 pixels: a bar with a rectangle for each part, to scale, from its address to
+/// the next one's, and the last to the end of the file; below it each part's address, name and bytes, with a swatch of its fill.
+pub fn map_picture(alloc: Global, facts: &Facts<'_>) -> Result<Vec<u8>, AllocError> {
+    let map = map_in(alloc, facts)?;
     let end = map.end();
     let mut out = TextBuilder::new(alloc);
     add_head(&mut out, map.parts.len(), end);

@@ -1,89 +1,103 @@
 // Stories as facts, for other programs.
 
-ghost use Rattle.std.specs.Prelude.{◌≡◌, false};
+ghost use Rattle.std.specs.Prelude.{◌≡◌, false, IfOk};
+ghost use Rattle.zk_command.specs.Verdict.{IsStart};
 
 use crate::play::screen_of;
 use crate::told::out_of_memory;
 use std::alloc::AllocError;
 use std::fs::File;
 use std::io::ErrorKind;
-use std::str;
 use zk_command::about::About;
 use zk_command::arguments::NO_TEXT;
 use zk_command::exit::Exit;
-use zk_command::listing::{Listing, NO_SECTIONS, Sections, list_file};
+use zk_command::listing::{Listing, exit_after, facts_of, open_listed};
 use zk_command::report::report_listing;
 use zk_command::settings::Form;
 use zk_facts::document::object_about;
-use zk_facts::objects::{Entries, entries_in};
-use zk_facts::outcome::{Looked, Outcome};
+use zk_facts::outcome::{Facts, Looked, Outcome};
 use zk_facts::rows::add_rows;
+use zk_inspect::fact::Fact;
+use zk_mem::memory::Memory;
 use zk_mem::story::OpenError;
 use zk_term::io_device::IoDevice;
 use zk_term::target::{Failed, write_all};
 use zk_vm::stop::Stop;
 
-/// What the header says, alone.
-const HEADER: Listing = Listing::Info(Sections {
-    header: true,
-    ..NO_SECTIONS
-});
+/// The story in a file, opened for a listing, or how that ended.
+fn open(rt: &HostRuntime, about: &About, path: &str) -> Result<Memory, Exit>
+    ensures { IfOk result (λ memory. IsStart memory) }
+{
+    match File::open(rt, path) {
+        Err(error) => Err(Exit::Unread(error)),
+        Ok(file) => open_listed(rt.alloc(), file, about),
+    }
+}
 
-/// A listing in memory, and how it ended.
+/// A story, and the facts of a listing of it.
 #[derive(Drop)]
-pub struct Listed {
+pub struct Found {
+    memory: Memory,
+    facts: Vec<Fact>,
+}
+
+impl Found {
+    /// The facts.
+    pub fn facts(&self) -> Facts<'_> {
+        Facts {
+            memory: &self.memory,
+            list: self.facts.as_slice(),
+        }
+    }
+}
+
+/// What a look at the story in a file found, and how it ended.
+#[derive(Drop)]
+pub struct Look {
     pub exit: Exit,
-    text: Vec<u8>,
+    pub found: Option<Found>,
 }
 
-impl Listed {
-    /// The text, which is in UTF-8.
-    pub fn text(&self) -> &str {
-        str::from_utf8(self.text.as_slice()).unwrap_or("")
-    }
-}
-
-/// Lists the story in a file.
-pub fn list_in_memory(rt: &HostRuntime, about: &About, path: &str, listing: Listing<'_>) -> Listed {
-    let mut screen = IoDevice::new(Vec::new(rt.alloc()));
-    let exit = match File::open(rt, path) {
-        Err(error) => Exit::Unread(error),
-        Ok(file) => list_file(rt.alloc(), file, about, listing, &mut screen),
+/// Looks for facts in the story in a file.
+pub fn look_into(rt: &HostRuntime, about: &About, path: &str, listing: Listing<'_>) -> Look {
+    let memory = match open(rt, about, path) {
+        Ok(memory) => memory,
+        Err(exit) => return Look { exit, found: None },
     };
-    Listed {
-        exit,
-        text: screen.into_inner(),
+    match facts_of(rt.alloc(), &memory, listing) {
+        Ok((facts, wrong)) => Look {
+            exit: exit_after(Ok(wrong)),
+            found: Some(Found { memory, facts }),
+        },
+        Err(_) => Look {
+            exit: Exit::Stopped(Stop::Memory),
+            found: None,
+        },
     }
 }
 
-/// The entries of the objects of the story in a file, where its header can be read and names some.
-pub fn entries_of(rt: &HostRuntime, path: &str) -> Option<Entries> {
-    let listed = list_in_memory(rt, &About::new(path, ""), path, HEADER);
-    entries_in(listed.text())
-}
-
-/// What came of a look at the story in a file.
-fn outcome_of<'a>(
-    listed: &'a Listed,
-    listing: Listing<'_>,
-    entries: Option<Entries>,
-) -> Outcome<'a> {
-    match &listed.exit {
-        Exit::Refused(OpenError::OutOfMemory) | Exit::Stopped(Stop::Memory | Stop::Write) => {
+/// Why a look found nothing.
+fn nothing_by(exit: &Exit) -> Outcome<'static> {
+    match exit {
+        Exit::Refused(OpenError::OutOfMemory) | Exit::Stopped(_) => {
             Outcome::Unread("out of memory")
         }
         Exit::Refused(error) => Outcome::Refused(error.number()),
         Exit::Unread(error) if error.kind() == ErrorKind::OutOfMemory => {
             Outcome::Unread("out of memory")
         }
-        Exit::Unread(_) => Outcome::Unread("read failed"),
-        _ => match listing {
-            Listing::Findings => Outcome::Checked {
-                findings: listed.text(),
-                entries,
-            },
-            _ => Outcome::Listed(listed.text()),
-        },
+        _ => Outcome::Unread("read failed"),
+    }
+}
+
+/// What came of a look.
+fn outcome_of<'a>(look: &'a Look, listing: Listing<'_>) -> Outcome<'a> {
+    let Some(found) = &look.found else {
+        return nothing_by(&look.exit);
+    };
+    match listing {
+        Listing::Findings => Outcome::Checked(found.facts()),
+        _ => Outcome::Listed(found.facts()),
     }
 }
 
@@ -112,23 +126,19 @@ fn facts_in(
         return object_about(rt.alloc(), &looked);
     }
     let mut rows = Vec::new(rt.alloc());
-    add_rows(&mut rows, &looked)?;
+    add_rows(&mut rows, rt.alloc(), &looked)?;
     Ok(rows)
 }
 
 /// Lists the facts of the story in a file, and answers the program's status.
 pub fn list_facts(rt: &HostRuntime, path: &str, listing: Listing<'_>, form: Form) -> u8 {
     let about = About::listed(path, None);
-    let listed = list_in_memory(rt, &about, path, listing);
-    let entries = match listing {
-        Listing::Findings => entries_of(rt, path),
-        _ => None,
-    };
-    let Ok(facts) = facts_in(rt, path, outcome_of(&listed, listing, entries), form) else {
+    let look = look_into(rt, &about, path, listing);
+    let Ok(facts) = facts_in(rt, path, outcome_of(&look, listing), form) else {
         return out_of_memory(rt);
     };
     let exit = match write_all(&mut screen_of(rt, &about), facts.as_slice()) {
-        Ok(()) => listed.exit,
+        Ok(()) => look.exit,
         Err(Failed) => Exit::Stopped(Stop::Write),
     };
     report_listing(rt.alloc(), &exit, &about, &mut IoDevice::new(rt.stderr()))

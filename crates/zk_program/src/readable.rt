@@ -2,31 +2,27 @@
 
 ghost use Rattle.std.specs.Prelude.{◌≡◌, false};
 
-use crate::facts::{entries_of, list_in_memory};
+use crate::facts::{Look, look_into};
 use crate::play::screen_of;
 use crate::told::out_of_memory;
 use std::alloc::AllocError;
-use std::fs::File;
-use std::io::Read;
 use zk_command::about::About;
 use zk_command::exit::Exit;
 use zk_command::heading::write_heading;
 use zk_command::listing::{CodeListing, Listing, NO_SECTIONS, Sections, leave_out};
 use zk_command::report::report_listing;
 use zk_command::settings::Form;
+use zk_facts::outcome::Facts;
 use zk_notes::counts::Counts;
 use zk_notes::cover::marked;
-use zk_notes::findings;
 use zk_notes::graph::{code_graph, tree_graph};
-use zk_notes::info_notes::{self, compiler_in};
+use zk_notes::lines::plain_lines;
 use zk_notes::missing::{without_instruction, without_routine};
 use zk_notes::picture::map_picture;
+use zk_notes::{findings, info_notes};
 use zk_term::io_device::IoDevice;
 use zk_term::target::{Failed, write_all};
 use zk_vm::stop::Stop;
-
-/// How many bytes of a story's file are looked at for its compiler.
-const HEADER_LENGTH: usize = 64;
 
 /// What is asked of each story.
 #[derive(Clone, Copy, Drop)]
@@ -51,19 +47,14 @@ impl<'a> Request<'a> {
         }
     }
 
-    /// What is listed for the form: for a graph the tree of objects, or code with notes, and for a picture the map.
+    /// What is listed for the form: for a graph of `info` the tree of objects, and for a picture the map.
     fn listing(&self) -> Listing<'a> {
         match (self.form, self.listing) {
-            (Form::Graph, Listing::Code(code)) => Listing::Code(CodeListing {
-                notes: true,
-                ..code
-            }),
             (Form::Graph, Listing::Info(_)) => Listing::Info(Sections {
                 tree: true,
                 ..NO_SECTIONS
             }),
             (Form::Picture, Listing::Info(_)) => Listing::Info(Sections {
-                header: true,
                 map: true,
                 ..NO_SECTIONS
             }),
@@ -72,58 +63,36 @@ impl<'a> Request<'a> {
     }
 }
 
-/// The first bytes of a file: none where it can't be read or has fewer.
-fn header_of(rt: &HostRuntime, path: &str) -> [u8; HEADER_LENGTH] {
-    let mut header = [0; HEADER_LENGTH];
-    let read = match File::open(rt, path) {
-        Ok(mut file) => file.read_exact(&mut header).is_ok(),
-        Err(_) => false,
-    };
-    if read { header } else { [0; HEADER_LENGTH] }
-}
-
-/// The sections of `info` with notes.
-fn info_with_notes(rt: &HostRuntime, path: &str, text: &str) -> Result<Vec<u8>, AllocError> {
-    let header = header_of(rt, path);
-    info_notes::explain(rt.alloc(), text, compiler_in(&header))
-}
-
 /// The text that shows a listing.
 fn shown_text(
     rt: &HostRuntime,
-    path: &str,
-    text: &str,
+    facts: &Facts<'_>,
     request: &Request<'_>,
 ) -> Result<Vec<u8>, AllocError> {
     match (request.form, request.listing) {
-        (Form::Graph, Listing::Code(_)) => code_graph(rt.alloc(), text),
-        (Form::Graph, _) => tree_graph(rt.alloc(), text),
-        (Form::Picture, _) => map_picture(rt.alloc(), text),
-        (_, Listing::Code(_)) => match request.covered {
-            Some(covered) => marked(rt.alloc(), text, covered),
-            None => copy_of(rt, text),
+        (Form::Graph, Listing::Code(_)) => code_graph(rt.alloc(), facts),
+        (Form::Graph, _) => tree_graph(rt.alloc(), facts),
+        (Form::Picture, _) => map_picture(rt.alloc(), facts),
+        (_, Listing::Code(code)) => match request.covered {
+            Some(covered) => marked(rt.alloc(), facts, code.notes, covered),
+            None => plain_lines(rt.alloc(), facts, code.notes),
         },
-        (_, Listing::Info(_)) if request.notes => info_with_notes(rt, path, text),
-        (_, Listing::Findings) if request.notes => {
-            findings::explain(rt.alloc(), text, entries_of(rt, path))
-        }
-        _ => copy_of(rt, text),
+        (_, Listing::Info(_)) if request.notes => info_notes::explain(rt.alloc(), facts),
+        (_, Listing::Findings) if request.notes => findings::explain(rt.alloc(), facts),
+        _ => plain_lines(rt.alloc(), facts, false),
     }
-}
-
-/// A text's bytes.
-fn copy_of(rt: &HostRuntime, text: &str) -> Result<Vec<u8>, AllocError> {
-    let mut copy = Vec::new(rt.alloc());
-    copy.extend_from_slice(text.as_bytes())?;
-    Ok(copy)
 }
 
 /// Tells which of the addresses that are named have no instruction or no routine.
-fn tell_missing(rt: &HostRuntime, text: &str, code: &CodeListing<'_>) -> Result<(), AllocError> {
-    for address in &without_instruction(rt.alloc(), text, code.addresses)? {
+fn tell_missing(
+    rt: &HostRuntime,
+    facts: &Facts<'_>,
+    code: &CodeListing<'_>,
+) -> Result<(), AllocError> {
+    for address in &without_instruction(rt.alloc(), facts, code.addresses)? {
         let _ = eprintln!(rt; "zkit: no instruction at {:05x}", *address);
     }
-    for address in &without_routine(rt.alloc(), text, code.routines)? {
+    for address in &without_routine(rt.alloc(), facts, code.routines)? {
         let _ = eprintln!(rt; "zkit: no routine at {:05x}", *address);
     }
     Ok(())
@@ -133,14 +102,13 @@ fn tell_missing(rt: &HostRuntime, text: &str, code: &CodeListing<'_>) -> Result<
 fn write_shown(
     rt: &HostRuntime,
     about: &About,
-    path: &str,
-    text: &str,
+    facts: &Facts<'_>,
     request: &Request<'_>,
 ) -> Result<Result<(), Failed>, AllocError> {
     if let Listing::Code(code) = request.listing {
-        tell_missing(rt, text, &code)?;
+        tell_missing(rt, facts, &code)?;
     }
-    let shown = shown_text(rt, path, text, request)?;
+    let shown = shown_text(rt, facts, request)?;
     let mut screen = screen_of(rt, about);
     match write_heading(&mut screen, about.heading, None) {
         Ok(()) => Ok(write_all(&mut screen, shown.as_slice())),
@@ -158,21 +126,22 @@ pub fn list_readable<'a>(
     counts: &mut Counts,
 ) -> u8 {
     let about = About::listed(path, heading);
-    let listed = list_in_memory(rt, &About::listed(path, None), path, request.listing());
-    let exit = match listed.exit {
-        Exit::Found | Exit::Stopped(Stop::Quit) => {
-            counts.add(listed.text());
-            match write_shown(rt, &about, path, listed.text(), request) {
-                Ok(Ok(())) => listed.exit,
+    let Look { exit, found } = look_into(rt, &about, path, request.listing());
+    let exit = match (&found, exit) {
+        (Some(found), exit) => {
+            let facts = found.facts();
+            counts.add(facts.list);
+            match write_shown(rt, &about, &facts, request) {
+                Ok(Ok(())) => exit,
                 Ok(Err(Failed)) => Exit::Stopped(Stop::Write),
                 Err(_) => return out_of_memory(rt),
             }
         }
-        Exit::Refused(_) | Exit::Unread(_) => {
+        (None, exit @ (Exit::Refused(_) | Exit::Unread(_))) => {
             counts.add_unlisted();
-            leave_out(&about, listed.exit, &mut screen_of(rt, &about))
+            leave_out(&about, exit, &mut screen_of(rt, &about))
         }
-        _ => listed.exit,
+        (None, exit) => exit,
     };
     report_listing(rt.alloc(), &exit, &about, &mut IoDevice::new(rt.stderr()))
 }

@@ -4,12 +4,13 @@ use crate::tests_same::same;
 use std::alloc::Global;
 use std::io::{self, Write};
 use std::test::Fail;
-use zk_inspect::error::ListError;
-use zk_inspect::reach::disassembly::disassemble;
-use zk_inspect::reach::reach;
+use zk_inspect::listing::list_reached;
+use zk_inspect::plain_text::PlainText;
 use zk_mem::memory::{Memory, Setup};
 use zk_mem::story::Story;
 use zk_term::io_device::IoDevice;
+use zk_term::line_writer::TargetWriter;
+use zk_term::target::{Failed, Target};
 
 /// A story that ends with this code, which begins at 0x40.
 pub(crate) fn story(alloc: Global, version: u8, code: &[u8]) -> Result<Memory, Fail> {
@@ -39,12 +40,26 @@ pub(crate) fn listed(alloc: Global, version: u8, code: &[u8]) -> Result<Vec<u8>,
     list(alloc, &story(alloc, version, code)?)
 }
 
+/// Writes the disassembly of a story, and tells whether that failed.
+pub(crate) fn disassemble<T: Target>(
+    alloc: Global,
+    memory: &Memory,
+    target: &mut T,
+) -> Result<(), Failed> {
+    let mut writer = TargetWriter::new(target);
+    let mut text = PlainText::new(memory, false, &mut writer);
+    let listed = list_reached(alloc, memory, &[], &[], &mut text);
+    match (writer.finish(), listed) {
+        (Ok(()), Ok(())) => Ok(()),
+        _ => Err(Failed),
+    }
+}
+
 pub(crate) fn list(alloc: Global, memory: &Memory) -> Result<Vec<u8>, Fail> {
-    let code = reach(alloc, memory)?;
     let mut target = IoDevice::new(Vec::new(alloc));
-    match disassemble(memory, &code, &mut target) {
+    match disassemble(alloc, memory, &mut target) {
         Ok(()) => {}
-        Err(_) => {}
+        Err(Failed) => {}
     }
     Ok(target.into_inner())
 }
@@ -90,14 +105,13 @@ impl Write for Narrow {
 #[test]
 fn a_failed_write_is_told(rt: HostRuntime) -> Result<(), Fail> {
     let memory = story(rt.alloc(), 3, &[0xb2, 0xb5, 0xc5, 0xbb, 0xba])?;
-    let code = reach(rt.alloc(), &memory)?;
     let mut target = IoDevice::new(Narrow {
         taken: Vec::new(rt.alloc()),
     });
     same(
         &rt,
-        disassemble(&memory, &code, &mut target),
-        Err(ListError::Write),
+        disassemble(rt.alloc(), &memory, &mut target),
+        Err(Failed),
     );
     let Narrow { taken } = target.into_inner();
     same(&rt, taken.as_slice(), b"000".as_slice());

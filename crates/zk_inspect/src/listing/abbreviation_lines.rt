@@ -1,11 +1,12 @@
 // The lines of abbreviations.
 
-ghost use Rattle.std.specs.Prelude.{◌≡◌, ◌++◌, ◌<◌, codes, decimal};
-ghost use Rattle.std.specs.List.{flat_map, range_with_len};
-ghost use Rattle.zk_text.specs.Meaning.{abbreviation, meaning_at, no_abbreviation};
-ghost use Rattle.zk_inspect.specs.AbbreviationLines.{abbreviation_line, abbreviation_lines};
+ghost use Rattle.std.specs.Prelude.{◌≡◌, ◌++◌, ◌<◌, codes, decimal, map, Err, IfErr, IfOk, IsOk};
+ghost use Rattle.std.specs.List.{range_with_len};
+ghost use Rattle.zk_text.specs.Meaning.{abbreviation, meaning_at, no_abbreviation, text_units};
+ghost use Rattle.zk_inspect.specs.AbbreviationLines.{abbreviation_facts, abbreviation_line};
 ghost use Rattle.zk_inspect.specs.Listing.{units_text};
 
+use crate::fact::{Fact, FactWriter};
 use crate::listing::quoting::write_meaning;
 use crate::listing::writing::write_fault;
 use zk_mem::fault::Fault;
@@ -37,9 +38,25 @@ fn write_text<P: LineWriter>(writer: &mut P, memory: &Memory, address: u32)
     write_checked(writer, memory, address);
 }
 
-/// Writes what an abbreviation stands for, or why it stands for nothing.
-fn write_meaning_of<P: LineWriter>(writer: &mut P, memory: &Memory, number: u16)
-    requires { number < 96 }
+/// The byte address of the text that an abbreviation stands for, by its number, or why it stands for nothing: `TextPastEnd`
+/// where there is no text, and `NestedAbbreviation` where the text uses an abbreviation (Standard, section 3.3).
+pub fn abbreviation_text(memory: &Memory, number: u8) -> Result<u32, Fault>
+    ensures text { IfOk result (λ a. text_units memory.now a ≡ abbreviation memory.now number) }
+    ensures meaning { IfOk result (λ a. IsOk (text_units memory.now a)) }
+    ensures fault { IfErr result (λ f. abbreviation memory.now number ≡ Err f) }
+{
+    let address = match memory.word(memory.header().abbreviations as u32 + 2 * number as u32) {
+        Ok(word) => 2 * word as u32,
+        Err(_) => return Err(Fault::TextPastEnd),
+    };
+    match check_abbreviation(memory, address) {
+        Ok(()) => Ok(address),
+        Err(fault) => Err(fault),
+    }
+}
+
+/// Writes what an abbreviation stands for between quotes, or why it stands for nothing.
+pub fn write_meaning_of<P: LineWriter>(writer: &mut P, memory: &Memory, number: u8)
     ensures { P.wrote writer.old writer.new (units_text memory.now (abbreviation memory.now number)) }
 {
     match memory.word(memory.header().abbreviations as u32 + 2 * number as u32) {
@@ -49,33 +66,30 @@ fn write_meaning_of<P: LineWriter>(writer: &mut P, memory: &Memory, number: u16)
 }
 
 /// Writes the line of an abbreviation.
-fn write_abbreviation<P: LineWriter>(writer: &mut P, memory: &Memory, number: u16)
-    requires { number < 96 }
+pub(crate) fn write_abbreviation<P: LineWriter>(writer: &mut P, memory: &Memory, number: u8)
     ensures { P.wrote writer.old writer.new (abbreviation_line memory.now number) }
 {
     write_decimal(writer, b"", number as u32);
     writer.write(b" ");
     write_meaning_of(writer, memory, number);
-    writer.write(b"\n");
 }
 
-/// Writes the lines of all abbreviations.
-fn write_all_abbreviations<P: LineWriter>(writer: &mut P, memory: &Memory)
-    ensures { P.wrote writer.old writer.new
-        (flat_map (abbreviation_line memory.now) (range_with_len 0 96)) }
+/// Gives all abbreviations.
+fn list_all<F: FactWriter>(facts: &mut F)
+    ensures { F.wrote facts.old facts.new (map Fact.Abbreviation (range_with_len 0 96)) }
 {
     for number in 0..96 {
-        write_abbreviation(writer, memory, number);
+        facts.write(Fact::Abbreviation(number));
     }
 }
 
-/// Writes the lines of abbreviations, where the story has a table of them.
-#[tactic(auto, unfolding(crate::specs::AbbreviationLines::abbreviation_lines))]
-pub(crate) fn write_abbreviations<P: LineWriter>(writer: &mut P, memory: &Memory)
-    ensures { P.wrote writer.old writer.new (abbreviation_lines memory.now) }
+/// Gives the abbreviations, where the story has a table of them.
+#[tactic(auto, unfolding(crate::specs::AbbreviationLines::abbreviation_facts))]
+pub(crate) fn list_abbreviations<F: FactWriter>(memory: &Memory, facts: &mut F)
+    ensures { F.wrote facts.old facts.new (abbreviation_facts memory.now) }
 {
     if memory.header().abbreviations == 0 {
         return;
     }
-    write_all_abbreviations(writer, memory);
+    list_all(facts);
 }

@@ -2,8 +2,9 @@
 
 ghost use Rattle.std.specs.Prelude.{◌≡◌, ◌+◌, ◌-◌, ◌≤◌, ◌<◌, ◌++◌, codes};
 ghost use Rattle.std.specs.List.{flat_map, range_with_len};
-ghost use Rattle.zk_inspect.specs.AlphabetLines.{alphabet_line, alphabet_lines, code_text, extra_line, extra_text, first_letter, letter_text, row_name};
+ghost use Rattle.zk_inspect.specs.AlphabetLines.{alphabet_facts, alphabet_line, code_text, extra_line, extra_text, first_letter, letter_text, row_name};
 
+use crate::fact::{Fact, FactWriter};
 use crate::listing::quoting::write_code;
 use zk_mem::memory::Memory;
 use zk_term::line_writer::LineWriter;
@@ -54,12 +55,12 @@ fn write_row_name<P: LineWriter>(writer: &mut P, row: Row)
 }
 
 /// Writes the line of an alphabet.
-fn write_alphabet<P: LineWriter>(writer: &mut P, memory: &Memory, row: Row)
+pub(crate) fn write_alphabet<P: LineWriter>(writer: &mut P, memory: &Memory, row: Row)
     ensures { P.wrote writer.old writer.new (alphabet_line memory.now row) }
 {
     write_row_name(writer, row);
     write_row(writer, memory, row);
-    writer.write(b"\"\n");
+    writer.write(b"\"");
 }
 
 /// Writes an extra character, where its code has one.
@@ -83,20 +84,20 @@ fn write_all_extra<P: LineWriter>(writer: &mut P, memory: &Memory)
 }
 
 /// Writes the line of the extra characters.
-fn write_extra_line<P: LineWriter>(writer: &mut P, memory: &Memory)
+pub(crate) fn write_extra_line<P: LineWriter>(writer: &mut P, memory: &Memory)
     ensures { P.wrote writer.old writer.new (extra_line memory.now) }
 {
     writer.write(b"extra \"");
     write_all_extra(writer, memory);
-    writer.write(b"\"\n");
+    writer.write(b"\"");
 }
 
-/// Writes the lines of the alphabets, and that of the extra characters.
-pub(crate) fn write_alphabets<P: LineWriter>(writer: &mut P, memory: &Memory)
-    ensures { P.wrote writer.old writer.new (alphabet_lines memory.now) }
+/// Gives the alphabets, and the extra characters.
+pub(crate) fn list_alphabets<F: FactWriter>(facts: &mut F)
+    ensures { F.wrote facts.old facts.new alphabet_facts }
 {
-    write_alphabet(writer, memory, Row::A0);
-    write_alphabet(writer, memory, Row::A1);
-    write_alphabet(writer, memory, Row::A2);
-    write_extra_line(writer, memory);
+    facts.write(Fact::Alphabet(Row::A0));
+    facts.write(Fact::Alphabet(Row::A1));
+    facts.write(Fact::Alphabet(Row::A2));
+    facts.write(Fact::ExtraCharacters);
 }

@@ -1,35 +1,34 @@
 // The lines of global variables.
 
-ghost use Rattle.std.specs.Prelude.{◌≡◌, ◌++◌, ◌<◌, codes, decimal};
-ghost use Rattle.std.specs.List.{flat_map, range_with_len};
+ghost use Rattle.std.specs.Prelude.{◌≡◌, ◌++◌, codes, decimal, map};
+ghost use Rattle.std.specs.List.{range_with_len};
 ghost use Rattle.zk_mem.specs.Map.{word_at};
 ghost use Rattle.zk_term.specs.Numbers.{address_digits};
-ghost use Rattle.zk_inspect.specs.GlobalLines.{global_line, global_name, global_lines, global_place, word_text};
+ghost use Rattle.zk_inspect.specs.GlobalLines.{global_facts, global_line, global_name, global_place, word_text};
 
+use crate::fact::{Fact, FactWriter};
 use crate::listing::writing::write_word;
 use zk_mem::memory::Memory;
 use zk_term::line_writer::LineWriter;
 use zk_term::writing::{write_address, write_decimal};
 
-/// The byte address of the value of a global variable.
-fn global_place(memory: &Memory, number: u32) -> u32
-    requires { number < 240 }
+/// The byte address of the value of a global variable, by its number from 0 on (Standard, section 6.2).
+pub fn global_place(memory: &Memory, number: u8) -> u32
     ensures { result ≡ global_place memory.now number }
 {
-    memory.header().globals as u32 + 2 * number
+    memory.header().globals as u32 + 2 * number as u32
 }
 
 /// Writes the name of a global variable.
 #[tactic(auto, unfolding(crate::specs::GlobalLines::global_name))]
-fn write_name<P: LineWriter>(writer: &mut P, number: u32)
+fn write_name<P: LineWriter>(writer: &mut P, number: u8)
     ensures { P.wrote writer.old writer.new (global_name number) }
 {
-    write_decimal(writer, b"g", number);
+    write_decimal(writer, b"g", number as u32);
 }
 
 /// Writes the byte address of the value of a global variable.
-pub(crate) fn write_place<P: LineWriter>(writer: &mut P, memory: &Memory, number: u32)
-    requires { number < 240 }
+pub(crate) fn write_place<P: LineWriter>(writer: &mut P, memory: &Memory, number: u8)
     ensures { P.wrote writer.old writer.new (address_digits (global_place memory.now number)) }
 {
     write_address(writer, b"", global_place(memory, number));
@@ -47,8 +46,7 @@ pub(crate) fn write_word_at<P: LineWriter>(writer: &mut P, memory: &Memory, addr
 }
 
 /// Writes the value of a global variable.
-fn write_value<P: LineWriter>(writer: &mut P, memory: &Memory, number: u32)
-    requires { number < 240 }
+fn write_value<P: LineWriter>(writer: &mut P, memory: &Memory, number: u8)
     ensures { P.wrote writer.old writer.new
         (word_text (word_at memory.now (global_place memory.now number))) }
 {
@@ -56,8 +54,7 @@ fn write_value<P: LineWriter>(writer: &mut P, memory: &Memory, number: u32)
 }
 
 /// Writes the line of a global variable.
-fn write_global<P: LineWriter>(writer: &mut P, memory: &Memory, number: u32)
-    requires { number < 240 }
+pub(crate) fn write_global<P: LineWriter>(writer: &mut P, memory: &Memory, number: u8)
     ensures { P.wrote writer.old writer.new (global_line memory.now number) }
 {
     write_name(writer, number);
@@ -65,26 +62,24 @@ fn write_global<P: LineWriter>(writer: &mut P, memory: &Memory, number: u32)
     write_place(writer, memory, number);
     writer.write(b" ");
     write_value(writer, memory, number);
-    writer.write(b"\n");
 }
 
-/// Writes the lines of all global variables.
-fn write_all_globals<P: LineWriter>(writer: &mut P, memory: &Memory)
-    ensures { P.wrote writer.old writer.new
-        (flat_map (global_line memory.now) (range_with_len 0 240)) }
+/// Gives all global variables.
+fn list_all<F: FactWriter>(facts: &mut F)
+    ensures { F.wrote facts.old facts.new (map Fact.Global (range_with_len 0 240)) }
 {
     for number in 0..240 {
-        write_global(writer, memory, number);
+        facts.write(Fact::Global(number));
     }
 }
 
-/// Writes the lines of global variables, where the story has a table of them.
-#[tactic(auto, unfolding(crate::specs::GlobalLines::global_lines))]
-pub(crate) fn write_globals<P: LineWriter>(writer: &mut P, memory: &Memory)
-    ensures { P.wrote writer.old writer.new (global_lines memory.now) }
+/// Gives the global variables, where the story has a table of them.
+#[tactic(auto, unfolding(crate::specs::GlobalLines::global_facts))]
+pub(crate) fn list_globals<F: FactWriter>(memory: &Memory, facts: &mut F)
+    ensures { F.wrote facts.old facts.new (global_facts memory.now) }
 {
     if memory.header().globals == 0 {
         return;
     }
-    write_all_globals(writer, memory);
+    list_all(facts);
 }

@@ -1,17 +1,39 @@
 // The lines of a header.
 
-ghost use Rattle.std.specs.Prelude.{◌≡◌};
-ghost use Rattle.std.specs.List.{flat_map};
-ghost use Rattle.zk_inspect.specs.HeaderLines.{common_lines, field_line, header_lines, late_lines, serial_shown, value_text, visible_byte};
+ghost use Rattle.std.specs.Prelude.{◌≡◌, map};
+ghost use Rattle.zk_inspect.specs.HeaderLines.{field_line, header_facts, late_facts, serial_shown, value_of, value_text, visible_byte};
 
+use crate::fact::{Fact, FactWriter, Field};
 use zk_mem::header::unpack;
 use zk_mem::memory::Memory;
 use zk_term::line_writer::LineWriter;
 use zk_term::writing::{hex_digits_of, write_address, write_decimal, write_texts};
 
+/// The fields that every version has.
+const COMMON_FIELDS: [Field; 15] = [
+    Field::Version,
+    Field::Release,
+    Field::Serial,
+    Field::Length,
+    Field::File,
+    Field::Checksum,
+    Field::Start,
+    Field::High,
+    Field::Static,
+    Field::Dictionary,
+    Field::Objects,
+    Field::Globals,
+    Field::Abbreviations,
+    Field::Flags1,
+    Field::Flags2,
+];
+
+/// The fields that versions from 5 on have.
+const LATE_FIELDS: [Field; 2] = [Field::Alphabet, Field::Extension];
+
 /// What a header says in one of its fields.
-#[derive(Clone, Copy)]
-pub(crate) enum Value {
+#[derive(Clone, Copy, Drop)]
+pub enum Value {
     /// A number, shown by its decimal digits.
     Number(u32),
     /// A byte address.
@@ -26,13 +48,6 @@ pub(crate) enum Value {
     Checksum(u16, bool),
 }
 
-/// A field of a header by its name.
-#[derive(Clone, Copy)]
-pub(crate) struct Field<'a> {
-    name: &'a [u8],
-    value: Value,
-}
-
 /// A byte of a serial number, or a question mark for one that can't be shown.
 fn visible(byte: u8) -> u8
     ensures { result ≡ visible_byte byte }
@@ -40,8 +55,8 @@ fn visible(byte: u8) -> u8
     if byte > 32 && byte < 127 { byte } else { b'?' }
 }
 
-/// A serial number as it is shown.
-fn shown_serial(serial: [u8; 6]) -> [u8; 6]
+/// A serial number as it is shown: a question mark stands for a byte that can't be.
+pub fn shown_serial(serial: [u8; 6]) -> [u8; 6]
     ensures { result ≡ serial_shown serial }
 {
     [
@@ -100,129 +115,66 @@ fn write_value<P: LineWriter>(writer: &mut P, value: Value)
     }
 }
 
-/// Writes the line of a field.
-fn write_field<P: LineWriter>(writer: &mut P, name: &[u8], value: Value)
-    ensures { P.wrote writer.old writer.new (field_line name.now value) }
+/// What a field says.
+pub fn value_of(memory: &Memory, field: Field) -> Value
+    ensures { result ≡ value_of memory.now field }
 {
-    writer.write(name);
-    writer.write(b" ");
-    write_value(writer, value);
-    writer.write(b"\n");
+    let header = memory.header();
+    match field {
+        Field::Version => Value::Number(header.version as u32),
+        Field::Release => Value::Number(header.release as u32),
+        Field::Serial => Value::Serial(header.serial),
+        Field::Length => Value::Number(unpack(header.version, header.file_length)),
+        Field::File => Value::Number(memory.len()),
+        Field::Checksum => Value::Checksum(header.checksum, memory.checksum_ok()),
+        Field::Start => Value::Address(header.first_instruction),
+        Field::High => Value::Address(header.high_memory),
+        Field::Static => Value::Address(header.static_base),
+        Field::Dictionary => Value::Address(header.dictionary),
+        Field::Objects => Value::Address(header.objects),
+        Field::Globals => Value::Address(header.globals),
+        Field::Abbreviations => Value::Address(header.abbreviations),
+        Field::Flags1 => Value::Byte(header.flags_1),
+        Field::Flags2 => Value::Word(header.flags_2),
+        Field::Alphabet => Value::Address(header.alphabet),
+        Field::Extension => Value::Address(header.extension),
+    }
 }
 
-/// Writes the lines of fields.
-fn write_fields<P: LineWriter>(writer: &mut P, fields: &[Field<'_>])
-    ensures { P.wrote writer.old writer.new (flat_map (λ f. field_line f.name.now f.value) fields.now) }
+/// Writes the line of a field.
+pub(crate) fn write_field<P: LineWriter>(writer: &mut P, memory: &Memory, field: Field)
+    ensures { P.wrote writer.old writer.new (field_line memory.now field) }
+{
+    writer.write(field.name().as_bytes());
+    writer.write(b" ");
+    write_value(writer, value_of(memory, field));
+}
+
+/// Gives fields.
+fn list_fields<F: FactWriter>(facts: &mut F, fields: &[Field])
+    ensures { F.wrote facts.old facts.new (map Fact.Field fields.now) }
 {
     for field in fields {
-        write_field(writer, field.name, field.value);
+        facts.write(Fact::Field(*field));
     }
 }
 
-/// Writes the lines of the fields that every version has.
-#[tactic(auto, unfolding(crate::specs::HeaderLines::common_lines))]
-fn write_common_fields<P: LineWriter>(writer: &mut P, memory: &Memory)
-    ensures { P.wrote writer.old writer.new (common_lines memory.now) }
+/// Gives the fields that versions from 5 on have.
+#[tactic(auto, unfolding(crate::specs::HeaderLines::late_facts))]
+fn list_late_fields<F: FactWriter>(memory: &Memory, facts: &mut F)
+    ensures { F.wrote facts.old facts.new (late_facts memory.now) }
 {
-    let header = memory.header();
-    let length = unpack(header.version, header.file_length);
-    let sum = Value::Checksum(header.checksum, memory.checksum_ok());
-    write_fields(
-        writer,
-        &[
-            Field {
-                name: b"version",
-                value: Value::Number(header.version as u32),
-            },
-            Field {
-                name: b"release",
-                value: Value::Number(header.release as u32),
-            },
-            Field {
-                name: b"serial",
-                value: Value::Serial(header.serial),
-            },
-            Field {
-                name: b"length",
-                value: Value::Number(length),
-            },
-            Field {
-                name: b"file",
-                value: Value::Number(memory.len()),
-            },
-            Field {
-                name: b"checksum",
-                value: sum,
-            },
-            Field {
-                name: b"start",
-                value: Value::Address(header.first_instruction),
-            },
-            Field {
-                name: b"high",
-                value: Value::Address(header.high_memory),
-            },
-            Field {
-                name: b"static",
-                value: Value::Address(header.static_base),
-            },
-            Field {
-                name: b"dictionary",
-                value: Value::Address(header.dictionary),
-            },
-            Field {
-                name: b"objects",
-                value: Value::Address(header.objects),
-            },
-            Field {
-                name: b"globals",
-                value: Value::Address(header.globals),
-            },
-            Field {
-                name: b"abbreviations",
-                value: Value::Address(header.abbreviations),
-            },
-            Field {
-                name: b"flags1",
-                value: Value::Byte(header.flags_1),
-            },
-            Field {
-                name: b"flags2",
-                value: Value::Word(header.flags_2),
-            },
-        ],
-    )
-}
-
-/// Writes the lines of the fields that versions from 5 on have.
-#[tactic(auto, unfolding(crate::specs::HeaderLines::late_lines))]
-fn write_late_fields<P: LineWriter>(writer: &mut P, memory: &Memory)
-    ensures { P.wrote writer.old writer.new (late_lines memory.now) }
-{
-    let header = memory.header();
-    if header.version < 5 {
+    if memory.header().version < 5 {
         return;
     }
-    write_fields(
-        writer,
-        &[
-            Field {
-                name: b"alphabet",
-                value: Value::Address(header.alphabet),
-            },
-            Field {
-                name: b"extension",
-                value: Value::Address(header.extension),
-            },
-        ],
-    )
+    list_fields(facts, &LATE_FIELDS);
 }
 
-/// Writes the lines of a header.
-#[tactic(auto, unfolding(crate::specs::HeaderLines::header_lines))]
-pub(crate) fn write_header<P: LineWriter>(writer: &mut P, memory: &Memory)
-    ensures { P.wrote writer.old writer.new (header_lines memory.now) }
+/// Gives the fields of a header.
+#[tactic(auto, unfolding(crate::specs::HeaderLines::header_facts))]
+pub(crate) fn list_header<F: FactWriter>(memory: &Memory, facts: &mut F)
+    ensures { F.wrote facts.old facts.new (header_facts memory.now) }
 {
-    write_common_fields(writer, memory);
-    write_late_fields(writer, memory);
+    list_fields(facts, &COMMON_FIELDS);
+    list_late_fields(memory, facts);
 }

@@ -181,9 +181,11 @@ fn write_own_name<P: LineWriter>(writer: &mut P, name: &[u8])
     }
 }
 
-/// Writes the name of a story by what it says of itself, where that was usual.
-fn write_name<P: LineWriter>(writer: &mut P, memory: &Memory)
-    ensures { P.wrote writer.old writer.new (ifid memory.now.file) }
+/// Writes what catalogues name a story by (Treaty of Babel): the name by which it names itself, where that was usual, or a name
+/// by its header.
+#[tactic(auto, unfolding(crate::specs::Ifid::ifid_line))]
+pub fn write_ifid<P: LineWriter>(writer: &mut P, memory: &Memory)
+    ensures { P.wrote writer.old writer.new (ifid_line memory.now) }
 {
     let header = memory.header();
     if is_early(header.serial) {
@@ -194,12 +196,4 @@ fn write_name<P: LineWriter>(writer: &mut P, memory: &Memory)
         Some(name) => write_own_name(writer, name),
         None => write_header_name(writer, header),
     }
-}
-
-/// Writes the line with the name of a story.
-pub(crate) fn write_ifid<P: LineWriter>(writer: &mut P, memory: &Memory)
-    ensures { P.wrote writer.old writer.new (ifid_line memory.now) }
-{
-    write_name(writer, memory);
-    writer.write(b"\n");
 }

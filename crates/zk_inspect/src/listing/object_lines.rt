@@ -1,14 +1,17 @@
 // The lines of objects.
 
-ghost use Rattle.std.specs.Prelude.{◌≡◌, ◌≤◌, ◌<◌, ◌+◌, ◌++◌, ◌∷◌, [], codes, decimal, length, IsOk, if◌then◌else◌};
+ghost use Rattle.std.specs.Prelude.{◌≡◌, ◌≤◌, ◌<◌, ◌+◌, ◌++◌, ◌∷◌, [], codes, decimal, length, map, IsOk, if◌then◌else◌};
 ghost use Rattle.std.specs.List.{flat_map, range_with_len};
 ghost use Rattle.zk_tables.specs.Attributes.{attribute_at};
 ghost use Rattle.zk_tables.specs.Links.{link_at, parent_of, sibling_of, child_of};
 ghost use Rattle.zk_tables.specs.Properties.{name_of, properties_of};
 ghost use Rattle.zk_tables.specs.PropertyList.{properties_at, properties_from};
-ghost use Rattle.zk_inspect.specs.ObjectLines.{attributes_of, is_set, label_text, links_text, name_text, number_or_none, object_line, properties_or_none, properties_text, property_text, separated};
+ghost use Rattle.zk_inspect.specs.Facts.{GaveSome};
+ghost use Rattle.zk_inspect.specs.ObjectLines.{AreObjectFacts, attributes_of, is_set, label_text, links_text, name_text, number_or_none, object_line, properties_or_none, properties_text, property_text, separated};
 
+use crate::fact::{Fact, FactWriter};
 use crate::listing::quoting::write_quoted;
+use crate::objects::count_objects;
 use arrayvec::ArrayVec;
 use itoa::Buffer;
 use zk_mem::fault::Fault;
@@ -42,7 +45,7 @@ pub(crate) fn write_label<P: LineWriter>(writer: &mut P, memory: &Memory, object
 }
 
 /// The object that a link names, or 0.
-pub(crate) fn number_or_none(link: Result<u16, Fault>) -> u16
+pub fn number_or_none(link: Result<u16, Fault>) -> u16
     ensures { result ≡ number_or_none link }
 {
     match link {
@@ -96,8 +99,8 @@ fn keep(numbers: &mut ArrayVec<u16, 48>, number: u16, kept: bool)
     }
 }
 
-/// The attributes of an object.
-fn attributes_of(memory: &Memory, object: u16) -> ArrayVec<u16, 48>
+/// The attributes of an object that are set, by their numbers, of the 48 that there may be (Standard, section 12.3).
+pub fn attributes_of(memory: &Memory, object: u16) -> ArrayVec<u16, 48>
     ensures { result.items ≡ attributes_of memory.now object }
 {
     let mut attributes = ArrayVec::new();
@@ -201,7 +204,7 @@ fn write_properties<P: LineWriter>(writer: &mut P, memory: &Memory, object: u16)
 }
 
 /// Writes the line of an object.
-fn write_object<P: LineWriter>(writer: &mut P, memory: &Memory, object: u16)
+pub(crate) fn write_object<P: LineWriter>(writer: &mut P, memory: &Memory, object: u16)
     ensures { P.wrote writer.old writer.new (object_line memory.now object) }
 {
     write_label(writer, memory, object);
@@ -210,15 +213,21 @@ fn write_object<P: LineWriter>(writer: &mut P, memory: &Memory, object: u16)
     write_attributes(writer, memory, object);
     writer.write(b" properties ");
     write_properties(writer, memory, object);
-    writer.write(b"\n");
 }
 
-/// Writes the lines of so many objects, from 1 on.
-pub(crate) fn write_objects<P: LineWriter>(writer: &mut P, memory: &Memory, count: u16)
-    ensures { P.wrote writer.old writer.new
-        (flat_map (object_line memory.now) (range_with_len 1 count)) }
+/// Gives so many objects, from 1 on.
+fn list_first_objects<F: FactWriter>(facts: &mut F, count: u16)
+    ensures { F.wrote facts.old facts.new (map Fact.Object (range_with_len 1 count)) }
 {
     for before in 0..count {
-        write_object(writer, memory, before + 1);
+        facts.write(Fact::Object(before + 1));
     }
+}
+
+/// Gives the objects.
+pub(crate) fn list_objects<F: FactWriter>(memory: &Memory, facts: &mut F)
+    ensures { GaveSome (AreObjectFacts memory.now) F.wrote facts.old facts.new }
+{
+    let count = count_objects(memory);
+    list_first_objects(facts, count);
 }

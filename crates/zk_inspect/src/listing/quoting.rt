@@ -38,9 +38,18 @@ pub(crate) fn write_character<P: LineWriter>(writer: &mut P, c: char)
 
 /// Writes units of text as they stand between quotes, by the extra characters in force.
 #[derive(Drop)]
-struct Quoting<'a, P> {
+pub(crate) struct Quoting<'a, P> {
     writer: &'a mut P,
     extra: &'a Extra<'a>,
+}
+
+impl<'a, P> Quoting<'a, P> {
+    pub(crate) fn new(writer: &'a mut P, extra: &'a Extra<'a>) -> Quoting<'a, P>
+        ensures writer { result.writer ≡ writer.entry }
+        ensures extra { result.extra.now ≡ extra.now }
+    {
+        Quoting { writer, extra }
+    }
 }
 
 impl<'a, P: LineWriter> Quoting<'a, P> {
@@ -122,10 +131,7 @@ pub(crate) fn write_code<P: LineWriter>(writer: &mut P, memory: &Memory, code: u
         (quoted_units (own_characters memory.now) (Unit.Code code ∷ [])) }
 {
     let extra = Extra::of(memory);
-    let mut quoting = Quoting {
-        writer,
-        extra: &extra,
-    };
+    let mut quoting = Quoting::new(writer, &extra);
     match quoting.put(Unit::Code(code)) {
         Ok(()) => {}
         Err(SinkFault) => {}
@@ -139,10 +145,7 @@ fn write_units<P: LineWriter>(writer: &mut P, memory: &Memory, address: u32)
         (quoted_units (own_characters memory.now) (units_or_none (text_units memory.now address))) }
 {
     let extra = Extra::of(memory);
-    let mut quoting = Quoting {
-        writer,
-        extra: &extra,
-    };
+    let mut quoting = Quoting::new(writer, &extra);
     match print_text(memory, address, &mut quoting) {
         Ok(()) => {}
         Err(SinkFault) => {}

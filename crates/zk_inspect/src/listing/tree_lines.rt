@@ -3,9 +3,10 @@
 ghost use Rattle.std.specs.Prelude.{◌≡◌, ◌<◌, ◌≤◌, ◌==◌, [], length, OnOk};
 ghost use Rattle.zk_tables.specs.Links.{link_at, parent_of};
 ghost use Rattle.zk_inspect.specs.ObjectLines.{number_or_none};
+ghost use Rattle.zk_inspect.specs.Facts.{GaveSome};
 ghost use Rattle.zk_inspect.specs.TreeLines.{AreRows, AreSomeRows, AreTreeRows, HasNoParent, IsUpTo, again_text, indent, row_line, row_text};
-ghost use Rattle.zk_term.specs.LineWriters.{WroteSome};
 
+use crate::fact::{Fact, FactWriter, Node};
 use crate::listing::object_lines::{number_or_none, write_label};
 use crate::objects::count_objects;
 use crate::reach::address_set::AddressSet;
@@ -15,16 +16,6 @@ use zk_mem::memory::Memory;
 use zk_tables::tree::{child, parent, sibling};
 use zk_term::line_writer::LineWriter;
 use zk_term::writing::write_texts;
-
-/// An object as it stands in the tree.
-#[derive(Clone, Copy)]
-pub(crate) struct Row {
-    /// How many objects stand above it.
-    level: usize,
-    object: u16,
-    /// Whether it was listed before.
-    again: bool,
-}
 
 /// Writes two spaces for each level.
 fn write_indent<P: LineWriter>(writer: &mut P, level: usize)
@@ -37,7 +28,7 @@ fn write_indent<P: LineWriter>(writer: &mut P, level: usize)
 
 /// Writes an object as it stands in the tree, without the spaces before it.
 #[tactic(auto, unfolding(crate::specs::TreeLines::row_text))]
-fn write_object<P: LineWriter>(writer: &mut P, memory: &Memory, row: Row)
+fn write_object<P: LineWriter>(writer: &mut P, memory: &Memory, row: Node)
     ensures { P.wrote writer.old writer.new (row_text memory.now row) }
 {
     if row.again {
@@ -57,12 +48,11 @@ fn write_number_again<P: LineWriter>(writer: &mut P, object: u16)
 }
 
 /// Writes a line of the tree.
-fn write_row<P: LineWriter>(writer: &mut P, memory: &Memory, row: Row)
+pub(crate) fn write_row<P: LineWriter>(writer: &mut P, memory: &Memory, row: Node)
     ensures { P.wrote writer.old writer.new (row_line memory.now row) }
 {
     write_indent(writer, row.level);
     write_object(writer, memory, row);
-    writer.write(b"\n");
 }
 
 /// Where a walk over the tree stands.
@@ -104,35 +94,31 @@ impl Walk {
 
     /// Lists an object, if there is one of its number, and goes on: to its child where it is listed for the first time, and
     /// else to where its chain of siblings goes on above.
-    fn step<P: LineWriter>(
+    fn step<F: FactWriter>(
         &mut self,
-        writer: &mut P,
+        facts: &mut F,
         memory: &Memory,
         object: u16,
     ) -> Result<Option<u16>, AllocError>
         requires { self.old.count < length self.old.listed }
         ensures kept { OnOk result (self.new.count < length self.new.listed) }
         ensures count { OnOk result (self.new.count ≡ self.old.count) }
-        ensures rows { WroteSome (AreRows memory.now (IsUpTo self.old.count) (λ o. ⊥)) P.wrote writer.old
-            writer.new }
+        ensures rows { GaveSome (AreRows (IsUpTo self.old.count) (λ o. ⊥)) F.wrote facts.old
+            facts.new }
         ensures top { self.old.above.items ≡ [] → IsUpTo self.old.count object →
-            WroteSome (AreRows memory.now (IsUpTo self.old.count) (λ o. o ≡ object)) P.wrote writer.old
-            writer.new }
+            GaveSome (AreRows (IsUpTo self.old.count) (λ o. o ≡ object)) F.wrote facts.old
+            facts.new }
     {
         if object == 0 || object > self.count {
             return Ok(self.go_beside(memory));
         }
         let again = self.listed.has(object as u32);
         let level = self.above.len();
-        write_row(
-            writer,
-            memory,
-            Row {
-                level,
-                object,
-                again,
-            },
-        );
+        facts.write(Fact::Node(Node {
+            level,
+            object,
+            again,
+        }));
         if again {
             return Ok(self.go_beside(memory));
         }
@@ -140,29 +126,29 @@ impl Walk {
     }
 
     /// Lists a root, and the tree below it.
-    fn list_below<P: LineWriter>(
+    fn list_below<F: FactWriter>(
         &mut self,
-        writer: &mut P,
+        facts: &mut F,
         memory: &Memory,
         root: u16,
     ) -> Result<(), AllocError>
         requires { self.old.count < length self.old.listed }
         ensures kept { OnOk result (self.new.count < length self.new.listed) }
         ensures count { OnOk result (self.new.count ≡ self.old.count) }
-        ensures rows { WroteSome (AreRows memory.now (IsUpTo self.old.count) (λ o. ⊥)) P.wrote writer.old
-            writer.new }
+        ensures rows { GaveSome (AreRows (IsUpTo self.old.count) (λ o. ⊥)) F.wrote facts.old
+            facts.new }
         ensures top { IsUpTo self.old.count root → OnOk result
-            (WroteSome (AreRows memory.now (IsUpTo self.old.count) (λ o. o ≡ root)) P.wrote writer.old
-            writer.new) }
+            (GaveSome (AreRows (IsUpTo self.old.count) (λ o. o ≡ root)) F.wrote facts.old
+            facts.new) }
     {
         self.above.clear();
-        let mut next = self.step(writer, memory, root)?;
+        let mut next = self.step(facts, memory, root)?;
         // each turn lists an object, or ends a chain of siblings that one has begun
         for _turn in 0..2 * self.count as u32 {
             let Some(object) = next else {
                 return Ok(());
             };
-            next = self.step(writer, memory, object)?;
+            next = self.step(facts, memory, object)?;
         }
         Ok(())
     }
@@ -176,53 +162,53 @@ fn is_root(memory: &Memory, object: u16) -> bool
 }
 
 /// Lists an object with the tree below it, if it is a root.
-fn list_root<P: LineWriter>(
+fn list_root<F: FactWriter>(
     walk: &mut Walk,
     memory: &Memory,
     object: u16,
-    writer: &mut P,
+    facts: &mut F,
 ) -> Result<(), AllocError>
     requires { walk.old.count < length walk.old.listed }
     ensures kept { OnOk result (walk.new.count < length walk.new.listed) }
     ensures count { OnOk result (walk.new.count ≡ walk.old.count) }
-    ensures rows { WroteSome (AreRows memory.now (IsUpTo walk.old.count) (λ o. ⊥)) P.wrote writer.old
-        writer.new }
+    ensures rows { GaveSome (AreRows (IsUpTo walk.old.count) (λ o. ⊥)) F.wrote facts.old
+        facts.new }
     ensures top { IsUpTo walk.old.count object → HasNoParent memory.now object → OnOk result
-        (WroteSome (AreRows memory.now (IsUpTo walk.old.count) (λ o. o ≡ object)) P.wrote writer.old
-        writer.new) }
+        (GaveSome (AreRows (IsUpTo walk.old.count) (λ o. o ≡ object)) F.wrote facts.old
+        facts.new) }
 {
     if !is_root(memory, object) {
         return Ok(());
     }
-    walk.list_below(writer, memory, object)
+    walk.list_below(facts, memory, object)
 }
 
 /// Lists the trees of all objects.
-fn list_trees<P: LineWriter>(
+fn list_trees<F: FactWriter>(
     walk: &mut Walk,
     memory: &Memory,
-    writer: &mut P,
+    facts: &mut F,
 ) -> Result<(), AllocError>
     requires { walk.old.count < length walk.old.listed }
-    ensures rows { WroteSome (AreRows memory.now (IsUpTo walk.old.count) (λ o. ⊥)) P.wrote writer.old
-        writer.new }
-    ensures top { OnOk result (WroteSome (AreRows memory.now (IsUpTo walk.old.count)
-        (λ o. IsUpTo walk.old.count o × HasNoParent memory.now o)) P.wrote writer.old writer.new) }
+    ensures rows { GaveSome (AreRows (IsUpTo walk.old.count) (λ o. ⊥)) F.wrote facts.old
+        facts.new }
+    ensures top { OnOk result (GaveSome (AreRows (IsUpTo walk.old.count)
+        (λ o. IsUpTo walk.old.count o × HasNoParent memory.now o)) F.wrote facts.old facts.new) }
 {
     for before in 0..walk.count {
-        list_root(walk, memory, before + 1, writer)?;
+        list_root(walk, memory, before + 1, facts)?;
     }
     Ok(())
 }
 
-/// Writes the lines of the tree.
-pub(crate) fn write_tree<P: LineWriter>(
+/// Gives the tree.
+pub(crate) fn list_tree<F: FactWriter>(
     alloc: Global,
     memory: &Memory,
-    writer: &mut P,
+    facts: &mut F,
 ) -> Result<(), AllocError>
-    ensures rows { WroteSome (AreSomeRows memory.now) P.wrote writer.old writer.new }
-    ensures roots { OnOk result (WroteSome (AreTreeRows memory.now) P.wrote writer.old writer.new) }
+    ensures rows { GaveSome (AreSomeRows memory.now) F.wrote facts.old facts.new }
+    ensures roots { OnOk result (GaveSome (AreTreeRows memory.now) F.wrote facts.old facts.new) }
 {
     let count = count_objects(memory);
     let listed = AddressSet::none(alloc, count as usize + 1)?;
@@ -231,5 +217,5 @@ pub(crate) fn write_tree<P: LineWriter>(
         listed,
         above: Vec::new(alloc),
     };
-    list_trees(&mut walk, memory, writer)
+    list_trees(&mut walk, memory, facts)
 }

@@ -273,21 +273,20 @@ fn has_variable(instr: &Instr, number: u8) -> bool
 }
 
 /// Writes where the value of a global variable stands.
-fn write_place_note<P: LineWriter>(writer: &mut P, memory: &Memory, number: u32)
-    requires { number < 240 }
+fn write_place_note<P: LineWriter>(writer: &mut P, memory: &Memory, number: u8)
     ensures { P.wrote writer.old writer.new (place_note memory.now number) }
 {
-    write_decimal(writer, b"  ; g", number);
+    write_decimal(writer, b"  ; g", number as u32);
     writer.write(b" at ");
     write_place(writer, memory, number);
 }
 
 /// Writes where the value of a global variable stands, where an instruction has it.
-fn write_global_note<P: LineWriter>(writer: &mut P, memory: &Memory, instr: &Instr, number: u32)
+fn write_global_note<P: LineWriter>(writer: &mut P, memory: &Memory, instr: &Instr, number: u8)
     requires { number < 240 }
     ensures { P.wrote writer.old writer.new (global_note memory.now instr.now number) }
 {
-    if has_variable(instr, (number + 16) as u8) {
+    if has_variable(instr, number + 16) {
         write_place_note(writer, memory, number);
     }
 }

@@ -14,17 +14,18 @@ use Rattle.zk_text.specs.Words.{z_characters}
 use Rattle.zk_text.specs.Shown.{shown, shown_all}
 use Rattle.zk_term.specs.Numbers.{hex_digits, address_digits, word_digits, byte_digits}
 use Rattle.zk_inspect.specs.Listing.{quoted_bytes, units_text}
-use Rattle.zk_inspect.specs.AbbreviationLines.{abbreviation_line, abbreviation_lines}
+use Rattle.zk_inspect.specs.AbbreviationLines.{abbreviation_facts, abbreviation_line}
+use Rattle.zk_inspect.specs.Lines.{fact_line, lines_of}
 use Rattle.zk_inspect.proofs.examples.abbreviations_by_example.Goals as goal
 
 pub returns-clause-abbreviations_are_lines : goal.returns-clause-abbreviations_are_lines
-unfolding digits encode_utf8 byte_at word_at cell_at code_word_at header_of unit_length words_in words_at text_end_at alphabet_table letter_by standard_letters standard_characters unicode_table own_characters character values abbreviation text_units pieces_past z_characters shown shown_all hex_digits address_digits word_digits byte_digits quoted_bytes units_text abbreviation_line abbreviation_lines
+unfolding digits encode_utf8 byte_at word_at cell_at code_word_at header_of unit_length words_in words_at text_end_at alphabet_table letter_by standard_letters standard_characters unicode_table own_characters character values abbreviation text_units pieces_past z_characters shown shown_all hex_digits address_digits word_digits byte_digits quoted_bytes units_text abbreviation_line abbreviation_facts fact_line lines_of
 returns-clause-abbreviations_are_lines c = (refl, refl, refl, refl)
 
 pub returns-clause-no_table_no_lines : goal.returns-clause-no_table_no_lines
-unfolding digits encode_utf8 byte_at word_at cell_at code_word_at header_of unit_length words_in words_at text_end_at alphabet_table letter_by standard_letters standard_characters unicode_table own_characters character values abbreviation text_units pieces_past z_characters shown shown_all hex_digits address_digits word_digits byte_digits quoted_bytes units_text abbreviation_line abbreviation_lines
+unfolding digits encode_utf8 byte_at word_at cell_at code_word_at header_of unit_length words_in words_at text_end_at alphabet_table letter_by standard_letters standard_characters unicode_table own_characters character values abbreviation text_units pieces_past z_characters shown shown_all hex_digits address_digits word_digits byte_digits quoted_bytes units_text abbreviation_line abbreviation_facts fact_line lines_of
 returns-clause-no_table_no_lines c = refl
 
 pub returns-clause-all_abbreviations_are_lines : goal.returns-clause-all_abbreviations_are_lines
-unfolding digits encode_utf8 byte_at word_at cell_at code_word_at header_of unit_length words_in words_at text_end_at alphabet_table letter_by standard_letters standard_characters unicode_table own_characters character values abbreviation text_units pieces_past z_characters shown shown_all hex_digits address_digits word_digits byte_digits quoted_bytes units_text abbreviation_line abbreviation_lines
+unfolding digits encode_utf8 byte_at word_at cell_at code_word_at header_of unit_length words_in words_at text_end_at alphabet_table letter_by standard_letters standard_characters unicode_table own_characters character values abbreviation text_units pieces_past z_characters shown shown_all hex_digits address_digits word_digits byte_digits quoted_bytes units_text abbreviation_line abbreviation_facts fact_line lines_of
 returns-clause-all_abbreviations_are_lines c = refl

@@ -4,14 +4,15 @@ use Rattle.std.specs.Fmt.{digits}
 use Rattle.zk_mem.specs.Header.{header_of, unit_length}
 use Rattle.zk_mem.specs.Checksum.{file_sum, has_right_sum}
 use Rattle.zk_term.specs.Numbers.{hex_digits, address_digits, word_digits, byte_digits}
-use Rattle.zk_inspect.specs.HeaderLines.{value_text, field_line, common_lines, late_lines, header_lines}
-use Rattle.zk_inspect.specs.MapLines.{count_before, with_places, place_line, map_lines}
+use Rattle.zk_inspect.specs.HeaderLines.{value_text, field_line, header_facts, late_facts}
+use Rattle.zk_inspect.specs.MapLines.{count_before, with_places, place_line, map_facts}
+use Rattle.zk_inspect.specs.Lines.{fact_line, lines_of}
 use Rattle.zk_inspect.proofs.examples.headers_by_example.Goals as goal
 
 pub returns-clause-headers_are_lines : goal.returns-clause-headers_are_lines
-unfolding digits header_of unit_length file_sum has_right_sum hex_digits address_digits word_digits byte_digits value_text field_line common_lines late_lines header_lines count_before with_places place_line map_lines
+unfolding digits header_of unit_length file_sum has_right_sum hex_digits address_digits word_digits byte_digits value_text field_line header_facts late_facts fact_line lines_of count_before with_places place_line map_facts
 returns-clause-headers_are_lines c = (refl, refl)
 
 pub returns-clause-maps_are_in_order : goal.returns-clause-maps_are_in_order
-unfolding digits header_of unit_length file_sum has_right_sum hex_digits address_digits word_digits byte_digits value_text field_line common_lines late_lines header_lines count_before with_places place_line map_lines
+unfolding digits header_of unit_length file_sum has_right_sum hex_digits address_digits word_digits byte_digits value_text field_line header_facts late_facts fact_line lines_of count_before with_places place_line map_facts
 returns-clause-maps_are_in_order c = (refl, refl)

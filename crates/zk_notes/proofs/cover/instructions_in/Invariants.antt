@@ -1,7 +1,7 @@
-use Rattle.std.proofs.Common.{◌≡◌, map}
+use Rattle.std.proofs.Common.{◌≡◌, take}
 use Rattle.std.specs.List.{filter_map}
-use Rattle.zk_notes.specs.Marks.{instruction_on}
+use Rattle.zk_notes.specs.Marks.{instruction_of}
 use Rattle.zk_notes.proofs.cover.instructions_in.Given as goal
 
-abbrev pub invariant-loop-line : goal.invariant-loop-line
-invariant-loop-line l = l.addresses.items ≡ filter_map instruction_on (map (λ x. x.now) l.yielded)
+abbrev pub invariant-loop-fact : goal.invariant-loop-fact
+invariant-loop-fact l = l.addresses.items ≡ filter_map instruction_of (take l.fact-index l.facts)

@@ -1,15 +1,6 @@
-use Rattle.std.proofs.Common.{refl, sym}
-use Rattle.std.proofs.lemmas.Iterator.Consumers.{YieldsList-end}
-use Rattle.std.proofs.lemmas.Iterator.Splits.{YieldsList-from_lines}
-use Rattle.zk_notes.specs.Marks.{routine_on}
-use Rattle.zk_notes.proofs.LineLoops.{picked_on}
+use Rattle.zk_notes.specs.Marks.{routine_of}
+use Rattle.zk_notes.proofs.LineLoops.{picked_more}
 use Rattle.zk_notes.proofs.cover.routines_in.Goals as goal
 
-pub loop-line-preserved : goal.loop-line-preserved
-loop-line-preserved c =
-    rw (picked_on (λ x. x.now) routine_on c.loop-line.yielded c.in-Some.line, sym c.loop-line.invariant, sym c.routine_on.ensures) c.in_ok-push_found.ensures
-
-pub returns : goal.returns
-returns c =
-    let t = YieldsList-end (YieldsList-from_lines c.args.disassembly.now cc) c.loop-line.yielded _ c.loop-line.yielded_by _ _ c.in-None.is c.next.ensures.steps in
-    rw (c.loop-line.invariant, t.0) refl
+pub loop-fact-preserved : goal.loop-fact-preserved
+loop-fact-preserved c = picked_more routine_of c.args.facts.now c.loop-fact.fact-index _ _ _ _ c.loop-fact-test.true c.loop-fact.invariant c.routine_of.ensures c.in_ok-push_found.ensures

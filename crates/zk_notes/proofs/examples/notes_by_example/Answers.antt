@@ -2,7 +2,12 @@ use Rattle.std.proofs.Common.{refl}
 use Rattle.std.specs.Char.{encode_utf8}
 use Rattle.std.specs.Fmt.{digits}
 use Rattle.std.specs.Str.{chars, trim_end, trim_start}
+use Rattle.zk_mem.specs.Header.{header_of}
+use Rattle.zk_term.specs.Numbers.{address_digits, hex_digits}
+use Rattle.zk_inspect.specs.FindingLines.{finding_line}
+use Rattle.zk_inspect.specs.Lines.{fact_line}
 use Rattle.zk_notes.specs.Addresses.{address_of}
+use Rattle.zk_notes.specs.Marks.{ran_line, was_entered}
 use Rattle.zk_notes.proofs.examples.notes_by_example.Goals as goal
 
 pub returns-clause-lists_are_read : goal.returns-clause-lists_are_read
@@ -10,5 +15,9 @@ unfolding address_of chars trim_end trim_start encode_utf8
 returns-clause-lists_are_read c = (refl, refl, refl)
 
 pub returns-clause-findings_are_explained : goal.returns-clause-findings_are_explained
-unfolding digits
-returns-clause-findings_are_explained c = (refl, refl, refl, refl)
+unfolding digits header_of address_digits hex_digits finding_line fact_line
+returns-clause-findings_are_explained c = (refl, refl, refl, refl, refl)
+
+pub returns-clause-lines_are_marked : goal.returns-clause-lines_are_marked
+unfolding digits ran_line was_entered
+returns-clause-lines_are_marked c = (refl, refl, refl)

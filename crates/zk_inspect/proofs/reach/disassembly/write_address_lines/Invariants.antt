@@ -1,7 +1,0 @@
-use Rattle.std.proofs.Common.{take}
-use Rattle.std.specs.List.{flat_map}
-use Rattle.zk_inspect.specs.Listing.{address_line}
-use Rattle.zk_inspect.proofs.reach.disassembly.write_address_lines.Given as goal
-
-abbrev pub invariant-loop-address : goal.invariant-loop-address
-invariant-loop-address g l = g.P.LineWriter.wrote l.fn.writer l.writer (flat_map (address_line l.memory) (take l.address-index l.addresses))

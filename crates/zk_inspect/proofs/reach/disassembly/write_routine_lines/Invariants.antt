@@ -1,7 +1,0 @@
-use Rattle.std.proofs.Common.{take}
-use Rattle.std.specs.List.{flat_map}
-use Rattle.zk_inspect.specs.Listing.{routine_line}
-use Rattle.zk_inspect.proofs.reach.disassembly.write_routine_lines.Given as goal
-
-abbrev pub invariant-loop-routine : goal.invariant-loop-routine
-invariant-loop-routine g l = g.P.LineWriter.wrote l.fn.writer l.writer (flat_map (routine_line l.memory) (take l.routine-index l.routines))
