@@ -10,7 +10,9 @@ names and code that are long to list. Where stories are named, these alone are w
 
 from __future__ import annotations
 
+import itertools
 import sys
+from collections.abc import Iterable
 from pathlib import Path
 
 LENGTHS = {3: 131_072, 4: 262_144, 5: 262_144, 8: 524_288}
@@ -31,7 +33,7 @@ PLACES = {
     "nowhere": bytes.fromhex("f33fffff"),
     "transcript": bytes.fromhex("f33fffff f37f02"),
     "upper": bytes.fromhex("ea7f19 eb7f01"),
-    "table": bytes.fromhex("f34f03") + TABLE.to_bytes(2, "big"),
+    "table": bytes.fromhex(f"f34f03 {TABLE:04x}"),
 }
 
 # What the text of an abbreviation says over and over, in Z-characters.
@@ -48,43 +50,44 @@ def put(data: bytearray, at: int, some: bytes) -> None:
     data[at:at + len(some)] = some
 
 
-def put_word(data: bytearray, at: int, word: int) -> None:
-    """Puts a word at an address."""
-    put(data, at, word.to_bytes(2, "big"))
+def put_abbreviations(data: bytearray, address: int, step: int = 0) -> None:
+    """Gives all abbreviations the text at an address, or each one so many bytes behind the one before."""
+    put(data, ABBREVIATIONS, words_of((address + number * step) // 2 for number in range(96)))
+
+
+def words_of(words: Iterable[int]) -> bytes:
+    """Words as the story has them."""
+    return b"".join(word.to_bytes(2, "big") for word in words)
 
 
 def text_of(characters: tuple[int, ...], count: int) -> bytes:
     """A text of so many words that says Z-characters over and over."""
-    text = bytearray()
-    for i in range(count):
-        first, second, third = (characters[(3 * i + k) % len(characters)] for k in range(3))
-        last = 0x8000 if i == count - 1 else 0
-        text += (last | first << 10 | second << 5 | third).to_bytes(2, "big")
-    return bytes(text)
+    said = itertools.cycle(characters)
+    words = [next(said) << 10 | next(said) << 5 | next(said) for _ in range(count)]
+    words[-1] |= 0x8000
+    return words_of(words)
 
 
 def story(version: int, code: bytes) -> bytearray:
     """A story of the greatest length that runs some code and ends, with nothing else in it."""
     data = bytearray(LENGTHS[version])
     data[0] = version
-    words = {4: 0xFFFE, 6: CODE, 8: OBJECTS, 10: OBJECTS, 12: GLOBALS, 14: STATIC, 24: ABBREVIATIONS}
-    for at, word in words.items():
-        put_word(data, at, word)
+    put(data, 4, words_of((0xFFFE, CODE, OBJECTS, OBJECTS, GLOBALS, STATIC)))
+    put(data, 24, words_of([ABBREVIATIONS]))
     put(data, CODE, code + b"\xba")
     return data
 
 
 def printing(version: int, place: str, address: int) -> bytes:
     """Instructions that see to where text goes, and `print_paddr` of the text at an address."""
-    return PLACES[place] + b"\x8d" + (address // UNITS[version]).to_bytes(2, "big")
+    return PLACES[place] + b"\x8d" + words_of([address // UNITS[version]])
 
 
 def long_text(version: int, place: str, saying: str) -> bytes:
     """A text of half the story's length, all of it abbreviations, whose text has the other half."""
     middle = LENGTHS[version] // 2
     data = story(version, printing(version, place, middle))
-    for number in range(96):
-        put_word(data, ABBREVIATIONS + 2 * number, TEXTS // 2)
+    put_abbreviations(data, TEXTS)
     put(data, TEXTS, text_of(SAYINGS[saying], (middle - TEXTS) // 2))
     put(data, middle, text_of((1, 0), (LENGTHS[version] - middle) // 2))
     return bytes(data)
@@ -93,11 +96,9 @@ def long_text(version: int, place: str, saying: str) -> bytes:
 def long_check(version: int, saying: str) -> bytes:
     """A text of all abbreviations: 95 are as long as the story, and the last names another, so that none is shown."""
     data = story(version, printing(version, "screen", TABLE))
-    names: list[int] = []
-    for number in range(96):
-        put_word(data, ABBREVIATIONS + 2 * number, TEXTS // 2 + number)
-        names += [number // 32 + 1, number % 32]
-    put_word(data, ABBREVIATIONS + 2 * 95, NESTED // 2)
+    put_abbreviations(data, TEXTS, 2)
+    put(data, ABBREVIATIONS + 2 * 95, words_of([NESTED // 2]))
+    names = [part for number in range(96) for part in (number // 32 + 1, number % 32)]
     put(data, NESTED, text_of((1, 6, 6), 1))
     put(data, TEXTS, text_of(SAYINGS[saying], (LENGTHS[version] - TEXTS) // 2))
     put(data, TABLE, text_of(tuple(names), 64))
@@ -107,9 +108,8 @@ def long_check(version: int, saying: str) -> bytes:
 def long_rows(version: int, place: str) -> bytes:
     """As many and as long rows of `print_table` as there may be, one over the other."""
     width = 60_000
-    operands = (TEXTS, width, 65_535, 65_536 - width)
-    code = PLACES[place] + bytes.fromhex("fe00") + b"".join(word.to_bytes(2, "big") for word in operands)
-    data = story(version, code)
+    operands = words_of((TEXTS, width, 65_535, 65_536 - width))
+    data = story(version, PLACES[place] + bytes.fromhex("fe00") + operands)
     put(data, TEXTS, b"x" * (STATIC - TEXTS))
     return bytes(data)
 
@@ -117,12 +117,11 @@ def long_rows(version: int, place: str) -> bytes:
 def long_names(version: int, saying: str) -> bytes:
     """Objects with a name of 255 words of abbreviations as long as the story. The first is in the status line."""
     data = story(version, b"")
-    for number in range(96):
-        put_word(data, ABBREVIATIONS + 2 * number, TEXTS // 2)
+    put_abbreviations(data, TEXTS)
     first, length, pointer = (62, 9, 7) if version == 3 else (126, 14, 12)
-    put_word(data, GLOBALS, 1)
+    put(data, GLOBALS, words_of([1]))
     for at in range(OBJECTS + first, CODE - length + 1, length):
-        put_word(data, at + pointer, TABLE)
+        put(data, at + pointer, words_of([TABLE]))
     put(data, TABLE, b"\xff" + text_of((1, 0), 255))
     put(data, TEXTS, text_of(SAYINGS[saying], (LENGTHS[version] - TEXTS) // 2))
     return bytes(data)
@@ -133,8 +132,7 @@ def long_print(version: int, saying: str) -> bytes:
     # a word names no address further on
     middle = min(LENGTHS[version] // 2, 2 * 0xFFFF)
     data = story(version, b"\xb2" + text_of((1, 0), (middle - CODE) // 2 - 1))
-    for number in range(96):
-        put_word(data, ABBREVIATIONS + 2 * number, middle // 2)
+    put_abbreviations(data, middle)
     put(data, middle, text_of(SAYINGS[saying], (LENGTHS[version] - middle) // 2))
     return bytes(data)
 
@@ -157,7 +155,7 @@ def all_stories() -> dict[str, bytes]:
 
 def main() -> None:
     """Writes the stories."""
-    if len(sys.argv) < 2:
+    if len(sys.argv) < 2 or sys.argv[1].startswith("-"):
         sys.exit(str(__doc__).splitlines()[2])
     folder = Path(sys.argv[1])
     folder.mkdir(parents=True, exist_ok=True)
