@@ -9,22 +9,20 @@ README.md ("Refused memory") says what may come of a refused allocation. It take
 
 from __future__ import annotations
 
-import collections
 import concurrent.futures
+import functools
 import os
 import pathlib
 import re
-import shutil
 import subprocess
 import sys
 import tempfile
-from collections.abc import Iterator, Sequence
+from collections import Counter
+from collections.abc import Callable, Iterator, Sequence
 from typing import NamedTuple
 
-from program import takes_preloaded
+from cases import EXAMPLES, SECONDS, Program, compiler, preloaded, story, takes_preloaded
 
-SECONDS = 20
-EXAMPLES = pathlib.Path(__file__).resolve().parent.parent / "examples"
 # Of a run with more allocations than this some are left out.
 MOST = 1_000
 # So many at both ends of such a run are taken all the same.
@@ -96,13 +94,13 @@ __attribute__((destructor)) static void tell(void) {
 # The name of the file beside `kept` that a save writes: where a folder has it, a save fails, and a restore does not.
 BESIDE = ".zkit-583876d75cd7d1d9"
 OLD_SCRIPT = b"an old transcript"
-NO_MEMORY = b"zkit: out of memory\n"
-NOT_SAVED = re.compile(rb"(?<=: the game was not saved: ).*")
+NO_MEMORY = "zkit: out of memory\n"
+NOT_SAVED = re.compile(r"(?<=: the game was not saved: ).*")
 
 # Restores a game, saves another, and restores that; the input ends there.
 RESTORED = b"restore\ninventory\ndrop letter\nsave\ntake letter\nrestore\ninventory\n"
 # A story of version 5 that keeps a state by `save_undo`, shows the answer and ends.
-KEEPING = bytes([5, 0, 0, 0, 0, 0x40, 0, 0x40, *[0] * 6, 0, 0x40, *[0] * 48]) + bytes.fromhex("be 09 ff 00 e6 bf 00 ba")
+KEEPING = story("be 09 ff 00 e6 bf 00 ba", version=5)
 # How many bytes of the game are cut off for a check that finds something.
 CUT_OFF = 2_048
 SECTIONS = ("--header", "--map", "--abbreviations", "--dictionary", "--objects", "--tree")
@@ -121,24 +119,20 @@ class Plan(NamedTuple):
 
 
 class Came(NamedTuple):
-    """What came of a run: how many allocations it asked for, then all that can be seen of it."""
+    """All that can be seen of a run."""
 
-    asked: int
     status: int | str
-    shown: bytes
-    told: bytes
+    shown: str
+    told: str
     kept: bytes | None
     said: bytes | None
     story: bytes | None
     names: list[str]
 
 
-class Checked(NamedTuple):
-    """What came of the refused allocations of a run: how many ways it came in, what differs, how many were left out."""
-
-    ways: collections.Counter[str]
-    differ: list[str]
-    left_out: int
+# Runs the program by a plan, with the allocation of a number refused; a folder stands in the way where it may not save.
+# Answers how many allocations it asked for, and what came.
+Play = Callable[[Plan, int, bool], tuple[int, Came]]
 
 
 def game(version: int) -> bytes:
@@ -171,52 +165,21 @@ def plans() -> Iterator[Plan]:
         yield from plans_of(version)
 
 
-def content(path: pathlib.Path) -> bytes | None:
-    """What a file holds, if it is there."""
-    return path.read_bytes() if path.exists() else None
-
-
-def run(command: pathlib.Path, library: pathlib.Path, plan: Plan, number: int, saves: bool = True) -> Came:
-    """Runs the program in a folder of its own, with the allocation of a number refused, if there is one."""
+def run(command: pathlib.Path, library: str, plan: Plan, number: int, saves: bool) -> tuple[int, Came]:
+    """Runs the program in a folder of its own, as a `Play`."""
+    before = {"story": plan.story, "said": OLD_SCRIPT, **({} if plan.old is None else {"kept": plan.old})}
     with tempfile.TemporaryDirectory() as place:
-        folder = pathlib.Path(place)
+        program = Program([str(command)], pathlib.Path(place), before)
         if not saves:
-            (folder / BESIDE).mkdir()
-        before = {"story": plan.story, "said": OLD_SCRIPT, "kept": plan.old}
-        for name, held in before.items():
-            if held is not None:
-                (folder / name).write_bytes(held)
+            (program.folder / BESIDE).mkdir()
+        env = {"LD_PRELOAD": library, "REFUSED": str(number), "ASKED": "asked"}
         try:
-            done = subprocess.run(
-                [command, *plan.words.split()],
-                input=plan.typed,
-                capture_output=True,
-                cwd=folder,
-                timeout=SECONDS,
-                env={"LD_PRELOAD": str(library), "REFUSED": str(number), "ASKED": "asked"},
-                check=False,
-            )
+            ended = program.run(plan.words, plan.typed, env=env)
         except subprocess.TimeoutExpired:
-            return Came(0, f"none within {SECONDS} s", b"", b"", None, None, None, [])
-        asked = int.from_bytes(content(folder / "asked") or b"", sys.byteorder)
-        names = sorted(path.name for path in folder.iterdir() if path.name != "asked" and not path.is_dir())
-        kept, said, story = (content(folder / name) for name in ("kept", "said", "story"))
-        return Came(asked, done.returncode, done.stdout, done.stderr, kept, said, story, names)
-
-
-def seen(came: Came) -> Came:
-    """All that can be seen of a run."""
-    return came._replace(asked=0)
-
-
-def is_unsaved(came: Came, unsaved: Came) -> bool:
-    """Whether a run came as one whose save was refused, but for the reason."""
-    return seen(came) == seen(unsaved)._replace(told=NOT_SAVED.sub(b"out of memory", unsaved.told))
-
-
-def begins(whole: bytes | None, part: bytes | None) -> bool:
-    """Whether a file begins as another, where both are there."""
-    return whole is not None and part is not None and whole.startswith(part)
+            return 0, Came(f"none within {SECONDS} s", "", "", None, None, None, [])
+        asked = int.from_bytes(program.read("asked") or b"", sys.byteorder)
+        names = sorted(path.name for path in program.folder.iterdir() if path.name != "asked" and not path.is_dir())
+        return asked, Came(*ended, program.read("kept"), program.read("said"), program.read("story"), names)
 
 
 def is_cut_off(plan: Plan, came: Came, whole: Came) -> bool:
@@ -227,7 +190,8 @@ def is_cut_off(plan: Plan, came: Came, whole: Came) -> bool:
         and whole.told.startswith(came.told[: -len(NO_MEMORY)])
         and whole.shown.startswith(came.shown)
         and came.kept in (plan.old, whole.kept)
-        and (came.said == OLD_SCRIPT or begins(whole.said, came.said))
+        and came.said is not None
+        and (came.said == OLD_SCRIPT or (whole.said or b"").startswith(came.said))
         and came.story == plan.story
         and set(came.names) <= set(whole.names)
     )
@@ -235,15 +199,16 @@ def is_cut_off(plan: Plan, came: Came, whole: Came) -> bool:
 
 def outcome(plan: Plan, came: Came, whole: Came, unsaved: Came) -> str | None:
     """What came of a run with a refused allocation, in words, or nothing where it may not be."""
-    if seen(came) == seen(whole):
+    if came == whole:
         return "changed nothing"
     if is_cut_off(plan, came, whole):
         return "ended the run"
-    if is_unsaved(came, unsaved):
+    # as one whose save was refused for another reason
+    if came == unsaved._replace(told=NOT_SAVED.sub("out of memory", unsaved.told)):
         return "refused the save"
     # There was no memory for the line in words.
     last = whole.told.splitlines(keepends=True)[-1:]
-    if whole.status not in (0, 5) and seen(came) == seen(whole)._replace(told=b"".join(last)):
+    if whole.status not in (0, 5) and came == whole._replace(told="".join(last)):
         return "left out the words"
     return None
 
@@ -258,61 +223,38 @@ def numbers(count: int) -> Sequence[int]:
 
 def unlike(came: Came, whole: Came) -> str:
     """What of a run is unlike the one with memory, in words."""
-    parts = (name for name in Came._fields[1:] if getattr(came, name) != getattr(whole, name))
+    parts = (name for name in Came._fields if getattr(came, name) != getattr(whole, name))
     return f"status {came.status}, {came.told[-200:]!r}, unlike in {', '.join(parts)}"
 
 
-def wrong_from_the_start(plan: Plan, whole: Came, unsaved: Came) -> str | None:
+def wrong_from_the_start(plan: Plan, asked: int, whole: Came, unsaved: Came) -> str | None:
     """What is wrong with the runs to compare with, if something is."""
-    if whole.status != plan.status or not whole.asked:
-        return f"with memory: status {whole.status}, {whole.asked} allocations, {whole.told[-200:]!r}"
+    if whole.status != plan.status or not asked:
+        return f"with memory: status {whole.status}, {asked} allocations, {whole.told[-200:]!r}"
     if plan.words.startswith("play --save kept") and (whole.kept in (None, plan.old) or unsaved.kept != plan.old):
         return "a save does not go as it should with memory"
     return None
 
 
-def check_plan(
-    pool: concurrent.futures.Executor, command: pathlib.Path, library: pathlib.Path, plan: Plan
-) -> Checked:
-    """Refuses each allocation of a run."""
-    whole, unsaved = pool.map(lambda saves: run(command, library, plan, 0, saves), (True, False))
-    wrong = wrong_from_the_start(plan, whole, unsaved)
-    if wrong:
-        return Checked(collections.Counter(), [wrong], 0)
-    ways: collections.Counter[str] = collections.Counter()
-    differ, chosen = [], numbers(whole.asked)
-    jobs = [(number, pool.submit(run, command, library, plan, number)) for number in chosen]
-    for number, job in jobs:
-        came = job.result()
-        way = outcome(plan, came, whole, unsaved) if came.asked >= number else None
+def check_plan(pool: concurrent.futures.Executor, play: Play, plan: Plan, counts: Counter[str], verbose: bool) -> None:
+    """Refuses each allocation of a run, prints what differs, and counts runs, refusals and differences."""
+    (asked, whole), (_, unsaved) = pool.map(lambda saves: play(plan, 0, saves), (True, False))
+    wrong = wrong_from_the_start(plan, asked, whole, unsaved)
+    differ, chosen = ([wrong], []) if wrong else ([], numbers(asked))
+    ways: Counter[str] = Counter()
+    for number, (reached, came) in zip(chosen, pool.map(lambda number: play(plan, number, True), chosen)):
+        way = outcome(plan, came, whole, unsaved) if reached >= number else None
         ways[way or "differed"] += 1
         if not way:
             differ.append(f"allocation {number} refused: {unlike(came, whole)}")
-    if not ways["ended the run"]:
+    if not wrong and not ways["ended the run"]:
         differ.append("no refused allocation ended the run")
-    return Checked(ways, differ, whole.asked - len(chosen))
-
-
-def check_all(command: pathlib.Path, library: pathlib.Path, verbose: bool) -> collections.Counter[str]:
-    """Runs all plans, prints what differs, and answers how much was run, refused, left out and differed."""
-    counts: collections.Counter[str] = collections.Counter()
-    with concurrent.futures.ThreadPoolExecutor(os.cpu_count()) as pool:
-        for plan in plans():
-            ways, differ, left_out = check_plan(pool, command, library, plan)
-            counts.update(runs=1, refused=sum(ways.values()), left_out=left_out, differ=len(differ))
-            for difference in differ:
-                print(f"differs: {plan.name}: {difference}")
-            if verbose:
-                print(f"{plan.name}: {', '.join(f'{count} {way}' for way, count in ways.items())}")
-    return counts
-
-
-def compile_preloaded(compiler: str, folder: pathlib.Path) -> pathlib.Path:
-    """Compiles what is loaded before the program, and answers its path."""
-    code, library = folder / "refusing.c", folder / "refusing.so"
-    code.write_text(PRELOADED)
-    subprocess.run([compiler, "-shared", "-fPIC", "-O", "-o", library, code, "-ldl"], check=True)
-    return library
+    left_out = 0 if wrong else asked - len(chosen)
+    counts.update(runs=1, refused=len(chosen), left_out=left_out, differ=len(differ))
+    for difference in differ:
+        print(f"differs: {plan.name}: {difference}")
+    if verbose:
+        print(f"{plan.name}: {', '.join(f'{count} {way}' for way, count in ways.items())}")
 
 
 def main() -> None:
@@ -322,17 +264,20 @@ def main() -> None:
     if len(words) != 1 + verbose:
         sys.exit(__doc__)
     command = pathlib.Path(words[-1]).resolve()
-    if not (content(command) or b"").startswith(b"\x7fELF"):
+    if not command.is_file() or not command.read_bytes().startswith(b"\x7fELF"):
         sys.exit(f"{words[-1]}: no program that was built; dist/find prints where it is")
-    compiler = shutil.which("cc") or shutil.which("gcc") or shutil.which("clang")
-    if not compiler:
+    if not compiler():
         print("left out, as there is no C compiler: the runs with refused memory")
         return
     if not takes_preloaded([str(command)]):
         print("left out, as the program is static: the runs with refused memory")
         return
     with tempfile.TemporaryDirectory() as place:
-        counts = check_all(command, compile_preloaded(compiler, pathlib.Path(place)), verbose)
+        library = preloaded(PRELOADED, pathlib.Path(place))
+        counts: Counter[str] = Counter()
+        with concurrent.futures.ThreadPoolExecutor(os.cpu_count()) as pool:
+            for plan in plans():
+                check_plan(pool, functools.partial(run, command, library), plan, counts, verbose)
     if counts["left_out"]:
         print(f"left out of runs with more than {MOST:,} allocations: {counts['left_out']:,}")
     end = f"{counts['differ']:,} differ" if counts["differ"] else "all as it should be"

@@ -2,14 +2,17 @@
 """Makes mutants of the code, one after another, and tells which of them no row and no test refuses.
 
 usage: conformance/mutate.py [-v] [--only WORDS]... [--first WORDS] [--jobs N] [--seconds N]
+       conformance/mutate.py --check
 
 The edits are those of crates/*/must-fail and of conformance/refused that change code, and those of conformance/mutants.
-README.md describes them.
+README.md describes them. --check builds nothing: it tells which edits do not apply any more, the others of `refused`
+too.
 """
 
 from __future__ import annotations
 
 import argparse
+import collections
 import concurrent.futures
 import functools
 import os
@@ -27,15 +30,15 @@ from typing import IO, NamedTuple, NoReturn, Optional
 
 import run
 import test
+from edits import BadEdit, Edit, edited, must_fail, mutants, refused, why_not
+from sources import FOLDER, TOP, crates, functions_of
 
-FOLDER = pathlib.Path(__file__).resolve().parent
-TOP = FOLDER.parent
 RUNNING: list[subprocess.Popen[str]] = []  # the builds that this script has begun
 TEMPORARY: list[str] = []  # the folders that it has made
 # Enough for all rows that do not end at a limit, and fewer than `zkit play` has, which shortens a run.
 WORDS, STEPS = 1100, 60_000
 # What else is made shorter in the copy: how many decoded instructions a run keeps.
-SHORTER = ("zk_fast/src/cache.rt", "SLOTS: usize = 8_192", "SLOTS: usize = 512")
+SHORTER = (("zk_fast/src/cache.rt", "SLOTS: usize = 8_192", "SLOTS: usize = 512"),)
 # How many times as long an edit gets, alone, that had no answer in time.
 LONGER = 5
 NO_ANSWER = "no answer"
@@ -54,10 +57,6 @@ TURNING_C = """static unsigned number;
 void turn_to(unsigned wanted) { number = wanted; }
 unsigned turned(void) { return number; }
 """
-
-
-class BadEdit(Exception):
-    """An edit that can't be applied."""
 
 
 # What refuses each edit that was tried, by its number, and None where nothing does.
@@ -86,190 +85,80 @@ class Options:
     first: str
     jobs: int
     seconds: int
+    check: bool
 
 
-@dataclass(eq=False)
-class Edit:
-    """One edit: where it is written, the file that it changes, and the pairs of an old and a new text."""
-
-    name: str
-    place: str
-    crate: str
-    file: str = ""
-    function: str = ""
-    pairs: list[tuple[str, str | None]] = field(default_factory=list)
-    number: int = 0
-
-    def path(self) -> str:
-        """The path of the file that it changes."""
-        return f"crates/{self.crate}/{self.file}"
-
-    def title(self) -> str:
-        """How it is called in what is printed."""
-        return f"{self.place} {self.name} ({self.path()})"
-
-    def has_any(self, wanted: list[str]) -> bool:
-        """Whether it has any of some words; where none are wanted, it is wanted itself."""
-        said = f"{self.place} {self.name} {self.path()}"
-        return not wanted or any(words in said for words in wanted)
-
-
-# Reading edits.
-
-
-def read_line(edit: Edit, word: str, text: str) -> None:
-    """Takes a line of an edit: its first word, and the text behind it."""
-    if word == "file":
-        edit.file = text
-    elif word == "in":
-        edit.function = text
-    elif word == "old":
-        edit.pairs.append((text, None))
-    elif word == "new" and edit.pairs:
-        edit.pairs[-1] = (edit.pairs[-1][0], text)
-    else:
-        sys.exit(f"{edit.place}, {edit.name}: no line may begin with {word}")
-
-
-def read_must_fail(path: pathlib.Path) -> Edit:
-    """The edit of a must-fail file, or of one of the folder `refused`."""
-    crate = path.parent.name if path.parent.name != "must-fail" else path.parent.parent.name
-    edit = Edit(path.stem, f"{crate}/must-fail", crate)
-    for line in path.read_text(encoding="utf-8").splitlines():
-        word, _, text = line.partition(":")
-        read_line(edit, word, text.removeprefix(" "))
-    if not edit.file:
-        sys.exit(f"{edit.place}, {edit.name}: no line names its file")
-    return edit
-
-
-def read_turned(path: pathlib.Path) -> list[Edit]:
-    """The edits of a file of this folder: `file:` holds from its line on, `edit:` begins one."""
-    edits: list[Edit] = []
-    file = ""
-    for number, line in enumerate(path.read_text(encoding="utf-8").splitlines(), 1):
-        if not line.strip() or line.startswith("#"):
-            continue
-        word, _, text = line.partition(":")
-        text = text.removeprefix(" ")
-        if word == "file":
-            file = text
-        elif word == "edit":
-            edits.append(Edit(text, path.name, path.stem.partition("-")[0], file))
-        elif edits:
-            read_line(edits[-1], word, text)
-        else:
-            sys.exit(f"{path.name}:{number}: no edit begins before this line")
-    return edits
+# Which edits are mutants.
 
 
 def read_left_out() -> set[str]:
     """The must-fail edits that nothing outside can see, each with its reason."""
-    path = FOLDER / "mutants" / "unseen"
-    names = set()
-    if path.is_file():
-        for line in path.read_text(encoding="utf-8").splitlines():
-            if line.strip() and not line.startswith("#"):
-                names.add(line.partition(":")[0])
-    return names
+    lines = (FOLDER / "mutants" / "unseen").read_text(encoding="utf-8").splitlines()
+    return {line.partition(":")[0] for line in lines if line.strip() and not line.startswith("#")}
 
 
-def code_uses() -> dict[str, str]:
-    """What each crate stands on, from crates.txt. Left out are static libraries, since no crate can stand on them, and
-    the crates on which these alone stand, since no row and no test calls them."""
-    uses: dict[str, str] = {}
-    left_out: set[str] = set()
-    for line in (TOP / "crates.txt").read_text(encoding="utf-8").splitlines():
-        head, found, names = line.partition("#")[0].partition(":")
-        if found:
-            uses[head.split()[0]] = names.strip()
-            if "staticlib" in head.split():
-                left_out.add(head.split()[0])
-    above = {name: {it for it, names in uses.items() if name in names.split()} for name in uses}
-    while more := {name for name in uses if above[name] and above[name] <= left_out} - left_out:
+def code_uses() -> dict[str, list[str]]:
+    """What each crate stands on. Left out are static libraries, since no crate can stand on them, and the crates on
+    which these alone stand, since no row and no test calls them."""
+    listed = crates()
+    left_out = {name for name, crate in listed.items() if "staticlib" in crate.words}
+    above = {name: {it for it, crate in listed.items() if name in crate.below} for name in listed}
+    while more := {name for name in listed if above[name] and above[name] <= left_out} - left_out:
         left_out |= more
-    return {name: names for name, names in uses.items() if name not in left_out}
+    return {name: crate.below for name, crate in listed.items() if name not in left_out}
 
 
 def read_edits(only: list[str]) -> list[Edit]:
-    """All edits that have the wanted words, numbered from 1 on."""
-    unseen = read_left_out()
-    crates = code_uses()
-    paths = sorted([*TOP.glob("crates/*/must-fail/*.edit"), *FOLDER.glob("refused/*/*.edit")])
-    edits = [read_must_fail(path) for path in paths]
-    edits = [it for it in edits if it.crate in crates and it.file.startswith("src/")]
-    edits = [it for it in edits if f"{it.crate}/{it.name}" not in unseen]
-    # The tables, which have a dash in their names, come last.
-    for path in sorted((FOLDER / "mutants").glob("*.edits"), key=lambda it: ("-" in it.stem, it)):
-        edits += read_turned(path)
-    names = [(it.place, it.name) for it in edits]
-    for place, name in {it for it in names if names.count(it) > 1}:
-        sys.exit(f"{place}: two edits are named {name}")
-    edits = [it for it in edits if it.has_any(only)]
-    for number, edit in enumerate(edits, 1):
+    """All mutants that have any of the wanted words, or all where none are wanted, numbered from 1 on."""
+    unseen, uses = read_left_out(), code_uses()
+    found = [it for it in [*refused(), *must_fail()] if it.crate in uses and f"{it.crate}/{it.name}" not in unseen]
+    # Of those that change code alone no one changes two files.
+    found = [it for it in found if all(file.startswith("src/") for file in it.files())] + mutants()
+    for (place, name), count in collections.Counter((it.place(), it.name) for it in found).items():
+        if count > 1:
+            sys.exit(f"{place}: two edits are named {name}")
+    wanted = [it for it in found if not only or any(words in it.title() for words in only)]
+    for number, edit in enumerate(wanted, 1):
         edit.number = number
-    return edits
+    return wanted
 
 
 # The parts of a source file: bodies of functions, constants, and all else.
 
 
-def closing(text: str, at: int) -> int:
-    """Where the bracket that opens at a place of a text is closed."""
-    depth = 0
-    for i in range(at, len(text)):
-        if text[i] in "(<[":
-            depth += 1
-        elif text[i] in ")>]" and text[i - 1:i + 1] != "->":
-            depth -= 1
-            if depth == 0:
-                return i
-    raise BadEdit(f"a bracket is not closed: {text}")
-
-
-def split_list(text: str) -> list[str]:
-    """The items of a list with commas, which may have brackets."""
-    items: list[str] = []
-    depth, item = 0, ""
+def listed(text: str) -> tuple[list[str], str]:
+    """The items of a list with commas, by whose bracket a text begins, and what stands behind it."""
+    items, depth, item = [], 0, ""
     for i, sign in enumerate(text):
-        depth += (sign in "(<[") - (sign in ")>]" and text[i - 1:i + 1] != "->")
-        if sign == "," and depth == 0:
+        closes = sign in ")>]" and text[i - 1:i + 1] != "->"
+        depth += (sign in "(<[") - closes
+        if depth == 0 or depth == 1 and sign == ",":
             items.append(item.strip())
             item = ""
-        else:
+        elif i:
             item += sign
-    return [it for it in [*items, item.strip()] if it]
-
-
-def signature(lines: list[str]) -> str:
-    """A function's head without its contract, in one line."""
-    text = ""
-    for line in lines:
-        text += line.strip() + " "
-        if "(" in text and text.count("(") == text.count(")"):
-            break
-    return text.strip().removesuffix("{").strip()
+        if depth == 0:
+            return [it for it in items if it], text[i + 1:]
+    raise BadEdit(f"a bracket is not closed: {text}")
 
 
 class Head:
     """The head of a function, of which others with the same parameters can be made."""
 
-    def __init__(self, text: str, is_method: bool) -> None:
-        found = re.match(r"((?:pub(?:\(crate\))? )?fn )(\w+)", text)
+    def __init__(self, lines: list[str], is_method: bool) -> None:
+        text = ""
+        for line in lines:
+            text += line.strip() + " "
+            if "(" in text and text.count("(") == text.count(")"):
+                break
+        found = re.match(r"((?:pub(?:\(crate\))? )?fn )(\w+)(.*)", text.strip().removesuffix("{").strip())
         if not found:
             raise BadEdit(f"no function begins so: {text}")
-        self.name = found[2]
-        self.front = found[1]
-        self.rest = text[found.end():]
-        generics, parameters = "", self.rest
-        if self.rest.startswith("<"):
-            end = closing(self.rest, 0)
-            generics, parameters = self.rest[1:end], self.rest[end + 1:]
-        kinds = [it.removeprefix("const ").partition(":")[0] for it in split_list(generics)]
-        kinds = [it for it in kinds if not it.startswith("'")]
+        self.front, self.name, self.rest = found.groups()
+        generics, parameters = listed(self.rest) if self.rest.startswith("<") else ([], self.rest)
+        kinds = [it.removeprefix("const ").partition(":")[0] for it in generics if not it.startswith("'")]
         self.turbofish = f"::<{', '.join(kinds)}>" if kinds else ""
-        names = [it.partition(":")[0] for it in split_list(parameters[1:closing(parameters, 0)])]
-        names = [it.removeprefix("mut ") for it in names]
+        names = [it.partition(":")[0].removeprefix("mut ") for it in listed(parameters)[0]]
         self.of = "self." if names and names[0].endswith("self") else "Self::" if is_method else ""
         self.arguments = ", ".join(it for it in names if not it.endswith("self"))
 
@@ -292,77 +181,28 @@ class Part:
     head: Head | None = field(default=None, compare=False)  # of a body, where others can stand beside its function
 
 
-FUNCTION = re.compile(r"( *)(?:pub(?:\(crate\))? )?fn (\w+)")
 CONSTANT = re.compile(r"(?:pub(?:\(crate\))? )?const (\w+): ")
 
 
-def body_begins(line: str, indent: str, is_first: bool) -> bool:
-    """Whether a line of a function's head ends it and begins the body."""
-    if line == indent + "{":
-        return True
-    return line.endswith(" {") and (is_first or line.startswith(indent + ")"))
-
-
+@functools.lru_cache(500)
 def parts_of(text: str) -> list[Part]:
-    """The parts of a source file, as `rt fmt` lays it out."""
-    parts, lines, at, in_trait = [Part("else", "", [])], text.split("\n"), 0, False
-    while at < len(lines):
-        line = lines[at]
-        if re.match(r"impl|trait|pub trait|}", line):
-            in_trait = bool(re.match(r"(pub )?trait|impl.* for ", line))
-        constant, function = CONSTANT.match(line), FUNCTION.match(line)
-        if constant:
+    """The parts of a source file."""
+    lines = text.split("\n")
+    found: list[tuple[int, int, str, str, Head | None]] = []
+    for it in functions_of(text):
+        if it.body < it.end:
+            fixed = it.block.is_trait or it.block.implements
+            head = None if fixed else Head(lines[it.begin:it.body], bool(it.block.owner))
+            found.append((it.body, it.end - 1, "body", it.name, head))
+    for at, line in enumerate(lines):
+        if constant := CONSTANT.match(line):
             end = next(i for i in range(at, len(lines)) if lines[i].endswith(";"))
-            parts += [Part("const", constant[1], lines[at:end + 1]), Part("else", "", [])]
-            at = end + 1
-            continue
-        parts[-1].lines.append(line)
-        at += 1
-        if not function:
-            continue
-        indent, is_first, begun, depth = function[1], True, at - 1, 0
-        while not body_begins(line, indent, is_first):
-            depth += line.count("{") - line.count("}")
-            if depth == 0 and line.endswith(";") or line == indent + "{}" or line.endswith(" {}"):
-                break
-            line, is_first = lines[at], False
-            parts[-1].lines.append(line)
-            at += 1
-        else:
-            end = at + lines[at:].index(indent + "}")
-            head = None if in_trait else Head(signature(lines[begun:at]), bool(indent))
-            parts += [Part("body", function[2], lines[at:end], head), Part("else", "", [])]
-            at = end
-    return parts
-
-
-def place_of(edit: Edit, text: str, old: str) -> int:
-    """Where the old text of an edit stands: once in its file, or in its function where it names one."""
-    if edit.function:
-        found = []
-        start = 0
-        for part in parts_of(text):
-            body = "\n".join(part.lines)
-            if part.kind == "body" and part.name == edit.function:
-                found += [start + it.start() for it in re.finditer(re.escape(old), body)]
-            start += len(body) + 1 if part.lines else 0
-    else:
-        found = [it.start() for it in re.finditer(re.escape(old), text)]
-    if len(found) != 1:
-        raise BadEdit(f"the text stands {len(found)} times in {edit.path()}: {old}")
-    return found[0]
-
-
-def edited(edit: Edit, text: str) -> str:
-    """The text of a file after an edit."""
-    if not edit.pairs:
-        raise BadEdit("it changes nothing")
-    for old, new in edit.pairs:
-        if new is None or old == new:
-            raise BadEdit(f"there is no other text for: {old}")
-        at = place_of(edit, text, old)
-        text = text[:at] + new + text[at + len(old):]
-    return text
+            found.append((at, end + 1, "const", constant[1], None))
+    parts, at = [], 0
+    for begin, end, kind, name, head in sorted(found, key=lambda it: it[0]):
+        parts += [Part("else", "", lines[at:begin]), Part(kind, name, lines[begin:end], head)]
+        at = end
+    return [*parts, Part("else", "", lines[at:])]
 
 
 # A copy of the repository in which many edits can be turned on.
@@ -372,12 +212,13 @@ class Turned:
     """A source file with arms for edits: each part has the parts that stand in for it, by number."""
 
     def __init__(self, text: str) -> None:
+        self.text = text
         self.parts = parts_of(text)
         self.arms: list[dict[int, Part]] = [{} for _ in self.parts]
 
-    def take(self, edit: Edit, text: str) -> bool:
+    def take(self, edit: Edit) -> bool:
         """Adds the arms of an edit. Where it changes more than bodies and constants, answers False."""
-        new = parts_of(edited(edit, text))
+        new = parts_of(edited(edit, edit.files()[0], self.text))
         if [(it.kind, it.name) for it in new] != [(it.kind, it.name) for it in self.parts]:
             return False
         changed = [i for i, it in enumerate(new) if it != self.parts[i]]
@@ -447,7 +288,7 @@ def write_copy(folder: pathlib.Path, edits: list[Edit]) -> None:
     uses = code_uses()
     for name in uses:
         shutil.copytree(TOP / "crates" / name / "src", folder / "crates" / name / "src")
-    lines = ["turning:"] + [f"{name}: turning {names}" for name, names in uses.items()]
+    lines = ["turning:"] + [f"{name}: turning {' '.join(below)}" for name, below in uses.items()]
     lines.append(f"player: turning anyhow {' '.join(uses)}")
     (folder / "crates.txt").write_text("\n".join(lines) + "\n", encoding="utf-8")
     (folder / ".git").mkdir()
@@ -456,9 +297,7 @@ def write_copy(folder: pathlib.Path, edits: list[Edit]) -> None:
         path.parent.mkdir(parents=True)
         path.write_text(text, encoding="utf-8")
     test.add_tests(folder / "crates")
-    name, long, short = SHORTER
-    path = folder / "crates" / name
-    path.write_text(path.read_text(encoding="utf-8").replace(long, short), encoding="utf-8")
+    test.shorten(folder / "crates", SHORTER)
     program = folder / "crates/zkit/src/main.rt"
     program.rename(program.with_name("lib.rt"))
     for name in uses:
@@ -487,64 +326,56 @@ def tests_of(folder: pathlib.Path, crates: Iterable[str], changed: set[str]) -> 
     files = [(it, path) for it in crates for path in sorted((folder / "crates" / it / "src").glob("tests*.rt"))]
     texts = {path: path.read_text(encoding="utf-8") for _, path in files}
     files.sort(key=lambda it: it[0] not in changed and not any(f"use {name}::" in texts[it[1]] for name in changed))
-    calls = []
+    calls = ""
     for crate, path in files:
         heads = rf"^pub fn (\w+)\(\w+: {re.escape(TEST_RUNTIME)}\)( -> Result)?"
         for name, gives in re.findall(heads, texts[path], re.M):
-            end = "?;" if gives else ";"
-            calls += [f'    eprintln!(rt; "test {crate} {name}")?;', f"    {crate}::{path.stem}::{name}(rt){end}"]
-    lines = [
-        "use std::process::{ExitCode, Termination};",
-        "use std::io::Eprint;",
-        "use std::test::Fail;",
-        "",
-        f"fn run(rt: {TEST_RUNTIME} + Eprint) -> Result<(), Fail> {{",
-        *calls,
-        '    eprintln!(rt; "tests passed")?;',
-        "    Ok(())",
-        "}",
-        "",
-        f"pub fn pass(rt: {TEST_RUNTIME} + Eprint) -> bool {{",
-        "    let code = run(rt).report(&rt);",
-        "    code == ExitCode::SUCCESS",
-        "}",
-        "",
-    ]
-    return "\n".join(lines)
+            calls += f'    eprintln!(rt; "test {crate} {name}")?;\n'
+            calls += f"    {crate}::{path.stem}::{name}(rt){'?' if gives else ''};\n"
+    return f"""use std::process::{{ExitCode, Termination}};
+use std::io::Eprint;
+use std::test::Fail;
+
+fn run(rt: {TEST_RUNTIME} + Eprint) -> Result<(), Fail> {{
+{calls}    eprintln!(rt; "tests passed")?;
+    Ok(())
+}}
+
+pub fn pass(rt: {TEST_RUNTIME} + Eprint) -> bool {{
+    let code = run(rt).report(&rt);
+    code == ExitCode::SUCCESS
+}}
+"""
 
 
 class Copy:
-    """A copy of the repository with arms for some edits."""
+    """A copy of the repository with arms for some edits, or with one that stands alone."""
 
-    def __init__(self, folder: pathlib.Path, edits: list[Edit]) -> None:
+    def __init__(self, folder: pathlib.Path, edits: list[Edit], is_alone: bool = False) -> None:
         self.folder = folder
         self.alone: list[Edit] = []  # those that need a copy of their own
         self.bad: Bad = {}  # those that can't be applied
-        self.edits: list[Edit] = []  # those that can be turned on
+        self.edits: list[Edit] = []  # those that can be turned on, or the one that stands alone
         self.owners: dict[pathlib.Path, list[int]] = {}  # the numbers of the lines of each file that has arms
         write_copy(folder, edits)
-        files: dict[str, Turned] = {}
+        files: dict[pathlib.Path, Turned] = {}
         for edit in edits:
-            self.take(edit, files)
+            self.take(edit, files, is_alone)
         for path, turned in files.items():
             lines = turned.lines()
-            self.owners[self.path(path)] = [number for number, _ in lines]
-            self.path(path).write_text("\n".join(text for _, text in lines), encoding="utf-8")
+            self.owners[path] = [number for number, _ in lines]
+            path.write_text("\n".join(text for _, text in lines), encoding="utf-8")
 
-    def path(self, path: str) -> pathlib.Path:
-        """Where a file of the repository stands in the copy."""
-        return self.folder / path.replace("zkit/src/main.rt", "zkit/src/lib.rt")
-
-    def take(self, edit: Edit, files: dict[str, Turned]) -> None:
+    def take(self, edit: Edit, files: dict[pathlib.Path, Turned], is_alone: bool) -> None:
         """Takes an edit among those that can be turned on, those that stand alone, or those that are bad."""
         try:
-            # The copy's file, since its items are those that the player can call.
-            text = self.path(edit.path()).read_text(encoding="utf-8")
-            turned = files.setdefault(edit.path(), Turned(text))
-            if turned.take(edit, text):
-                self.edits.append(edit)
-            else:
-                self.alone.append(edit)
+            # The copy's file, since its items are those that the player can call: the program's root is a library's.
+            path = self.folder / edit.path().replace("zkit/src/main.rt", "zkit/src/lib.rt")
+            text = path.read_text(encoding="utf-8")
+            if is_alone:
+                path.write_text(edited(edit, edit.files()[0], text), encoding="utf-8")
+            together = is_alone or files.setdefault(path, Turned(text)).take(edit)
+            (self.edits if together else self.alone).append(edit)
         except (BadEdit, OSError) as error:
             self.bad[edit.number] = str(error)
 
@@ -552,18 +383,9 @@ class Copy:
         """The numbers of the edits in whose lines the compiler's errors stand."""
         numbers: set[int] = set()
         for path, line in re.findall(r"^(\S+\.rt):(\d+):\d+: error", said, re.M):
-            full = (self.folder / "crates/player" / path).resolve()
-            owners = self.owners.get(full, [])
-            if int(line) <= len(owners):
-                numbers.add(owners[int(line) - 1])
+            owners = self.owners.get((self.folder / "crates/player" / path).resolve(), [])
+            numbers.update(owners[int(line) - 1:int(line)])
         return numbers - {0}
-
-
-def write_alone(folder: pathlib.Path, edit: Edit) -> None:
-    """A copy with one edit."""
-    write_copy(folder, [edit])
-    path = folder / edit.path().replace("zkit/src/main.rt", "zkit/src/lib.rt")
-    path.write_text(edited(edit, path.read_text(encoding="utf-8")), encoding="utf-8")
 
 
 # Playing.
@@ -576,15 +398,14 @@ def sized(content: bytes) -> bytes:
 
 def bundled(row: run.Row, version: int) -> bytes:
     """A row as the player reads it."""
-    status = run.STATUS[row.end.split()[0]]
-    line = b"" if status == 0 else f"zkit: {row.end}\n".encode()
+    status, line = row.ended()
     name = f"{row.place} {row.name} (version {version})"
     # One more than the states to go back to, and 0 for those of `zkit play`.
     undo = 0 if row.undo is None else row.undo + 1
     numbers = b"".join(it.to_bytes(4, "big") for it in (*limits_for(row), undo, row.upper, row.save))
     script = (row.script is not None).to_bytes(4, "big") + sized((row.script or "").encode())
-    shown = sized(row.screen.encode()) + script + status.to_bytes(4, "big")
-    return sized(name.encode()) + sized(run.story(row, version)) + sized(row.input) + numbers + shown + sized(line)
+    shown = sized(row.screen.encode()) + script + status.to_bytes(4, "big") + sized(f"{line}\n".lstrip("\n").encode())
+    return sized(name.encode()) + sized(run.story(row, version)) + sized(row.input) + numbers + shown
 
 
 def limits_for(row: run.Row) -> tuple[int, int]:
@@ -602,7 +423,7 @@ def is_slow(row: run.Row, version: int) -> bool:
 def write_bundles(folder: pathlib.Path, first: str) -> None:
     """Writes the files `rows` and `slow`, which the player reads; rows whose place has some words come first."""
     bundles: dict[str, list[bytes]] = {"rows": [], "slow": []}
-    rows = [row for path in sorted(FOLDER.glob("*.rows")) for row in run.read_rows(path)]
+    rows = [row for _, row in run.all_rows()]
     rows.sort(key=lambda row: first not in f"{row.place} {row.name}")
     # Most edits are refused in any version, so that of most rows comes first.
     for version in sorted({it for row in rows for it in row.versions}, key=lambda it: (it != 5, it)):
@@ -688,109 +509,76 @@ def shown_of(path: pathlib.Path, case: str) -> str:
     return shown if found else ""
 
 
-def try_together(edits: list[Edit], folder: pathlib.Path, way: Way) -> tuple[Outcomes, list[Edit], Bad]:
-    """Tries edits in one build. Answers what refuses each, those that stand alone, and those that are bad."""
-    bad: Bad = {}
-    while True:
-        shutil.rmtree(folder, ignore_errors=True)
-        folder.mkdir()
-        copy = Copy(folder / "copy", [it for it in edits if it.number not in bad])
-        bad.update(copy.bad)
-        numbers = [0] + [it.number for it in copy.edits]
-        outcomes, said = play_cases(copy.folder, folder, numbers, way)
-        if outcomes:
-            return outcomes, copy.alone, bad
-        wrong = copy.edits_at(said)
-        if not wrong:
-            stop(f"the copy is not built:\n{said}")
-        for number in wrong:
-            bad[number] = "it does not compile"
+class Trial:
+    """What came of edits, by their numbers: what refuses each, what is wrong with it, and the folder of its build."""
+
+    def __init__(self, way: Way) -> None:
+        self.way = way
+        self.by: Outcomes = {}
+        self.bad: Bad = {}
+        self.built: dict[int, pathlib.Path] = {}
+
+    def build(self, edits: list[Edit], folder: pathlib.Path, is_alone: bool = False) -> list[Edit]:
+        """Tries edits in one build, or one that stands alone, and answers those that need a build of their own."""
+        while True:
+            shutil.rmtree(folder, ignore_errors=True)
+            folder.mkdir()
+            copy = Copy(folder / "copy", [it for it in edits if it.number not in self.bad], is_alone)
+            self.bad.update(copy.bad)
+            numbers = [0] * (not is_alone) + [it.number for it in copy.edits]
+            outcomes, said = play_cases(copy.folder, folder, numbers, self.way) if numbers else ({}, "")
+            if outcomes or not numbers:
+                self.by.update(outcomes)
+                self.built.update(dict.fromkeys(outcomes, folder))
+                return copy.alone
+            wrong = numbers if is_alone else copy.edits_at(said)
+            if not wrong:
+                stop(f"the copy is not built:\n{said}")
+            self.bad.update(dict.fromkeys(wrong, "it does not compile" + f": {said[-400:]}" * is_alone))
+
+    def play_longer(self) -> None:
+        """Tries those edits again, when no other runs, that had no answer in time."""
+        longer = self.way._replace(seconds=LONGER * self.way.seconds)
+        unanswered = [number for number, outcome in self.by.items() if outcome == NO_ANSWER]
+        for folder in sorted({self.built[number] for number in unanswered}):
+            numbers = [number for number in unanswered if self.built[number] == folder]
+            outcomes, said = play_cases(folder / "copy", folder, numbers, longer)
+            if not outcomes:
+                stop(f"the copy is not built again:\n{said}")
+            self.by.update(outcomes)
 
 
-def try_alone(edit: Edit, folder: pathlib.Path, way: Way) -> tuple[str | None, str | None]:
-    """Tries an edit in a build of its own. Answers what refuses it, and what is wrong with it."""
-    shutil.rmtree(folder, ignore_errors=True)
-    folder.mkdir()
-    try:
-        write_alone(folder / "copy", edit)
-    except BadEdit as error:
-        return None, str(error)
-    outcomes, said = play_cases(folder / "copy", folder, [edit.number], way)
-    if not outcomes:
-        return None, "it does not compile: " + said[-400:]
-    return outcomes[edit.number], None
-
-
-def try_longer(by: Outcomes, folders: dict[int, pathlib.Path], way: Way) -> None:
-    """Tries those edits again, alone, that had no answer in time. `folders` has the folder of each edit's build."""
-    longer = way._replace(seconds=LONGER * way.seconds)
-    unanswered = [number for number, outcome in by.items() if outcome == NO_ANSWER]
-    for folder in sorted({folders[number] for number in unanswered}):
-        numbers = [number for number in unanswered if folders[number] == folder]
-        outcomes, said = play_cases(folder / "copy", folder, numbers, longer)
-        if not outcomes:
-            stop(f"the copy is not built again:\n{said}")
-        by.update(outcomes)
-
-
-def try_all(edits: list[Edit], jobs: int, folder: pathlib.Path, way: Way) -> tuple[Outcomes, Bad]:
-    """Tries all edits. Answers what refuses each, by its number, and those that are bad."""
-    by: Outcomes = {}
-    bad: Bad = {}
-    alone: list[Edit] = []
-    built: dict[int, pathlib.Path] = {}
+def try_all(edits: list[Edit], jobs: int, folder: pathlib.Path, way: Way) -> Trial:
+    """Tries all edits, in as many builds side by side as jobs."""
+    trial = Trial(way)
     with concurrent.futures.ThreadPoolExecutor(jobs) as pool:
-        batches = [edits[i::jobs] for i in range(jobs) if edits[i::jobs]]
-        folders = [folder / f"batch-{i}" for i in range(len(batches))]
-        together = functools.partial(try_together, way=way)
-        for place, (outcomes, left_alone, wrong_ones) in zip(folders, pool.map(together, batches, folders)):
-            by.update(outcomes)
-            bad.update(wrong_ones)
-            alone += left_alone
-            built.update(dict.fromkeys(outcomes, place))
-        folders = [folder / f"alone-{edit.number}" for edit in alone]
-        one = functools.partial(try_alone, way=way)
-        for edit, place, (outcome, wrong) in zip(alone, folders, pool.map(one, alone, folders)):
-            if wrong:
-                bad[edit.number] = wrong
-            else:
-                by[edit.number], built[edit.number] = outcome, place
-    try_longer(by, built, way)
-    return by, bad
+        batches = [edits[i::jobs] for i in range(min(jobs, len(edits)))]
+        left = pool.map(trial.build, batches, [folder / f"batch-{i}" for i in range(jobs)])
+        alone = [edit for them in left for edit in them]
+        one = functools.partial(trial.build, is_alone=True)
+        list(pool.map(one, [[it] for it in alone], [folder / f"alone-{it.number}" for it in alone]))
+    trial.play_longer()
+    return trial
+
+
+def kind_of(outcome: str | None) -> str:
+    """How an edit is counted: as one that rows refuse, or tests alone, or only the time, or nothing."""
+    if outcome is None:
+        return "left"
+    return outcome if outcome == NO_ANSWER else "tests" if outcome.startswith("test") else "rows"
 
 
 def teller(edits: list[Edit], verbose: bool) -> Tell:
     """What prints an edit that nothing refuses as soon as that is known, and each other one if wanted."""
-    by_number = {edit.number: edit for edit in edits}
+    titles = {edit.number: edit.title() for edit in edits}
 
-    def tell(number: int, by: str | None) -> None:
-        if number == 0:
-            return
-        if by is None:
-            print(f"left: {by_number[number].title()}", flush=True)
-        elif verbose and by == NO_ANSWER:
-            print(f"no answer: {by_number[number].title()}", flush=True)
-        elif verbose:
-            print(f"refused: {by_number[number].title()}: {by}", flush=True)
+    def tell(number: int, outcome: str | None) -> None:
+        kind = kind_of(outcome)
+        if number and (verbose or kind == "left"):
+            said = f"refused: {titles[number]}: {outcome}" if kind in ("rows", "tests") else f"{kind}: {titles[number]}"
+            print(said, flush=True)
 
     return tell
-
-
-def counts_of(edits: list[Edit], by: Outcomes, bad: Bad) -> dict[str, int]:
-    """How many edits rows refuse, tests, only the time, and nothing; those that are bad are printed."""
-    counts = {"rows": 0, "tests": 0, NO_ANSWER: 0, "left": 0}
-    for edit in edits:
-        if edit.number in bad:
-            print(f"bad: {edit.title()}: {bad[edit.number]}")
-            continue
-        outcome = by[edit.number]
-        if outcome is None:
-            counts["left"] += 1
-        elif outcome == NO_ANSWER:
-            counts[NO_ANSWER] += 1
-        else:
-            counts["tests" if outcome.startswith("test") else "rows"] += 1
-    return counts
 
 
 def end_all(status: int) -> NoReturn:
@@ -816,11 +604,22 @@ def read_words() -> tuple[Options, list[Edit]]:
     words.add_argument("--first", default="", help="play the rows first whose file or name has these words, or `tests`")
     words.add_argument("--jobs", type=int, default=2, help="how many builds run side by side")
     words.add_argument("--seconds", type=int, default=60, help="how long a run may take")
+    words.add_argument("--check", action="store_true", help="try nothing: tell which edits do not apply any more")
     options = words.parse_args(namespace=Options())
-    edits = read_edits(options.only or [])
-    if not edits:
+    found = read_edits(options.only or [])
+    if not found:
         words.error("no edit has these words")
-    return options, edits
+    return options, found
+
+
+def check() -> int:
+    """Tells which edits do not apply any more, and answers how many."""
+    found = [*must_fail(), *refused(), *mutants()]
+    wrong = {edit: why for edit in found if (why := why_not(edit))}
+    for edit, why in wrong.items():
+        print(f"bad: {edit.title()}: {why}")
+    print(f"{len(found)} edits: {len(wrong)} do not apply")
+    return len(wrong)
 
 
 def main() -> None:
@@ -829,17 +628,21 @@ def main() -> None:
         signal.signal(number, lambda it, _: end_all(128 + it))
     begun = time.monotonic()
     options, edits = read_words()
+    if options.check:
+        sys.exit(1 if check() else 0)
     way = Way(options.seconds, "tests" if options.first == "tests" else "rows", teller(edits, options.v))
     with tempfile.TemporaryDirectory(prefix="mutate-") as folder:
         TEMPORARY.append(folder)
         write_bundles(pathlib.Path(folder), options.first)
-        by, bad = try_all(edits, max(options.jobs, 1), pathlib.Path(folder), way)
-    counts = counts_of(edits, by, bad)
-    seconds = round(time.monotonic() - begun)
+        trial = try_all(edits, max(options.jobs, 1), pathlib.Path(folder), way)
+    bad = [edit for edit in edits if edit.number in trial.bad]
+    for edit in bad:
+        print(f"bad: {edit.title()}: {trial.bad[edit.number]}")
+    counts = collections.Counter(kind_of(trial.by[it.number]) for it in edits if it not in bad)
+    minutes, seconds = divmod(round(time.monotonic() - begun), 60)
     print(
         f"{len(edits)} edits: {counts['rows']} refused by rows, {counts['tests']} by tests, "
-        f"{counts[NO_ANSWER]} by no answer only, {counts['left']} left, {len(bad)} bad "
-        f"({seconds // 60} min {seconds % 60} s)"
+        f"{counts[NO_ANSWER]} by no answer only, {counts['left']} left, {len(bad)} bad ({minutes} min {seconds} s)"
     )
     sys.exit(1 if counts["left"] or bad else 0)
 

@@ -18,10 +18,12 @@ import shutil
 import subprocess
 import sys
 import tempfile
+from collections import Counter
 from collections.abc import Iterable
 
-FOLDER = pathlib.Path(__file__).resolve().parent
-TOP = FOLDER.parent
+from edits import Edit, must_fail, refused, why_not
+from sources import TOP, copy_of, crates
+
 # The parts of a crate that its proof reads.
 PARTS = ("src", "specs", "proofs")
 # What `rt must-fail` says of an edit, and what that is called here.
@@ -50,16 +52,6 @@ def git(*words: str) -> str:
     return subprocess.run(["git", "-C", str(TOP), *words], check=True, stdout=subprocess.PIPE, text=True).stdout
 
 
-def crates_above() -> dict[str, list[str]]:
-    """For each crate the crates of the repository that stand on it, from crates.txt."""
-    on: dict[str, list[str]] = {}
-    for line in (TOP / "crates.txt").read_text(encoding="utf-8").splitlines():
-        name, found, below = line.partition("#")[0].partition(":")
-        if found:
-            on[name.split()[0]] = below.split()
-    return {name: [it for it, below in on.items() if name in below] for name in on}
-
-
 def changed_since(base: str) -> set[str]:
     """The crates whose files were changed since a commit, and those above a changed definition whose contracts or
     definitions name its crate's."""
@@ -72,31 +64,17 @@ def changed_since(base: str) -> set[str]:
             if parts[2] == "specs":
                 redefined.add(parts[1])
     for name in redefined:
-        for above in crates_above().get(name, []):
+        for above in [it for it, crate in crates().items() if name in crate.below]:
             files = [it for part in ("src", "specs") for it in (TOP / "crates" / above / part).rglob("*")]
             if any(it.is_file() and f"Rattle.{name}.specs" in it.read_text(encoding="utf-8") for it in files):
                 changed.add(above)
     return changed
 
 
-def applies(path: pathlib.Path) -> bool:
-    """Whether each text that an edit takes away stands once in its file."""
-    file = ""
-    for line in path.read_text(encoding="utf-8").splitlines():
-        word, _, text = line.partition(": ")
-        if word == "file":
-            crate = path.parent.parent.name if path.parent.name == "must-fail" else path.parent.name
-            file = (TOP / "crates" / crate / text).read_text(encoding="utf-8")
-        elif word == "old" and file.count(text) != 1:
-            return False
-    return True
-
-
-def is_of_a_definition(path: pathlib.Path) -> bool:
+def is_of_a_definition(edit: Edit) -> bool:
     """Whether an edit turns a definition too."""
-    if re.search(r"with_(its|their)_definition", path.stem):
-        return True
-    return bool(re.search(r"^file: specs/", path.read_text(encoding="utf-8"), re.M))
+    named = re.search(r"with_(its|their)_definition", edit.name)
+    return bool(named) or any(it.startswith("specs/") for it in edit.files())
 
 
 @functools.cache
@@ -110,61 +88,49 @@ def order_of(*words: str) -> str:
     return hashlib.sha256(" ".join([commit(), *words]).encode()).hexdigest()
 
 
-def sample_of(edits: list[pathlib.Path], number: int) -> list[pathlib.Path]:
+def sample_of(edits: list[Edit], number: int) -> list[Edit]:
     """So many of the edits, chosen by the commit, one of them of a definition.
 
     They are of a crate that has must-fail edits, so that the gate proves it once more in any case, and of another one.
     """
-    crates = sorted({it.parent.name for it in edits}, key=order_of)
-    tried = [it for it in crates if (TOP / "crates" / it / "must-fail").is_dir()]
-    others = [it for it in crates if it not in tried]
+    names = sorted({it.crate for it in edits}, key=order_of)
+    tried = [it for it in names if (TOP / "crates" / it / "must-fail").is_dir()]
+    others = [it for it in names if it not in tried]
     chosen = {*tried[:1], *others[:1]}
-    edits = sorted((it for it in edits if it.parent.name in chosen), key=lambda it: order_of(it.stem))
+    edits = sorted((it for it in edits if it.crate in chosen), key=lambda it: order_of(it.name))
     first = [it for it in edits if is_of_a_definition(it)][:1]
     return (first + [it for it in edits if it not in first])[:number]
 
 
-def lay(edits: Iterable[pathlib.Path], top: pathlib.Path) -> list[pathlib.Path]:
+def lay(edits: Iterable[Edit], top: pathlib.Path) -> list[pathlib.Path]:
     """Copies edits to where the must-fail edits of their crates stand, and answers where they lie now."""
-    laid = []
-    for path in edits:
-        to = top / "crates" / path.parent.name / "must-fail" / path.name
+    laid = [top / "crates" / it.crate / "must-fail" / it.written.name for it in edits]
+    for edit, to in zip(edits, laid):
         to.parent.mkdir(exist_ok=True)
-        shutil.copyfile(path, to)
-        laid.append(to)
+        shutil.copyfile(edit.written, to)
     return laid
 
 
-def copy_of(folder: pathlib.Path) -> None:
-    """A copy of what proofs read, without must-fail edits."""
-    shutil.copytree(TOP / "crates", folder / "crates", ignore=shutil.ignore_patterns("out", "must-fail"))
-    for name in ("crates.txt", "HANDLES"):
-        shutil.copyfile(TOP / name, folder / name)
-    (folder / ".git").mkdir()
-
-
-def verdict_of(line: str) -> str | None:
-    """What a line says of an edit, if it does."""
-    return next((name for words, name in VERDICTS if words in line), None)
-
-
-def tried(folder: pathlib.Path, crates: list[str]) -> dict[str, int]:
-    """Has the prover try what lies in a copy, prints what it says of each edit, and counts the verdicts."""
-    counts: dict[str, int] = {}
-    with subprocess.Popen(
-        ["rt", "must-fail", *crates],
-        cwd=folder,
-        stdin=subprocess.DEVNULL,
-        stdout=subprocess.PIPE,
-        stderr=subprocess.STDOUT,
-        text=True,
-        errors="replace",
-    ) as ran:
-        for line in ran.stdout or ():
-            verdict = verdict_of(line)
-            if verdict:
-                counts[verdict] = counts.get(verdict, 0) + 1
-            print(line, end="", flush=True)
+def tried(edits: list[Edit]) -> Counter[str]:
+    """Has the prover try edits in a copy of the repository, prints what it says of each, and counts the verdicts."""
+    counts: Counter[str] = Counter()
+    with tempfile.TemporaryDirectory(prefix="refuse-") as folder:
+        copy_of(pathlib.Path(folder))
+        lay(edits, pathlib.Path(folder))
+        with subprocess.Popen(
+            ["rt", "must-fail", *sorted({it.crate for it in edits})],
+            cwd=folder,
+            stdin=subprocess.DEVNULL,
+            stdout=subprocess.PIPE,
+            stderr=subprocess.STDOUT,
+            text=True,
+            errors="replace",
+        ) as ran:
+            for line in ran.stdout or ():
+                verdict = next((name for words, name in VERDICTS if words in line), None)
+                if verdict:
+                    counts[verdict] += 1
+                print(line, end="", flush=True)
     return counts
 
 
@@ -172,48 +138,32 @@ def read_options() -> Options:
     """What the command line says."""
     words = argparse.ArgumentParser(prog="conformance/refuse.py", description=__doc__.split("\n")[0])
     words.add_argument("crates", nargs="*", metavar="CRATE", help="only edits of these crates")
-    words.add_argument(
-        "--changed",
-        metavar="BASE",
-        help="only edits of crates that were changed since a commit, and of those above whose clauses were",
-    )
+    changed = "only edits of crates that were changed since a commit, and of those above whose clauses were"
+    words.add_argument("--changed", metavar="BASE", help=changed)
     words.add_argument("--sample", type=int, metavar="N", help="only so many, chosen by the commit")
-    words.add_argument(
-        "--into",
-        type=pathlib.Path,
-        metavar="FOLDER",
-        help="try nothing: lay them into the repository there, and print where they lie",
-    )
+    into = "try nothing: lay them into the repository there, and print where they lie"
+    words.add_argument("--into", type=pathlib.Path, metavar="FOLDER", help=into)
     return words.parse_args(namespace=Options())
-
-
-def try_in_a_copy(edits: list[pathlib.Path]) -> dict[str, int]:
-    """Has the prover try edits in a copy of the repository, and counts the verdicts."""
-    with tempfile.TemporaryDirectory(prefix="refuse-") as name:
-        folder = pathlib.Path(name)
-        copy_of(folder)
-        lay(edits, folder)
-        return tried(folder, sorted({it.parent.name for it in edits}))
 
 
 def main() -> int:
     """Tries the edits that are asked for, and answers 0 where each is refused."""
     options = read_options()
-    edits = sorted((FOLDER / "refused").glob("*/*.edit"))
-    for path in [*edits, *TOP.glob("crates/*/must-fail/*.edit")]:
-        if not applies(path):
-            sys.exit(f"{path.relative_to(TOP)}: a text that it takes away does not stand once in its file")
+    edits = refused()
+    for edit in [*edits, *must_fail()]:
+        if why := why_not(edit):
+            sys.exit(f"{edit.written.relative_to(TOP)}: {why}")
     wanted = set(options.crates) | (changed_since(options.changed) if options.changed else set())
     if options.crates or options.changed:
-        edits = [it for it in edits if it.parent.name in wanted]
+        edits = [it for it in edits if it.crate in wanted]
     if options.sample:
         edits = sample_of(edits, options.sample)
     if options.into:
         print("\n".join(str(it) for it in lay(edits, options.into)))
         return 0
-    counts = try_in_a_copy(edits) if edits else {}
+    counts = tried(edits) if edits else Counter[str]()
     print(f"{len(edits)} edits: {', '.join(f'{number} {name}' for name, number in counts.items()) or 'none tried'}")
-    return 0 if sum(counts.get(it, 0) for it in WELL) == len(edits) else 1
+    return 0 if sum(counts[it] for it in WELL) == len(edits) else 1
 
 
 if __name__ == "__main__":

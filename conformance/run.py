@@ -18,37 +18,28 @@ import shutil
 import subprocess
 import sys
 import tempfile
-from collections.abc import Iterable
+from collections.abc import Callable
 from dataclasses import dataclass, field
 from typing import NamedTuple
 
 SECONDS = 20
 FOLDER = pathlib.Path(__file__).resolve().parent
 
-# The words of the header that a row may set, and their addresses.
+# The words of the header that a row may set: their addresses, and what they are where it does not.
 FIELDS = {
-    "release": 0x02,
-    "high": 0x04,
-    "start": 0x06,
-    "dictionary": 0x08,
-    "objects": 0x0A,
-    "globals": 0x0C,
-    "static": 0x0E,
-    "flags2": 0x10,
-    "abbreviations": 0x18,
-    "length": 0x1A,
-    "checksum": 0x1C,
-    "alphabet": 0x34,
-    "extension": 0x36,
-}
-
-DEFAULTS = {
-    "high": 0x0800,
-    "start": 0x0800,
-    "objects": 0x0100,
-    "globals": 0x0400,
-    "static": 0x0800,
-    "abbreviations": 0x0040,
+    "release": (0x02, 0),
+    "high": (0x04, 0x0800),
+    "start": (0x06, 0x0800),
+    "dictionary": (0x08, 0),
+    "objects": (0x0A, 0x0100),
+    "globals": (0x0C, 0x0400),
+    "static": (0x0E, 0x0800),
+    "flags2": (0x10, 0),
+    "abbreviations": (0x18, 0x0040),
+    "length": (0x1A, 0),
+    "checksum": (0x1C, 0),
+    "alphabet": (0x34, 0),
+    "extension": (0x36, 0),
 }
 
 LEAST_LENGTH = 0x1000
@@ -69,8 +60,7 @@ class Row:
     section: str = ""
     choice: bool = False
     versions: list[int] = field(default_factory=list)
-    fields: dict[str, int] = field(default_factory=lambda: dict(DEFAULTS))
-    names_static: bool = False  # it gives the static base itself
+    fields: dict[str, int] = field(default_factory=dict)  # words of the header, by their names
     size: int | None = None  # in bytes, where the row gives it
     memory: list[tuple[int, list[str]]] = field(default_factory=list)  # addresses, each with tokens
     input: bytes = b""  # what stands on standard input
@@ -78,9 +68,25 @@ class Row:
     save: bool = False  # there is a file for the saved game
     undo: int | None = None  # how many states there are to go back to, where the row says it
     screen: str = ""
-    has_screen: bool = False
     script: str | None = None  # what the transcript gets, where the row says it
     end: str = ""
+    said: set[str] = field(default_factory=set)  # the words of its lines
+
+    def ended(self) -> tuple[int, str]:
+        """The status that it ends with, and the last line on standard error, if there is one."""
+        status = STATUS[self.end.split()[0]]
+        return status, "" if status == 0 else f"zkit: {self.end}"
+
+    def options(self, path: str) -> list[str]:
+        """The options of zkit's that it asks for, with its files beside the story."""
+        words = ["--upper"] * self.upper
+        if self.script is not None:
+            words += ["--script", path + ".script"]
+        if self.save:
+            words += ["--save", path + ".save"]
+        if self.undo is not None:
+            words += ["--undo", str(self.undo)]
+        return words
 
 
 class Options:
@@ -133,40 +139,37 @@ def unquote(text: str) -> bytes:
     return made
 
 
+# What a line of a row says, by its first word: a field of the row, and how the others are read.
+WORDS: dict[str, Callable[[str], object]] = {
+    "section": str,
+    "choice": lambda rest: True,
+    "upper": lambda rest: True,
+    "save": lambda rest: True,
+    "undo": int,
+    "versions": lambda rest: [int(version) for version in rest.split()],
+    "size": lambda rest: int(rest, 16),
+    "screen": lambda rest: unquote(rest).decode(),
+    "script": lambda rest: unquote(rest).decode(),
+    "end": str,
+}
+
+
 def read_line(row: Row, word: str, rest: str) -> None:
     """Takes a line of a row: its first word, and the others."""
-    if word == "section":
-        row.section = rest
-    elif word == "choice":
-        row.choice = True
-    elif word == "upper":
-        row.upper = True
-    elif word == "save":
-        row.save = True
-    elif word == "undo":
-        row.undo = int(rest)
-    elif word == "versions":
-        row.versions = [int(version) for version in rest.split()]
+    if word in WORDS:
+        setattr(row, word, WORDS[word](rest))
+        row.said.add(word)
     elif word == "header":
         name, value = rest.split()
         row.fields[name] = int(value, 16)
-        row.names_static |= name == "static"
         if name not in FIELDS:
             raise BadRow(f"no field {name}")
-    elif word == "size":
-        row.size = int(rest, 16)
     elif word == "at":
         address, _, bytes_there = rest.partition(":")
         row.memory.append((int(address, 16), bytes_there.split()))
     elif word == "input":
         text, *times = re.split(r" times (?=\d+$)", rest)
         row.input += unquote(text) * int(times[0] if times else 1)
-    elif word == "screen":
-        row.screen, row.has_screen = unquote(rest).decode(), True
-    elif word == "script":
-        row.script = unquote(rest).decode()
-    elif word == "end":
-        row.end = rest
     elif row.memory:
         row.memory[-1][1].extend([word] + rest.split())
     else:
@@ -198,9 +201,14 @@ def read_rows(path: pathlib.Path) -> list[Row]:
     return rows
 
 
+def all_rows() -> list[tuple[str, Row]]:
+    """The rows of this folder, each with its chapter."""
+    return [(path.stem, row) for path in sorted(FOLDER.glob("*.rows")) for row in read_rows(path)]
+
+
 def look_at(row: Row) -> None:
     """Ends the script where a row that was read lacks something, or has no story."""
-    if not row.versions or not row.has_screen or not row.end or not row.section:
+    if not (row.section and row.versions and row.end and "screen" in row.said):
         sys.exit(f"{row.place}: section, versions, screen and end are needed")
     if not END.fullmatch(row.end):
         sys.exit(f"{row.place}: a row does not end with {row.end}")
@@ -231,8 +239,8 @@ def story(row: Row, version: int, writable_code: bool = False) -> bytes:
     image = bytearray(LEAST_LENGTH)
     image[0] = version
     image[0x12:0x18] = b"000000"
-    for name, value in row.fields.items():
-        image[FIELDS[name]:FIELDS[name] + 2] = value.to_bytes(2, "big")
+    for name, (at, value) in FIELDS.items():
+        image[at:at + 2] = row.fields.get(name, value).to_bytes(2, "big")
     for address, tokens in row.memory:
         content = b"".join(token_bytes(token, version) for token in tokens)
         end = address + len(content)
@@ -241,9 +249,8 @@ def story(row: Row, version: int, writable_code: bool = False) -> bytes:
         image[address:end] = content
     if row.size is not None:
         image = image[:row.size].ljust(row.size, b"\0")
-    if writable_code and not row.names_static:
-        static = FIELDS["static"]
-        image[static:static + 2] = min(len(image), 0xFFFF).to_bytes(2, "big")
+    if writable_code and "static" not in row.fields:
+        image[0x0E:0x10] = min(len(image), 0xFFFF).to_bytes(2, "big")
     return bytes(image)
 
 
@@ -253,41 +260,19 @@ def tidy(text: str) -> str:
     return STATUS_LINE.sub("", lines).strip("\n")
 
 
-def words_for(row: Row, path: str) -> list[str]:
-    """The options of zkit's that a row asks for, with its files beside the story."""
-    words = ["--upper"] * row.upper
-    if row.script is not None:
-        words += ["--script", path + ".script"]
-    if row.save:
-        words += ["--save", path + ".save"]
-    if row.undo is not None:
-        words += ["--undo", str(row.undo)]
-    return words
-
-
 def play(row: Row, version: int, options: Options, folder: str) -> Played:
-    """Plays a row, and answers what came of it."""
-    path = os.path.join(folder, f"{row.place.replace(':', '-')}.z{version}")
-    with open(path, "wb") as file:
-        file.write(story(row, version, options.writable_code))
-    try:
-        done = subprocess.run(
-            options.command + words_for(row, path) + [path],
-            input=row.input,
-            stdout=subprocess.PIPE,
-            stderr=subprocess.PIPE,
-            timeout=SECONDS,
-            check=False,
-        )
-    except subprocess.TimeoutExpired:
-        return Played("hung", f"no end within {SECONDS} s")
-    finally:
-        os.remove(path)
-        if row.save and os.path.exists(path + ".save"):
-            os.remove(path + ".save")
-    if done.returncode < 0:
-        return Played("crashed", f"ended by signal {-done.returncode}")
-    script = None if row.script is None else script_of(path)
+    """Plays a row in a folder of its own, and answers what came of it."""
+    with tempfile.TemporaryDirectory(dir=folder) as place:
+        path = os.path.join(place, f"{row.place.replace(':', '-')}.z{version}")
+        pathlib.Path(path).write_bytes(story(row, version, options.writable_code))
+        words = [*options.command, *row.options(path), path]
+        try:
+            done = subprocess.run(words, input=row.input, capture_output=True, timeout=SECONDS, check=False)
+        except subprocess.TimeoutExpired:
+            return Played("hung", f"no end within {SECONDS} s")
+        if done.returncode < 0:
+            return Played("crashed", f"ended by signal {-done.returncode}")
+        script = None if row.script is None else pathlib.Path(path + ".script").read_text("utf-8", "replace")
     return judged(row, done, script, options.screen_only)
 
 
@@ -303,63 +288,27 @@ def judged(row: Row, done: subprocess.CompletedProcess[bytes], script: str | Non
         if done.returncode not in range(7):
             return Played("crashed", f"status {done.returncode}, {last}")
         came = Seen(screen, script, f"status {done.returncode}, {last or 'no last line'}")
-        status = STATUS[row.end.split()[0]]
-        line = "no last line" if status == 0 else f"zkit: {row.end}"
-        wanted = Seen(row.screen, row.script, f"status {status}, {line}")
+        status, line = row.ended()
+        wanted = Seen(row.screen, row.script, f"status {status}, {line or 'no last line'}")
     return Played("agrees", "") if came == wanted else Played("differs", f"wanted {wanted}\n        came   {came}")
-
-
-def script_of(path: str) -> str:
-    """What the transcript of a story got; its file goes again."""
-    with open(path + ".script", encoding="utf-8", errors="replace") as file:
-        script = file.read()
-    os.remove(path + ".script")
-    return script
-
-
-def is_plain(row: Row) -> bool:
-    """Whether a row asks for no option of zkit's and ends by itself."""
-    return row.end == "quit" and not row.upper and not row.save and row.undo is None and row.script is None
-
-
-def worst(results: Iterable[str]) -> str:
-    """What is said of a row whose versions had these results."""
-    for result in ("crashed", "hung", "differs"):
-        if result in results:
-            return result
-    return "agrees"
 
 
 def table(title: str, counts: Counts) -> None:
     """Prints the rows of each chapter by their results."""
     print(f"{title:24}  agree  differ  crashed  hung")
-    total: collections.Counter[str] = collections.Counter()
-    for chapter, count in counts.items():
-        total.update(count)
-        print(table_line(chapter, count))
-    print(table_line("all", total))
-
-
-def table_line(name: str, count: collections.Counter[str]) -> str:
-    """A line of a table."""
-    numbers = [count[result] for result in ("agrees", "differs", "crashed", "hung")]
-    return "{:24}  {:5}  {:6}  {:7}  {:4}".format(name, *numbers)
+    for chapter, count in [*counts.items(), ("all", sum(counts.values(), collections.Counter[str]()))]:
+        numbers = [count[result] for result in ("agrees", "differs", "crashed", "hung")]
+        print("{:24}  {:5}  {:6}  {:7}  {:4}".format(chapter, *numbers))
 
 
 def read_options() -> Options:
     """What the command line says."""
     words = argparse.ArgumentParser(prog="conformance/run.py", description=__doc__.split("\n")[0])
     words.add_argument("-v", action="store_true", help="name each row that differs")
-    words.add_argument(
-        "--screen-only",
-        action="store_true",
-        help="compare the screens alone, of the rows that end with quit and ask for no option of zkit's",
-    )
-    words.add_argument(
-        "--writable-code",
-        action="store_true",
-        help="raise the static base to the story's end, in rows that do not name it",
-    )
+    screens = "compare the screens alone, of the rows that end with quit and ask for no option of zkit's"
+    words.add_argument("--screen-only", action="store_true", help=screens)
+    writable = "raise the static base to the story's end, in rows that do not name it"
+    words.add_argument("--writable-code", action="store_true", help=writable)
     words.add_argument("--only", default="", help="play only rows whose name or file has these words")
     words.add_argument("command", nargs=argparse.REMAINDER, metavar="COMMAND", help="the interpreter")
     options = words.parse_args(namespace=Options())
@@ -387,16 +336,17 @@ def play_all(rows: list[tuple[str, Row]], options: Options) -> tuple[Counts, Cou
                 if options.v and played.result != "agrees":
                     print(f"{row.place} {row.name} (version {version}): {played.result}\n        {played.what}")
             counts = choices if row.choice else plain
-            counts.setdefault(chapter, collections.Counter())[worst(results)] += 1
+            worst = next((it for it in ("crashed", "hung", "differs") if it in results), "agrees")
+            counts.setdefault(chapter, collections.Counter())[worst] += 1
     return plain, choices
 
 
 def main() -> None:
     """Plays the rows that are asked for, and tells how many agree."""
     options = read_options()
-    rows = [(path.stem, row) for path in sorted(FOLDER.glob("*.rows")) for row in read_rows(path)]
-    named = [(chapter, row) for chapter, row in rows if options.only in f"{chapter} {row.name}"]
-    chosen = [(chapter, row) for chapter, row in named if is_plain(row) or not options.screen_only]
+    named = [(chapter, row) for chapter, row in all_rows() if options.only in f"{chapter} {row.name}"]
+    plain_ones = [(chapter, row) for chapter, row in named if row.end == "quit" and not row.options("")]
+    chosen = plain_ones if options.screen_only else named
     plain, choices = play_all(chosen, options)
     table("by the Standard", plain)
     print()

@@ -37,7 +37,7 @@ USES, WORDS = 20, 700  # how many words they have
 ROUTINE = 0x600
 CLOSE = bytes.fromhex("f33ffffd f33ffffd")  # the newest tables of stream 3
 LOWER, READ = bytes.fromhex("eb7f00"), bytes.fromhex("f67f0100")
-ROWS = bytes.fromhex("fe03") + b"".join(word.to_bytes(2, "big") for word in (hostile.TABLE + 2, 70, 60))
+ROWS = bytes.fromhex("fe03") + hostile.words_of((hostile.TABLE + 2, 70, 60))
 TURNS = ((1, 1 << 20), (3, 1 << 20), (1_000_000_000, 64))
 TIME, MOST_TURNS = 6, 20_000
 
@@ -64,7 +64,7 @@ class Sliced(embedded.Game):
 def instructions(version: int) -> dict[str, bytes]:
     """The instructions that print the text: by its address, in line, with a new line and a return, and in rows."""
     text = hostile.text_of((1, 0), USES)
-    address, routine = ((at // hostile.UNITS[version]).to_bytes(2, "big") for at in (TEXT, ROUTINE))
+    address, routine = (hostile.words_of([at // hostile.UNITS[version]]) for at in (TEXT, ROUTINE))
     prints = {
         "print_paddr": b"\x8d" + address,
         "print": b"\xb2" + text,
@@ -72,8 +72,7 @@ def instructions(version: int) -> dict[str, bytes]:
         "print_ret, which can't return": b"\xb3" + text,
     }
     if version >= 5:
-        rows = (hostile.TEXTS, 500, 40, 8)
-        prints["print_table"] = b"\xfe\x00" + b"".join(word.to_bytes(2, "big") for word in rows)
+        prints["print_table"] = b"\xfe\x00" + hostile.words_of((hostile.TEXTS, 500, 40, 8))
     return prints
 
 
@@ -81,8 +80,7 @@ def story(version: int, place: bytes, saying: tuple[int, ...], prints: bytes) ->
     """A story that prints so, shows what a table has got then, reads a character and ends."""
     after = CLOSE + (LOWER if version > 3 else b"") + (ROWS if version >= 5 else b"") + (READ if version > 3 else b"")
     data = hostile.story(version, place + prints + after)
-    for number in range(96):
-        hostile.put_word(data, hostile.ABBREVIATIONS + 2 * number, hostile.TEXTS // 2)
+    hostile.put_abbreviations(data, hostile.TEXTS)
     hostile.put(data, hostile.TEXTS, hostile.text_of(saying, WORDS))
     hostile.put(data, TEXT, hostile.text_of((1, 0), USES))
     hostile.put(data, ROUTINE, b"\0\xb3" + hostile.text_of((1, 0), USES))

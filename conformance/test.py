@@ -11,25 +11,28 @@ import shutil
 import subprocess
 import sys
 import tempfile
+from collections.abc import Iterable
 
-FOLDER = pathlib.Path(__file__).resolve().parent
-TOP = FOLDER.parent
+from sources import FOLDER, copy_of
+
 SECONDS = 300
 # What is made shorter in a copy: how far a check looks for texts, as the stories of the tests are short.
-TEXTS = "zk_inspect/src/check/texts.rt"
 SHORTER = (
-    ("TEXTS_END: u32 = 524_289", "TEXTS_END: u32 = 66_001"),
-    ("ABBREVIATIONS_END: u32 = 131_071", "ABBREVIATIONS_END: u32 = 66_001"),
+    ("zk_inspect/src/check/texts.rt", "TEXTS_END: u32 = 524_289", "TEXTS_END: u32 = 66_001"),
+    ("zk_inspect/src/check/texts.rt", "ABBREVIATIONS_END: u32 = 131_071", "ABBREVIATIONS_END: u32 = 66_001"),
 )
+
+
+def shorten(crates: pathlib.Path, texts: Iterable[tuple[str, str, str]]) -> None:
+    """Puts short texts in the place of long ones, each of a file in a copy of the crates."""
+    for file, long, short in texts:
+        path = crates / file
+        path.write_text(path.read_text(encoding="utf-8").replace(long, short), encoding="utf-8")
 
 
 def add_tests(crates: pathlib.Path) -> None:
     """Adds the tests that are not proved to the tests in a copy of the crates, each file as a module."""
-    path = crates / TEXTS
-    text = path.read_text(encoding="utf-8")
-    for long, short in SHORTER:
-        text = text.replace(long, short)
-    path.write_text(text, encoding="utf-8")
+    shorten(crates, SHORTER)
     source = crates / "zk_tests/src"
     modules = []
     for path in sorted((FOLDER / "tests").glob("*.rt.in")):
@@ -44,10 +47,7 @@ def main() -> int:
     """Runs the tests in a copy, and answers their status."""
     with tempfile.TemporaryDirectory(prefix="test-") as name:
         folder = pathlib.Path(name)
-        shutil.copytree(TOP / "crates", folder / "crates", ignore=shutil.ignore_patterns("out"))
-        for file in ("crates.txt", "HANDLES"):
-            shutil.copyfile(TOP / file, folder / file)
-        (folder / ".git").mkdir()
+        copy_of(folder)
         add_tests(folder / "crates")
         ran = subprocess.run(
             ["rt", "try", "--test", "--steps", "1", "--seconds", str(SECONDS)],

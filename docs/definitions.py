@@ -33,6 +33,12 @@ from pathlib import Path
 from typing import NamedTuple
 
 TOP = Path(__file__).resolve().parent.parent
+sys.dont_write_bytecode = True
+sys.path.insert(0, str(TOP / "conformance"))
+
+from edits import Edit, must_fail, refused  # noqa: E402: these stand in the folder that was just named
+from sources import blocks_of, crates, functions_of  # noqa: E402
+
 PAGE = TOP / "docs" / "DEFINITIONS.md"
 
 CHAPTERS = {
@@ -121,13 +127,13 @@ class Section(NamedTuple):
     label: str  # how they are written
     words: tuple[str, ...]  # opcodes of chapter 15
 
+    def lies_in(self, numbers: Numbers) -> bool:
+        """Whether it lies in the section of these numbers. Some that follow each other do where one of them does."""
+        return self.first[:len(numbers)] <= numbers <= self.last[:len(numbers)]
 
-class Equation(NamedTuple):
-    """An equation of a definition, or its signature: the text, its left side, and the definitions that it cites."""
 
-    text: str
-    left: str
-    cites: set[Key]
+# The left side of an equation, or nothing for a signature, and the definitions that it cites.
+Equation = tuple[str, set[Key]]
 
 
 @dataclass(eq=False)
@@ -156,6 +162,35 @@ class Definition:
         """What tells it apart from others."""
         return (self.crate, self.file, self.name)
 
+    def pieces(self) -> Iterator[tuple[str, str]]:
+        """Its signature and each of its equations, each with its left side."""
+        first, *others = re.split(r"\n(?=\S)", self.text)
+        yield first, ""
+        for piece in others:
+            yield piece, re.split(r"\s=\s", piece, maxsplit=1)[0]
+
+    def meaning(self) -> str:
+        """The first sentence of its comment, without its sections."""
+        brackets = re.compile(r"\s*\(([^()]*)\)")
+        text = brackets.sub(lambda found: "" if CITATION.match(found[1]) else found[0], self.comment)
+        text = text.split(". ")[0].strip().rstrip(".:")
+        if re.match(r"[a-z]{2}|a ", text):
+            text = text[0].upper() + text[1:]
+        return text or ("A lemma" if self.form == "lemma" else "")
+
+    def sections_in(self, standard: str, numbers: Numbers) -> list[Section]:
+        """Its sections that lie in the one of these numbers, in order."""
+        return sorted(it for it in self.sections if it.standard == standard and it.lies_in(numbers))
+
+    def lines_with(self, variants: set[str]) -> list[str]:
+        """Its lines that name one of some variants."""
+        return [line.strip(" ∷") for line in self.text.splitlines() if variants & words_of(line)]
+
+    def names_any(self, names: set[str]) -> bool:
+        """Whether its comment names one of some opcodes, in quotes or by its entry in chapter 15."""
+        entries = [word for section in self.sections if self.has_own for word in section.words]
+        return not names.isdisjoint(entries + re.findall(r"`(\w+)`", self.comment))
+
 
 Definitions = dict[Key, Definition]
 
@@ -178,48 +213,6 @@ class Function:
     proves: set[Key] = field(default_factory=set)
 
 
-class Block(NamedTuple):
-    """An `impl` or `trait` block of a source file: where it begins and ends, and its type or trait."""
-
-    start: int
-    end: int
-    owner: str
-    implements: str  # the trait that it implements, or ""
-    is_trait: bool
-
-
-class Source(NamedTuple):
-    """A source file: its text, the same with comments and strings blanked, and what it imports."""
-
-    crate: str
-    file: Path
-    raw: str
-    text: str
-    module: list[str]
-    is_public: bool  # it can be named from outside
-    private_types: set[str]
-    names: Names
-    aliases: Aliases
-    blocks: list[Block]
-
-
-class Clause(NamedTuple):
-    """A clause of a contract: its word, its name, or "" where it has none, and its text."""
-
-    word: str
-    name: str
-    text: str
-
-
-class Edit(NamedTuple):
-    """A crate's edit: its name, the source file, and the texts that it replaces there."""
-
-    crate: str
-    name: str
-    file: Path
-    olds: list[str]
-
-
 class Row(NamedTuple):
     """A row of conformance, with its file and line."""
 
@@ -228,6 +221,11 @@ class Row(NamedTuple):
     line: int
     places: list[tuple[Numbers, str]]  # the sections that it names, each with a word behind its numbers
     uses: set[str]  # the opcodes that its comments have
+
+    def is_read(self, names: set[str]) -> bool:
+        """Whether it is read from the entry of one of some opcodes, or uses one that its name has."""
+        in_name = self.uses & set(re.findall(r"\w+", self.name))
+        return not names.isdisjoint(in_name.union(word for _, word in self.places))
 
 
 class Opcode(NamedTuple):
@@ -260,17 +258,6 @@ class Book(NamedTuple):
     opcodes: list[Opcode]
 
 
-# ---- crates and files
-
-
-def crate_names() -> list[str]:
-    """The crates, in the order of crates.txt, and others behind them."""
-    lines = (TOP / "crates.txt").read_text("utf-8").splitlines()
-    listed = [line.split(":")[0].split()[0] for line in lines if ":" in line and not line.startswith("#")]
-    there = sorted(path.name for path in (TOP / "crates").iterdir() if path.is_dir())
-    return [name for name in listed if name in there] + [name for name in there if name not in listed]
-
-
 # ---- the words of specs and contracts
 
 
@@ -283,7 +270,7 @@ def imports(text: str, definitions: Definitions) -> tuple[Names, Aliases]:
     """What the imports of a text name: a definition's key for each name, and a spec file for each alias."""
     names: Names = {}
     aliases: Aliases = {}
-    pattern = r"^\s*(?:ghost )?use Rattle\.(\w+)\.specs\.([\w.]+?)(?:\.\{([^}]*)\}| as (\w+))"
+    pattern = r"^\s*(?:ghost )?use Rattle\.(\w+)\.specs\.(?:guards\.)?([\w.]+?)(?:\.\{([^}]*)\}| as (\w+))"
     for crate, path, listed, alias in re.findall(pattern, text, re.M):
         file, *inner = path.split(".")
         if alias and not inner:
@@ -371,26 +358,6 @@ def written(numbers: Numbers) -> str:
     return ".".join(str(number) for number in numbers)
 
 
-def lies_in(section: Section, numbers: Numbers) -> bool:
-    """Whether a section lies in the one of these numbers. Some that follow each other do where one of them does."""
-    return section.first[:len(numbers)] <= numbers <= section.last[:len(numbers)]
-
-
-def sections_in(definition: Definition, standard: str, numbers: Numbers) -> list[Section]:
-    """The sections of a definition that lie in the one of these numbers, in order."""
-    return sorted(it for it in definition.sections if it.standard == standard and lies_in(it, numbers))
-
-
-def meaning_of(definition: Definition) -> str:
-    """The first sentence of a definition's comment, without its sections."""
-    brackets = re.compile(r"\s*\(([^()]*)\)")
-    text = brackets.sub(lambda found: "" if CITATION.match(found[1]) else found[0], definition.comment)
-    text = text.split(". ")[0].strip().rstrip(".:")
-    if re.match(r"[a-z]{2}|a ", text):
-        text = text[0].upper() + text[1:]
-    return text or ("A lemma" if definition.form == "lemma" else "")
-
-
 # ---- specs
 
 
@@ -426,9 +393,9 @@ def read_spec(crate: str, path: Path) -> list[Definition]:
     return definitions
 
 
-def read_specs(crates: Iterable[str]) -> list[tuple[Path, list[Definition]]]:
-    """The spec files of crates, in order, each with its definitions."""
-    paths = [(crate, path) for crate in crates for path in sorted((TOP / "crates" / crate / "specs").glob("*.antt"))]
+def read_specs() -> list[tuple[Path, list[Definition]]]:
+    """The spec files of the crates, in order, each with its definitions."""
+    paths = [(crate, path) for crate in crates() for path in sorted((TOP / "crates" / crate / "specs").rglob("*.antt"))]
     return [(path, read_spec(crate, path)) for crate, path in paths]
 
 
@@ -443,20 +410,12 @@ def link_definitions(specs: list[tuple[Path, list[Definition]]], definitions: De
             names[definition.name] = definition.key()
             names.update((name, definition.key()) for name in definition.constructors)
         for definition in own:
-            for piece, left in equations(definition):
+            for piece, left in definition.pieces():
                 taken = re.findall(r"(?<![\w.◌])[a-z]\w*", left)
                 cites = {key for key in cited(piece, names, aliases, taken) if key in definitions}
-                definition.equations.append(Equation(piece, left, cites - {definition.key()}))
-            definition.cites = set().union(*(it.cites for it in definition.equations))
+                definition.equations.append((left, cites - {definition.key()}))
+            definition.cites = set().union(*(cites for _, cites in definition.equations))
             definition.variants = variants & words_of(without_comments(definition.text))
-
-
-def equations(definition: Definition) -> Iterator[tuple[str, str]]:
-    """The signature of a definition and each of its equations, each with its left side."""
-    pieces = re.split(r"\n(?=\S)", definition.text)
-    yield pieces[0], ""
-    for piece in pieces[1:]:
-        yield piece, re.split(r"\s=\s", piece, maxsplit=1)[0]
 
 
 def words_of(text: str) -> set[str]:
@@ -467,99 +426,23 @@ def words_of(text: str) -> set[str]:
 # ---- sources
 
 
-def blanked(source: str) -> str:
-    """The source with comments, strings and characters blanked, each letter in its place."""
-    pattern = r'//[^\n]*|r(#*)".*?"\1|"(?:\\.|[^"\\])*"|\'(?:\\.[^\']*|[^\'\\\n])\''
-    return re.sub(pattern, lambda found: re.sub(r"[^\n]", " ", found[0]), source, flags=re.S)
+CLAUSE = re.compile(r"\b(requires|ensures)(?:\s+(\w+))?\s*\{(.*?)\}(?=\s*(?:(?:requires|ensures)\b|\Z))", re.S)
+GHOST = re.compile(r"^ *ghost (\w+)\s*[=:]\s*\{(.*?)\};$", re.M | re.S)
 
 
-def closing(text: str, start: int) -> int:
-    """The place after the brace that closes the one at `start`."""
-    depth = 0
-    for at in range(start, len(text)):
-        if text[at] == "{":
-            depth += 1
-        elif text[at] == "}":
-            depth -= 1
-            if depth == 0:
-                return at + 1
-    return len(text)
-
-
-def without_generics(text: str) -> str:
-    """A header without what stands between angle brackets."""
-    depth = 0
-    kept = ""
-    for letter in text.replace("->", ""):
-        depth += letter == "<"
-        if depth == 0:
-            kept += letter
-        depth -= letter == ">"
-    return kept
-
-
-def last_name(text: str) -> str:
-    """The last name of a type's path."""
-    names: list[str] = re.findall(r"\w+", text.split(" where ")[0])
-    return names[-1] if names else ""
-
-
-def blocks(text: str) -> list[Block]:
-    """The `impl` and `trait` blocks of a blanked source."""
-    found_blocks = []
-    for found in re.finditer(r"^(?:pub(?:\([^)]*\))? )?(impl|trait)\b([^{;]*)\{", text, re.M):
-        header = without_generics(found[2])
-        is_trait = found[1] == "trait"
-        implements, joined, owner = header.partition(" for ")
-        if is_trait:
-            owner = header.split(":")[0]
-        elif not joined:
-            owner = header
-        trait = last_name(implements) if joined else ""
-        found_blocks.append(Block(found.start(), closing(text, found.end() - 1), last_name(owner), trait, is_trait))
-    return found_blocks
-
-
-def contract_of(text: str, start: int) -> tuple[list[Clause], int]:
-    """The clauses behind a function's head, and the place after the function."""
-    clauses: list[Clause] = []
-    since = start
-    depth = 0
-    at = start
-    while at < len(text):
-        if text[at] in "([":
-            depth += 1
-        elif text[at] in ")]":
-            depth -= 1
-        elif text[at] == ";" and depth == 0:
-            return clauses, at + 1
-        elif text[at] == "{":
-            end = closing(text, at)
-            word = re.search(r"\b(requires|ensures)(?:\s+(\w+))?\s*$", text[since:at])
-            if not word:
-                return clauses, end
-            clauses.append(Clause(word[1], word[2] or "", text[at + 1:end - 1]))
-            since = at = end
-            continue
-        at += 1
-    return clauses, at
-
-
-def module_of(path: Path) -> tuple[list[str], bool]:
-    """The module of a source file, and whether it is the crate's root."""
+def module_of(path: Path) -> tuple[str, ...]:
+    """The module of a source file."""
     inner = path.with_suffix("").parts
-    return ([], True) if inner in [("lib",), ("main",)] else (list(inner), False)
+    return () if inner in (("lib",), ("main",)) else inner
 
 
-def public_modules(sources: dict[Path, str], is_program: bool) -> set[tuple[str, ...]]:
+def public_modules(sources: dict[Path, str]) -> set[tuple[str, ...]]:
     """The modules that can be named from outside. All modules of a program's root count: it has no outside."""
     public: set[tuple[str, ...]] = {()}
-    for path, text in sorted(sources.items(), key=lambda item: len(module_of(item[0])[0])):
-        module, is_root = module_of(path)
-        declared = r"^((?:#\[cfg\(test\)\]\n)?)(pub )?mod (\w+);"
-        for test, pub, name in re.findall(declared, text, re.M):
-            if tuple(module) in public and not test and (pub or (is_program and is_root)):
-                public.add(tuple(module) + (name,))
+    for path, text in sorted(sources.items(), key=lambda item: len(module_of(item[0]))):
+        for test, pub, name in re.findall(r"^((?:#\[cfg\(test\)\]\n)?)(pub )?mod (\w+);", text, re.M):
+            if module_of(path) in public and not test and (pub or path.name == "main.rt"):
+                public.add((*module_of(path), name))
     return public
 
 
@@ -569,73 +452,49 @@ def private_types(sources: dict[Path, str], modules: set[tuple[str, ...]]) -> se
     private: set[str] = set()
     for path, text in sources.items():
         for pub, name in re.findall(r"^(pub(?:\([^)]*\))? )?(?:struct|enum|trait|union) (\w+)", text, re.M):
-            is_public = pub == "pub " and tuple(module_of(path)[0]) in modules
-            (public if is_public else private).add(name)
+            (public if pub == "pub " and module_of(path) in modules else private).add(name)
     return private - public
 
 
-def block_at(source: Source, at: int) -> Block | None:
-    """The block around a place of a source, if there is one."""
-    around = [block for block in source.blocks if block.start <= at < block.end]
-    return around[-1] if around else None
-
-
-def make_function(source: Source, name: str, is_ghost: bool, public: bool, start: int, end: int) -> Function:
-    """A function or ghost item that stands between two places of a source, as yet without its contract."""
-    block = block_at(source, start)
-    owner = block.owner if block else ""
-    path = "::".join([source.crate] + source.module + ([owner] if owner else []) + [name])
-    # a method can be named where its type can, whatever module its block stands in
-    public = public and (source.is_public or bool(owner)) and owner not in source.private_types
-    trait = block.implements if block else ""
-    return Function(source.crate, source.file, path, name, owner, trait, is_ghost, public, source.raw[start:end])
-
-
-def functions_of(source: Source) -> Iterator[Function]:
-    """The functions of a source."""
-    for found in re.finditer(r"^[ \t]*(pub(?:\([^)]*\))? )?(?:const |unsafe |extern +)*fn (\w+)", source.text, re.M):
-        clauses, end = contract_of(source.text, found.end())
-        block = block_at(source, found.start())
-        public = found[1] == "pub " or bool(block and block.is_trait)
-        function = make_function(source, found[2], False, public, found.start(), end)
-        head = re.split(r"\b(?:requires|ensures)\b|\{", source.text[found.end():end])[0]
-        parameters = re.findall(r"(\w+)\s*:(?!:)", head)
-        function.clauses = [(word, name) for word, name, _ in clauses]
-        for word, _, clause in clauses:
-            function.cites |= cited(clause, source.names, source.aliases, parameters)
-            if word == "ensures" and clause.strip() in source.names:
-                function.proves.add(source.names[clause.strip()])
-        yield function
-
-
-def ghost_items_of(source: Source) -> Iterator[Function]:
-    """The ghost items of a source. A view and an invariant are the code's own."""
-    for found in re.finditer(r"\bghost (\w+)\s*[=:]\s*\{", source.text):
-        block = block_at(source, found.start())
-        end = closing(source.text, found.end() - 1)
-        public = not (block and block.implements == "Model" and found[1] != "Value")
-        item = make_function(source, found[1], True, public, found.start(), end)
-        item.cites = cited(source.text[found.end():end - 1], source.names, source.aliases)
-        yield item
+def functions_in(crate: str, file: Path, text: str, definitions: Definitions) -> Iterator[Function]:
+    """The functions and ghost items of a source; `public` says of each whether its own lines say so."""
+    names, aliases = imports(text, definitions)
+    lines = text.split("\n")
+    start = "::".join([crate, *module_of(file)])
+    for it in functions_of(text):
+        head = re.sub(r"//.*|(\{\}?|;)$\Z", "", "\n".join(lines[it.begin:it.body]))
+        place = "::".join([start, *filter(None, [it.block.owner]), it.name])
+        public = it.visibility == "pub " or it.block.is_trait
+        whole = "\n".join(lines[it.begin:it.end])
+        made = Function(crate, file, place, it.name, it.block.owner, it.block.implements, False, public, whole)
+        parameters = re.findall(r"(\w+)\s*:(?!:)", re.split(r"\b(?:requires|ensures)\b|\{", head)[0])
+        for word, name, clause in CLAUSE.findall(head):
+            made.clauses.append((word, name))
+            made.cites |= cited(clause, names, aliases, parameters)
+            if word == "ensures" and clause.strip() in names:
+                made.proves.add(names[clause.strip()])
+        yield made
+    blocks = list(blocks_of(lines))
+    for found in GHOST.finditer(text):
+        block = blocks[text.count("\n", 0, found.start())]
+        place = "::".join([start, *filter(None, [block.owner]), found[1]])
+        # A view and an invariant are the code's own.
+        public = block.implements != "Model" or found[1] == "Value"
+        cites = cited(found[2], names, aliases)
+        yield Function(crate, file, place, found[1], block.owner, block.implements, True, public, found[0], [], cites)
 
 
 def read_sources(crate: str, definitions: Definitions) -> list[Function]:
     """The functions and ghost items of a crate's sources."""
     root = TOP / "crates" / crate / "src"
-    raw = {path.relative_to(root): path.read_text("utf-8") for path in sorted(root.rglob("*.rt"))}
-    texts = {path: blanked(text) for path, text in raw.items()}
-    modules = public_modules(texts, Path("main.rt") in texts)
+    texts = {path.relative_to(root): path.read_text("utf-8") for path in sorted(root.rglob("*.rt"))}
+    modules = public_modules(texts)
     private = private_types(texts, modules)
-    functions: list[Function] = []
-    for path, text in texts.items():
-        module = module_of(path)[0]
-        names, aliases = imports(text, definitions)
-        is_public = tuple(module) in modules
-        source = Source(crate, path, raw[path], text, module, is_public, private, names, aliases, blocks(text))
-        functions.extend(functions_of(source))
-        functions.extend(ghost_items_of(source))
-    for function in functions:
-        function.cites &= set(definitions)
+    functions = [it for file, text in texts.items() for it in functions_in(crate, file, text, definitions)]
+    for it in functions:
+        # a method can be named where its type can, whatever module its block stands in
+        it.public &= (bool(it.owner) or module_of(it.file) in modules) and it.owner not in private
+        it.cites &= set(definitions)
     return functions
 
 
@@ -650,29 +509,12 @@ def follow_traits(functions: list[Function]) -> None:
             function.cites = contracts.get((function.trait, function.name), set())
 
 
-# ---- edits
-
-
-def read_edits(crate: str) -> list[Edit]:
-    """The must-fail edits of a crate's sources."""
-    edits = []
-    folders = TOP / "crates" / crate / "must-fail", TOP / "conformance/refused" / crate
-    for path in sorted((it for folder in folders for it in folder.glob("*.edit")), key=lambda it: it.name):
-        lines = path.read_text("utf-8").splitlines()
-        file = next((line[6:] for line in lines if line.startswith("file: ")), "")
-        olds = [line[5:] for line in lines if line.startswith("old: ")]
-        if file.startswith("src/"):
-            edits.append(Edit(crate, path.stem, Path(file[4:]), olds))
-    return edits
-
-
-def edited(edit: Edit, functions: list[Function]) -> list[Function]:
-    """The functions that an edit changes: of those with a text that it replaces, the smallest."""
-    changed: list[Function] = []
-    for old in edit.olds:
-        having = [f for f in functions if (f.crate, f.file) == (edit.crate, edit.file) and old in f.text]
-        changed.extend(sorted(having, key=lambda f: len(f.text))[:1])
-    return changed
+def changed_by(edit: Edit, functions: list[Function]) -> list[Function]:
+    """The functions of its first file that an edit changes: of those with a text that it replaces, the smallest."""
+    file = edit.files()[0]
+    olds = [it.old for it in edit.pairs if it.file == file]
+    having = [[it for it in functions if f"src/{it.file}" == file and old in it.text] for old in olds]
+    return [min(them, key=lambda it: len(it.text)) for them in having if them]
 
 
 # ---- what carries and guards a definition
@@ -691,14 +533,9 @@ def distances(cites: set[Key], definitions: Definitions) -> dict[Key, int]:
     return far
 
 
-def has_examples(file: str) -> bool:
-    """Whether a file is one of examples."""
-    return file.endswith(EXAMPLES)
-
-
 def shows_examples(function: Function) -> bool:
     """Whether a function proves examples."""
-    return any(has_examples(key[1]) for key in function.proves)
+    return any(key[1].endswith(EXAMPLES) for key in function.proves)
 
 
 def find_calls(definitions: Definitions, functions: list[Function]) -> None:
@@ -718,7 +555,7 @@ def find_calls(definitions: Definitions, functions: list[Function]) -> None:
             continue
         definition.calls = unique(path for *_, path in sorted(carriers[key]))
         if key in laws:
-            definition.kind = "example" if has_examples(definition.file) else "law"
+            definition.kind = "example" if definition.file.endswith(EXAMPLES) else "law"
         elif key in believed:
             definition.kind = "believed"
 
@@ -731,17 +568,17 @@ def find_examples(definitions: Definitions) -> None:
             now = {example.key()}
             while now:
                 seen |= now
-                of_files = [definitions[key] for key in now if has_examples(key[1])]
+                of_files = [definitions[key] for key in now if key[1].endswith(EXAMPLES)]
                 now = set().union(*(one.cites for one in of_files)) - seen
             for key in seen - {example.key()}:
                 definitions[key].examples.append(example.name)
 
 
-def find_edits(definitions: Definitions, functions: list[Function], edits: list[Edit]) -> None:
+def find_edits(definitions: Definitions, functions: dict[str, list[Function]]) -> None:
     """Says of each definition which edits turn it: first those of its own crate, and of functions that cite few."""
     turning: dict[Key, set[tuple[bool, int, str]]] = {key: set() for key in definitions}
-    for edit in edits:
-        for function in edited(edit, functions):
+    for edit in [*must_fail(), *refused()]:
+        for function in changed_by(edit, functions[edit.crate]):
             for key in function.cites:
                 name = edit.name if edit.crate == key[0] else edit.crate + "/" + edit.name
                 turning[key].add((edit.crate != key[0], len(function.cites), name))
@@ -813,7 +650,7 @@ def on_section(query: str, book: Book) -> Answer:
     numbers = numbers_of(query)
     found: dict[tuple[Numbers, bool, Numbers, str], list[Entry]] = {}
     for definition in book.definitions:
-        here = sections_in(definition, "", numbers)
+        here = definition.sections_in("", numbers)
         if here:
             label = ", ".join(unique(section.label for section in here))
             heading = f"Section {label}" + ("" if definition.has_own else ", by the comment of the file")
@@ -838,37 +675,20 @@ def on_opcode(query: str, book: Book) -> Answer:
     cites: set[Key] = set()
     for definition in book.definitions:
         named = variants & definition.variants
-        quotes = lines_with(definition, named)
-        lefts = [it for it in definition.equations if named & words_of(it.left)]
-        if lefts:
+        quotes = definition.lines_with(named)
+        cited_there = [cites for left, cites in definition.equations if named & words_of(left)]
+        if cited_there:
             meaning.append((definition, quotes))
-            cites.update(*(it.cites for it in lefts))
-        elif quotes or is_said(definition, names):
+            cites.update(*cited_there)
+        elif quotes or definition.names_any(names):
             naming.append((definition, quotes if definition.kind != "example" else []))
     shown = {definition.key() for definition, _ in meaning + naming}
     others: list[Entry] = [(it, []) for it in book.definitions if it.key() in cites - shown]
     groups = [("Equations for it", meaning), ("What these cite", others), ("What else names it", naming)]
-    reading = [("", row) for row in book.rows if is_read(row, names)]
-    using = [("", row) for row in book.rows if row.uses & names and not is_read(row, names)]
+    reading = [("", row) for row in book.rows if row.is_read(names)]
+    using = [("", row) for row in book.rows if row.uses & names and not row.is_read(names)]
     rows = [("Rows that are read from its entry or named by it", reading), ("Other rows that use it", using)]
     return Answer(f"{query}  " + "; ".join(it.said for it in own), groups, rows)
-
-
-def lines_with(definition: Definition, variants: set[str]) -> list[str]:
-    """The lines of a definition that name one of some variants."""
-    return [line.strip(" ∷") for line in definition.text.splitlines() if variants & words_of(line)]
-
-
-def is_said(definition: Definition, names: set[str]) -> bool:
-    """Whether a definition's comment names an opcode, in quotes or by its entry in chapter 15."""
-    entries = [word for section in definition.sections if definition.has_own for word in section.words]
-    return not names.isdisjoint(entries + re.findall(r"`(\w+)`", definition.comment))
-
-
-def is_read(row: Row, names: set[str]) -> bool:
-    """Whether a row is read from the entry of an opcode, or uses one that its name has."""
-    in_name = row.uses & set(re.findall(r"\w+", row.name))
-    return not names.isdisjoint(in_name.union(word for _, word in row.places))
 
 
 def on_word(query: str, book: Book) -> Answer:
@@ -876,7 +696,7 @@ def on_word(query: str, book: Book) -> Answer:
     by_name: list[Entry] = []
     by_meaning: list[Entry] = []
     for definition in book.definitions:
-        said = [meaning_of(definition)] + [f"{it.standard} {it.label}" for it in definition.sections]
+        said = [definition.meaning()] + [f"{it.standard} {it.label}" for it in definition.sections]
         if query == definition.name or has_word(spaced(definition.name), spaced(query)):
             by_name.append((definition, []))
         elif any(has_word(text, query) for text in said):
@@ -937,8 +757,8 @@ def entry_lines(definition: Definition, quotes: list[str], widest: int, is_brief
     indent = " " * 12
     place = f"crates/{definition.crate}/specs/{definition.file}.antt:{definition.line}"
     yield f"  {definition.kind:<9} {definition.name:<{widest}}  {place}"
-    if meaning_of(definition):
-        yield wrapped(meaning_of(definition), indent)
+    if definition.meaning():
+        yield wrapped(definition.meaning(), indent)
     for quote in quotes:
         yield indent + cut(f"| {quote}", WIDTH - 12)
     lists = ("carried by", definition.calls), ("examples", definition.examples), ("edits", definition.edits)
@@ -993,7 +813,7 @@ def places(book: Book) -> list[tuple[str, Numbers]]:
 
 def table_line(standard: str, numbers: Numbers, book: Book) -> list[str]:
     """The line of the table for a chapter or section."""
-    here = [(it, sections_in(it, standard, numbers)) for it in book.definitions]
+    here = [(it, it.sections_in(standard, numbers)) for it in book.definitions]
     here = [(definition, sections) for definition, sections in here if sections]
     is_chapter = not standard and len(numbers) == 1
     main = [
@@ -1070,22 +890,21 @@ def page(book: Book) -> str:
 
 def read_book() -> Book:
     """All definitions, with what carries and guards them, and all rows."""
-    crates = crate_names()
-    specs = read_specs(crates)
+    specs = read_specs()
     definitions = {definition.key(): definition for _, own in specs for definition in own}
     link_definitions(specs, definitions)
-    functions = [function for crate in crates for function in read_sources(crate, definitions)]
-    follow_traits(functions)
-    find_calls(definitions, functions)
+    functions = {crate: read_sources(crate, definitions) for crate in crates()}
+    everything = [function for own in functions.values() for function in own]
+    follow_traits(everything)
+    find_calls(definitions, everything)
     find_examples(definitions)
-    find_edits(definitions, functions, [edit for crate in crates for edit in read_edits(crate)])
-    shown = [it for it in definitions.values() if not has_examples(it.file) or it.kind == "example"]
+    find_edits(definitions, functions)
+    shown = [it for it in definitions.values() if not it.file.endswith(EXAMPLES) or it.kind == "example"]
     return Book(shown, read_rows(), opcodes_of(shown))
 
 
-def print_answers(queries: list[str]) -> int:
+def print_answers(queries: list[str], book: Book) -> int:
     """Prints what there is on each query."""
-    book = read_book()
     answers = [answer(query, book) for query in queries]
     if any(answers):
         print("\n\n".join("\n".join(answer_lines(found)) for found in answers if found))
@@ -1095,32 +914,24 @@ def print_answers(queries: list[str]) -> int:
     return 0 if all(answers) else 1
 
 
-def write_page() -> int:
-    """Writes the page."""
-    PAGE.write_text(page(read_book()), "utf-8")
-    return 0
-
-
-def check_page() -> int:
-    """Fails where the page is not what it would be."""
-    if PAGE.exists() and PAGE.read_text("utf-8") == page(read_book()):
-        return 0
-    print("docs/DEFINITIONS.md is not what docs/definitions.py writes: run it", file=sys.stderr)
-    return 1
-
-
 def main(words: list[str]) -> int:
     """Does what the arguments of the command line ask."""
     signal.signal(signal.SIGPIPE, signal.SIG_DFL)
     if words in (["--help"], ["-h"]):
         print(__doc__.strip())
         return 0
-    if words == ["--check"]:
-        return check_page()
-    if any(word.startswith("-") for word in words):
+    if words != ["--check"] and any(word.startswith("-") for word in words):
         print(__doc__.strip(), file=sys.stderr)
         return 2
-    return print_answers(words) if words else write_page()
+    book = read_book()
+    if not words:
+        PAGE.write_text(page(book), "utf-8")
+    elif words != ["--check"]:
+        return print_answers(words, book)
+    elif not PAGE.exists() or PAGE.read_text("utf-8") != page(book):
+        print("docs/DEFINITIONS.md is not what docs/definitions.py writes: run it", file=sys.stderr)
+        return 1
+    return 0
 
 
 if __name__ == "__main__":

@@ -11,6 +11,7 @@ from __future__ import annotations
 
 import argparse
 import collections
+import concurrent.futures
 import importlib
 import os
 import pathlib
@@ -19,10 +20,14 @@ import shutil
 import subprocess
 import sys
 import tempfile
-import threading
 from typing import NamedTuple, Protocol, cast
 
 TOP = pathlib.Path(__file__).resolve().parent.parent
+sys.dont_write_bytecode = True
+sys.path.append(str(TOP / "conformance"))
+
+import sources  # noqa: E402: it stands in the folder that was just named
+
 PAGE = TOP / "docs/PROVING.md"
 BEGIN, END = "<!-- the table of docs/gate_times.py begins -->\n", "<!-- the table of docs/gate_times.py ends -->\n"
 DEAREST = 3
@@ -66,7 +71,6 @@ def toolchain() -> Toolchain:
     command = shutil.which("rt")
     if not command:
         sys.exit("docs/gate_times.py: there is no command rt")
-    sys.dont_write_bytecode = True
     sys.path.append(str(pathlib.Path(command).resolve().parent))
     return cast(Toolchain, importlib.import_module("rtlib"))
 
@@ -108,35 +112,19 @@ def measure(rtlib: Toolchain, crate: Crate) -> Measured:
 
 
 def measure_all(rtlib: Toolchain, crates: list[Crate], jobs: int) -> list[Measured]:
-    """Checks all crates, as many side by side as jobs, each after those below it."""
-    rows: dict[str, Measured] = {}
-    running: set[str] = set()
-    changed = threading.Condition()
+    """Checks all crates, which come behind those below them, as many side by side as jobs."""
+    rows: dict[str, concurrent.futures.Future[Measured]] = {}
 
-    def ready() -> Crate | None:
-        waiting = (it for it in crates if it.name not in running)
-        return next((it for it in waiting if all(dep.name in rows for dep in it.below())), None)
+    def work(crate: Crate) -> Measured:
+        concurrent.futures.wait([rows[it.name] for it in crate.below()])
+        row = measure(rtlib, crate)
+        print(row.row, file=sys.stderr, flush=True)
+        return row
 
-    def work() -> None:
-        while True:
-            with changed:
-                changed.wait_for(lambda: ready() or len(running) == len(crates))
-                crate = ready()
-                if crate is None:
-                    return
-                running.add(crate.name)
-            row = measure(rtlib, crate)
-            with changed:
-                print(row.row, file=sys.stderr, flush=True)
-                rows[crate.name] = row
-                changed.notify_all()
-
-    threads = [threading.Thread(target=work, daemon=True) for _ in range(jobs)]
-    for thread in threads:
-        thread.start()
-    for thread in threads:
-        thread.join()
-    return [rows[it.name] for it in crates]
+    with concurrent.futures.ThreadPoolExecutor(jobs) as pool:
+        for crate in crates:
+            rows[crate.name] = pool.submit(work, crate)
+        return [rows[it.name].result() for it in crates]
 
 
 def table(rows: list[Measured]) -> str:
@@ -154,9 +142,7 @@ def main() -> None:
     options = words.parse_args(namespace=Options())
     rtlib = toolchain()
     with tempfile.TemporaryDirectory(prefix="gate-times-") as name:
-        shutil.copytree(TOP / "crates", f"{name}/crates", ignore=shutil.ignore_patterns("out"))
-        shutil.copyfile(TOP / "crates.txt", f"{name}/crates.txt")
-        os.mkdir(f"{name}/.git")
+        sources.copy_of(pathlib.Path(name))
         os.chdir(name)
         crates = [it for it in rtlib.crates_below(name) if it.name != "zk_tests"]
         made = table(measure_all(rtlib, sorted(crates, key=lambda it: len(it.below())), options.jobs))

@@ -26,7 +26,8 @@ import sys
 from collections.abc import Iterator
 from pathlib import Path
 
-from definitions import Definition, Function, crate_names, read_sources, read_specs
+from definitions import Definition, Function, read_sources, read_specs
+from sources import crates
 
 TOP = Path(__file__).resolve().parent.parent
 PAGE = TOP / "docs" / "PROVED.md"
@@ -59,12 +60,11 @@ class Book:
         self.functions: dict[str, list[Function]] = {}
         self.specs: dict[str, dict[str, Definition]] = {}
         self.texts: dict[str, str | None] = {}
-        crates = crate_names()
-        for crate in crates:
+        for crate in crates():
             for function in read_sources(crate, {}):
                 if not function.is_ghost:
                     self.functions.setdefault(f"{crate}/src/{function.file}", []).append(function)
-        for path, made in read_specs(crates):
+        for path, made in read_specs():
             self.specs[str(path.relative_to(TOP / "crates"))] = {it.name: it for it in made}
 
     def text(self, file: str) -> str | None:

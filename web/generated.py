@@ -18,8 +18,8 @@ TOP = pathlib.Path(__file__).resolve().parent.parent
 sys.dont_write_bytecode = True
 sys.path[:0] = [str(TOP / "conformance"), str(TOP / "examples/embed")]
 
-import large_stories  # noqa: E402: these stand in the folders that were just named
-import program  # noqa: E402
+import cases  # noqa: E402: these stand in the folders that were just named
+import large_stories  # noqa: E402
 import run  # noqa: E402
 
 EXAMPLES = TOP / "examples"
@@ -58,7 +58,7 @@ def row(rows: list[run.Row], dice: random.Random) -> tuple[bytes, bytes]:
 
 def code(dice: random.Random) -> tuple[bytes, bytes]:
     """A story of random bytes."""
-    story = program.story(
+    story = cases.story(
         dice.randbytes(LENGTH - CODE).hex(),
         version=dice.choice(VERSIONS),
         x06=dice.randrange(CODE, LENGTH),
@@ -85,7 +85,7 @@ def main() -> int:
         sys.exit(__doc__)
     folder, count = pathlib.Path(sys.argv[1]), int(sys.argv[2])
     first = int(sys.argv[3]) if len(sys.argv) == 4 else 0
-    rows = [row for path in sorted(run.FOLDER.glob("*.rows")) for row in run.read_rows(path) if len(row.input) < 10_000]
+    rows = [row for _, row in run.all_rows() if len(row.input) < 10_000]
     for number in range(first, first + count):
         story, lines = made(number, rows)
         (folder / f"{number}.story").write_bytes(story)

@@ -20,13 +20,6 @@ sys.path.insert(0, str(TOP / "conformance"))
 import run  # noqa: E402: it stands in the folder that was just named
 
 
-def wanted(row: run.Row) -> dict[str, object]:
-    """What is wanted of a row."""
-    status = run.STATUS[row.end.split()[0]]
-    line = "" if status == 0 else f"zkit: {row.end}"
-    return {"screen": row.screen, "script": row.script, "status": status, "line": line}
-
-
 def options(row: run.Row) -> dict[str, object]:
     """The options that a row asks for."""
     asked: dict[str, object] = {"upper": row.upper}
@@ -41,7 +34,9 @@ def write(row: run.Row, version: int, writable: bool, number: int, folder: pathl
     (folder / story).write_bytes(run.story(row, version, writable))
     (folder / lines).write_bytes(row.input)
     name = f"{row.place} {row.name} (version {version}{', writable code' if writable else ''})"
-    return {"name": name, "story": story, "input": lines, "save": row.save, "options": options(row), **wanted(row)}
+    status, line = row.ended()
+    wanted = {"screen": row.screen, "script": row.script, "status": status, "line": line}
+    return {"name": name, "story": story, "input": lines, "save": row.save, "options": options(row), **wanted}
 
 
 def main() -> int:
@@ -49,8 +44,8 @@ def main() -> int:
     if len(sys.argv) != 2:
         sys.exit(__doc__)
     folder = pathlib.Path(sys.argv[1])
-    rows = [row for path in sorted(run.FOLDER.glob("*.rows")) for row in run.read_rows(path)]
-    ways = [(row, version, writable) for row in rows for version in row.versions for writable in (False, True)]
+    played = [(row, version) for _, row in run.all_rows() for version in row.versions]
+    ways = [(*it, writable) for it in played for writable in (False, True)]
     plays = [write(*way, number, folder) for number, way in enumerate(ways)]
     (folder / "rows.json").write_text(json.dumps(plays), encoding="utf-8")
     return 0

@@ -1,0 +1,220 @@
+"""What the cases of the program share: a folder with files, runs of the program in it, and what is wanted of them.
+
+The cases are those of `program.py`, `sessions.py` and `failures.py`.
+"""
+
+from __future__ import annotations
+
+import itertools
+import os
+import shutil
+import subprocess
+import sys
+import tempfile
+from collections.abc import Callable, Mapping
+from pathlib import Path
+from typing import Any, Union
+
+SECONDS = 20
+END = "\n"
+EXAMPLES = Path(__file__).resolve().parent.parent / "examples"
+# The words of a run: a text, or one by one where they have spaces or are no text.
+Words = Union[str, list[Union[str, bytes]]]
+# The status of a run, and what it shows on standard output and standard error. What is wanted may be a `Where`.
+Ended = tuple[int, str, str]
+Wanted = tuple[Any, Any, Any]
+
+
+# Stories.
+
+
+def story(code: str, version: int = 3, length: int = 0, bytes_at: dict[int, int] | None = None, **header: int) -> bytes:
+    """A story with its code at address 40: hexadecimal digits, and words of the header and bytes by their addresses."""
+    image = bytearray(64)
+    image[0] = version
+    image[0x12:0x18] = b"000000"
+    for name, value in {"x04": 0x40, "x06": 0x40, "x0e": 0x40, **header}.items():
+        at = int(name[1:], 16)
+        image[at:at + 2] = value.to_bytes(2, "big")
+    image += bytes.fromhex(code)
+    image += bytes(max(0, length - len(image)))
+    for at, byte in (bytes_at or {}).items():
+        image[at] = byte
+    return bytes(image)
+
+
+def printing(text: str) -> str:
+    """Code that prints a text of ASCII, character by character (`print_char`, 13 for a new line)."""
+    return "".join(f"E57F{13 if letter == END else ord(letter):02X}" for letter in text)
+
+
+# What is wanted.
+
+
+class Differs(Exception):
+    """What came is not what was wanted."""
+
+
+class Where:
+    """What is equal to each thing that a condition holds for."""
+
+    def __init__(self, words: str, holds: Callable[[Any], object]) -> None:
+        self.words = words
+        self.holds = holds
+
+    def __eq__(self, other: object) -> bool:
+        return bool(self.holds(other))
+
+    def __repr__(self) -> str:
+        return self.words
+
+
+ANY = Where("anything", lambda it: True)
+SOME = Where("something", bool)
+
+
+def has(*texts: str) -> Where:
+    """A text that has some texts in it."""
+    return Where(f"a text with {texts}", lambda it: all(text in it for text in texts))
+
+
+def begins(text: str) -> Where:
+    """A text that begins with another."""
+    return Where(f"{text!r} and more", lambda it: it.startswith(text))
+
+
+def last(line: str) -> Where:
+    """A text with a last line."""
+    return Where(f"a text that ends in {line!r}", lambda it: it.splitlines()[-1:] == [line])
+
+
+def shown(text: object) -> Wanted:
+    """What comes of a run that shows a text and ends well, without a word on standard error."""
+    return 0, text, ""
+
+
+def ends(status: int, line: str, text: object = "") -> Wanted:
+    """What comes of a run that shows a text and ends with a status and a last line on standard error."""
+    return status, text, last(line)
+
+
+def unlike(wanted: object, came: object) -> str:
+    """What differs, in words: of what is long the parts and the line that do."""
+    whole = f"wanted {wanted!r}, came {came!r}"
+    if len(whole) > 400 and isinstance(wanted, (tuple, list)) and isinstance(came, (tuple, list)):
+        return "; ".join(unlike(want, part) for want, part in itertools.zip_longest(wanted, came) if want != part)
+    if len(whole) > 400 and isinstance(wanted, str) and isinstance(came, str):
+        lines = enumerate(itertools.zip_longest(wanted.split("\n"), came.split("\n")), 1)
+        return next(f"wanted {want!r} in line {at}, came {line!r}" for at, (want, line) in lines if want != line)
+    return whole
+
+
+def same(wanted: object, came: object, of: str = "") -> None:
+    """Ends a case where something came that is not wanted."""
+    if wanted != came:
+        raise Differs(of + ": " * bool(of) + unlike(wanted, came))
+
+
+# The program.
+
+
+def text_of(content: bytes | None) -> str:
+    """Bytes as a text of which none is lost."""
+    return (content or b"").decode("utf-8", "surrogateescape")
+
+
+class Program:
+    """The program in a folder of its own with some files. It counts the cases that agree and that differ."""
+
+    def __init__(self, command: list[str], folder: Path, files: Mapping[str, bytes]) -> None:
+        self.command = command
+        self.folder = folder
+        self.verbose = False
+        self.agree = self.differ = 0
+        self.write(files)
+        self.known = set(os.listdir(folder))
+
+    def write(self, files: Mapping[str, bytes | str]) -> None:
+        """Writes files by their paths in the folder, and the folders that these stand in."""
+        for name, content in files.items():
+            path = self.folder / name
+            path.parent.mkdir(parents=True, exist_ok=True)
+            path.write_bytes(content if isinstance(content, bytes) else content.encode())
+
+    def read(self, name: str) -> bytes | None:
+        """What a file holds, if it is there."""
+        path = self.folder / name
+        return path.read_bytes() if path.exists() else None
+
+    def new(self) -> list[str]:
+        """The names in the folder that were not there at first."""
+        return sorted(set(os.listdir(self.folder)) - self.known)
+
+    def run(self, words: Words, typed: bytes = b"", closed: str = "", **how: Any) -> Ended:
+        """Runs the program in the folder, where a shell closes what it is told to close."""
+        command = ["sh", "-c", f'exec "$0" "$@" {closed}', *self.command] if closed else self.command
+        parts: list[str | bytes] = [*words.split()] if isinstance(words, str) else words
+        how = {"stdout": subprocess.PIPE, "stderr": subprocess.PIPE, **how}
+        done = subprocess.run([*command, *parts], cwd=self.folder, input=typed, timeout=SECONDS, **how)
+        return done.returncode, text_of(done.stdout), text_of(done.stderr)
+
+    def check(self, wanted: Wanted, words: Words, typed: bytes = b"", **how: Any) -> None:
+        """Runs the program, and looks whether it comes as wanted."""
+        same(wanted, self.run(words, typed, **how), words if isinstance(words, str) else "")
+
+    def run_all(self) -> None:
+        """Runs all cases."""
+        raise NotImplementedError
+
+    def case(self, name: object, check: Callable[..., None], *words: object) -> None:
+        """Runs a case, tells what differs, and takes away what it leaves in the folder."""
+        try:
+            check(*words)
+        except (Differs, OSError, ValueError, LookupError, subprocess.SubprocessError) as difference:
+            self.differ += 1
+            print(f"differs: {name!r}: {difference if isinstance(difference, Differs) else repr(difference)}")
+        else:
+            self.agree += 1
+            if self.verbose:
+                print(f"agrees: {name!r}")
+        for path in (self.folder / it for it in self.new()):
+            shutil.rmtree(path) if path.is_dir() and not path.is_symlink() else path.unlink()
+
+
+def run_cases(name: str, usage: str | None, kind: type[Program], files: Mapping[str, bytes]) -> int:
+    """Runs cases by the command line of their script, tells how many agree, and answers the script's status."""
+    words = sys.argv[1:]
+    verbose = words[:1] == ["-v"]
+    command = words[verbose:]
+    if not command or command[0] == "--help":
+        print(usage)
+        return 0 if command else 1
+    command[0] = os.path.abspath(command[0])
+    with tempfile.TemporaryDirectory() as folder:
+        program = kind(command, Path(folder), files)
+        program.verbose = verbose
+        program.run_all()
+    print(f"{name}: {program.agree} cases agree, {program.differ} differ")
+    return 1 if program.differ else 0
+
+
+# What is loaded before the program.
+
+
+def takes_preloaded(command: list[str]) -> bool:
+    """Whether what is loaded before a program comes to it: not to a static one, or one that an emulator runs."""
+    start = Path(command[0]).read_bytes()[:4096]
+    return len(command) == 1 and (not start.startswith(b"\x7fELF") or b"/ld-linux" in start)
+
+
+def compiler() -> str | None:
+    """The compiler for C, if there is one."""
+    return shutil.which("cc") or shutil.which("gcc") or shutil.which("clang")
+
+
+def preloaded(code: str, folder: Path) -> str:
+    """Compiles what is loaded before the program, and answers its path."""
+    source, library = folder / "refusing.c", folder / "refusing.so"
+    source.write_text(code)
+    subprocess.run([compiler() or "cc", "-shared", "-fPIC", "-O", "-o", library, source, "-ldl"], check=True)
+    return str(library)
