@@ -1,11 +1,12 @@
 #!/usr/bin/env python3
-"""Puts the options of the command line into the pages that list them.
+"""Puts the options of the command line and what findings mean into the pages that list them.
 
 usage: docs/options.py [--write]
 
-The table is crates/zk_command/src/options.rt. From it come the usage in README.md, the manual and docs/zkit.1, and the
-ranges and defaults in the manual's table, in the page for man and in include/zkit.h. Without --write it tells which of
-these say something else, and the status is then 1.
+The table of options is crates/zk_command/src/options.rt. From it come the usage in README.md, the manual and
+docs/zkit.1, and the ranges and defaults in the manual's table, in the page for man and in include/zkit.h. The words of
+findings are those of crates/zk_inspect/src/check/finding.rt. From it come the manual's table of them, and the words in
+the page. Without --write it tells which of these say something else, and the status is then 1.
 """
 
 from __future__ import annotations
@@ -18,6 +19,9 @@ from typing import NamedTuple, Optional
 
 TOP = Path(__file__).resolve().parent.parent
 TABLE = TOP / "crates" / "zk_command" / "src" / "options.rt"
+FINDINGS = TOP / "crates" / "zk_inspect" / "src" / "check" / "finding.rt"
+LISTINGS = TOP / "docs" / "manual" / "listings.md"
+DRAWINGS = TOP / "web" / "page" / "drawings.js"
 
 
 # What stands after an option of each kind.
@@ -127,6 +131,26 @@ def with_constants(text: str, options: list[Option]) -> str:
     return text
 
 
+def read_findings(text: str) -> list[tuple[int, str, str]]:
+    """The findings, each with its number, its words and what it means."""
+    arm = r'Number::(\w+) =>\s*"?([^",]+(?:, [^"]+)*)"?,'
+    numbers, words, meanings = (dict(re.findall(arm, it)) for it in text.split("pub fn ")[1:])
+    return [(int(number), words[name], meanings[name]) for name, number in numbers.items()]
+
+
+def with_findings(text: str, findings: list[tuple[int, str, str]]) -> str:
+    """The manual with the words of findings and what they mean in its table."""
+    for number, words, meaning in findings:
+        text = re.sub(rf"(?m)^\| `C{number}` [^|]*\|[^|]*\|", f"| `C{number}` {words} | {meaning} |", text)
+    return text
+
+
+def with_meanings(text: str, findings: list[tuple[int, str, str]]) -> str:
+    """The page's script with what findings mean."""
+    lines = "".join(f'    C{number}: "{meaning}",\n' for number, _, meaning in findings)
+    return re.sub(r"(?s)(const MEANINGS = \{\n).*?(?=\};)", lambda found: found[1] + lines, text)
+
+
 def made() -> dict[Path, str]:
     """Each page as it has to be."""
     text = TABLE.read_text("utf-8")
@@ -150,6 +174,9 @@ def made() -> dict[Path, str]:
     pages[TOP / "docs" / "zkit.1"] = with_entries(manual, play)
     header = TOP / "include" / "zkit.h"
     pages[header] = with_constants(header.read_text("utf-8"), play)
+    findings = read_findings(FINDINGS.read_text("utf-8"))
+    pages[LISTINGS] = with_findings(pages[LISTINGS], findings)
+    pages[DRAWINGS] = with_meanings(DRAWINGS.read_text("utf-8"), findings)
     return pages
 
 
@@ -162,8 +189,7 @@ def main() -> int:
             path.write_text(pages[path], "utf-8")
         return 0
     for path in wrong:
-        other = f"the options are not those of {TABLE.relative_to(TOP)}"
-        print(f"{path.relative_to(TOP)}: {other}: docs/options.py --write")
+        print(f"{path.relative_to(TOP)}: it says something else than the sources: docs/options.py --write")
     return 1 if wrong else 0
 
 

@@ -87,22 +87,9 @@ const LIMIT = 3;
 const OUT_OF_MEMORY = 5;
 const TOO_MUCH_TEXT = 6;
 
-/** Why nothing is opened, by its number, in the words of `zkit play`; {} is the story's version. */
-const REFUSALS = [
-    "",
-    "the file is shorter than a header",
-    "version {} is not played",
-    "the file is too long for its version",
-    "static memory begins inside the header or past the file",
-    "the first instruction lies past the file",
-    "out of memory",
-    "a limit is out of its range",
-    "the bytes are no snapshot",
-    "the snapshot is of another version",
-    "the snapshot is of another story",
-    "the snapshot is damaged",
-];
+// Why nothing is opened: the last reason that is the story's own, and two others.
 const LAST_OF_STORY = 5;
+const BAD_VERSION = 2;
 const OPEN_NO_MEMORY = 6;
 
 /**
@@ -133,16 +120,12 @@ const SIZE = 8;
 const GREATEST = 0xffff_ffff;
 
 /**
- * Why a story or a snapshot is not opened, in words.
- * @param {number} number
+ * What a file is that is no story, in words, where its first bytes tell.
  * @param {Uint8Array} story
  */
-function wordsOfRefusal(number, story) {
+function beginning(story) {
     const lead = String.fromCharCode(...story.subarray(0, LEAD));
-    const found = BEGINNINGS.find(([pattern]) => pattern.test(lead));
-    if (number <= LAST_OF_STORY && found)
-        return found[1];
-    return REFUSALS[number].replace("{}", String(story[0]));
+    return BEGINNINGS.find(([pattern]) => pattern.test(lead))?.[1];
 }
 
 /**
@@ -173,10 +156,10 @@ function decoder() {
 export class Refused extends Error {
     /**
      * @param {number} number
-     * @param {Uint8Array} story
+     * @param {string} words
      */
-    constructor(number, story) {
-        super(wordsOfRefusal(number, story));
+    constructor(number, words) {
+        super(words);
         this.name = "Refused";
         this.number = number;
     }
@@ -229,12 +212,27 @@ export class Module {
     game(story, files, options) {
         const buffer = this.calls.zkit_take(BigInt(BUFFER));
         if (buffer === 0n)
-            throw new Refused(OPEN_NO_MEMORY, story);
+            throw new Refused(OPEN_NO_MEMORY, "out of memory");
         const { game, reason } = this.opened(files, options, buffer);
         if (game !== 0n)
             return new Game(this, game, buffer);
+        const words = this.wordsOfRefusal(reason, story, buffer);
         this.calls.zkit_give(buffer);
-        throw new Refused(reason, story);
+        throw new Refused(reason, words);
+    }
+
+    /**
+     * Why a story or a snapshot is not opened, in words, with a buffer for these.
+     * @param {number} reason
+     * @param {Uint8Array} story
+     * @param {bigint} buffer
+     */
+    wordsOfRefusal(reason, story, buffer) {
+        const looks = reason <= LAST_OF_STORY ? beginning(story) : undefined;
+        if (looks || reason === BAD_VERSION)
+            return looks || `version ${story[0]} is not played`;
+        const count = this.calls.zkit_text_of_open(reason, buffer, BigInt(BUFFER));
+        return decoder().decode(this.bytes(buffer, Number(count)));
     }
 
     /**

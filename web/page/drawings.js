@@ -10,18 +10,18 @@ const COLOURS = ["#7a8f5a", "#b4884a", "#4f7f92", "#9b5d5d", "#6d6aa0", "#4c8f78
  * @type {Record<string, string>}
  */
 const MEANINGS = {
-    C1: "The sum of the file's bytes is not the one in its header: bytes were changed, or the compiler wrote none.",
-    C2: "The header states more bytes than the file has: it was cut off.",
-    C3: "The dictionary says that it is sorted, and is not. Other interpreters may miss words.",
-    C4: "There is no dictionary at the address that the header names, or not all of it can be read.",
-    C5: "A parent, a sibling or a child of an object has a number past the last object.",
-    C6: "The children of an object go round.",
-    C7: "The properties of an object do not end in readable data.",
-    C8: "A text, or one of its abbreviations, has no end in the story.",
-    C9: "An abbreviation of a text uses an abbreviation.",
-    C10: "Code leads to an address where there is no instruction.",
-    C11: "An instruction branches, jumps or calls out of the story.",
-    C12: "An instruction lies where the story can write over it.",
+    C1: "the sum of the file's bytes is not the checksum that its header states",
+    C2: "the header states more bytes than the file has",
+    C3: "the dictionary says that it is sorted, and the key of this entry is not above the one before it",
+    C4: "there is no dictionary at the address that the header names, or not all of it can be read",
+    C5: "the parent, the sibling or the child of this object has a number past the last object",
+    C6: "the child list of this object is circular",
+    C7: "the properties of this object do not end in readable data",
+    C8: "this text, or one of its abbreviations, has no end in the story",
+    C9: "an abbreviation of this text uses an abbreviation",
+    C10: "code leads to this address, and there is no instruction here",
+    C11: "this instruction branches or jumps out of the story, or calls an address with no routine",
+    C12: "this instruction has a byte below the static base, or calls an address that lies there",
 };
 
 /**

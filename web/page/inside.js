@@ -14,7 +14,7 @@ import { drawMap, drawMeanings } from "./drawings.js";
  * @type {Record<string, [string, string]>}
  */
 const TABS = {
-    findings: ["Check", "Results of the twelve checks."],
+    findings: ["Check", "Results of the checks."],
     header: ["Header", "The fields at the start of the file."],
     map: ["Map", "Where the parts of the story begin. The bar is the whole file, to scale."],
     objects: ["Objects", "Each object with its links, its attributes, and its properties as number:length."],
